@@ -1,0 +1,4 @@
+//! Compiles an event script from standard input.
+#![tactic(auto)]
+
+fn main() {}
