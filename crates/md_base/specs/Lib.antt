@@ -1,1 +1,3 @@
+pub mod Identifier
 pub mod Place
+pub mod Reference

@@ -1,0 +1,20 @@
+-- Identifiers of definitions and footnotes, as they are compared.
+use Rattle.std.specs.Prelude.{ℕ, Bool, not, ◌||◌, ◌==◌, List, length, filter, chars, encode_utf8_all}
+use Rattle.std.specs.List.{slice_split, join_with_byte}
+use Rattle.caseless.specs.Caseless.{default_case_fold}
+
+-- a tab, a line feed, a carriage return or a space
+abbrev pub is_white : ℕ → Bool
+is_white byte = byte == 9 || byte == 10 || byte == 13 || byte == 32
+
+-- each run of white space becomes one space, and none is left at the ends
+abbrev pub collapsed : List ℕ → List ℕ
+collapsed text = join_with_byte 32 (filter (λ word. not (length word == 0)) (slice_split is_white text))
+
+-- a text with full case folding
+abbrev pub folded : List ℕ → List ℕ
+folded text = encode_utf8_all (default_case_fold (chars text))
+
+-- the form in which identifiers are compared
+abbrev pub normalized : List ℕ → List ℕ
+normalized text = folded (collapsed text)
