@@ -1,1 +1,4 @@
 pub mod Tree
+pub mod NameTests
+pub mod Children
+pub mod Looseness

@@ -1,0 +1,104 @@
+-- What texts, spans and breaks print.
+use Rattle.std.specs.Prelude.{ℕ, ◌+◌, ◌-◌, Bool, true, false, not, ◌&&◌, ◌||◌, ◌==◌, if◌then◌else◌, List, [], ◌∷◌, ◌++◌, length, Option, Some, None, unwrap_or, codes, slice_get, take, drop}
+use Rattle.std.specs.Option.{option_map_or}
+use Rattle.std.specs.List.{list_all}
+use Rattle.md_base.specs.declared.event.Name.{Name}
+use Rattle.md_base.specs.declared.event.Name.TheVariants.{CharacterReferenceMarkerNumeric, CharacterReferenceMarkerHexadecimal}
+use Rattle.md_base.specs.declared.event.Point.{Point}
+use Rattle.md_base.specs.Reference.{decoded}
+use Rattle.md_text.specs.Encode.{encoded}
+use Rattle.md_text.specs.Filter.{tag_filtered}
+use Rattle.md_tree.specs.NameTests.{is_definition}
+use Rattle.md_html.specs.declared.options.CompileOptions.{CompileOptions}
+use Rattle.md_html.specs.Piece.{Piece, Text, Needed}
+use Rattle.md_html.specs.Surroundings.{Surroundings, is_slurping}
+use Rattle.md_html.specs.Given.{Given, text_of}
+use Rattle.md_html.specs.Places.{Before}
+
+-- a text as it is written, one piece
+abbrev pub said : List ℕ → List Piece
+said text = Text text ∷ []
+
+-- nothing in an image
+abbrev pub outside_images : Surroundings → List Piece → List Piece
+outside_images around pieces = if around.in_image then [] else pieces
+
+-- the node's text, escaped where the surroundings say so
+abbrev pub data_pieces : Given → Surroundings → Point → Point → List Piece
+data_pieces given around start end = said (encoded around.is_escaping (text_of given.bytes start end))
+
+-- HTML: the same, and disarmed by the tag filter where HTML may stand
+abbrev pub html_pieces : Given → Surroundings → Point → Point → List Piece
+html_pieces given around start end =
+    said (encoded around.is_escaping
+        (if given.options.gfm_tagfilter && given.options.allow_dangerous_html
+         then tag_filtered (text_of given.bytes start end)
+         else text_of given.bytes start end))
+
+-- the marker of a reference, by the name before its value: `x`, `#` or `&`
+abbrev pub marker_of : Option Name → ℕ
+marker_of (Some CharacterReferenceMarkerHexadecimal) = 120
+marker_of (Some CharacterReferenceMarkerNumeric) = 35
+marker_of _ = 38
+
+-- the last of some names
+abbrev pub last_of : List Name → Option Name
+last_of names = slice_get names (length names - 1)
+
+-- what a reference stands for, escaped where the surroundings say so
+abbrev pub reference_pieces : Given → Surroundings → Before → Point → Point → List Piece
+reference_pieces given around before start end =
+    said (encoded around.is_escaping
+        (unwrap_or (decoded given.names (marker_of (last_of before.spine)) (text_of given.bytes start end)) []))
+
+-- a line ending that the last mark slurps; none in a definition is
+abbrev pub is_slurped : Surroundings → Before → Bool
+is_slurped around before = not around.in_definition && is_slurping before.marks
+
+-- a line ending that isn't printed: it is slurped, or stands behind a definition
+abbrev pub is_dropped : Surroundings → Before → Bool
+is_dropped around before = is_slurped around before || option_map_or is_definition before.previous false
+
+-- a line ending: a space in code, else its own text unless it is dropped
+abbrev pub line_ending_pieces : Given → Surroundings → Before → Point → Point → List Piece
+line_ending_pieces given around before start end =
+    if around.in_code then said (32 ∷ [])
+    else (if is_dropped around before then [] else said (text_of given.bytes start end))
+
+-- a blank line ending at the document's end needs a line ending
+abbrev pub blank_line_pieces : Bool → List Piece
+blank_line_pieces last = if last then Needed ∷ [] else []
+
+-- each backslash directly before a pipe goes
+abbrev pub unescaped_pipes : List ℕ → List ℕ
+unescaped_pipes [] = []
+unescaped_pipes (byte ∷ bytes) =
+    if (byte == 92) && (option_map_or (λ next. next == 124) (slice_get bytes 0) false)
+    then unescaped_pipes bytes else byte ∷ unescaped_pipes bytes
+
+-- begins and ends with a space, and isn't all spaces
+abbrev pub is_padded : List ℕ → Bool
+is_padded text =
+    option_map_or (λ byte. byte == 32) (slice_get text 0) false
+    && option_map_or (λ byte. byte == 32) (slice_get text (length text - 1)) false
+    && not (list_all (λ byte. byte == 32) text)
+
+-- the text of code: one space goes at each end of a padded one
+abbrev pub trimmed : List ℕ → List ℕ
+trimmed text = if is_padded text then take (length text - 2) (drop 1 text) else text
+
+-- the text of code where it stands
+abbrev pub code_text : Surroundings → List ℕ → List ℕ
+code_text around text = trimmed (if around.in_table then unescaped_pipes text else text)
+
+-- code in a text, between its tags outside images
+abbrev pub code_pieces : Surroundings → List ℕ → List ℕ → List Piece
+code_pieces around tag text =
+    if around.in_image then said (code_text around text)
+    else Text tag ∷ Text (code_text around text) ∷ Text (codes "</code>") ∷ []
+
+-- a task: its tag, to be closed when it is known whether it is done
+abbrev pub task_pieces : Given → Surroundings → List Piece
+task_pieces given around =
+    outside_images around
+        (Text (codes "<input type=\"checkbox\" ") ∷ (if given.options.gfm_task_list_item_checkable then [] else said (codes "disabled=\"\" ")))

@@ -1,0 +1,24 @@
+/// How events are compiled to HTML.
+#[derive(Debug, Default, Drop)]
+pub struct CompileOptions {
+    /// Let images have any source.
+    pub allow_any_img_src: bool,
+    /// Leave HTML in the document as it is.
+    pub allow_dangerous_html: bool,
+    /// Let links have any protocol.
+    pub allow_dangerous_protocol: bool,
+    /// Print tasks without `disabled`.
+    pub gfm_task_list_item_checkable: bool,
+    /// Disarm some tags of HTML that is left as it is.
+    pub gfm_tagfilter: bool,
+    /// What `aria-label` says of a way back from a footnote; unset: `Back to content`.
+    pub gfm_footnote_back_label: Option<String>,
+    /// What footnotes' ids begin with; unset: `user-content-`.
+    pub gfm_footnote_clobber_prefix: Option<String>,
+    /// The heading of the footnotes; unset: `Footnotes`.
+    pub gfm_footnote_label: Option<String>,
+    /// The attributes of that heading; unset: `class="sr-only"`.
+    pub gfm_footnote_label_attributes: Option<String>,
+    /// The tag name of that heading; unset: `h2`.
+    pub gfm_footnote_label_tag_name: Option<String>,
+}

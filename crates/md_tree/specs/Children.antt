@@ -1,0 +1,48 @@
+-- What a node's children tell of it, by their names.
+use Rattle.std.specs.Prelude.{ℕ, Bool, true, false, not, ◌&&◌, ◌||◌, if◌then◌else◌, List, [], ◌∷◌, ◌++◌, Option, Some, None, unwrap_or}
+use Rattle.md_base.specs.declared.event.Name.{Name}
+use Rattle.md_base.specs.declared.event.Point.{Point}
+use Rattle.md_tree.specs.Tree.{Forest, Empty, Node}
+use Rattle.md_tree.specs.NameTests.{is_transparent, is_blank_line_ending, is_space, is_item, is_item_prefix, is_block_quote, is_block_quote_prefix, contributes}
+
+-- the names on the spine: of the nodes that aren't transparent and are reached through transparent ones alone
+abbrev pub spine_names : Forest → List Name
+spine_names Empty = []
+spine_names (Node name start end children rest) =
+    (if is_transparent name then spine_names children else name ∷ []) ++ spine_names rest
+
+-- a node that was found: where it starts and ends, and its children
+pub record Found : Type 0 where
+  pub start : Point
+  pub end : Point
+  pub children : Forest
+
+-- the first of two, where there is one, else the second
+abbrev pub or_else : {A : Type 0} → Option A → Option A → Option A
+or_else None second = second
+or_else (Some first) second = Some first
+
+-- the first node on the spine whose name passes a test
+abbrev pub find_on_spine : (Name → Bool) → Forest → Option Found
+find_on_spine test Empty = None
+find_on_spine test (Node name start end children rest) =
+    or_else
+        (if test name then Some (record { start = start; end = end; children = children })
+         else (if is_transparent name then find_on_spine test children else None))
+        (find_on_spine test rest)
+
+-- there is no node
+abbrev pub is_empty : Forest → Bool
+is_empty Empty = true
+is_empty _ = false
+
+-- the name of the last child
+abbrev pub last_name : Forest → Option Name
+last_name Empty = None
+last_name (Node name start end children rest) = Some (unwrap_or (last_name rest) name)
+
+-- the name of the last child that contributes to an item
+abbrev pub last_contributing : Forest → Option Name
+last_contributing Empty = None
+last_contributing (Node name start end children rest) =
+    or_else (last_contributing rest) (if contributes name then Some name else None)

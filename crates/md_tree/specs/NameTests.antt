@@ -1,0 +1,77 @@
+-- Tests on names, each true for the names that it lists.
+use Rattle.std.specs.Prelude.{Bool, true, false}
+use Rattle.md_base.specs.declared.event.Name.{Name}
+use Rattle.md_base.specs.declared.event.Name.TheVariants.{LineEnding, BlankLineEnding, BlockQuote, BlockQuotePrefix, ListOrdered, ListUnordered, ListItem, ListItemPrefix, ListItemValue, GfmFootnoteDefinition, Definition, CodeFencedFence, MathFlowFence, CodeFlowChunk, MathFlowChunk, HeadingAtxSequence, GfmTableCell, GfmTableDelimiterMarker, GfmTableDelimiterCellValue, GfmTableDelimiterRow, GfmTableHead, Resource, ResourceDestinationString, ResourceTitleString, ReferenceString, Label, LabelText, SpaceOrTab, Other, Paragraph}
+
+-- a node that its parent's pattern looks through
+abbrev pub is_transparent : Name → Bool
+is_transparent (Other number) = true
+is_transparent BlockQuotePrefix = true
+is_transparent SpaceOrTab = true
+is_transparent _ = false
+
+abbrev pub is_blank_line_ending : Name → Bool
+is_blank_line_ending BlankLineEnding = true
+is_blank_line_ending _ = false
+
+abbrev pub is_space : Name → Bool
+is_space SpaceOrTab = true
+is_space _ = false
+
+abbrev pub is_item : Name → Bool
+is_item ListItem = true
+is_item _ = false
+
+abbrev pub is_item_prefix : Name → Bool
+is_item_prefix ListItemPrefix = true
+is_item_prefix _ = false
+
+abbrev pub is_item_value : Name → Bool
+is_item_value ListItemValue = true
+is_item_value _ = false
+
+abbrev pub is_block_quote : Name → Bool
+is_block_quote BlockQuote = true
+is_block_quote _ = false
+
+abbrev pub is_block_quote_prefix : Name → Bool
+is_block_quote_prefix BlockQuotePrefix = true
+is_block_quote_prefix _ = false
+
+abbrev pub is_paragraph : Name → Bool
+is_paragraph Paragraph = true
+is_paragraph _ = false
+
+-- a child after which a line ending is dropped
+abbrev pub is_definition : Name → Bool
+is_definition Definition = true
+is_definition GfmFootnoteDefinition = true
+is_definition _ = false
+
+-- a child that an item's end looks at
+abbrev pub contributes : Name → Bool
+contributes BlankLineEnding = false
+contributes BlockQuotePrefix = false
+contributes LineEnding = false
+contributes SpaceOrTab = false
+contributes Definition = false
+contributes GfmFootnoteDefinition = false
+contributes _ = true
+
+abbrev pub is_fence : Name → Bool
+is_fence CodeFencedFence = true
+is_fence MathFlowFence = true
+is_fence _ = false
+
+abbrev pub is_chunk : Name → Bool
+is_chunk CodeFlowChunk = true
+is_chunk MathFlowChunk = true
+is_chunk _ = false
+
+abbrev pub is_heading_mark : Name → Bool
+is_heading_mark HeadingAtxSequence = true
+is_heading_mark _ = false
+
+abbrev pub is_cell : Name → Bool
+is_cell GfmTableCell = true
+is_cell _ = false
