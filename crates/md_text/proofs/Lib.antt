@@ -1,0 +1,2 @@
+pub mod HighBytes
+pub mod EncodeLemmas
