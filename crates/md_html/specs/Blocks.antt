@@ -1,16 +1,19 @@
 -- What blocks print before and after their children.
-use Rattle.std.specs.Prelude.{ℕ, Bool, true, false, not, ◌&&◌, ◌||◌, ◌==◌, if◌then◌else◌, List, [], ◌∷◌, ◌++◌, Option, Some, None, unwrap_or, codes, slice_get, count_by, bytes_eq}
+use Rattle.std.specs.Prelude.{ℕ, ◌+◌, min, Bool, true, false, not, ◌&&◌, ◌||◌, ◌==◌, if◌then◌else◌, List, [], ◌∷◌, ◌++◌, Option, Some, None, unwrap_or, codes, slice_get, count_by, bytes_eq}
 use Rattle.std.specs.Option.{option_map_or}
-use Rattle.std.specs.Fmt.{decimal}
 use Rattle.std.specs.List.{list_any}
 use Rattle.md_base.specs.declared.event.Name.{Name}
 use Rattle.md_base.specs.declared.event.Point.{Point}
+use Rattle.md_base.specs.declared.event.Position.{Position}
 use Rattle.md_text.specs.Encode.{encoded}
 use Rattle.md_tree.specs.NameTests.{is_fence, is_chunk, is_item_prefix, is_paragraph}
 use Rattle.md_html.specs.Piece.{Piece, Text, Needed, Forced, Recalled}
-use Rattle.md_html.specs.Surroundings.{Surroundings, Container, Nothing, TightList, Another}
-use Rattle.md_html.specs.Given.{Given, serialized_of}
-use Rattle.md_html.specs.Places.{Before, Ahead, Ended}
+use Rattle.md_html.specs.declared.facts.Container.{Container}
+use Rattle.md_html.specs.declared.facts.Container.TheVariants.{Nothing, TightList}
+use Rattle.md_html.specs.declared.facts.Surroundings.{Surroundings}
+use Rattle.md_html.specs.declared.facts.Passed.{Passed}
+use Rattle.md_html.specs.Given.{Given, text_of, serialized_of}
+use Rattle.md_html.specs.Places.{Left, without_zeros, length_of}
 use Rattle.md_html.specs.Texts.{said}
 
 -- a needed line ending, and a tag
@@ -32,29 +35,41 @@ is_contained Nothing = false
 is_contained _ = true
 
 -- a paragraph has tags but in a tight list
-abbrev pub paragraph_opening paragraph_closing : Surroundings → List Piece
+abbrev pub paragraph_opening : Surroundings → List Piece
 paragraph_opening around = when (not (is_tight around.container)) (on_own_line (codes "<p>"))
+
+abbrev pub paragraph_closing : Surroundings → List Piece
 paragraph_closing around = when (not (is_tight around.container)) (said (codes "</p>"))
 
 -- ` start="` number `"`, unless the number is 1
-abbrev pub start_attribute : Option (List ℕ) → List ℕ
-start_attribute None = []
-start_attribute (Some number) =
-    if bytes_eq number (codes "1") then [] else codes " start=\"" ++ number ++ codes "\""
+abbrev pub number_attribute : List ℕ → List ℕ
+number_attribute number = if bytes_eq number (codes "1") then [] else codes " start=\"" ++ number ++ codes "\""
+
+-- the attribute for the number of a list's first item, where there is one
+abbrev pub start_attribute : List ℕ → Option Position → List ℕ
+start_attribute bytes None = []
+start_attribute bytes (Some place) = number_attribute (without_zeros (text_of bytes place.start place.end))
 
 -- an item's end stands on its own line, unless the item ends in its prefix, or in a paragraph of a tight list
-abbrev pub item_closing : Surroundings → Ended → List Piece
-item_closing around ended =
-    when (not (option_map_or is_item_prefix ended.contributing false || option_map_or is_paragraph ended.contributing false && is_tight around.container))
+abbrev pub item_closing : Surroundings → Passed → List Piece
+item_closing around passed =
+    when (not (option_map_or is_item_prefix passed.contributing false || option_map_or is_paragraph passed.contributing false && is_tight around.container))
         (Needed ∷ [])
     ++ said (codes "</li>")
 
--- `h` and the rank
-abbrev pub heading_name : ℕ → List ℕ
-heading_name rank = codes "h" ++ decimal rank
+-- a heading's rank: the length of its first mark
+abbrev pub rank_of : List ℕ → Option Position → ℕ
+rank_of bytes None = 0
+rank_of bytes (Some place) = length_of bytes place
 
-abbrev pub heading_opening heading_closing : ℕ → List ℕ
+-- `h` and the rank, which is 1 to 6 in a grammatical document
+abbrev pub heading_name : ℕ → List ℕ
+heading_name rank = 104 ∷ (48 + min rank 6) ∷ []
+
+abbrev pub heading_opening : ℕ → List ℕ
 heading_opening rank = codes "<" ++ heading_name rank ++ codes ">"
+
+abbrev pub heading_closing : ℕ → List ℕ
 heading_closing rank = codes "</" ++ heading_name rank ++ codes ">"
 
 -- 2 where a setext heading's underline begins with `-`, else 1
@@ -75,20 +90,20 @@ abbrev pub code_end : List ℕ
 code_end = codes "</code></pre>"
 
 -- the end of indented code
-abbrev pub indented_closing : Ended → List Piece
-indented_closing ended = when (list_any is_chunk ended.spine) (Needed ∷ []) ++ said code_end
+abbrev pub indented_closing : Passed → List Piece
+indented_closing passed = when (passed.spine.has_chunk) (Needed ∷ []) ++ said code_end
 
 -- a first fence ends the opening tag of code
-abbrev pub fence_closing : Before → List Piece
-fence_closing before = when (not (list_any is_fence before.spine)) (said (codes ">"))
+abbrev pub fence_closing : Left → List Piece
+fence_closing left = when (not left.spine.has_fence) (said (codes ">"))
 
 -- one fence alone: the code runs to the end of what is round it
-abbrev pub is_unclosed : Ended → Bool
-is_unclosed ended = count_by is_fence ended.spine == 1
+abbrev pub is_unclosed : Passed → Bool
+is_unclosed passed = passed.spine.has_fence && not passed.spine.has_second_fence
 
 -- the end of fenced code or math
-abbrev pub fenced_closing : Surroundings → Ended → List Piece
-fenced_closing around ended =
-    when (is_unclosed ended && is_contained around.container && not (option_map_or is_fence ended.last false)) (Forced ∷ [])
-    ++ when (list_any is_chunk ended.spine) (Needed ∷ [])
-    ++ Text code_end ∷ when (is_unclosed ended) (Needed ∷ [])
+abbrev pub fenced_closing : Surroundings → Passed → List Piece
+fenced_closing around passed =
+    when (is_unclosed passed && is_contained around.container && not (option_map_or is_fence passed.last false)) (Forced ∷ [])
+    ++ when (passed.spine.has_chunk) (Needed ∷ [])
+    ++ Text code_end ∷ when (is_unclosed passed) (Needed ∷ [])

@@ -6,3 +6,4 @@ pub mod Texts
 pub mod Blocks
 pub mod Printed
 pub mod Meaning
+pub mod Try

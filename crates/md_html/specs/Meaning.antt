@@ -3,6 +3,7 @@ use Rattle.std.specs.Prelude.{ℕ, List, [], ◌∷◌, Option, Some, None, unwr
 use Rattle.md_base.specs.declared.event.Name.{Name}
 use Rattle.md_base.specs.declared.event.Name.TheVariants.{LineEnding, BlankLineEnding}
 use Rattle.md_base.specs.declared.event.Point.{Point}
+use Rattle.md_text.specs.LineEnding.{ending_text}
 use Rattle.md_tree.specs.Tree.{Forest, Empty, Node}
 use Rattle.md_tree.specs.Children.{or_else}
 use Rattle.md_html.specs.declared.options.CompileOptions.{CompileOptions}
@@ -27,6 +28,6 @@ first_ending bytes (Node name start end children rest) =
 -- the meaning of a document over its bytes
 abbrev pub meaning : CompileOptions → List (List ℕ × List ℕ) → List ℕ → Forest → List ℕ
 meaning options names bytes document =
-    let ending = unwrap_or (first_ending bytes document) (10 ∷ []) in
+    let ending = unwrap_or (first_ending bytes document) (ending_text options.default_line_ending) in
     let given : Given = record { bytes = bytes; names = names; options = options; ending = ending; definitions = [] } in
     layout ending (printed given outermost nothing_before document)

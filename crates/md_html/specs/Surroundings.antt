@@ -1,32 +1,18 @@
 -- What a node knows of the nodes round it, of those before it, and of its own children ahead.
-use Rattle.std.specs.Prelude.{ℕ, Bool, true, false, not, ◌&&◌, ◌||◌, if◌then◌else◌, List, [], ◌∷◌, ◌++◌, Option, Some, None}
+use Rattle.std.specs.Prelude.{ℕ, Bool, true, false, not, ◌&&◌, ◌||◌, if◌then◌else◌, List, [], ◌∷◌, ◌++◌, Option, Some, None, unwrap_or}
 use Rattle.std.specs.List.{list_any}
 use Rattle.md_base.specs.declared.event.Name.{Name}
 use Rattle.md_base.specs.declared.event.Name.TheVariants.{LineEnding, BlankLineEnding, BlockQuote, ListOrdered, ListUnordered, ListItem, GfmFootnoteDefinition, CodeIndented, CodeFenced, CodeFencedFence, MathFlow, MathFlowFence, CodeText, MathText, HtmlFlow, HtmlText, Definition, DefinitionDestinationString, Link, Image, ResourceDestinationString, HeadingSetextText, GfmTable, GfmTableHead, Paragraph, Frontmatter}
 use Rattle.md_base.specs.declared.event.AlignKind.{AlignKind}
 use Rattle.md_tree.specs.Tree.{Forest, Empty, Node}
-use Rattle.md_tree.specs.NameTests.{is_transparent, is_fence}
+use Rattle.md_tree.specs.NameTests.{is_transparent, is_fence, is_chunk}
 use Rattle.md_tree.specs.Children.{spine_names}
 use Rattle.md_tree.specs.Looseness.{is_loose}
+use Rattle.md_html.specs.declared.facts.Container.{Container}
+use Rattle.md_html.specs.declared.facts.Container.TheVariants.{Nothing, TightList, Another}
+use Rattle.md_html.specs.declared.facts.Surroundings.{Surroundings}
+use Rattle.md_html.specs.declared.facts.Spine.{Spine}
 use Rattle.md_html.specs.declared.options.CompileOptions.{CompileOptions}
-
--- the innermost block quote, list or footnote definition round a node: none, a tight list, or another
-pub data Container : Type 0 where
-  Nothing : Container
-  TightList : Container
-  Another : Container
-
--- what a node knows of the nodes round it
-pub record Surroundings : Type 0 where
-  pub container : Container
-  pub is_outermost : Bool
-  pub in_image : Bool
-  pub in_link : Bool
-  pub in_table : Bool
-  pub in_head : Bool
-  pub in_code : Bool
-  pub in_definition : Bool
-  pub is_escaping : Bool
 
 -- the surroundings of the document's own nodes
 abbrev pub outermost : Surroundings
@@ -65,19 +51,38 @@ is_slurping [] = false
 is_slurping (Sets ∷ marks) = true
 is_slurping (Clears ∷ marks) = false
 
+-- two names or more pass a test
+abbrev pub two_pass : (Name → Bool) → List Name → Bool
+two_pass test [] = false
+two_pass test (name ∷ names) = test name && list_any test names || two_pass test names
+
+-- the last of some names
+abbrev pub last_of : List Name → Option Name
+last_of [] = None
+last_of (name ∷ names) = Some (unwrap_or (last_of names) name)
+
+-- what the names on a spine tell
+abbrev pub told_by : List Name → Spine
+told_by names = record {
+  has_fence = list_any is_fence names;
+  has_second_fence = two_pass is_fence names;
+  has_chunk = list_any is_chunk names;
+  last = last_of names
+}
+
 -- the first fence of a raw flow sets
-abbrev pub fence_marks : List Name → List Mark
-fence_marks spine = if list_any is_fence spine then [] else Sets ∷ []
+abbrev pub fence_marks : Bool → List Mark
+fence_marks behind_fence = if behind_fence then [] else Sets ∷ []
 
 -- a paragraph sets in a tight list
 abbrev pub paragraph_marks : Container → List Mark
 paragraph_marks TightList = Sets ∷ []
 paragraph_marks _ = []
 
--- the mark at the exit of a node outside definitions, behind these names on its spine
-abbrev pub exit_marks : Surroundings → List Name → Name → List Mark
-exit_marks around spine CodeFencedFence = fence_marks spine
-exit_marks around spine MathFlowFence = fence_marks spine
+-- the mark at the exit of a node outside definitions, behind what its spine tells
+abbrev pub exit_marks : Surroundings → Spine → Name → List Mark
+exit_marks around spine CodeFencedFence = fence_marks spine.has_fence
+exit_marks around spine MathFlowFence = fence_marks spine.has_fence
 exit_marks around spine HeadingSetextText = Sets ∷ []
 exit_marks around spine Frontmatter = Sets ∷ []
 exit_marks around spine Paragraph = paragraph_marks around.container
@@ -91,7 +96,7 @@ exit_marks around spine LineEnding = if around.in_code then [] else Clears ∷ [
 exit_marks around spine _ = []
 
 -- the mark at the exit of any node: there is none in a definition
-abbrev pub own_marks : Surroundings → List Name → Name → List Mark
+abbrev pub own_marks : Surroundings → Spine → Name → List Mark
 own_marks around spine name = if around.in_definition then [] else exit_marks around spine name
 
 -- the names on the spine that a node's children begin behind
@@ -107,5 +112,5 @@ abbrev pub marks_of : CompileOptions → Surroundings → List Name → Forest �
 marks_of options around spine Empty = []
 marks_of options around spine (Node name start end children rest) =
     marks_of options around (spine_behind name children spine) rest
-    ++ own_marks around spine name
+    ++ own_marks around (told_by spine) name
     ++ marks_of options (inside options (is_loose children) name around) (spine_inside name spine) children

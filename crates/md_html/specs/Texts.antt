@@ -11,9 +11,9 @@ use Rattle.md_text.specs.Filter.{tag_filtered}
 use Rattle.md_tree.specs.NameTests.{is_definition}
 use Rattle.md_html.specs.declared.options.CompileOptions.{CompileOptions}
 use Rattle.md_html.specs.Piece.{Piece, Text, Needed}
-use Rattle.md_html.specs.Surroundings.{Surroundings, is_slurping}
+use Rattle.md_html.specs.declared.facts.Surroundings.{Surroundings}
 use Rattle.md_html.specs.Given.{Given, text_of}
-use Rattle.md_html.specs.Places.{Before}
+use Rattle.md_html.specs.Places.{Left}
 
 -- a text as it is written, one piece
 abbrev pub said : List ℕ → List Piece
@@ -41,29 +41,25 @@ marker_of (Some CharacterReferenceMarkerHexadecimal) = 120
 marker_of (Some CharacterReferenceMarkerNumeric) = 35
 marker_of _ = 38
 
--- the last of some names
-abbrev pub last_of : List Name → Option Name
-last_of names = slice_get names (length names - 1)
-
 -- what a reference stands for, escaped where the surroundings say so
-abbrev pub reference_pieces : Given → Surroundings → Before → Point → Point → List Piece
-reference_pieces given around before start end =
+abbrev pub reference_pieces : Given → Surroundings → Left → Point → Point → List Piece
+reference_pieces given around left start end =
     said (encoded around.is_escaping
-        (unwrap_or (decoded given.names (marker_of (last_of before.spine)) (text_of given.bytes start end)) []))
+        (unwrap_or (decoded given.names (marker_of left.spine.last) (text_of given.bytes start end)) []))
 
 -- a line ending that the last mark slurps; none in a definition is
-abbrev pub is_slurped : Surroundings → Before → Bool
-is_slurped around before = not around.in_definition && is_slurping before.marks
+abbrev pub is_slurped : Surroundings → Left → Bool
+is_slurped around left = not around.in_definition && left.is_slurping
 
 -- a line ending that isn't printed: it is slurped, or stands behind a definition
-abbrev pub is_dropped : Surroundings → Before → Bool
-is_dropped around before = is_slurped around before || option_map_or is_definition before.previous false
+abbrev pub is_dropped : Surroundings → Left → Bool
+is_dropped around left = is_slurped around left || option_map_or is_definition left.previous false
 
 -- a line ending: a space in code, else its own text unless it is dropped
-abbrev pub line_ending_pieces : Given → Surroundings → Before → Point → Point → List Piece
-line_ending_pieces given around before start end =
+abbrev pub line_ending_pieces : Given → Surroundings → Left → Point → Point → List Piece
+line_ending_pieces given around left start end =
     if around.in_code then said (32 ∷ [])
-    else (if is_dropped around before then [] else said (text_of given.bytes start end))
+    else (if is_dropped around left then [] else said (text_of given.bytes start end))
 
 -- a blank line ending at the document's end needs a line ending
 abbrev pub blank_line_pieces : Bool → List Piece

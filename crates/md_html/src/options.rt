@@ -1,3 +1,5 @@
+use md_text::LineEnding;
+
 /// How events are compiled to HTML.
 #[derive(Debug, Default, Drop)]
 pub struct CompileOptions {
@@ -11,6 +13,8 @@ pub struct CompileOptions {
     pub gfm_task_list_item_checkable: bool,
     /// Disarm some tags of HTML that is left as it is.
     pub gfm_tagfilter: bool,
+    /// How lines end where the document has no line ending.
+    pub default_line_ending: LineEnding,
     /// What `aria-label` says of a way back from a footnote; unset: `Back to content`.
     pub gfm_footnote_back_label: Option<String>,
     /// What footnotes' ids begin with; unset: `user-content-`.

@@ -11,25 +11,19 @@ spine_names Empty = []
 spine_names (Node name start end children rest) =
     (if is_transparent name then spine_names children else name ∷ []) ++ spine_names rest
 
--- a node that was found: where it starts and ends, and its children
-pub record Found : Type 0 where
-  pub start : Point
-  pub end : Point
-  pub children : Forest
-
 -- the first of two, where there is one, else the second
 abbrev pub or_else : {A : Type 0} → Option A → Option A → Option A
 or_else None second = second
 or_else (Some first) second = Some first
 
--- the first node on the spine whose name passes a test
-abbrev pub find_on_spine : (Name → Bool) → Forest → Option Found
-find_on_spine test Empty = None
-find_on_spine test (Node name start end children rest) =
+-- what `tell` tells of the first node on the spine whose name passes a test
+abbrev pub first_on_spine : {A : Type 0} → (Name → Bool) → (Point → Point → Forest → A) → Forest → Option A
+first_on_spine test tell Empty = None
+first_on_spine test tell (Node name start end children rest) =
     or_else
-        (if test name then Some (record { start = start; end = end; children = children })
-         else (if is_transparent name then find_on_spine test children else None))
-        (find_on_spine test rest)
+        (if test name then Some (tell start end children)
+         else (if is_transparent name then first_on_spine test tell children else None))
+        (first_on_spine test tell rest)
 
 -- there is no node
 abbrev pub is_empty : Forest → Bool
