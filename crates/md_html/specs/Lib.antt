@@ -6,4 +6,5 @@ pub mod Texts
 pub mod Blocks
 pub mod Printed
 pub mod Meaning
+pub mod Machine
 pub mod Try

@@ -74,10 +74,11 @@ ahead_of children = record {
   is_loose = is_loose children
 }
 
--- what children tell at their end: the last one's name, the last contributing one's, and their spine
-abbrev pub passed_over : Forest → Passed
-passed_over children =
-    record { last = last_name children; contributing = last_contributing children; spine = told_by (spine_names children) }
+-- what children tell at their end: the last one's name, the last contributing one's, and their spine, which
+-- begins behind some names where their parent is transparent
+abbrev pub passed_over : List Name → Forest → Passed
+passed_over spine children =
+    record { last = last_name children; contributing = last_contributing children; spine = told_by (spine ++ spine_names children) }
 
 -- what a node learns from what stands before it
 pub record Left : Type 0 where

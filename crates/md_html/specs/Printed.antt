@@ -10,7 +10,7 @@ use Rattle.md_html.specs.Piece.{Piece, Text, Needed, Forced, Aside, layout}
 use Rattle.md_html.specs.declared.facts.Surroundings.{Surroundings}
 use Rattle.md_html.specs.declared.facts.Ahead.{Ahead}
 use Rattle.md_html.specs.declared.facts.Passed.{Passed}
-use Rattle.md_html.specs.Surroundings.{inside}
+use Rattle.md_html.specs.Surroundings.{inside, spine_inside}
 use Rattle.md_html.specs.Given.{Given}
 use Rattle.md_html.specs.Places.{Before, before_children, before_next, ahead_of, passed_over, Left, left_of}
 use Rattle.md_html.specs.Texts.{said, outside_images, data_pieces, html_pieces, reference_pieces, line_ending_pieces, blank_line_pieces, code_pieces, task_pieces}
@@ -85,17 +85,18 @@ closing given around left ahead passed last start end inner GfmTaskListItemCheck
 closing given around left ahead passed last start end inner GfmTaskListItemValueChecked = outside_images around (said (codes "checked=\"\" "))
 closing given around left ahead passed last start end inner _ = []
 
--- what a node prints: `printed` is what its children print
+-- what a node prints: `inner` is what its children print
 abbrev pub printed_node : Given → Surroundings → Left → Ahead → Passed → Bool → Point → Point → Name → List Piece → List Piece
-printed_node given around left ahead passed last start end name printed =
-    if is_captured name
-    then closing given around left ahead passed last start end (layout given.ending printed) name
-    else opening given around ahead name ++ (printed ++ closing given around left ahead passed last start end [] name)
+printed_node given around left ahead passed last start end name inner =
+    opening given around ahead name
+    ++ ((if is_captured name then [] else inner)
+    ++ closing given around left ahead passed last start end (if is_captured name then layout given.ending inner else []) name)
 
 -- what some nodes print, one after another
 abbrev pub printed : Given → Surroundings → Before → Forest → List Piece
 printed given around before Empty = []
 printed given around before (Node name start end children rest) =
-    printed_node given around (left_of before) (ahead_of children) (passed_over children) (around.is_outermost && is_empty rest) start end name
+    printed_node given around (left_of before) (ahead_of children) (passed_over (spine_inside name before.spine) children)
+        (around.is_outermost && is_empty rest) start end name
         (printed given (inside given.options (is_loose children) name around) (before_children name before) children)
     ++ printed given around (before_next given around name children before) rest

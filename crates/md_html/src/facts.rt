@@ -70,3 +70,18 @@ pub struct Passed {
     /// The spine.
     pub spine: Spine,
 }
+
+/// A node that is open.
+#[derive(Clone, Copy)]
+pub struct Frame {
+    /// The surroundings of its children.
+    pub around: Surroundings,
+    /// Where it starts.
+    pub start: Point,
+    /// A line ending is slurped where it starts.
+    pub is_slurping: bool,
+    /// What its children tell ahead.
+    pub ahead: Ahead,
+    /// What its children tell so far.
+    pub passed: Passed,
+}

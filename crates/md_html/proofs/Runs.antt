@@ -1,0 +1,299 @@
+-- Running the events of some nodes prints what the nodes print.
+use Rattle.std.proofs.Common.{◌≡◌, ℕ, ◌+◌, Bool, true, false, ◌&&◌, ◌||◌, cond, List, [], ◌∷◌, ◌++◌, Option, Some, None, refl, ap, sym, ◌∙◌, subst, append_assoc, append-nil}
+use Rattle.std.specs.Prelude.{if◌then◌else◌, unwrap_or}
+use Rattle.std.specs.List.{list_any}
+use Rattle.md_base.specs.declared.event.Name.{Name}
+use Rattle.md_base.specs.declared.event.Name.TheVariants.{LineEnding, BlankLineEnding, BlockQuote, ListOrdered, ListUnordered, ListItem, GfmFootnoteDefinition, CodeIndented, CodeFenced, CodeFencedFence, MathFlow, MathFlowFence, CodeText, MathText, HtmlFlow, HtmlText, Definition, DefinitionDestinationString, Link, Image, ResourceDestinationString, HeadingSetextText, GfmTable, GfmTableHead, Paragraph, Frontmatter}
+use Rattle.md_base.specs.declared.event.Point.{Point}
+use Rattle.md_base.specs.declared.event.Event.{Event}
+use Rattle.md_tree.specs.Tree.{Forest, Empty, Node, flatten, entering, exiting}
+use Rattle.md_tree.specs.NameTests.{is_transparent, contributes, is_fence, is_chunk}
+use Rattle.md_tree.specs.Children.{spine_names, is_empty, last_name, last_contributing, or_else}
+use Rattle.md_tree.specs.Looseness.{is_loose}
+use Rattle.md_html.specs.declared.options.CompileOptions.{CompileOptions}
+use Rattle.md_html.specs.declared.facts.Surroundings.{Surroundings}
+use Rattle.md_html.specs.declared.facts.Spine.{Spine}
+use Rattle.md_html.specs.declared.facts.Ahead.{Ahead}
+use Rattle.md_html.specs.declared.facts.Passed.{Passed}
+use Rattle.md_html.specs.declared.facts.Frame.{Frame}
+use Rattle.md_html.specs.Piece.{Piece, Page, blank, lay, lay_piece, layout}
+use Rattle.md_html.specs.Surroundings.{Mark, Sets, Clears, is_slurping, own_marks, marks_of, inside, outermost, two_pass, last_of, told_by, spine_inside, spine_behind}
+use Rattle.md_html.specs.Given.{Given}
+use Rattle.md_html.specs.Places.{Before, Left, before_children, before_next, left_of, ahead_of, passed_over}
+use Rattle.md_html.specs.Printed.{opening, closing, is_captured, printed, printed_node}
+use Rattle.md_html.specs.Machine.{State, first_or, others_of, no_spine, no_ahead, entered, exited, with_name, passing, is_nil, run, beginning, closing_in, aheads_of, stepped, slurps_behind}
+
+-- pieces are laid one list after another
+pub lay-append : (ending : List ℕ) (page : Page) (xs ys : List Piece) → lay ending page (xs ++ ys) ≡ lay ending (lay ending page xs) ys
+lay-append ending page [] ys = refl
+lay-append ending page (x ∷ xs) ys = lay-append ending (lay_piece ending page x) xs ys
+
+-- marks before marks
+pub is_slurping-append : (marks before : List Mark) → is_slurping (marks ++ before) ≡ slurps_behind marks (is_slurping before)
+is_slurping-append [] before = refl
+is_slurping-append (Sets ∷ marks) before = refl
+is_slurping-append (Clears ∷ marks) before = refl
+
+pub slurps_behind-append : (marks before : List Mark) (s : Bool) → slurps_behind (marks ++ before) s ≡ slurps_behind marks (slurps_behind before s)
+slurps_behind-append [] before s = refl
+slurps_behind-append (Sets ∷ marks) before s = refl
+slurps_behind-append (Clears ∷ marks) before s = refl
+
+-- tests on a list with one more name
+or_assoc : (a b c : Bool) → (a || b) || c ≡ a || (b || c)
+or_assoc true b c = refl
+or_assoc false b c = refl
+
+or_false : (a : Bool) → a || false ≡ a
+or_false true = refl
+or_false false = refl
+
+list_any-push : (p : Name → Bool) (xs : List Name) (x : Name) → list_any p (xs ++ x ∷ []) ≡ list_any p xs || p x
+list_any-push p [] x = or_false (p x)
+list_any-push p (y ∷ ys) x = ap (λ b. p y || b) (list_any-push p ys x) ∙ sym (or_assoc (p y) (list_any p ys) (p x))
+
+two_step : (a b c t : Bool) → a && (b || c) || (t || b && c) ≡ (a && b || t) || (a || b) && c
+two_step true true true t = refl
+two_step true true false t = refl
+two_step true false true true = refl
+two_step true false true false = refl
+two_step true false false true = refl
+two_step true false false false = refl
+two_step false true true t = refl
+two_step false true false t = refl
+two_step false false true t = refl
+two_step false false false t = refl
+
+two_pass-push : (p : Name → Bool) (xs : List Name) (x : Name) → two_pass p (xs ++ x ∷ []) ≡ two_pass p xs || list_any p xs && p x
+two_pass-push p [] x = elim (p x) as (λ b. b && false || false ≡ false) [ true ↦ refl | false ↦ refl ]
+two_pass-push p (y ∷ ys) x =
+    ap (λ b. p y && b || two_pass p (ys ++ x ∷ [])) (list_any-push p ys x)
+    ∙ ap (λ b. p y && (list_any p ys || p x) || b) (two_pass-push p ys x)
+    ∙ two_step (p y) (list_any p ys) (p x) (two_pass p ys)
+
+last_of-push : (xs : List Name) (x : Name) → last_of (xs ++ x ∷ []) ≡ Some x
+last_of-push [] x = refl
+last_of-push (y ∷ ys) x = ap (λ o. Some (unwrap_or o y)) (last_of-push ys x)
+
+pub told_by-push : (xs : List Name) (x : Name) → told_by (xs ++ x ∷ []) ≡ with_name x (told_by xs)
+told_by-push xs x =
+    let e1 = list_any-push is_fence xs x in
+    let e2 = two_pass-push is_fence xs x in
+    let e3 = list_any-push is_chunk xs x in
+    let e4 = last_of-push xs x in
+    ap (λ b. record { has_fence = b; has_second_fence = two_pass is_fence (xs ++ x ∷ []); has_chunk = list_any is_chunk (xs ++ x ∷ []); last = last_of (xs ++ x ∷ []) }) e1
+    ∙ ap (λ b. record { has_fence = list_any is_fence xs || is_fence x; has_second_fence = b; has_chunk = list_any is_chunk (xs ++ x ∷ []); last = last_of (xs ++ x ∷ []) }) e2
+    ∙ ap (λ b. record { has_fence = list_any is_fence xs || is_fence x; has_second_fence = two_pass is_fence xs || list_any is_fence xs && is_fence x; has_chunk = b; last = last_of (xs ++ x ∷ []) }) e3
+    ∙ ap (λ b. record { has_fence = list_any is_fence xs || is_fence x; has_second_fence = two_pass is_fence xs || list_any is_fence xs && is_fence x; has_chunk = list_any is_chunk xs || is_chunk x; last = b }) e4
+
+-- small facts on options and tests
+or_else-none : {A : Type 0} (o : Option A) → or_else o None ≡ o
+or_else-none None = refl
+or_else-none (Some x) = refl
+
+or_else_last : (o : Option Name) (name : Name) (before : Option Name) → or_else o (Some name) ≡ or_else (Some (unwrap_or o name)) before
+or_else_last None name before = refl
+or_else_last (Some x) name before = refl
+
+or_else_assoc : (o : Option Name) (b : Bool) (name : Name) (before : Option Name) → or_else o (if b then Some name else before) ≡ or_else (or_else o (if b then Some name else None)) before
+or_else_assoc None true name before = refl
+or_else_assoc None false name before = refl
+or_else_assoc (Some x) b name before = refl
+
+-- a node's children are never outermost
+inside_outermost : (options : CompileOptions) (loose : Bool) (name : Name) (around : Surroundings) → (inside options loose name around).is_outermost ≡ false
+inside_outermost options loose BlockQuote around = refl
+inside_outermost options loose GfmFootnoteDefinition around = refl
+inside_outermost options loose _ around = refl
+
+-- an event is the last one where nothing follows its node, which is outermost
+last-event : (rest : Forest) (tail : List Event) → is_nil (flatten rest ++ tail) ≡ is_nil tail && is_empty rest
+last-event Empty [] = refl
+last-event Empty (e ∷ es) = refl
+last-event (Node name start end children rest) [] = refl
+last-event (Node name start end children rest) (e ∷ es) = refl
+
+-- the state after some nodes
+abbrev pub after : Given → Before → Forest → State → State
+after given before forest state = record state {
+  page = lay given.ending state.page (printed given state.frame.around before forest);
+  is_slurping = slurps_behind (marks_of given.options state.frame.around before.spine forest) state.is_slurping;
+  frame = record state.frame { passed = record {
+    last = or_else (last_name forest) state.frame.passed.last;
+    contributing = or_else (last_contributing forest) state.frame.passed.contributing;
+    spine = told_by (before.spine ++ spine_names forest)
+  } }
+}
+
+-- the state knows what stands before
+pub record Knows (state : State) (before : Before) : Type 0 where
+  pub slurping : state.is_slurping ≡ is_slurping before.marks
+  pub previous : state.frame.passed.last ≡ before.previous
+  pub spine : state.frame.passed.spine ≡ told_by before.spine
+
+after-nothing : (given : Given) (before : Before) (state : State) → Knows state before → after given before Empty state ≡ state
+after-nothing given before state knows =
+    ap (λ names. record state { frame = record state.frame { passed = record state.frame.passed { spine = told_by names } } }) (append-nil before.spine)
+    ∙ ap (λ s. record state { frame = record state.frame { passed = record state.frame.passed { spine = s } } }) (sym knows.spine)
+
+-- the children's state, from the node's
+children_know : (given : Given) (before : Before) (name : Name) (start : Point) (children : Forest) (captured : Bool) (state : State) → Knows state before →
+    Knows (entered given (ahead_of children) captured name start state) (before_children name before)
+children_know given before name start children captured state knows = record {
+  slurping = knows.slurping;
+  previous = refl;
+  spine =
+    ap (λ s. if is_transparent name then s else no_spine) knows.spine
+    ∙ elim (is_transparent name) as (λ b. (if b then told_by before.spine else no_spine) ≡ told_by (if b then before.spine else [])) [ true ↦ refl | false ↦ refl ]
+}
+
+-- what stands before a node's next sibling, as the state knows it when the node is left
+abbrev pub after_node : Given → Before → Bool → Bool → Name → Point → Point → Forest → State → State
+after_node given before last captured name start end children state = record state {
+  page = lay given.ending state.page
+    (opening given state.frame.around (ahead_of children) name
+    ++ ((if captured then [] else printed given (inside given.options (is_loose children) name state.frame.around) (before_children name before) children)
+    ++ closing given state.frame.around (left_of before) (ahead_of children) (passed_over (spine_inside name before.spine) children) last start end
+        (if captured then layout given.ending (printed given (inside given.options (is_loose children) name state.frame.around) (before_children name before) children) else []) name));
+  is_slurping = slurps_behind (own_marks state.frame.around (told_by before.spine) name) (slurps_behind (marks_of given.options (inside given.options (is_loose children) name state.frame.around) (spine_inside name before.spine) children) state.is_slurping);
+  frame = record state.frame { passed = passing name (told_by (spine_inside name before.spine ++ spine_names children)) state.frame.passed }
+}
+
+-- a page, laid on in parts
+lay_parts : (ending : List ℕ) (page : Page) (xs ys zs : List Piece) → lay ending (lay ending (lay ending page xs) ys) zs ≡ lay ending page (xs ++ (ys ++ zs))
+lay_parts ending page xs ys zs = sym (lay-append ending page xs (ys ++ zs) ∙ lay-append ending (lay ending page xs) ys zs)
+
+lay_two : (ending : List ℕ) (page : Page) (xs zs : List Piece) → lay ending (lay ending page xs) zs ≡ lay ending page (xs ++ zs)
+lay_two ending page xs zs = sym (lay-append ending page xs zs)
+
+-- what is known of the node when it is left
+left-known : (given : Given) (before : Before) (name : Name) (start : Point) (children : Forest) (captured : Bool) (state : State) → Knows state before →
+    (record { is_slurping = state.is_slurping; previous = state.frame.passed.last; spine = state.frame.passed.spine }) ≡ left_of before
+left-known given before name start children captured state knows =
+    let P : Bool → Left = λ s. record { is_slurping = s; previous = state.frame.passed.last; spine = state.frame.passed.spine } in
+    let Q : Option Name → Left = λ o. record { is_slurping = is_slurping before.marks; previous = o; spine = state.frame.passed.spine } in
+    let R : Spine → Left = λ s. record { is_slurping = is_slurping before.marks; previous = before.previous; spine = s } in
+    ap P knows.slurping ∙ ap Q knows.previous ∙ ap R knows.spine
+
+-- a node is left behind its children, whose text is not captured
+node_step-streamed : (given : Given) (before : Before) (last : Bool) (name : Name) (start end : Point) (children : Forest) (state : State) → Knows state before →
+    exited given last false name end (after given (before_children name before) children (entered given (ahead_of children) false name start state))
+    ≡ after_node given before last false name start end children state
+node_step-streamed given before last name start end children state knows =
+    let around = state.frame.around in
+    let opened : List Piece = opening given around (ahead_of children) name in
+    let inner : List Piece = printed given (inside given.options (is_loose children) name around) (before_children name before) children in
+    let spine : Spine = told_by (spine_inside name before.spine ++ spine_names children) in
+    let marks : List Mark = marks_of given.options (inside given.options (is_loose children) name around) (spine_inside name before.spine) children in
+    let close : Left → Option Name → Option Name → List Piece = λ left o p. closing given around left (ahead_of children) (record { last = o; contributing = p; spine = spine }) last start end [] name in
+    let at : Page → Spine → State = λ page told. record state {
+      page = page;
+      is_slurping = slurps_behind (own_marks around told name) (slurps_behind marks state.is_slurping);
+      frame = record state.frame { passed = passing name spine state.frame.passed }
+    } in
+    let left : Left = record { is_slurping = state.is_slurping; previous = state.frame.passed.last; spine = state.frame.passed.spine } in
+    let laid : Left → Option Name → Option Name → Spine → State = λ l o p told. at (lay given.ending (lay given.ending (lay given.ending state.page opened) inner) (close l o p)) told in
+    ap (λ l. laid l (or_else (last_name children) None) (or_else (last_contributing children) None) state.frame.passed.spine) (left-known given before name start children false state knows)
+    ∙ ap (λ o. laid (left_of before) o (or_else (last_contributing children) None) state.frame.passed.spine) (or_else-none (last_name children))
+    ∙ ap (λ o. laid (left_of before) (last_name children) o state.frame.passed.spine) (or_else-none (last_contributing children))
+    ∙ ap (λ told. laid (left_of before) (last_name children) (last_contributing children) told) knows.spine
+    ∙ ap (λ page. at page (told_by before.spine)) (lay_parts given.ending state.page opened inner (close (left_of before) (last_name children) (last_contributing children)))
+
+-- a node is left behind its children, whose text is captured
+node_step-captured : (given : Given) (before : Before) (last : Bool) (name : Name) (start end : Point) (children : Forest) (state : State) → Knows state before →
+    exited given last true name end (after given (before_children name before) children (entered given (ahead_of children) true name start state))
+    ≡ after_node given before last true name start end children state
+node_step-captured given before last name start end children state knows =
+    let around = state.frame.around in
+    let opened : List Piece = opening given around (ahead_of children) name in
+    let inner : List Piece = printed given (inside given.options (is_loose children) name around) (before_children name before) children in
+    let spine : Spine = told_by (spine_inside name before.spine ++ spine_names children) in
+    let marks : List Mark = marks_of given.options (inside given.options (is_loose children) name around) (spine_inside name before.spine) children in
+    let close : Left → Option Name → Option Name → List Piece = λ left o p. closing given around left (ahead_of children) (record { last = o; contributing = p; spine = spine }) last start end (layout given.ending inner) name in
+    let at : Page → Spine → State = λ page told. record state {
+      page = page;
+      is_slurping = slurps_behind (own_marks around told name) (slurps_behind marks state.is_slurping);
+      frame = record state.frame { passed = passing name spine state.frame.passed }
+    } in
+    let left : Left = record { is_slurping = state.is_slurping; previous = state.frame.passed.last; spine = state.frame.passed.spine } in
+    let laid : Left → Option Name → Option Name → Spine → State = λ l o p told. at (lay given.ending (lay given.ending state.page opened) (close l o p)) told in
+    ap (λ l. laid l (or_else (last_name children) None) (or_else (last_contributing children) None) state.frame.passed.spine) (left-known given before name start children true state knows)
+    ∙ ap (λ o. laid (left_of before) o (or_else (last_contributing children) None) state.frame.passed.spine) (or_else-none (last_name children))
+    ∙ ap (λ o. laid (left_of before) (last_name children) o state.frame.passed.spine) (or_else-none (last_contributing children))
+    ∙ ap (λ told. laid (left_of before) (last_name children) (last_contributing children) told) knows.spine
+    ∙ ap (λ page. at page (told_by before.spine)) (lay_two given.ending state.page opened (close (left_of before) (last_name children) (last_contributing children)))
+
+node_step : (given : Given) (before : Before) (last captured : Bool) (name : Name) (start end : Point) (children : Forest) (state : State) → Knows state before →
+    exited given last captured name end (after given (before_children name before) children (entered given (ahead_of children) captured name start state))
+    ≡ after_node given before last captured name start end children state
+node_step given before last true name start end children state knows = node_step-captured given before last name start end children state knows
+node_step given before last false name start end children state knows = node_step-streamed given before last name start end children state knows
+
+-- the next sibling's state knows what stands before it
+next_knows : (given : Given) (before : Before) (last captured : Bool) (name : Name) (start end : Point) (children : Forest) (state : State) → Knows state before →
+    Knows (after_node given before last captured name start end children state) (before_next given state.frame.around name children before)
+next_knows given before last captured name start end children state knows =
+    let own : List Mark = own_marks state.frame.around (told_by before.spine) name in
+    let marks : List Mark = marks_of given.options (inside given.options (is_loose children) name state.frame.around) (spine_inside name before.spine) children in
+    record {
+      slurping =
+        ap (λ s. slurps_behind own (slurps_behind marks s)) knows.slurping
+        ∙ sym (is_slurping-append (own ++ marks) before.marks ∙ slurps_behind-append own marks (is_slurping before.marks));
+      previous = refl;
+      spine = elim (is_transparent name) as (λ b. (if b then told_by ((if b then before.spine else []) ++ spine_names children) else with_name name state.frame.passed.spine) ≡ told_by (before.spine ++ (if b then spine_names children else name ∷ []))) [
+          true ↦ refl
+        | false ↦ ap (λ s. with_name name s) knows.spine ∙ sym (told_by-push before.spine name)
+        ]
+    }
+
+-- a node and then its siblings
+after-node : (given : Given) (before : Before) (name : Name) (start end : Point) (children rest : Forest) (state : State) →
+    after given (before_next given state.frame.around name children before) rest
+        (after_node given before (state.frame.around.is_outermost && is_empty rest) (is_captured name) name start end children state)
+    ≡ after given before (Node name start end children rest) state
+after-node given before name start end children rest state =
+    let around = state.frame.around in
+    let next : Before = before_next given around name children before in
+    let node : List Piece = printed_node given around (left_of before) (ahead_of children) (passed_over (spine_inside name before.spine) children) (around.is_outermost && is_empty rest) start end name (printed given (inside given.options (is_loose children) name around) (before_children name before) children) in
+    let own : List Mark = own_marks around (told_by before.spine) name in
+    let marks : List Mark = marks_of given.options (inside given.options (is_loose children) name around) (spine_inside name before.spine) children in
+    let later : List Mark = marks_of given.options around (spine_behind name children before.spine) rest in
+    let made : Page → Bool → Option Name → Option Name → List Name → State = λ page slurping o p names. record state {
+      page = page;
+      is_slurping = slurping;
+      frame = record state.frame { passed = record { last = o; contributing = p; spine = told_by names } }
+    } in
+    let own_contribution : Option Name = if contributes name then Some name else state.frame.passed.contributing in
+    ap (λ page. made page (slurps_behind later (slurps_behind own (slurps_behind marks state.is_slurping))) (or_else (last_name rest) (Some name)) (or_else (last_contributing rest) own_contribution) (spine_behind name children before.spine ++ spine_names rest))
+        (lay_two given.ending state.page node (printed given around next rest))
+    ∙ ap (λ s. made (lay given.ending state.page (node ++ printed given around next rest)) s (or_else (last_name rest) (Some name)) (or_else (last_contributing rest) own_contribution) (spine_behind name children before.spine ++ spine_names rest))
+        (sym (slurps_behind-append (later ++ own) marks state.is_slurping ∙ slurps_behind-append later own (slurps_behind marks state.is_slurping)))
+    ∙ ap (λ o. made (lay given.ending state.page (node ++ printed given around next rest)) (slurps_behind (later ++ own ++ marks) state.is_slurping) o (or_else (last_contributing rest) own_contribution) (spine_behind name children before.spine ++ spine_names rest))
+        (or_else_last (last_name rest) name state.frame.passed.last)
+    ∙ ap (λ o. made (lay given.ending state.page (node ++ printed given around next rest)) (slurps_behind (later ++ own ++ marks) state.is_slurping) (or_else (last_name (Node name start end children rest)) state.frame.passed.last) o (spine_behind name children before.spine ++ spine_names rest))
+        (or_else_assoc (last_contributing rest) (contributes name) name state.frame.passed.contributing)
+    ∙ ap (λ names. made (lay given.ending state.page (node ++ printed given around next rest)) (slurps_behind (later ++ own ++ marks) state.is_slurping) (or_else (last_name (Node name start end children rest)) state.frame.passed.last) (or_else (last_contributing (Node name start end children rest)) state.frame.passed.contributing) names)
+        (append_assoc before.spine (if is_transparent name then spine_names children else name ∷ []) (spine_names rest))
+
+-- running the events of some nodes, and what follows them
+pub run-flatten : (given : Given) (forest : Forest) (before : Before) (tail : List Event) (aheads : List Ahead) (state : State) →
+    Knows state before → state.frame.around.is_outermost ≡ is_nil tail →
+    run given (flatten forest ++ tail) (aheads_of forest ++ aheads) state ≡ run given tail aheads (after given before forest state)
+run-flatten given Empty before tail aheads state knows outer =
+    ap (λ s. run given tail aheads s) (sym (after-nothing given before state knows))
+run-flatten given (Node name start end children rest) before tail aheads state knows outer =
+    let captured : Bool = is_captured name in
+    let inner : State = entered given (ahead_of children) captured name start state in
+    let last : Bool = state.frame.around.is_outermost && is_empty rest in
+    let left : State = after_node given before last captured name start end children state in
+    let next : Before = before_next given state.frame.around name children before in
+    ap (λ es. run given es (aheads_of children ++ no_ahead ∷ aheads_of rest ++ aheads) inner) (append_assoc (flatten children) (exiting name end ∷ flatten rest) tail)
+    ∙ ap (λ as'. run given (flatten children ++ exiting name end ∷ (flatten rest ++ tail)) as' inner) (append_assoc (aheads_of children) (no_ahead ∷ aheads_of rest) aheads)
+    ∙ run-flatten given children (before_children name before) (exiting name end ∷ (flatten rest ++ tail)) (no_ahead ∷ (aheads_of rest ++ aheads)) inner
+        (children_know given before name start children captured state knows)
+        (inside_outermost given.options (is_loose children) name state.frame.around)
+    ∙ ap (λ l. run given (flatten rest ++ tail) (aheads_of rest ++ aheads) (exited given l captured name end (after given (before_children name before) children inner)))
+        (last-event rest tail ∙ ap (λ o. o && is_empty rest) (sym outer))
+    ∙ ap (λ s. run given (flatten rest ++ tail) (aheads_of rest ++ aheads) s) (node_step given before last captured name start end children state knows)
+    ∙ run-flatten given rest next tail aheads left (next_knows given before last captured name start end children state knows) outer
+    ∙ ap (λ s. run given tail aheads s) (after-node given before name start end children rest state)
