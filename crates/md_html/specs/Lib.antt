@@ -7,4 +7,5 @@ pub mod Blocks
 pub mod Printed
 pub mod Meaning
 pub mod Machine
+pub mod LookAhead
 pub mod Try

@@ -85,3 +85,36 @@ pub struct Frame {
     /// What its children tell so far.
     pub passed: Passed,
 }
+
+/// What the nodes behind an event tell of the node round them, whose children they are.
+#[derive(Clone, Copy)]
+pub struct Gathered {
+    /// Where the node round them ends.
+    pub end: Point,
+    /// The place of the first mark of a heading on the spine.
+    pub mark: Option<Position>,
+    /// The place of the first number on the spine.
+    pub value: Option<Position>,
+    /// The place of the number in the first prefix on the spine.
+    pub prefix: Option<Option<Position>>,
+    /// The place of the number in the first item on the spine.
+    pub item: Option<Option<Position>>,
+    /// There is no node.
+    pub is_empty: bool,
+    /// The first node is a blank line ending.
+    pub begins_blank: bool,
+    /// The first two nodes are a space or tab and a blank line ending.
+    pub begins_space_blank: bool,
+    /// There is at most one node, and that is a space or tab.
+    pub is_end: bool,
+    /// Nothing stands behind a marker in the last of them.
+    pub ends_bare: bool,
+    /// A blank line ending stands behind one of them and parts it from the next.
+    pub has_parting_blank: bool,
+    /// A blank line ending stands behind one that is no prefix.
+    pub has_inner_blank: bool,
+    /// One of them is a loose item.
+    pub has_loose_item: bool,
+    /// The name of the last of them.
+    pub last: Option<Name>,
+}
