@@ -36,7 +36,8 @@ fn is_white_space(character: char) -> bool
 }
 
 fn push_after_gap(text: &mut String, is_gap: bool, character: char) -> Result<(), AllocError>
-    ensures { OnOk result (string_bytes text.new ≡ string_bytes text.old ++ ((if is_gap then 32 ∷ [] else []) ++ encode_utf8 character)) }
+    ensures { OnOk result (string_bytes text.new
+        ≡ string_bytes text.old ++ ((if is_gap then 32 ∷ [] else []) ++ encode_utf8 character)) }
 {
     if is_gap {
         text.push(' ')?;

@@ -15,7 +15,8 @@ pub fn decode_character_reference(
     marker: u8,
     names: &[(&str, &str)],
 ) -> Result<Option<String>, AllocError>
-    ensures { IfOk result (λ text. option_map string_bytes text ≡ decoded (name_table names.now) marker value.now) }
+    ensures { IfOk result
+        (λ text. option_map string_bytes text ≡ decoded (name_table names.now) marker value.now) }
 {
     match marker {
         b'&' => copy_text(alloc, find_name(names, value)),

@@ -23,7 +23,8 @@ impl<'a> Slice<'a> {
     /// The slice between the points of a position; `None` where these don't fit the bytes.
     pub fn from_position(bytes: &'a [u8], position: &Position) -> Option<Slice<'a>>
         ensures fits { is_some result ≡ fits bytes.now position.now.start position.now.end }
-        ensures bytes { IfSome result (λ slice. slice.bytes.now ≡ bytes_between bytes.now position.now.start position.now.end) }
+        ensures bytes { IfSome result
+            (λ slice. slice.bytes.now ≡ bytes_between bytes.now position.now.start position.now.end) }
         ensures before { IfSome result (λ slice. slice.before ≡ spaces_before position.now.start) }
         ensures after { IfSome result (λ slice. slice.after ≡ spaces_after position.now.end) }
     {
@@ -59,7 +60,8 @@ impl<'a> Slice<'a> {
 
     /// How many bytes and spaces there are, or the greatest `usize` where there are more.
     pub fn len(&self) -> usize
-        ensures { result ≡ min (self.now.before + length self.now.bytes.now + self.now.after) usize.MAX }
+        ensures { result
+            ≡ min (self.now.before + length self.now.bytes.now + self.now.after) usize.MAX }
     {
         self.before
             .saturating_add(self.bytes.len())
@@ -75,7 +77,8 @@ impl<'a> Slice<'a> {
 
     /// The bytes as a text between the spaces; `None` where they aren't UTF-8.
     pub fn serialize(&self, alloc: Global) -> Result<Option<String>, AllocError>
-        ensures { IfOk result (λ text. option_map string_bytes text ≡ text_when true (replicate self.now.before 32 ++ self.now.bytes.now ++ replicate self.now.after 32)) }
+        ensures { let spaced = replicate self.now.before 32 ++ self.now.bytes.now ++ replicate self.now.after 32 in
+            IfOk result (λ text. option_map string_bytes text ≡ text_when true spaced) }
     {
         let Some(inner) = self.as_str() else {
             return Ok(None);
