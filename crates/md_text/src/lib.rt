@@ -3,7 +3,12 @@
 #![tactic(auto)]
 
 mod escape;
+mod filter;
 mod line_ending;
+mod names;
+mod url;
 
 pub use escape::encode;
+pub use filter::gfm_tagfilter;
 pub use line_ending::{LineEnding, LineEndingError};
+pub use url::{sanitize, sanitize_with_protocols};
