@@ -1,1 +1,9 @@
+pub mod Grammar
+pub mod Mentions
+pub mod Names
+pub mod Pattern
+pub mod Rules
+pub mod Shape
+pub mod Spine
+pub mod Standing
 pub mod Tree
