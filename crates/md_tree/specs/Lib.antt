@@ -1,7 +1,9 @@
+pub mod Checked
 pub mod Grammar
 pub mod Mentions
 pub mod Names
 pub mod Pattern
+pub mod Refusal
 pub mod Rules
 pub mod Shape
 pub mod Spine

@@ -1,5 +1,6 @@
 -- The side conditions of the grammar: what the bytes of each node have to be.
 use Rattle.std.specs.Prelude.{◌≡◌, ℕ, ◌+◌, ◌-◌, Bool, ◌&&◌, ◌||◌, ◌==◌, nat_lt, nat_le, if◌then◌else◌, Option, Some, None, is_some, List, [], ◌∷◌, length, bytes_eq}
+use Rattle.md_base.specs.declared.event.Name.{Name}
 use Rattle.md_base.specs.declared.event.Point.{Point}
 use Rattle.md_base.specs.declared.event.Position.{Position}
 use Rattle.md_base.specs.Place.{byte_index, spaces_before, spaces_after, fits, text_between, label_between}
@@ -97,24 +98,21 @@ broken_rule bytes names reading.Identifier around before start end target = brok
 broken_rule bytes names reading.Media around before start end target = broken_by_target target
 broken_rule bytes names _ around before start end target = None
 
--- a claim about the nodes that stand on a spine, by what is read of each and its target
-abbrev pub Reads : Type 1
-Reads = Reading → Role → Option Symbol → Point → Point → Target → Type 0
+-- the same for each way to stand: of a node that stands on no spine nothing is read
+abbrev pub broken_where : List ℕ → List (List ℕ × List ℕ) → Standing → Role → Option Symbol → Point → Point → Target → Option Rule
+broken_where bytes names (Solid symbol usual reading) around before start end target =
+    broken_rule bytes names reading around before start end target
+broken_where bytes names _ around before start end target = None
 
--- such a claim holds of a node, where it stands on a spine
-abbrev pub HoldsWhereSolid : Reads → Standing → Role → Option Symbol → Point → Point → Target → Type 0
-HoldsWhereSolid holds (Solid symbol usual reading) around before start end target = holds reading around before start end target
-HoldsWhereSolid holds _ around before start end target = Unit {0}
+-- the rule that a node breaks, in a node of a role and after a symbol on its spine
+abbrev pub broken_at : List ℕ → List (List ℕ × List ℕ) → Role → Option Symbol → Name → Point → Point → Forest → Option Rule
+broken_at bytes names around before name start end children =
+    broken_where bytes names (standing_of name) around before start end (target_of children Missing)
 
--- a node is read and breaks no rule
-abbrev pub IsUnbroken : List ℕ → List (List ℕ × List ℕ) → Reads
-IsUnbroken bytes names reading around before start end target = broken_rule bytes names reading around before start end target ≡ None
+-- a node meets the rules that are judged by itself and by what stands before it in the nodes around
+abbrev pub MeetsRules : List ℕ → List (List ℕ × List ℕ) → Claim
+MeetsRules bytes names around before name start end children = broken_at bytes names around before name start end children ≡ None
 
--- a claim as one about nodes
-abbrev pub IsRead : Reads → Claim
-IsRead holds around before name start end children =
-    HoldsWhereSolid holds (standing_of name) around before start end (target_of children Missing)
-
--- each node meets the rules that are judged by itself and by what stands before it in the nodes around
+-- each node meets them
 abbrev pub MeetRules : List ℕ → List (List ℕ × List ℕ) → Forest → Role → Option Symbol → Type 0
-MeetRules bytes names forest around before = EachNode (IsRead (IsUnbroken bytes names)) forest around before
+MeetRules bytes names forest around before = EachNode (MeetsRules bytes names) forest around before
