@@ -1,5 +1,6 @@
 pub mod Checked
 pub mod Grammar
+pub mod Machine
 pub mod Mentions
 pub mod Names
 pub mod Pattern

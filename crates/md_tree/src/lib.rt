@@ -7,6 +7,8 @@ mod pattern;
 mod rule;
 mod shape;
 mod standing;
+mod state;
+mod steps;
 
 pub use checked::Checked;
 pub use rule::{CompileError, Rule};
