@@ -1,5 +1,5 @@
 -- Identifiers of definitions and footnotes, as they are compared.
-use Rattle.std.specs.Prelude.{ℕ, Bool, not, ◌||◌, ◌==◌, List, length, filter, chars, encode_utf8_all}
+use Rattle.std.specs.Prelude.{ℕ, Bool, true, false, ◌||◌, ◌==◌, List, [], ◌∷◌, filter, chars, encode_utf8_all}
 use Rattle.std.specs.List.{slice_split, join_with_byte}
 use Rattle.caseless.specs.Caseless.{default_case_fold}
 
@@ -7,9 +7,13 @@ use Rattle.caseless.specs.Caseless.{default_case_fold}
 abbrev pub is_white : ℕ → Bool
 is_white byte = byte == 9 || byte == 10 || byte == 13 || byte == 32
 
+abbrev pub is_nonempty : List ℕ → Bool
+is_nonempty [] = false
+is_nonempty (byte ∷ bytes) = true
+
 -- each run of white space becomes one space, and none is left at the ends
 abbrev pub collapsed : List ℕ → List ℕ
-collapsed text = join_with_byte 32 (filter (λ word. not (length word == 0)) (slice_split is_white text))
+collapsed text = join_with_byte 32 (filter is_nonempty (slice_split is_white text))
 
 -- a text with full case folding
 abbrev pub folded : List ℕ → List ℕ

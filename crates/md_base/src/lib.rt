@@ -3,7 +3,18 @@
 #![tactic(auto)]
 
 mod event;
+mod identifier;
 mod lists;
+mod name;
+mod position;
+mod reference;
+mod slice;
+#[cfg(test)]
+mod tests;
 
 pub use event::{AlignKind, Event, Kind, Name, Point, Position};
+pub use identifier::normalize_identifier;
 pub use lists::{GFM_HTML_TAGFILTER_NAMES, SAFE_PROTOCOL_HREF, SAFE_PROTOCOL_SRC};
+pub use name::is_same_name;
+pub use reference::decode_character_reference;
+pub use slice::Slice;

@@ -1,0 +1,4 @@
+pub mod EnumLemmas
+pub mod IdentifierLemmas
+pub mod ReferenceLemmas
+pub mod SpaceLemmas

@@ -1,0 +1,96 @@
+-- Names looked up in a table, and digits read as a number.
+use Rattle.std.proofs.Common.{◌≡◌, ℕ, ◌+◌, ◌<◌, ◌≤◌, ◌^◌, Bool, true, false, not, eqb, nat_lt, cond, ◌&&◌, ◌≢◌, inl, inr, subst, List, [], ◌∷◌, length, get_or, drop, Option, Some, None, Result, Ok, Err, Decides, refl, sym, ap, ◌∙◌, arith, bytes_eq}
+use Rattle.std.specs.Prelude.{option_map, find, OkIff}
+use Rattle.std.specs.Borrow.{Bor}
+use Rattle.std.specs.Char.{digit_value}
+use Rattle.std.specs.List.{list_all}
+use Rattle.std.specs.Result.{result_ok}
+use Rattle.std.specs.Str.Parse.{AllDigits, IsNumeral, digits_value, ParsesUnsigned}
+use Rattle.std.proofs.lemmas.List.{drop_more, drop_all}
+use Rattle.std.proofs.lemmas.Bool.{cases_Bool}
+use Rattle.std.proofs.lemmas.Bool.Decides.{Decides-and, Decides-ltb, Decides-eqb, Decides-not, Decides-like}
+use Rattle.std.proofs.lemmas.Str.Parse.{without_leading_plus_none}
+use Rattle.md_base.specs.Reference.{name_table, named, is_number, character_of, numbered}
+
+abbrev Entry : Type 0
+Entry = Bor (List ℕ) × Bor (List ℕ)
+
+-- ---- a look-up, one entry on
+
+abbrev chosen : List ℕ → Entry → List Entry → Bool → Option (List ℕ)
+chosen name entry rest test =
+    option_map (λ pair. pair.1) (cond test (Some (entry.0.now, entry.1.now)) (find (λ pair. bytes_eq pair.0 name) (name_table rest)))
+
+pub named_here : (names : List Entry) (i : ℕ) (d : Entry) (name : List ℕ) → i < length names → bytes_eq (get_or names i d).0.now name ≡ true → named (name_table (drop i names)) name ≡ Some (get_or names i d).1.now
+named_here names i d name inside same =
+    ap (λ rest. named (name_table rest) name) (drop_more names i d inside) ∙ ap (chosen name (get_or names i d) (drop (i + 1) names)) same
+
+pub named_past : (names : List Entry) (i : ℕ) (d : Entry) (name : List ℕ) → i < length names → bytes_eq (get_or names i d).0.now name ≡ false → named (name_table (drop i names)) name ≡ named (name_table (drop (i + 1) names)) name
+named_past names i d name inside other =
+    ap (λ rest. named (name_table rest) name) (drop_more names i d inside) ∙ ap (chosen name (get_or names i d) (drop (i + 1) names)) other
+
+pub named_end : (names : List Entry) (i : ℕ) (name : List ℕ) → length names ≤ i → named (name_table (drop i names)) name ≡ None
+named_end names i name past = ap (λ rest. named (name_table rest) name) (drop_all i names past)
+
+-- ---- a number
+
+all_digits-Decides : (radix : ℕ) (digits : List ℕ) → Decides (list_all (λ digit. nat_lt (digit_value digit) radix) digits) (AllDigits radix digits)
+all_digits-Decides radix [] = (λ _. tt, λ _. refl)
+all_digits-Decides radix (digit ∷ digits) =
+    Decides-and (nat_lt (digit_value digit) radix) (list_all (λ d. nat_lt (digit_value d) radix) digits) (Decides-ltb (digit_value digit) radix) (all_digits-Decides radix digits)
+
+some_digits-Decides : (digits : List ℕ) → Decides (not (eqb (length digits) 0)) (0 < length digits)
+some_digits-Decides digits =
+    Decides-like (not (eqb (length digits) 0)) (λ h. omega (arith, h)) (λ h e. omega (arith, h, e)) (Decides-not (eqb (length digits) 0) (Decides-eqb (length digits) 0))
+
+pub is_number-Decides : (radix : ℕ) (digits : List ℕ) → Decides (is_number radix digits) (IsNumeral radix digits × (digits_value radix digits < 2 ^ 32))
+is_number-Decides radix digits =
+    let all = list_all (λ digit. nat_lt (digit_value digit) radix) digits in
+    let some = not (eqb (length digits) 0) in
+    Decides-and (some && all) (nat_lt (digits_value radix digits) (2 ^ 32))
+    (Decides-and some all (some_digits-Decides digits) (all_digits-Decides radix digits))
+    (Decides-ltb (digits_value radix digits) (2 ^ 32))
+
+-- ---- what `from_str_radix` answers where no plus stands first
+
+abbrev chosen_number : ℕ → List ℕ → Bool → Option (List ℕ)
+chosen_number radix digits test = cond test (Some (character_of (digits_value radix digits))) None
+
+read_ok : {E : Type 0} (r : Result ℕ E) (P : Type 0) (n v : ℕ) → Some n ≡ result_ok r → OkIff r P v → P × (n ≡ v)
+read_ok (Ok m) P n v e h = (h.0, (let same : n ≡ m = cc in same ∙ h.1))
+read_ok (Err m) P n v e h = cc
+
+read_none : {E : Type 0} (r : Result ℕ E) (P : Type 0) (v : ℕ) → None ≡ result_ok r → OkIff r P v → ¬ P
+read_none (Ok m) P v e h = cc
+read_none (Err m) P v e h = h
+
+plain : {E : Type 0} (radix : ℕ) (digits : List ℕ) (r : Result ℕ E) → get_or digits 0 0 ≢ 43 → ParsesUnsigned 32 radix digits r → OkIff r (IsNumeral radix digits × (digits_value radix digits < 2 ^ 32)) (digits_value radix digits)
+plain radix digits r no_plus h =
+    let e = without_leading_plus_none digits no_plus in
+    subst (λ ds. OkIff r (IsNumeral radix ds × (digits_value radix ds < 2 ^ 32)) (digits_value radix ds)) e h
+
+pub numbered_ok : {E : Type 0} (radix : ℕ) (digits : List ℕ) (r : Result ℕ E) (code : ℕ) → get_or digits 0 0 ≢ 43 → ParsesUnsigned 32 radix digits r → Some code ≡ result_ok r → Some (character_of code) ≡ numbered radix digits
+numbered_ok radix digits r code no_plus parsed e =
+    let read = read_ok r _ code (digits_value radix digits) e (plain radix digits r no_plus parsed) in
+    ap (λ n. Some (character_of n)) read.1 ∙ sym (ap (chosen_number radix digits) ((is_number-Decides radix digits).1 read.0))
+
+pub numbered_none : {E : Type 0} (radix : ℕ) (digits : List ℕ) (r : Result ℕ E) → get_or digits 0 0 ≢ 43 → ParsesUnsigned 32 radix digits r → None ≡ result_ok r → None ≡ numbered radix digits
+numbered_none radix digits r no_plus parsed e =
+    let no = read_none r _ (digits_value radix digits) e (plain radix digits r no_plus parsed) in
+    elim (cases_Bool (is_number radix digits)) [
+      | inl holds ↦ absurd (no ((is_number-Decides radix digits).0 holds))
+      | inr isnt ↦ sym (ap (chosen_number radix digits) isnt)
+    ]
+
+plus_is_no_digit : (radix : ℕ) (digits : List ℕ) → radix ≤ 36 → get_or digits 0 0 ≡ 43 → AllDigits radix digits → 0 < length digits → ⊥
+plus_is_no_digit radix [] low e all some = omega (arith, some)
+plus_is_no_digit radix (digit ∷ digits) low e all some =
+    let big : digit_value digit ≡ 36 = ap digit_value e in
+    omega (arith, all.0)
+
+pub numbered_plus : (radix : ℕ) (digits : List ℕ) → radix ≤ 36 → get_or digits 0 0 ≡ 43 → None ≡ numbered radix digits
+numbered_plus radix digits low e =
+    elim (cases_Bool (is_number radix digits)) [
+      | inl holds ↦ (let number = (is_number-Decides radix digits).0 holds in absurd (plus_is_no_digit radix digits low e number.0.1 number.0.0))
+      | inr isnt ↦ sym (ap (chosen_number radix digits) isnt)
+    ]

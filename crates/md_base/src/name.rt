@@ -1,0 +1,10 @@
+ghost use Rattle.std.specs.Prelude.{◌≡◌, ◌↔◌, IsTrue};
+
+use crate::event::Name;
+
+/// Whether two names are one: `==`, in a form that proofs can use.
+pub fn is_same_name(a: Name, b: Name) -> bool
+    ensures { IsTrue result ↔ (a ≡ b) }
+{
+    a == b
+}

@@ -1,0 +1,112 @@
+ghost use Rattle.std.specs.Prelude.{◌≡◌, ◌+◌, ◌^◌, ◌<◌, ◌++◌, true, SomeIff, min, replicate, length, nat_le, ◌&&◌, is_some, option_copied, option_map, string_bytes, slice_range, IfSome, IfOk, OnOk};
+ghost use Rattle.md_base.specs.Place as spec;
+ghost use Rattle.md_base.specs.Place.{fits, bytes_between, spaces_before, spaces_after, text_when};
+
+use crate::event::{Point, Position};
+use std::alloc::{AllocError, Global};
+
+/// How many columns a tab has.
+const TAB_SIZE: usize = 4;
+
+/// The bytes of a node, with the columns of the tabs that are cut at its two ends.
+#[derive(Drop)]
+pub struct Slice<'a> {
+    /// The bytes.
+    pub bytes: &'a [u8],
+    /// How many spaces stand for a tab that is cut at the start.
+    pub before: usize,
+    /// How many spaces stand for a tab that is cut at the end.
+    pub after: usize,
+}
+
+impl<'a> Slice<'a> {
+    /// The slice between the points of a position; `None` where these don't fit the bytes.
+    pub fn from_position(bytes: &'a [u8], position: &Position) -> Option<Slice<'a>>
+        ensures fits { is_some result ≡ fits bytes.now position.now.start position.now.end }
+        ensures bytes { IfSome result
+            (λ slice. slice.bytes.now ≡ bytes_between bytes.now position.now.start position.now.end) }
+        ensures before { IfSome result (λ slice. slice.before ≡ spaces_before position.now.start) }
+        ensures after { IfSome result (λ slice. slice.after ≡ spaces_after position.now.end) }
+    {
+        let Position { start, end } = *position;
+        if start.vs > TAB_SIZE || end.vs > TAB_SIZE {
+            return None;
+        }
+        let between = Slice::from_indices(bytes, byte_index(start)?, byte_index(end)?)?;
+        Some(Slice {
+            bytes: between.bytes,
+            before: if start.vs > 0 { TAB_SIZE - start.vs } else { 0 },
+            after: end.vs.saturating_sub(1),
+        })
+    }
+
+    /// The slice between two indices; `None` unless they are in order and within the bytes.
+    pub fn from_indices(bytes: &'a [u8], start: usize, end: usize) -> Option<Slice<'a>>
+        ensures fits { is_some result ≡ (nat_le start end && nat_le end (length bytes.now)) }
+        ensures bytes { IfSome result (λ slice. slice.bytes.now ≡ slice_range bytes.now start end) }
+        ensures before { IfSome result (λ slice. slice.before ≡ 0) }
+        ensures after { IfSome result (λ slice. slice.after ≡ 0) }
+    {
+        if start <= end && end <= bytes.len() {
+            Some(Slice {
+                bytes: &bytes[start..end],
+                before: 0,
+                after: 0,
+            })
+        } else {
+            None
+        }
+    }
+
+    /// How many bytes and spaces there are, or the greatest `usize` where there are more.
+    pub fn len(&self) -> usize
+        ensures { result
+            ≡ min (self.now.before + length self.now.bytes.now + self.now.after) usize.MAX }
+    {
+        self.before
+            .saturating_add(self.bytes.len())
+            .saturating_add(self.after)
+    }
+
+    /// The bytes as a text; `None` where they aren't UTF-8.
+    pub fn as_str(&self) -> Option<&'a str>
+        ensures { option_copied result ≡ text_when true self.now.bytes.now }
+    {
+        std::str::from_utf8(self.bytes).ok()
+    }
+
+    /// The bytes as a text between the spaces; `None` where they aren't UTF-8.
+    pub fn serialize(&self, alloc: Global) -> Result<Option<String>, AllocError>
+        ensures { let spaced = replicate self.now.before 32 ++ self.now.bytes.now ++ replicate self.now.after 32 in
+            IfOk result (λ text. option_map string_bytes text ≡ text_when true spaced) }
+    {
+        let Some(inner) = self.as_str() else {
+            return Ok(None);
+        };
+        let mut text = String::new(alloc);
+        push_spaces(&mut text, self.before)?;
+        text.push_str(inner)?;
+        push_spaces(&mut text, self.after)?;
+        Ok(Some(text))
+    }
+}
+
+/// The index of the byte that a point stands before, behind a tab that is cut there.
+fn byte_index(point: Point) -> Option<usize>
+    ensures { SomeIff result (spec.byte_index point < 2 ^ 64) (spec.byte_index point) }
+{
+    if point.vs > 0 {
+        point.index.checked_add(1)
+    } else {
+        Some(point.index)
+    }
+}
+
+fn push_spaces(text: &mut String, count: usize) -> Result<(), AllocError>
+    ensures { OnOk result (string_bytes text.new ≡ string_bytes text.old ++ replicate count 32) }
+{
+    for _space in 0..count {
+        text.push(' ')?;
+    }
+    Ok(())
+}
