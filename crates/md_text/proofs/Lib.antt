@@ -1,0 +1,4 @@
+pub mod HighBytes
+pub mod EncodeLemmas
+pub mod UrlLemmas
+pub mod FilterLemmas

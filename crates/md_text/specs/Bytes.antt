@@ -1,0 +1,32 @@
+-- Tests on bytes, and texts of ASCII letters in one case.
+use Rattle.std.specs.Prelude.{ℕ, ◌+◌, Bool, ◌&&◌, ◌||◌, if◌then◌else◌, List, map, nat_le, nat_eq}
+use Rattle.std.specs.Cmp.Lexicographic.{pointwise}
+use Rattle.std.specs.List.{list_any}
+
+-- from the first to the last of two bytes
+abbrev pub is_between : ℕ → ℕ → ℕ → Bool
+is_between first last b = nat_le first b && nat_le b last
+
+-- an ASCII letter of either case
+abbrev pub is_letter : ℕ → Bool
+is_letter b = is_between 65 90 b || is_between 97 122 b
+
+-- an ASCII letter or digit
+abbrev pub is_letter_or_digit : ℕ → Bool
+is_letter_or_digit b = is_letter b || is_between 48 57 b
+
+-- an ASCII letter lowered, every other byte as it is
+abbrev pub lower : ℕ → ℕ
+lower b = if is_between 65 90 b then b + 32 else b
+
+-- a text with its ASCII letters lowered
+abbrev pub lowered : List ℕ → List ℕ
+lowered text = map lower text
+
+-- the same bytes
+abbrev pub same_text : List ℕ → List ℕ → Bool
+same_text x y = pointwise nat_eq x y
+
+-- one of these texts
+abbrev pub is_one_of : List (List ℕ) → List ℕ → Bool
+is_one_of texts text = list_any (same_text text) texts

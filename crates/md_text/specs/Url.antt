@@ -1,0 +1,60 @@
+-- URLs: what stays of a text, which protocol it has, and which protocols are kept.
+use Rattle.std.specs.Prelude.{ℕ, ◌+◌, ◌/◌, ◌%◌, Bool, true, false, ◌&&◌, ◌||◌, ◌==◌, if◌then◌else◌, nat_lt, List, [], ◌∷◌, ◌++◌, map, Option, Some, None, option_map}
+use Rattle.std.specs.Option.{option_map_or}
+use Rattle.md_text.specs.Bytes.{is_between, is_letter, is_letter_or_digit, lowered, is_one_of}
+use Rattle.md_text.specs.Encode.{encoded}
+
+-- `!`, `#`, `$`, from `&` to `;`, `=`, from `?` to `Z`, `_`, a lower-case letter, `~`
+abbrev pub stays_anywhere : ℕ → Bool
+stays_anywhere b =
+    (b == 33) || (b == 35) || (b == 36) || is_between 38 59 b || (b == 61) || is_between 63 90 b || (b == 95) || is_between 97 122 b || (b == 126)
+
+-- what follows a `%` makes it the first byte of a percent triple: two ASCII letters or digits
+abbrev pub completes_triple : List ℕ → Bool
+completes_triple [] = false
+completes_triple (a ∷ []) = false
+completes_triple (a ∷ b ∷ rest) = is_letter_or_digit a && is_letter_or_digit b
+
+-- a byte stays as it is before the bytes that follow it
+abbrev pub stays : ℕ → List ℕ → Bool
+stays b rest = stays_anywhere b || ((b == 37) && completes_triple rest)
+
+-- a hexadecimal digit, in upper case
+abbrev pub hex_digit : ℕ → ℕ
+hex_digit d = if nat_lt d 10 then 48 + d else 55 + d
+
+-- `%` and a byte in two hexadecimal digits
+abbrev pub percent : ℕ → List ℕ
+percent b = 37 ∷ hex_digit (b / 16) ∷ hex_digit (b % 16) ∷ []
+
+-- what a byte becomes before the bytes that follow it
+abbrev pub normalized_byte : ℕ → List ℕ → List ℕ
+normalized_byte b rest = if stays b rest then b ∷ [] else percent b
+
+-- each byte by what it is and what follows it; a character that doesn't stay is written byte by byte
+abbrev pub normalized_url : List ℕ → List ℕ
+normalized_url [] = []
+normalized_url (b ∷ rest) = normalized_byte b rest ++ normalized_url rest
+
+-- a URL that may stand in HTML
+abbrev pub sanitized : List ℕ → List ℕ
+sanitized text = encoded true (normalized_url text)
+
+-- `?`, `#` or `/`, which end the place where a protocol may stand
+abbrev pub ends_protocol : ℕ → Bool
+ends_protocol b = (b == 63) || (b == 35) || (b == 47)
+
+-- what stands before the first colon, where none of `?`, `#`, `/` stands before that
+abbrev pub protocol_of : List ℕ → Option (List ℕ)
+protocol_of [] = None
+protocol_of (b ∷ rest) =
+    if b == 58 then Some []
+    else (if ends_protocol b then None else option_map (λ before. b ∷ before) (protocol_of rest))
+
+-- no protocol, or one that is in the list once its ASCII letters are lowered
+abbrev pub has_permitted_protocol : List (List ℕ) → List ℕ → Bool
+has_permitted_protocol protocols url = option_map_or (λ protocol. is_one_of protocols (lowered protocol)) (protocol_of url) true
+
+-- the sanitized URL, or nothing where its protocol isn't permitted
+abbrev pub sanitized_with : List (List ℕ) → List ℕ → List ℕ
+sanitized_with protocols text = if has_permitted_protocol protocols (sanitized text) then sanitized text else []
