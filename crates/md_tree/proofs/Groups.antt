@@ -98,7 +98,7 @@ advance_spot state symbol =
     ∙ moved_spot (pattern_of state.role) state.stage state.position symbol
 
 -- what a symbol leaves alone
-advance_role : (state next : State) (symbol : Symbol) → advance state symbol ≡ Some next → (next.role ≡ state.role) × (next.before ≡ Some symbol)
+pub advance_role : (state next : State) (symbol : Symbol) → advance state symbol ≡ Some next → (next.role ≡ state.role) × (next.before ≡ Some symbol)
 advance_role state next symbol e =
     let m = option_map-some (λ (n : ℕ × Stage). record { role = state.role; before = Some symbol; position = n.0; stage = n.1 }) (moved state.stage state.position (items_of state) symbol) next e in
     (ap (λ (s : State). s.role) (sym m.2), ap (λ (s : State). s.before) (sym m.2))

@@ -1,2 +1,3 @@
 pub mod Greedy
 pub mod Groups
+pub mod Trees

@@ -102,15 +102,18 @@ abbrev pub may_hold : Role → Bool
 may_hold role.Childless = false
 may_hold _ = true
 
--- where the children of a node begin, if it may stand here
-abbrev pub entered : Standing → State → Target → Option Entry
-entered Through state target = if may_hold state.role then Some (record { state = state; target = target; outer = None }) else None
-entered Space state target =
-    if may_hold state.role then Some (record { state = start_of role.Childless; target = Missing; outer = Some (record { state = state; before = state.before; target = target; reading = Free }) })
-    else None
-entered (Solid symbol usual reading) state target =
+-- where the children of a node begin, if it may stand on this spine
+abbrev pub entered_on : Standing → State → Target → Option Entry
+entered_on Through state target = Some (record { state = state; target = target; outer = None })
+entered_on Space state target =
+    Some (record { state = start_of role.Childless; target = Missing; outer = Some (record { state = state; before = state.before; target = target; reading = Free }) })
+entered_on (Solid symbol usual reading) state target =
     option_map (λ next. record { state = start_of (role_for state.role state.before usual); target = Missing; outer = Some (record { state = next; before = state.before; target = target; reading = reading }) }) (advance state symbol)
-entered Mdx state target = None
+entered_on Mdx state target = None
+
+-- the same, where the node around may have children
+abbrev pub entered : Standing → State → Target → Option Entry
+entered standing state target = if may_hold state.role then entered_on standing state target else None
 
 -- how far events have been read; of the open nodes the innermost is first
 pub record Course : Type 0 where

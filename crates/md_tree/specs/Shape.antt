@@ -90,6 +90,6 @@ IsShapedNode around before name start end children = (around ≢ role.Childless)
 abbrev pub AreShaped : Forest → Role → Option Symbol → Type 0
 AreShaped forest around before = EachNode IsShapedNode forest around before
 
--- a document has the shape of the grammar
+-- a document has the shape of the grammar: so have its nodes, and its own spine matches the document's pattern
 abbrev pub IsShaped : Forest → Type 0
-IsShaped forest = AreShaped forest role.Flow None
+IsShaped forest = AreShaped forest role.Flow None × Matches role.Flow (spine forest)

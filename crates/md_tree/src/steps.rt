@@ -1,7 +1,7 @@
 ghost use Rattle.std.specs.Prelude.{◌≡◌, ◌<◌, ◌+◌, ◌^◌, drop};
 ghost use Rattle.std.specs.List.{list_all};
 ghost use Rattle.md_tree.specs.Machine.{begun_by, continued, is_optional, after_item, seek, advance, items_of, is_complete, start_of, may_hold, entered};
-ghost use Rattle.md_tree.specs.declared.kinds.Standing.TheVariants as standing;
+ghost use Rattle.md_tree.specs.declared.kinds.Target.TheVariants.{Missing};
 
 use crate::kinds::{Item, Reading, Role, Standing, Symbol, Target, Times};
 use crate::pattern::{pattern, takes};
@@ -137,49 +137,44 @@ fn can_hold(role: Role) -> bool
 pub fn entry(standing: Standing, state: State, target: Target) -> Option<Entry>
     ensures { result ≡ entered standing state target }
 {
+    if !can_hold(state.role) {
+        return None;
+    }
     match standing {
-        Standing::Through => entry_through(state, target),
-        Standing::Space => entry_space(state, target),
+        Standing::Through => Some(Entry {
+            state,
+            target,
+            outer: None,
+        }),
+        Standing::Space => Some(below(Role::Childless, outer(state, state, target, Reading::Free))),
         Standing::Solid(symbol, usual, reading) => {
             let next = advanced(state, symbol)?;
-            Some(Entry {
-                state: start(role_of(state.role, state.before, usual)),
-                target: Target::Missing,
-                outer: Some(Outer {
-                    state: next,
-                    before: state.before,
-                    target,
-                    reading,
-                }),
-            })
+            let role = role_of(state.role, state.before, usual);
+            Some(below(role, outer(next, state, target, reading)))
         }
         Standing::Mdx => None,
     }
 }
 
-/// A transparent node's children stand on the spine around it.
-fn entry_through(state: State, target: Target) -> Option<Entry>
-    ensures { result ≡ entered standing.Through state target }
+/// What waits for the end of a node, by the spine with and without it.
+fn outer(after: State, before: State, target: Target, reading: Reading) -> Outer
+    ensures { result ≡ record { state = after; before = before.before; target = target; reading = reading } }
 {
-    can_hold(state.role).then_some(Entry {
-        state,
+    Outer {
+        state: after,
+        before: before.before,
         target,
-        outer: None,
-    })
+        reading,
+    }
 }
 
-/// A space or tab has no children.
-fn entry_space(state: State, target: Target) -> Option<Entry>
-    ensures { result ≡ entered standing.Space state target }
+/// A spine of its own.
+fn below(role: Role, outer: Outer) -> Entry
+    ensures { result ≡ record { state = start_of role; target = Missing; outer = Some outer } }
 {
-    can_hold(state.role).then_some(Entry {
-        state: start(Role::Childless),
+    Entry {
+        state: start(role),
         target: Target::Missing,
-        outer: Some(Outer {
-            state,
-            before: state.before,
-            target,
-            reading: Reading::Free,
-        }),
-    })
+        outer: Some(outer),
+    }
 }
