@@ -1,5 +1,5 @@
 -- One step more of the run.
-use Rattle.std.proofs.Common.{◌≡◌, ◌==◌, Bool, List, [], ◌∷◌, length, refl, ap, sym, ◌∙◌}
+use Rattle.std.proofs.Common.{◌≡◌, ◌==◌, Bool, List, [], ◌∷◌, length, suc, refl, ap, sym, ◌∙◌, ne_eqb, arith}
 use Rattle.md_base.specs.declared.event.Event.{Event}
 use Rattle.md_html.specs.declared.facts.Ahead.{Ahead}
 use Rattle.md_html.specs.Machine.{State, run, stepped, is_nil}
@@ -8,7 +8,7 @@ use Rattle.md_html.proofs.compile.print.Goals as goal
 
 is_nil-length : (events : List Event) → (length events == 0) ≡ is_nil events
 is_nil-length [] = refl
-is_nil-length (event ∷ events) = refl
+is_nil-length (event ∷ events) = ne_eqb (suc (length events)) 0 (λ e. omega (arith, e))
 
 pub loop-event-preserved : goal.loop-event-preserved
 loop-event-preserved c =
