@@ -9,7 +9,7 @@ use Rattle.md_text.proofs.HighBytes.{AllHigh, encode_utf8-high}
 pub filtered_byte-other : (b : ℕ) (rest : List ℕ) → b ≢ 60 → filtered_byte b rest ≡ b ∷ []
 filtered_byte-other b rest ne = ap (λ t. cond (t && begins_disarmed_name (past_slash rest)) (codes "&lt;") (b ∷ [])) (ne_eqb b 60 ne)
 
-tag_filtered-other : (b : ℕ) (rest : List ℕ) → b ≢ 60 → tag_filtered (b ∷ rest) ≡ b ∷ tag_filtered rest
+pub tag_filtered-other : (b : ℕ) (rest : List ℕ) → b ≢ 60 → tag_filtered (b ∷ rest) ≡ b ∷ tag_filtered rest
 tag_filtered-other b rest ne = ap (λ x. x ++ tag_filtered rest) (filtered_byte-other b rest ne)
 
 tag_filtered-high : (bs rest : List ℕ) → AllHigh bs → tag_filtered (bs ++ rest) ≡ bs ++ tag_filtered rest

@@ -2,3 +2,8 @@ pub mod HighBytes
 pub mod EncodeLemmas
 pub mod UrlLemmas
 pub mod FilterLemmas
+pub mod EncodeLaws
+pub mod FilterLaws
+pub mod UrlLaws
+pub mod UrlTwice
+pub mod ProtocolLemmas

@@ -4,6 +4,7 @@
 
 mod escape;
 mod filter;
+pub mod laws;
 mod line_ending;
 mod names;
 mod url;
