@@ -7,3 +7,7 @@ pub mod FilterLaws
 pub mod UrlLaws
 pub mod UrlTwice
 pub mod ProtocolLemmas
+pub mod HtmlWriting
+pub mod HtmlNames
+pub mod HtmlSplit
+pub mod HtmlReading

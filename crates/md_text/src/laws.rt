@@ -4,6 +4,7 @@ ghost use Rattle.std.specs.Prelude.{◌≡◌, ◌≢◌, ◌⊎◌, ◌<◌, �
 ghost use Rattle.md_text.specs.declared.line_ending.LineEnding.{LineEnding};
 ghost use Rattle.md_text.specs.Encode.{encoded};
 ghost use Rattle.md_text.specs.Filter.{tag_filtered};
+ghost use Rattle.md_text.specs.Html.{Forest, IsReading};
 ghost use Rattle.md_text.specs.Laws.{ChangesOnlyAngles, AreBytes, AreAscii};
 ghost use Rattle.md_text.specs.LineEnding.{ending_text, ending_of};
 ghost use Rattle.md_text.specs.References.{is_escaped, read_back};
@@ -56,3 +57,9 @@ pub fn kept_protocol_is_permitted()
     ensures links { (x : List ℕ) → IsTrue (is_safe_value link_protocols (sanitized_with link_protocols x)) }
     ensures images { (x : List ℕ) → IsTrue (is_safe_value image_protocols (sanitized_with image_protocols x)) }
 {}
+
+/// No text has two readings in the HTML grammar.
+pub fn html_has_one_reading()
+    ensures { (text : List ℕ) (x y : Forest) → IsReading text x → IsReading text y → x ≡ y }
+{
+}
