@@ -36,13 +36,15 @@ lie e = cc
 -- what is escaped has none of these
 escaped_byte-angle : (b : ℕ) (rest : List ℕ) → is_escaped_byte b rest ≡ true → no_angle b ≡ true
 escaped_byte-angle b rest e = elim (cases_eq b 60) [
-      inl is ↦ absurd (lie (subst (λ b. is_escaped_byte b rest ≡ true) is e))
-    | inr ne ↦ ap not (ne_eqb b 60 ne) ]
+  | inl is ↦ absurd (lie (subst (λ b. is_escaped_byte b rest ≡ true) is e))
+  | inr ne ↦ ap not (ne_eqb b 60 ne)
+]
 
 escaped_byte-quote : (b : ℕ) (rest : List ℕ) → is_escaped_byte b rest ≡ true → no_quote b ≡ true
 escaped_byte-quote b rest e = elim (cases_eq b 34) [
-      inl is ↦ absurd (lie (subst (λ b. is_escaped_byte b rest ≡ true) is e))
-    | inr ne ↦ ap not (ne_eqb b 34 ne) ]
+  | inl is ↦ absurd (lie (subst (λ b. is_escaped_byte b rest ≡ true) is e))
+  | inr ne ↦ ap not (ne_eqb b 34 ne)
+]
 
 pub escaped-angle : (text : List ℕ) → is_escaped text ≡ true → list_all no_angle text ≡ true
 escaped-angle [] e = refl
@@ -62,8 +64,9 @@ listed-name [] name g e = cc
 listed-name (t ∷ ts) name g e =
     let parts = and_parts (is_name t) (list_all is_name ts) g in
     elim (or_cases (same_text name t) (is_one_of ts name) e) [
-      inl same ↦ subst (λ x. is_name x ≡ true) (sym ((bytes_decides name t).0 same)) parts.0
-    | inr later ↦ listed-name ts name parts.1 later ]
+      | inl same ↦ subst (λ x. is_name x ≡ true) (sym ((bytes_decides name t).0 same)) parts.0
+      | inr later ↦ listed-name ts name parts.1 later
+    ]
 
 attributes-tidy : (listed : List (List ℕ)) (attributes : List Attribute) → list_all is_name listed ≡ true → are_attributes listed attributes ≡ true → are_tidy attributes ≡ true
 attributes-tidy listed [] g e = refl
@@ -72,8 +75,8 @@ attributes-tidy listed (a ∷ rest) g e =
     let q = and_parts (is_one_of listed a.name && is_escaped a.value) (not (has_attribute a.name rest)) p.0 in
     let r = and_parts (is_one_of listed a.name) (is_escaped a.value) q.0 in
     and_from (is_name a.name) _ (listed-name listed a.name g r.0)
-      (and_from (list_all no_quote a.value) _ (escaped-quote a.value r.1)
-        (and_from (list_all no_angle a.value) (are_tidy rest) (escaped-angle a.value r.1) (attributes-tidy listed rest g p.1)))
+    (and_from (list_all no_quote a.value) _ (escaped-quote a.value r.1)
+    (and_from (list_all no_angle a.value) (are_tidy rest) (escaped-angle a.value r.1) (attributes-tidy listed rest g p.1)))
 
 -- a tag of a table of names has a name, and tidy attributes
 tag-tidy : (rules : List TagRule) (name : List ℕ) (attributes : List Attribute) → rules_hold_names rules ≡ true → is_tag rules name attributes ≡ true → (is_name name ≡ true) × (are_tidy attributes ≡ true)
@@ -82,9 +85,10 @@ tag-tidy (rule ∷ rules) name attributes g e =
     let p = and_parts (is_name rule.name) (list_all is_name rule.attributes && rules_hold_names rules) g in
     let q = and_parts (list_all is_name rule.attributes) (rules_hold_names rules) p.1 in
     elim (or_cases (same_text rule.name name && are_attributes rule.attributes attributes) (is_tag rules name attributes) e) [
-      inl this ↦ (let r = and_parts (same_text rule.name name) (are_attributes rule.attributes attributes) this in
-        (subst (λ x. is_name x ≡ true) ((bytes_decides rule.name name).0 r.0) p.0, attributes-tidy rule.attributes attributes q.0 r.1))
-    | inr later ↦ tag-tidy rules name attributes q.1 later ]
+      | inl this ↦ (let r = and_parts (same_text rule.name name) (are_attributes rule.attributes attributes) this in
+          (subst (λ x. is_name x ≡ true) ((bytes_decides rule.name name).0 r.0) p.0, attributes-tidy rule.attributes attributes q.0 r.1))
+      | inr later ↦ tag-tidy rules name attributes q.1 later
+    ]
 
 pub element-tidy : (name : List ℕ) (attributes : List Attribute) → is_tag elements name attributes ≡ true → (is_name name ≡ true) × (are_tidy attributes ≡ true)
 element-tidy name attributes e = tag-tidy elements name attributes refl e

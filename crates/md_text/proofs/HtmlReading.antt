@@ -24,8 +24,9 @@ tail_of b c x y e = cc
 -- a tag doesn't begin where a forest ends
 tag_not_end : (name tail r : List ℕ) → is_name name ≡ true → IsEnd r → r ≡ 60 ∷ (name ++ tail) → ⊥
 tag_not_end name tail r h ends e = elim ends [
-      inl empty ↦ nil_or 60 (name ++ tail) (sym empty ∙ e)
-    | inr slash ↦ name-not 47 name tail slash.0 refl h (tail_of 60 60 (name ++ tail) (47 ∷ slash.0) (sym e ∙ slash.1)) ]
+  | inl empty ↦ nil_or 60 (name ++ tail) (sym empty ∙ e)
+  | inr slash ↦ name-not 47 name tail slash.0 refl h (tail_of 60 60 (name ++ tail) (47 ∷ slash.0) (sym e ∙ slash.1))
+]
 
 -- neither a text nor where a forest ends begins with what the other does
 text_not_tag : (bytes tail more : List ℕ) → is_filled bytes ≡ true → list_all no_angle bytes ≡ true → bytes ++ tail ≡ 60 ∷ more → ⊥
@@ -36,8 +37,9 @@ text_not_tag (b ∷ bytes) tail more f h e =
 
 text_not_end : (bytes tail r : List ℕ) → is_filled bytes ≡ true → list_all no_angle bytes ≡ true → IsEnd r → r ≡ bytes ++ tail → ⊥
 text_not_end bytes tail r f h ends e = elim ends [
-      inl empty ↦ filled_nil bytes f (sym e ∙ empty)
-    | inr slash ↦ text_not_tag bytes tail (47 ∷ slash.0) f h (sym e ∙ slash.1) ]
+  | inl empty ↦ filled_nil bytes f (sym e ∙ empty)
+  | inr slash ↦ text_not_tag bytes tail (47 ∷ slash.0) f h (sym e ∙ slash.1)
+]
   where
     filled_nil : (bytes : List ℕ) → is_filled bytes ≡ true → bytes ++ tail ≡ [] → ⊥
     filled_nil [] f e = lie f
@@ -56,7 +58,7 @@ attributes_stop [] r ends = elim ends [ inl angle ↦ subst (λ r. stops is_name
 attributes_stop (a ∷ rest) r ends = refl
 
 same_tag : (n m : List ℕ) (x y : List Attribute) (r s : List ℕ) → (is_name n ≡ true) × (are_tidy x ≡ true) → (is_name m ≡ true) × (are_tidy y ≡ true) → EndsAttributes r → EndsAttributes s
-  → n ++ attributes_before x r ≡ m ++ attributes_before y s → (n ≡ m) × (x ≡ y) × (r ≡ s)
+    → n ++ attributes_before x r ≡ m ++ attributes_before y s → (n ≡ m) × (x ≡ y) × (r ≡ s)
 same_tag n m x y r s hn hm er es e =
     let names = split is_name_byte n m _ _ (and_parts (is_filled n) (list_all is_name_byte n) hn.0).1 (and_parts (is_filled m) (list_all is_name_byte m) hm.0).1 (attributes_stop x r er) (attributes_stop y s es) e in
     let attributes = same_attributes x y r s hn.1 hm.1 er es names.1 in
@@ -119,7 +121,7 @@ same (Void name attributes rest) (Void name' attributes' rest') r s hf hg er es 
     let p = void_parts name attributes rest hf in
     let q = void_parts name' attributes' rest' hg in
     let tag = same_tag name name' attributes attributes' (32 ∷ 47 ∷ 62 ∷ forest_before rest r) (32 ∷ 47 ∷ 62 ∷ forest_before rest' s) p.tidy q.tidy
-      (inr (62 ∷ forest_before rest r, refl)) (inr (62 ∷ forest_before rest' s, refl)) (tail_of 60 60 _ _ e) in
+    (inr (62 ∷ forest_before rest r, refl)) (inr (62 ∷ forest_before rest' s, refl)) (tail_of 60 60 _ _ e) in
     let on : forest_before rest r ≡ forest_before rest' s = cc tag.2 in
     let later = same rest rest' r s p.later q.later er es on in
     ((λ i. Void (tag.0 i) (tag.1 i) (later.0 i)), later.1)
@@ -128,7 +130,7 @@ same (Void name attributes rest) (Element name' attributes' children rest') r s 
     let q = element_parts name' attributes' children rest' hg in
     let inside = forest_before children (60 ∷ 47 ∷ (name' ++ (62 ∷ forest_before rest' s))) in
     let tag = same_tag name name' attributes attributes' (32 ∷ 47 ∷ 62 ∷ forest_before rest r) (62 ∷ inside) p.tidy q.tidy
-      (inr (62 ∷ forest_before rest r, refl)) (inl (inside, refl)) (tail_of 60 60 _ _ e) in
+    (inr (62 ∷ forest_before rest r, refl)) (inl (inside, refl)) (tail_of 60 60 _ _ e) in
     absurd (slash_angle _ _ tag.2)
 same (Element name attributes children rest) Empty r s hf hg er es e = (let p = element_parts name attributes children rest hf in absurd (tag_not_end name _ s p.tidy.0 es (sym e)))
 same (Element name attributes children rest) (Text bytes rest') r s hf hg er es e = (let p = text_parts bytes rest' hg in absurd (text_not_tag bytes (forest_before rest' s) _ p.filled p.angles (sym e)))
@@ -137,7 +139,7 @@ same (Element name attributes children rest) (Void name' attributes' rest') r s 
     let q = void_parts name' attributes' rest' hg in
     let inside = forest_before children (60 ∷ 47 ∷ (name ++ (62 ∷ forest_before rest r))) in
     let tag = same_tag name name' attributes attributes' (62 ∷ inside) (32 ∷ 47 ∷ 62 ∷ forest_before rest' s) p.tidy q.tidy
-      (inl (inside, refl)) (inr (62 ∷ forest_before rest' s, refl)) (tail_of 60 60 _ _ e) in
+    (inl (inside, refl)) (inr (62 ∷ forest_before rest' s, refl)) (tail_of 60 60 _ _ e) in
     absurd (slash_angle _ _ (sym tag.2))
 same (Element name attributes children rest) (Element name' attributes' children' rest') r s hf hg er es e =
     let p = element_parts name attributes children rest hf in
@@ -150,11 +152,11 @@ same (Element name attributes children rest) (Element name' attributes' children
     let within = same children children' (60 ∷ 47 ∷ close) (60 ∷ 47 ∷ close') p.inside q.inside (inr (close, refl)) (inr (close', refl)) (tail_of 62 62 inside inside' tag.2) in
     let closes : close ≡ close' = tail_of 47 47 close close' (tail_of 60 60 _ _ within.1) in
     let ends = split is_name_byte name name' (62 ∷ forest_before rest r) (62 ∷ forest_before rest' s)
-      (and_parts (is_filled name) (list_all is_name_byte name) p.tidy.0).1 (and_parts (is_filled name') (list_all is_name_byte name') q.tidy.0).1 refl refl closes in
+    (and_parts (is_filled name) (list_all is_name_byte name) p.tidy.0).1 (and_parts (is_filled name') (list_all is_name_byte name') q.tidy.0).1 refl refl closes in
     let later = same rest rest' r s p.later q.later er es (tail_of 62 62 _ _ ends.1) in
     ((λ i. Element (tag.0 i) (tag.1 i) (within.0 i) (later.0 i)), later.1)
 
 pub one_reading : (text : List ℕ) (f g : Forest) → IsReading text f → IsReading text g → f ≡ g
 one_reading text f g x y =
     (same f g [] [] x.in_grammar y.in_grammar (inl refl) (inl refl)
-      (sym (written-before f []) ∙ append-nil (written f) ∙ x.written_so ∙ sym y.written_so ∙ sym (append-nil (written g)) ∙ written-before g [])).0
+    (sym (written-before f []) ∙ append-nil (written f) ∙ x.written_so ∙ sym y.written_so ∙ sym (append-nil (written g)) ∙ written-before g [])).0

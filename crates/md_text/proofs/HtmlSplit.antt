@@ -52,11 +52,13 @@ name-not n (b ∷ name) tail more no_byte h e =
 
 no_attribute : (a : Attribute) (rest : List Attribute) (r s : List ℕ) → are_tidy (a ∷ rest) ≡ true → EndsAttributes r → r ≡ attributes_before (a ∷ rest) s → ⊥
 no_attribute a rest r s h ends e = elim ends [
-      inl angle ↦ angle_space angle.0 (a.name ++ (61 ∷ 34 ∷ (a.value ++ (34 ∷ attributes_before rest s)))) (sym angle.1 ∙ e)
-    | inr slash ↦ name-not 47 a.name (61 ∷ 34 ∷ (a.value ++ (34 ∷ attributes_before rest s))) slash.0 refl (and_parts (is_name a.name) _ h).0 (tail_of (sym e ∙ slash.1)) ]
+  | inl angle ↦ angle_space angle.0 (a.name ++ (61 ∷ 34 ∷ (a.value ++ (34 ∷ attributes_before rest s)))) (sym angle.1 ∙ e)
+  | inr slash ↦ name-not 47 a.name (61 ∷ 34 ∷ (a.value ++ (34 ∷ attributes_before rest s))) slash.0 refl (and_parts (is_name a.name) _ h).0 (tail_of (sym e ∙ slash.1))
+]
   where
     angle_space : (x y : List ℕ) → 62 ∷ x ≡ 32 ∷ y → ⊥
     angle_space x y e = cc
+
     tail_of : {x y : List ℕ} → 32 ∷ x ≡ 32 ∷ y → x ≡ y
     tail_of e = cc
 

@@ -11,3 +11,4 @@ pub mod HtmlWriting
 pub mod HtmlNames
 pub mod HtmlSplit
 pub mod HtmlReading
+pub mod HtmlJoin

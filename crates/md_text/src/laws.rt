@@ -4,7 +4,7 @@ ghost use Rattle.std.specs.Prelude.{◌≡◌, ◌≢◌, ◌⊎◌, ◌<◌, �
 ghost use Rattle.md_text.specs.declared.line_ending.LineEnding.{LineEnding};
 ghost use Rattle.md_text.specs.Encode.{encoded};
 ghost use Rattle.md_text.specs.Filter.{tag_filtered};
-ghost use Rattle.md_text.specs.Html.{Forest, IsReading};
+ghost use Rattle.md_text.specs.Html.{Attribute, Forest, Empty, Void, IsReading, HasReadingWith, all_pass, is_tag, elements, void_tags, written, opening_tag, closing_tag};
 ghost use Rattle.md_text.specs.Laws.{ChangesOnlyAngles, AreBytes, AreAscii};
 ghost use Rattle.md_text.specs.LineEnding.{ending_text, ending_of};
 ghost use Rattle.md_text.specs.References.{is_escaped, read_back};
@@ -61,5 +61,33 @@ pub fn kept_protocol_is_permitted()
 /// No text has two readings in the HTML grammar.
 pub fn html_has_one_reading()
     ensures { (text : List ℕ) (x y : Forest) → IsReading text x → IsReading text y → x ≡ y }
-{
-}
+{}
+
+/// Nothing has a reading, in which each attribute passes any test.
+pub fn nothing_has_a_reading()
+    ensures { (p : Attribute → Bool) → HasReadingWith p [] }
+{}
+
+/// An escaped text has a reading.
+pub fn text_has_a_reading()
+    ensures { (p : Attribute → Bool) (text : List ℕ) → IsTrue (is_escaped text) → HasReadingWith p text }
+{}
+
+/// A void tag of the table has a reading.
+pub fn void_tag_has_a_reading()
+    ensures { (p : Attribute → Bool) (name : List ℕ) (attributes : List Attribute)
+        → IsTrue (is_tag void_tags name attributes) → IsTrue (all_pass p attributes)
+        → HasReadingWith p (written (Void name attributes Empty)) }
+{}
+
+/// An element of the table round a text that has a reading has one.
+pub fn element_has_a_reading()
+    ensures { (p : Attribute → Bool) (name : List ℕ) (attributes : List Attribute) (inside : List ℕ)
+        → IsTrue (is_tag elements name attributes) → IsTrue (all_pass p attributes) → HasReadingWith p inside
+        → HasReadingWith p (opening_tag name attributes ++ inside ++ closing_tag name) }
+{}
+
+/// Two texts that have readings have one when they are joined.
+pub fn readings_join()
+    ensures { (p : Attribute → Bool) (x y : List ℕ) → HasReadingWith p x → HasReadingWith p y → HasReadingWith p (x ++ y) }
+{}
