@@ -1,7 +1,7 @@
 -- What is escaped is clean, and reads back.
-use Rattle.std.proofs.Common.{◌≡◌, ◌≢◌, ℕ, Bool, true, false, ◌&&◌, ◌||◌, cond, eqb, List, [], ◌∷◌, ◌++◌, refl, sym, ap, ◌∙◌, subst, ne_eqb, zero, suc}
+use Rattle.std.proofs.Common.{◌≡◌, ◌≢◌, ℕ, Bool, true, false, ◌&&◌, cond, eqb, List, [], ◌∷◌, ◌++◌, refl, sym, ap, ◌∙◌, ne_eqb}
 use Rattle.md_text.specs.Encode.{encoded, encoded_byte}
-use Rattle.md_text.specs.References.{is_escaped, is_escaped_byte, completes_reference, read_back, read_back_after, referenced, reference_tail}
+use Rattle.md_text.specs.References.{is_escaped, is_escaped_byte, read_back, read_back_after, referenced, reference_tail}
 use Rattle.md_text.proofs.EncodeLemmas.{by_special, encoded_byte-plain}
 
 -- a byte other than the five, escaped or not, is itself

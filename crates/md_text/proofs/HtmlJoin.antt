@@ -1,9 +1,8 @@
 -- What has a reading: nothing, a text, tags round what has one, and two such texts joined.
-use Rattle.std.proofs.Common.{◌≡◌, ◌≢◌, ◌⊎◌, ℕ, ◌==◌, Bool, true, false, not, ◌&&◌, ◌||◌, cond, eqb, List, [], ◌∷◌, ◌++◌, take, length, refl, sym, ap, ap₂, ◌∙◌, subst, inl, inr, append-nil, append_assoc, codes, zero, suc}
-use Rattle.std.specs.Cmp.Lexicographic.{pointwise}
-use Rattle.std.proofs.lemmas.Bool.{and_parts, and_from, or_cases, or_left, or_right, cases_Bool}
+use Rattle.std.proofs.Common.{◌≡◌, ℕ, ◌==◌, Bool, true, false, not, ◌&&◌, ◌||◌, cond, eqb, List, [], ◌∷◌, ◌++◌, refl, sym, ap, ap₂, ◌∙◌, subst, inl, inr, append-nil, append_assoc, codes}
+use Rattle.std.proofs.lemmas.Bool.{and_parts, and_from, or_cases, or_left, or_right}
 use Rattle.md_text.specs.References.{is_escaped, is_escaped_byte, completes_reference, begins_with}
-use Rattle.md_text.specs.Html.{Attribute, Forest, Empty, Text, Void, Element, is_forest, is_tag, is_filled, begins_with_text, elements, void_tags, written, written_attributes, opening_tag, closing_tag, IsReading, HasReadingWith, all_attributes, all_pass}
+use Rattle.md_text.specs.Html.{Attribute, Forest, Empty, Text, Void, Element, is_forest, is_tag, is_filled, begins_with_text, elements, void_tags, written, written_attributes, opening_tag, closing_tag, HasReadingWith, all_attributes, all_pass}
 
 -- a text that begins so still does when more follows
 begins-append : (start text more : List ℕ) → begins_with start text ≡ true → begins_with start (text ++ more) ≡ true
@@ -106,7 +105,7 @@ element p name attributes inside h a within = record {
   passes = and_from _ true (and_from (all_pass p attributes) (all_attributes p within.forest) a within.passes) refl;
 }
 
-opening-before : (name : List ℕ) (attributes : List Attribute) (x : List ℕ) → opening_tag name attributes ++ x ≡ 60 ∷ (name ++ (written_attributes attributes ++ (62 ∷ x)))
+pub opening-before : (name : List ℕ) (attributes : List Attribute) (x : List ℕ) → opening_tag name attributes ++ x ≡ 60 ∷ (name ++ (written_attributes attributes ++ (62 ∷ x)))
 opening-before name attributes x =
     ap (λ x. 60 ∷ x) (append_assoc name (written_attributes attributes ++ (62 ∷ [])) x ∙ ap (λ x. name ++ x) (append_assoc (written_attributes attributes) (62 ∷ []) x))
 

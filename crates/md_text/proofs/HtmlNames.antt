@@ -1,10 +1,10 @@
 -- The names of the tables, and where names, values and texts end.
-use Rattle.std.proofs.Common.{◌≡◌, ◌≢◌, ℕ, ◌==◌, Bool, true, false, not, ◌&&◌, ◌||◌, eqb, List, [], ◌∷◌, ◌++◌, refl, sym, ap, ap₂, ◌∙◌, subst, inl, inr, ne_eqb}
-use Rattle.std.specs.List.{list_all, list_any}
+use Rattle.std.proofs.Common.{◌≡◌, ℕ, ◌==◌, Bool, true, false, not, ◌&&◌, ◌||◌, List, [], ◌∷◌, refl, sym, ap, subst, inl, inr, ne_eqb}
+use Rattle.std.specs.List.{list_all}
 use Rattle.std.specs.Cmp.Lexicographic.{bytes_decides}
-use Rattle.std.proofs.lemmas.Bool.{and_parts, or_cases, and_from, both_ways, cases_eq}
+use Rattle.std.proofs.lemmas.Bool.{and_parts, or_cases, and_from, cases_eq}
 use Rattle.md_text.specs.Bytes.{is_between, same_text, is_one_of}
-use Rattle.md_text.specs.References.{is_escaped, is_escaped_byte, completes_reference}
+use Rattle.md_text.specs.References.{is_escaped, is_escaped_byte}
 use Rattle.md_text.specs.Html.{Attribute, TagRule, is_tag, are_attributes, has_attribute, elements, void_tags, is_filled}
 
 -- a lower-case letter, a digit or a hyphen

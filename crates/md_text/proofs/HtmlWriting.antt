@@ -1,5 +1,5 @@
 -- What is written, with what follows it.
-use Rattle.std.proofs.Common.{◌≡◌, ℕ, List, [], ◌∷◌, ◌++◌, refl, sym, ap, ◌∙◌, append_assoc, append-nil}
+use Rattle.std.proofs.Common.{◌≡◌, ℕ, List, [], ◌∷◌, ◌++◌, refl, ap, ◌∙◌, append_assoc}
 use Rattle.md_text.specs.Html.{Attribute, Forest, Empty, Text, Void, Element, written, written_attributes}
 
 -- attributes, and what follows them

@@ -12,3 +12,4 @@ pub mod HtmlNames
 pub mod HtmlSplit
 pub mod HtmlReading
 pub mod HtmlJoin
+pub mod HtmlPut

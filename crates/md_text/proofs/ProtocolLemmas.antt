@@ -1,9 +1,9 @@
 -- Reading references back changes no protocol that is kept.
-use Rattle.std.proofs.Common.{◌≡◌, ◌≢◌, ◌⊎◌, ℕ, ◌+◌, ◌==◌, Bool, true, false, not, ◌&&◌, ◌||◌, cond, eqb, List, [], ◌∷◌, ◌++◌, map, take, length, Option, Some, None, option_map, refl, sym, ap, ap₂, ◌∙◌, subst, ne_eqb, eqb-true, inl, inr, codes, zero, suc}
-use Rattle.std.specs.List.{list_all, list_any}
+use Rattle.std.proofs.Common.{◌≡◌, ◌≢◌, ℕ, ◌==◌, Bool, true, false, not, ◌&&◌, cond, List, [], ◌∷◌, take, length, Option, Some, None, option_map, refl, sym, ap, ap₂, ◌∙◌, subst, ne_eqb, eqb-true, inl, inr, codes, zero, suc}
+use Rattle.std.specs.List.{list_all}
 use Rattle.std.specs.Option.{option_map_or}
 use Rattle.std.specs.Cmp.Lexicographic.{bytes_decides}
-use Rattle.std.proofs.lemmas.Bool.{cases_eq, cases_Bool, and_parts, or_cases, or_parts, cond_both, and_from}
+use Rattle.std.proofs.lemmas.Bool.{cases_eq, cases_Bool, and_parts, or_cases, cond_both, and_from}
 use Rattle.md_text.specs.Bytes.{lower, lowered, same_text, is_one_of}
 use Rattle.md_text.specs.References.{read_back, read_back_after, referenced, reference_tail, begins_with}
 use Rattle.md_text.specs.Url.{protocol_of, ends_protocol, has_permitted_protocol, sanitized, sanitized_with}

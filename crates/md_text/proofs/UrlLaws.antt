@@ -1,14 +1,12 @@
 -- A sanitized URL is ASCII, and a second time nothing changes where no `&` stands in it.
-use Rattle.std.proofs.Common.{◌≡◌, ◌≢◌, ◌⊎◌, ℕ, ◌+◌, ◌==◌, ◌<◌, ◌≤◌, ◌/◌, ◌%◌, Bool, true, false, ◌&&◌, ◌||◌, cond, eqb, leb, ltb, List, [], ◌∷◌, ◌++◌, All, refl, sym, ap, ap₂, ◌∙◌, subst, arith, ne_eqb, append-nil, inl, inr, true≢false, codes, lit<}
+use Rattle.std.proofs.Common.{◌≡◌, ℕ, ◌==◌, ◌<◌, ◌/◌, ◌%◌, Bool, true, false, ◌&&◌, ◌||◌, cond, eqb, List, [], ◌∷◌, All, refl, sym, subst, arith, inl, inr, codes, lit<}
 use Rattle.std.proofs.lemmas.Bool.{cases_eq, cases_Bool, agree_below_at, or_cases, and_parts, or_left, or_right, and_from}
-use Rattle.std.proofs.lemmas.Bool.Decides.{nat_tests}
 use Rattle.std.proofs.lemmas.List.Elements.{All-nil, All-cons, All-head, All-tail, All-append, All-from_recursion}
-use Rattle.md_text.specs.Bytes.{is_between, is_letter_or_digit}
+use Rattle.md_text.specs.Bytes.{is_letter_or_digit}
 use Rattle.md_text.specs.Encode.{encoded, encoded_byte}
 use Rattle.md_text.specs.Url.{stays, stays_anywhere, completes_triple, normalized_byte, normalized_url, percent, hex_digit, sanitized}
 use Rattle.md_text.specs.Laws.{AreBytes, AreAscii}
-use Rattle.md_text.proofs.EncodeLemmas.{encoded-append}
-use Rattle.md_text.proofs.UrlLemmas.{stays-high, stays-ascii, encoded_byte-stays}
+use Rattle.md_text.proofs.UrlLemmas.{stays-ascii, encoded_byte-stays}
 
 -- the bytes of a normalized URL: those that stay anywhere, and `%`
 abbrev pub is_url_byte : ℕ → Bool

@@ -1,5 +1,5 @@
 -- The words of the laws.
-use Rattle.std.specs.Prelude.{◌≡◌, ℕ, ◌⊎◌, ◌<◌, ◌||◌, ◌==◌, Bool, true, false, ◌&&◌, List, [], ◌∷◌, ◌++◌, All, codes}
+use Rattle.std.specs.Prelude.{◌≡◌, ℕ, ◌⊎◌, ◌<◌, ◌||◌, ◌==◌, Bool, true, ◌&&◌, List, [], ◌∷◌, ◌++◌, All, codes}
 
 -- the second text is the first with some of its `<` changed into `&lt;`
 abbrev pub ChangesOnlyAngles : List ℕ → List ℕ → Type 0

@@ -1,11 +1,11 @@
 //! What holds of every text, as the contracts of functions that do nothing.
 
-ghost use Rattle.std.specs.Prelude.{◌≡◌, ◌≢◌, ◌⊎◌, ◌<◌, ℕ, [], ◌++◌, List, Bool, true, false, All, IsTrue, MatchOption};
+ghost use Rattle.std.specs.Prelude.{◌≡◌, ◌≢◌, ◌⊎◌, ◌<◌, ℕ, [], ◌++◌, List, Bool, true, false, All, IsTrue, MatchOption, codes};
 ghost use Rattle.md_text.specs.declared.line_ending.LineEnding.{LineEnding};
 ghost use Rattle.md_text.specs.Encode.{encoded};
 ghost use Rattle.md_text.specs.Filter.{tag_filtered};
 ghost use Rattle.md_text.specs.Html.{Attribute, Forest, Empty, Void, IsReading, HasReadingWith, all_pass, is_tag, elements, void_tags, written, opening_tag, closing_tag};
-ghost use Rattle.md_text.specs.Laws.{ChangesOnlyAngles, AreBytes, AreAscii};
+ghost use Rattle.md_text.specs.Laws.{ChangesOnlyAngles, AreBytes, AreAscii, is_line_ends};
 ghost use Rattle.md_text.specs.LineEnding.{ending_text, ending_of};
 ghost use Rattle.md_text.specs.References.{is_escaped, read_back};
 ghost use Rattle.md_text.specs.Safe.{is_safe_value, link_protocols, image_protocols};
@@ -90,4 +90,12 @@ pub fn element_has_a_reading()
 /// Two texts that have readings have one when they are joined.
 pub fn readings_join()
     ensures { (p : Attribute → Bool) (x y : List ℕ) → HasReadingWith p x → HasReadingWith p y → HasReadingWith p (x ++ y) }
+{}
+
+/// Where a text has a reading and, CR and LF bytes at its end aside, ends in `</p>`, another that
+/// has one may be put before that `</p>`.
+pub fn paragraph_takes_an_insertion()
+    ensures { (p : Attribute → Bool) (before endings inserted : List ℕ)
+        → IsTrue (is_line_ends endings) → HasReadingWith p (before ++ codes "</p>" ++ endings) → HasReadingWith p inserted
+        → HasReadingWith p (before ++ inserted ++ codes "</p>" ++ endings) }
 {}
