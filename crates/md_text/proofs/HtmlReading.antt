@@ -46,14 +46,14 @@ text_not_end bytes tail r f h ends e = elim ends [
     filled_nil (b ∷ bytes) f e = nil_or b (bytes ++ tail) (sym e)
 
 -- what comes after a text begins with `<` or is the end
-after_text : (f : Forest) (r : List ℕ) → not (begins_with_text f) ≡ true → IsEnd r → stops no_angle (forest_before f r) ≡ true
+pub after_text : (f : Forest) (r : List ℕ) → not (begins_with_text f) ≡ true → IsEnd r → stops no_angle (forest_before f r) ≡ true
 after_text Empty r h ends = elim ends [ inl empty ↦ subst (λ r. stops no_angle r ≡ true) (sym empty) refl | inr slash ↦ subst (λ r. stops no_angle r ≡ true) (sym slash.1) refl ]
 after_text (Text bytes rest) r h ends = absurd (lie h)
 after_text (Void name attributes rest) r h ends = refl
 after_text (Element name attributes children rest) r h ends = refl
 
 -- after a name come attributes, or the tag goes on
-attributes_stop : (attributes : List Attribute) (r : List ℕ) → EndsAttributes r → stops is_name_byte (attributes_before attributes r) ≡ true
+pub attributes_stop : (attributes : List Attribute) (r : List ℕ) → EndsAttributes r → stops is_name_byte (attributes_before attributes r) ≡ true
 attributes_stop [] r ends = elim ends [ inl angle ↦ subst (λ r. stops is_name_byte r ≡ true) (sym angle.1) refl | inr slash ↦ subst (λ r. stops is_name_byte r ≡ true) (sym slash.1) refl ]
 attributes_stop (a ∷ rest) r ends = refl
 
@@ -65,35 +65,35 @@ same_tag n m x y r s hn hm er es e =
     (names.0, attributes.0, attributes.1)
 
 -- the parts of what makes a forest
-record IsTextNode (bytes : List ℕ) (rest : Forest) : Type 0 where
-  filled : is_filled bytes ≡ true
-  angles : list_all no_angle bytes ≡ true
-  alone : not (begins_with_text rest) ≡ true
-  later : is_forest rest ≡ true
+pub record IsTextNode (bytes : List ℕ) (rest : Forest) : Type 0 where
+  pub filled : is_filled bytes ≡ true
+  pub angles : list_all no_angle bytes ≡ true
+  pub alone : not (begins_with_text rest) ≡ true
+  pub later : is_forest rest ≡ true
 
-text_parts : (bytes : List ℕ) (rest : Forest) → is_forest (Text bytes rest) ≡ true → IsTextNode bytes rest
+pub text_parts : (bytes : List ℕ) (rest : Forest) → is_forest (Text bytes rest) ≡ true → IsTextNode bytes rest
 text_parts bytes rest h =
     let p = and_parts (is_filled bytes && is_escaped bytes && not (begins_with_text rest)) (is_forest rest) h in
     let q = and_parts (is_filled bytes && is_escaped bytes) (not (begins_with_text rest)) p.0 in
     let r = and_parts (is_filled bytes) (is_escaped bytes) q.0 in
     record { filled = r.0; angles = escaped-angle bytes r.1; alone = q.1; later = p.1 }
 
-record IsElementNode (name : List ℕ) (attributes : List Attribute) (children rest : Forest) : Type 0 where
-  tidy : (is_name name ≡ true) × (are_tidy attributes ≡ true)
-  inside : is_forest children ≡ true
-  later : is_forest rest ≡ true
+pub record IsElementNode (name : List ℕ) (attributes : List Attribute) (children rest : Forest) : Type 0 where
+  pub tidy : (is_name name ≡ true) × (are_tidy attributes ≡ true)
+  pub inside : is_forest children ≡ true
+  pub later : is_forest rest ≡ true
 
-element_parts : (name : List ℕ) (attributes : List Attribute) (children rest : Forest) → is_forest (Element name attributes children rest) ≡ true → IsElementNode name attributes children rest
+pub element_parts : (name : List ℕ) (attributes : List Attribute) (children rest : Forest) → is_forest (Element name attributes children rest) ≡ true → IsElementNode name attributes children rest
 element_parts name attributes children rest h =
     let p = and_parts (is_tag elements name attributes && is_forest children) (is_forest rest) h in
     let q = and_parts (is_tag elements name attributes) (is_forest children) p.0 in
     record { tidy = element-tidy name attributes q.0; inside = q.1; later = p.1 }
 
-record IsVoidNode (name : List ℕ) (attributes : List Attribute) (rest : Forest) : Type 0 where
-  tidy : (is_name name ≡ true) × (are_tidy attributes ≡ true)
-  later : is_forest rest ≡ true
+pub record IsVoidNode (name : List ℕ) (attributes : List Attribute) (rest : Forest) : Type 0 where
+  pub tidy : (is_name name ≡ true) × (are_tidy attributes ≡ true)
+  pub later : is_forest rest ≡ true
 
-void_parts : (name : List ℕ) (attributes : List Attribute) (rest : Forest) → is_forest (Void name attributes rest) ≡ true → IsVoidNode name attributes rest
+pub void_parts : (name : List ℕ) (attributes : List Attribute) (rest : Forest) → is_forest (Void name attributes rest) ≡ true → IsVoidNode name attributes rest
 void_parts name attributes rest h =
     let p = and_parts (is_tag void_tags name attributes) (is_forest rest) h in
     record { tidy = void-tidy name attributes p.0; later = p.1 }

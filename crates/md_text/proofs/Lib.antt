@@ -13,3 +13,4 @@ pub mod HtmlSplit
 pub mod HtmlReading
 pub mod HtmlJoin
 pub mod HtmlPut
+pub mod HtmlRead

@@ -1,5 +1,7 @@
 //! What holds of every text, as the contracts of functions that do nothing.
 
+pub mod cases;
+
 ghost use Rattle.std.specs.Prelude.{◌≡◌, ◌≢◌, ◌⊎◌, ◌<◌, ℕ, [], ◌++◌, List, Bool, true, false, All, IsTrue, MatchOption, codes};
 ghost use Rattle.md_text.specs.declared.line_ending.LineEnding.{LineEnding};
 ghost use Rattle.md_text.specs.Encode.{encoded};
