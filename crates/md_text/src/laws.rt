@@ -2,11 +2,13 @@
 
 pub mod cases;
 
-ghost use Rattle.std.specs.Prelude.{◌≡◌, ◌≢◌, ◌⊎◌, ◌<◌, ℕ, [], ◌++◌, List, Bool, true, false, All, IsTrue, MatchOption, codes};
+ghost use Rattle.std.specs.Prelude.{◌≡◌, ◌≢◌, ◌⊎◌, ℕ, [], ◌++◌, List, Bool, true, false, codes};
+ghost use Rattle.std.specs.Prelude.{All, IsTrue, MatchOption};
 ghost use Rattle.md_text.specs.declared.line_ending.LineEnding.{LineEnding};
 ghost use Rattle.md_text.specs.Encode.{encoded};
 ghost use Rattle.md_text.specs.Filter.{tag_filtered};
-ghost use Rattle.md_text.specs.Html.{Attribute, Forest, Empty, Void, IsReading, HasReadingWith, all_pass, is_tag, elements, void_tags, written, opening_tag, closing_tag};
+ghost use Rattle.md_text.specs.Html.{Attribute, Forest, Empty, Void, IsReading, HasReadingWith};
+ghost use Rattle.md_text.specs.Html.{all_pass, is_tag, elements, void_tags, written, opening_tag, closing_tag};
 ghost use Rattle.md_text.specs.Laws.{ChangesOnlyAngles, AreBytes, AreAscii, is_line_ends};
 ghost use Rattle.md_text.specs.LineEnding.{ending_text, ending_of};
 ghost use Rattle.md_text.specs.References.{is_escaped, read_back};
@@ -37,7 +39,8 @@ pub fn tagfilter_changes_only_angles()
 /// A sanitized URL is ASCII, and where a text holds no `&`, to sanitize it twice is to do it once.
 pub fn sanitize_is_ascii()
     ensures ascii { (x : List ℕ) → AreBytes x → AreAscii (sanitized x) }
-    ensures twice_is_once { (x : List ℕ) → AreBytes x → All (λ b. b ≢ 38) x → sanitized (sanitized x) ≡ sanitized x }
+    ensures twice_is_once { (x : List ℕ)
+        → AreBytes x → All (λ b. b ≢ 38) x → sanitized (sanitized x) ≡ sanitized x }
 {}
 
 /// A URL is kept whole, as [`crate::sanitize`] makes it, or dropped.
@@ -50,14 +53,18 @@ pub fn sanitize_with_protocols_is_all_or_nothing()
 pub fn line_ending_round_trip()
     ensures parsed { (ending : LineEnding) → ending_of (ending_text ending) ≡ Some ending }
     ensures only_three { (text : List ℕ)
-        → MatchOption (ending_of text) ((ending : LineEnding) → ending_text ending ≢ text) (λ ending. ending_text ending ≡ text) }
+        → MatchOption (ending_of text)
+        ((ending : LineEnding) → ending_text ending ≢ text)
+        (λ ending. ending_text ending ≡ text) }
 {}
 
 /// Where a URL is kept, its references read back, it has no protocol or one that, its ASCII
 /// letters lowered, is in the list.
 pub fn kept_protocol_is_permitted()
-    ensures links { (x : List ℕ) → IsTrue (is_safe_value link_protocols (sanitized_with link_protocols x)) }
-    ensures images { (x : List ℕ) → IsTrue (is_safe_value image_protocols (sanitized_with image_protocols x)) }
+    ensures links { (x : List ℕ)
+        → IsTrue (is_safe_value link_protocols (sanitized_with link_protocols x)) }
+    ensures images { (x : List ℕ)
+        → IsTrue (is_safe_value image_protocols (sanitized_with image_protocols x)) }
 {}
 
 /// No text has two readings in the HTML grammar.
@@ -72,7 +79,8 @@ pub fn nothing_has_a_reading()
 
 /// An escaped text has a reading.
 pub fn text_has_a_reading()
-    ensures { (p : Attribute → Bool) (text : List ℕ) → IsTrue (is_escaped text) → HasReadingWith p text }
+    ensures { (p : Attribute → Bool) (text : List ℕ)
+        → IsTrue (is_escaped text) → HasReadingWith p text }
 {}
 
 /// A void tag of the table has a reading.
@@ -85,19 +93,22 @@ pub fn void_tag_has_a_reading()
 /// An element of the table round a text that has a reading has one.
 pub fn element_has_a_reading()
     ensures { (p : Attribute → Bool) (name : List ℕ) (attributes : List Attribute) (inside : List ℕ)
-        → IsTrue (is_tag elements name attributes) → IsTrue (all_pass p attributes) → HasReadingWith p inside
+        → IsTrue (is_tag elements name attributes) → IsTrue (all_pass p attributes)
+        → HasReadingWith p inside
         → HasReadingWith p (opening_tag name attributes ++ inside ++ closing_tag name) }
 {}
 
 /// Two texts that have readings have one when they are joined.
 pub fn readings_join()
-    ensures { (p : Attribute → Bool) (x y : List ℕ) → HasReadingWith p x → HasReadingWith p y → HasReadingWith p (x ++ y) }
+    ensures { (p : Attribute → Bool) (x y : List ℕ)
+        → HasReadingWith p x → HasReadingWith p y → HasReadingWith p (x ++ y) }
 {}
 
 /// Where a text has a reading and, CR and LF bytes at its end aside, ends in `</p>`, another that
 /// has one may be put before that `</p>`.
 pub fn paragraph_takes_an_insertion()
     ensures { (p : Attribute → Bool) (before endings inserted : List ℕ)
-        → IsTrue (is_line_ends endings) → HasReadingWith p (before ++ codes "</p>" ++ endings) → HasReadingWith p inserted
+        → IsTrue (is_line_ends endings)
+        → HasReadingWith p (before ++ codes "</p>" ++ endings) → HasReadingWith p inserted
         → HasReadingWith p (before ++ inserted ++ codes "</p>" ++ endings) }
 {}

@@ -1,7 +1,9 @@
 //! Texts that have a reading in the HTML grammar, and texts that have none.
 
-ghost use Rattle.std.specs.Prelude.{◌∷◌, [], codes};
+ghost use Rattle.std.specs.Prelude.{◌≡◌, ◌∷◌, [], ◌++◌, codes};
+ghost use Rattle.md_text.specs.Filter.{disarmed_names};
 ghost use Rattle.md_text.specs.Html.{HasReading};
+ghost use Rattle.md_text.specs.Safe.{link_protocols, image_protocols};
 
 /// Each element of the table may stand alone.
 pub fn elements_stand_alone()
@@ -49,7 +51,8 @@ pub fn listed_attributes_are_allowed()
     ensures th { HasReading (codes "<th align=\"left\"></th>") }
     ensures td { HasReading (codes "<td align=\"right\"></td>") }
     ensures section { HasReading (codes "<section data-footnotes=\"\" class=\"footnotes\"></section>") }
-    ensures a { HasReading (codes "<a href=\"a\" title=\"b\" id=\"c\" class=\"d\" data-footnote-ref=\"\" data-footnote-backref=\"\" aria-describedby=\"e\" aria-label=\"f\"></a>") }
+    ensures a { HasReading (codes "<a href=\"a\" title=\"b\" id=\"c\" class=\"d\" data-footnote-ref=\"\" data-footnote-backref=\"\" aria-describedby=\"e\" aria-label=\"f\">"
+        ++ codes "</a>") }
     ensures img { HasReading (codes "<img src=\"a\" alt=\"b\" title=\"c\" />") }
     ensures input { HasReading (codes "<input type=\"checkbox\" disabled=\"\" checked=\"\" />") }
 {}
@@ -65,8 +68,13 @@ pub fn texts_stand_alone()
 /// Nested lists, a table and a section of footnotes.
 pub fn documents_have_readings()
     ensures nested_lists { HasReading (codes "<ul>\n<li>a\n<ul>\n<li>b</li>\n</ul>\n</li>\n</ul>") }
-    ensures aligned_table { HasReading (codes "<table>\n<thead>\n<tr>\n<th align=\"left\">a</th>\n</tr>\n</thead>\n<tbody>\n<tr>\n<td>b</td>\n</tr>\n</tbody>\n</table>") }
-    ensures footnotes { HasReading (codes "<section data-footnotes=\"\" class=\"footnotes\"><h2 id=\"footnote-label\" class=\"sr-only\">Footnotes</h2>\n<ol>\n<li id=\"fn-a\">\n<p>b <a href=\"#fnref-a\" data-footnote-backref=\"\" aria-label=\"Back to content\" class=\"data-footnote-backref\">↩</a></p>\n</li>\n</ol>\n</section>\n") }
+    ensures aligned_table { HasReading (codes "<table>\n<thead>\n<tr>\n<th align=\"left\">a</th>\n</tr>\n</thead>\n"
+        ++ codes "<tbody>\n<tr>\n<td>b</td>\n</tr>\n</tbody>\n</table>") }
+    ensures footnotes { HasReading (codes "<section data-footnotes=\"\" class=\"footnotes\">"
+        ++ codes "<h2 id=\"footnote-label\" class=\"sr-only\">Footnotes</h2>\n<ol>\n"
+        ++ codes "<li id=\"fn-a\">\n<p>"
+        ++ codes "b <a href=\"#fnref-a\" data-footnote-backref=\"\" aria-label=\"Back to content\" class=\"data-footnote-backref\">"
+        ++ codes "↩</a></p>\n</li>\n</ol>\n</section>\n") }
     ensures inline { HasReading (codes "<p>a <strong>b</strong><em>c</em>d<br />\n<del>e</del></p>\n<hr />") }
 {}
 
@@ -130,4 +138,14 @@ pub fn raw_characters_have_no_reading()
     ensures closing_angle_in_value { ¬ HasReading (codes "<a href=\">\"></a>") }
     ensures ampersand_in_value { ¬ HasReading (codes "<a href=\"&\"></a>") }
     ensures nul { ¬ HasReading (0 ∷ []) }
+{}
+
+/// The protocols of links and of images, and the names that the tag filter disarms.
+pub fn lists_are_as_written()
+    ensures links { link_protocols
+        ≡ codes "http" ∷ codes "https" ∷ codes "irc" ∷ codes "ircs" ∷ codes "mailto" ∷ codes "xmpp" ∷ [] }
+    ensures images { image_protocols ≡ codes "http" ∷ codes "https" ∷ [] }
+    ensures disarmed { disarmed_names
+        ≡ codes "iframe" ∷ codes "noembed" ∷ codes "noframes" ∷ codes "plaintext" ∷ codes "script"
+        ∷ codes "style" ∷ codes "textarea" ∷ codes "title" ∷ codes "xmp" ∷ [] }
 {}
