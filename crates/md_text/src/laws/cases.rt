@@ -74,7 +74,7 @@ pub fn documents_have_readings()
         ++ codes "<h2 id=\"footnote-label\" class=\"sr-only\">Footnotes</h2>\n<ol>\n"
         ++ codes "<li id=\"fn-a\">\n<p>"
         ++ codes "b <a href=\"#fnref-a\" data-footnote-backref=\"\" aria-label=\"Back to content\" class=\"data-footnote-backref\">"
-        ++ codes "↩</a></p>\n</li>\n</ol>\n</section>\n") }
+        ++ codes "back</a></p>\n</li>\n</ol>\n</section>\n") }
     ensures inline { HasReading (codes "<p>a <strong>b</strong><em>c</em>d<br />\n<del>e</del></p>\n<hr />") }
 {}
 
