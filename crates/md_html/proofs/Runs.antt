@@ -7,7 +7,7 @@ use Rattle.md_base.specs.declared.event.Name.TheVariants.{LineEnding, BlankLineE
 use Rattle.md_base.specs.declared.event.Point.{Point}
 use Rattle.md_base.specs.declared.event.Event.{Event}
 use Rattle.md_tree.specs.Tree.{Forest, Empty, Node, flatten, entering, exiting}
-use Rattle.md_tree.specs.NameTests.{is_transparent, contributes, is_fence, is_chunk}
+use Rattle.md_tree.specs.NameTests.{is_call, is_link_definition, is_transparent, contributes, is_fence, is_chunk}
 use Rattle.md_tree.specs.Children.{spine_names, is_empty, last_name, last_contributing, or_else}
 use Rattle.md_tree.specs.Looseness.{is_loose}
 use Rattle.md_html.specs.declared.options.CompileOptions.{CompileOptions}
@@ -18,9 +18,9 @@ use Rattle.md_html.specs.declared.facts.Passed.{Passed}
 use Rattle.md_html.specs.declared.facts.Frame.{Frame}
 use Rattle.md_html.specs.Piece.{Piece, Page, blank, lay, lay_piece, layout}
 use Rattle.md_html.specs.Surroundings.{Mark, Sets, Clears, is_slurping, own_marks, marks_of, inside, outermost, two_pass, last_of, told_by, spine_inside, spine_behind}
-use Rattle.md_html.specs.Given.{Given}
-use Rattle.md_html.specs.Places.{Before, Left, before_children, before_next, left_of, ahead_of, passed_over}
-use Rattle.md_html.specs.Printed.{opening, closing, is_captured, printed, printed_node}
+use Rattle.md_html.specs.Given.{Given, Defined}
+use Rattle.md_html.specs.Places.{Before, Left, calls_of, identifier_at, before_children, before_next, left_of, ahead_of, passed_over}
+use Rattle.md_html.specs.Printed.{opening, closing, is_captured, printed, printed_node, definitions_of}
 use Rattle.md_html.specs.Machine.{State, first_or, others_of, no_spine, no_ahead, entered, exited, with_name, passing, is_nil, run, beginning, closing_in, aheads_of, stepped, slurps_behind}
 
 -- pieces are laid one list after another
@@ -116,6 +116,10 @@ last-event (Node name start end children rest) (e ∷ es) = refl
 -- the state after some nodes
 abbrev pub after : Given → Before → Forest → State → State
 after given before forest state = record state {
+  log = record {
+    calls = state.log.calls ++ calls_of given.bytes forest;
+    definitions = state.log.definitions ++ definitions_of given state.frame.around before forest
+  };
   page = lay given.ending state.page (printed given state.frame.around before forest);
   is_slurping = slurps_behind (marks_of given.options state.frame.around before.spine forest) state.is_slurping;
   frame = record state.frame { passed = record {
@@ -127,19 +131,23 @@ after given before forest state = record state {
 
 -- the state knows what stands before
 pub record Knows (state : State) (before : Before) : Type 0 where
+  pub calls : state.log.calls ≡ before.calls
   pub slurping : state.is_slurping ≡ is_slurping before.marks
   pub previous : state.frame.passed.last ≡ before.previous
   pub spine : state.frame.passed.spine ≡ told_by before.spine
 
 after-nothing : (given : Given) (before : Before) (state : State) → Knows state before → after given before Empty state ≡ state
 after-nothing given before state knows =
-    ap (λ names. record state { frame = record state.frame { passed = record state.frame.passed { spine = told_by names } } }) (append-nil before.spine)
+    ap (λ cs. record (after given before Empty state) { log = record { calls = cs; definitions = state.log.definitions ++ [] } }) (append-nil state.log.calls)
+    ∙ ap (λ ds. record (after given before Empty state) { log = record { calls = state.log.calls; definitions = ds } }) (append-nil state.log.definitions)
+    ∙ ap (λ names. record state { frame = record state.frame { passed = record state.frame.passed { spine = told_by names } } }) (append-nil before.spine)
     ∙ ap (λ s. record state { frame = record state.frame { passed = record state.frame.passed { spine = s } } }) (sym knows.spine)
 
 -- the children's state, from the node's
 children_know : (given : Given) (before : Before) (name : Name) (start : Point) (children : Forest) (captured : Bool) (state : State) → Knows state before →
     Knows (entered given (ahead_of children) captured name start state) (before_children name before)
 children_know given before name start children captured state knows = record {
+  calls = knows.calls;
   slurping = knows.slurping;
   previous = refl;
   spine =
@@ -150,11 +158,24 @@ children_know given before name start children captured state knows = record {
 -- what stands before a node's next sibling, as the state knows it when the node is left
 abbrev pub after_node : Given → Before → Bool → Bool → Name → Point → Point → Forest → State → State
 after_node given before last captured name start end children state = record state {
+  log = record {
+    calls =
+      if is_call name then (state.log.calls ++ calls_of given.bytes children) ++ identifier_at given.bytes (ahead_of children).label ∷ []
+      else state.log.calls ++ calls_of given.bytes children;
+    definitions =
+      if is_link_definition name
+      then (state.log.definitions ++ definitions_of given (inside given.options (is_loose children) name state.frame.around) (before_children name before) children)
+        ++ record {
+          identifier = identifier_at given.bytes (ahead_of children).defined;
+          target = (if captured then lay given.ending blank (printed given (inside given.options (is_loose children) name state.frame.around) (before_children name before) children) else blank).notes.target
+        } ∷ []
+      else state.log.definitions ++ definitions_of given (inside given.options (is_loose children) name state.frame.around) (before_children name before) children
+  };
   page = lay given.ending state.page
     (opening given state.frame.around (ahead_of children) name
     ++ ((if captured then [] else printed given (inside given.options (is_loose children) name state.frame.around) (before_children name before) children)
-    ++ closing given state.frame.around (left_of before) (ahead_of children) (passed_over (spine_inside name before.spine) children) last start end
-        (if captured then layout given.ending (printed given (inside given.options (is_loose children) name state.frame.around) (before_children name before) children) else []) name));
+    ++ closing given state.frame.around (left_of given.bytes before children) (ahead_of children) (passed_over (spine_inside name before.spine) children) last start end
+        (if captured then lay given.ending blank (printed given (inside given.options (is_loose children) name state.frame.around) (before_children name before) children) else blank) name));
   is_slurping = slurps_behind (own_marks state.frame.around (told_by before.spine) name) (slurps_behind (marks_of given.options (inside given.options (is_loose children) name state.frame.around) (spine_inside name before.spine) children) state.is_slurping);
   frame = record state.frame { passed = passing name (told_by (spine_inside name before.spine ++ spine_names children)) state.frame.passed }
 }
@@ -168,12 +189,14 @@ lay_two ending page xs zs = sym (lay-append ending page xs zs)
 
 -- what is known of the node when it is left
 left-known : (given : Given) (before : Before) (name : Name) (start : Point) (children : Forest) (captured : Bool) (state : State) → Knows state before →
-    (record { is_slurping = state.is_slurping; previous = state.frame.passed.last; spine = state.frame.passed.spine }) ≡ left_of before
+    (record { calls = state.log.calls ++ calls_of given.bytes children; is_slurping = state.is_slurping; previous = state.frame.passed.last; spine = state.frame.passed.spine }) ≡ left_of given.bytes before children
 left-known given before name start children captured state knows =
-    let P : Bool → Left = λ s. record { is_slurping = s; previous = state.frame.passed.last; spine = state.frame.passed.spine } in
-    let Q : Option Name → Left = λ o. record { is_slurping = is_slurping before.marks; previous = o; spine = state.frame.passed.spine } in
-    let R : Spine → Left = λ s. record { is_slurping = is_slurping before.marks; previous = before.previous; spine = s } in
-    ap P knows.slurping ∙ ap Q knows.previous ∙ ap R knows.spine
+    let calls : List (List ℕ) = before.calls ++ calls_of given.bytes children in
+    let O : List (List ℕ) → Left = λ cs. record { calls = cs ++ calls_of given.bytes children; is_slurping = state.is_slurping; previous = state.frame.passed.last; spine = state.frame.passed.spine } in
+    let P : Bool → Left = λ s. record { calls = calls; is_slurping = s; previous = state.frame.passed.last; spine = state.frame.passed.spine } in
+    let Q : Option Name → Left = λ o. record { calls = calls; is_slurping = is_slurping before.marks; previous = o; spine = state.frame.passed.spine } in
+    let R : Spine → Left = λ s. record { calls = calls; is_slurping = is_slurping before.marks; previous = before.previous; spine = s } in
+    ap O knows.calls ∙ ap P knows.slurping ∙ ap Q knows.previous ∙ ap R knows.spine
 
 -- a node is left behind its children, whose text is not captured
 node_step-streamed : (given : Given) (before : Before) (last : Bool) (name : Name) (start end : Point) (children : Forest) (state : State) → Knows state before →
@@ -185,19 +208,20 @@ node_step-streamed given before last name start end children state knows =
     let inner : List Piece = printed given (inside given.options (is_loose children) name around) (before_children name before) children in
     let spine : Spine = told_by (spine_inside name before.spine ++ spine_names children) in
     let marks : List Mark = marks_of given.options (inside given.options (is_loose children) name around) (spine_inside name before.spine) children in
-    let close : Left → Option Name → Option Name → List Piece = λ left o p. closing given around left (ahead_of children) (record { last = o; contributing = p; spine = spine }) last start end [] name in
+    let close : Left → Option Name → Option Name → List Piece = λ left o p. closing given around left (ahead_of children) (record { last = o; contributing = p; spine = spine }) last start end blank name in
     let at : Page → Spine → State = λ page told. record state {
+      log = (after_node given before last false name start end children state).log;
       page = page;
       is_slurping = slurps_behind (own_marks around told name) (slurps_behind marks state.is_slurping);
       frame = record state.frame { passed = passing name spine state.frame.passed }
     } in
-    let left : Left = record { is_slurping = state.is_slurping; previous = state.frame.passed.last; spine = state.frame.passed.spine } in
+    let left : Left = record { calls = state.log.calls ++ calls_of given.bytes children; is_slurping = state.is_slurping; previous = state.frame.passed.last; spine = state.frame.passed.spine } in
     let laid : Left → Option Name → Option Name → Spine → State = λ l o p told. at (lay given.ending (lay given.ending (lay given.ending state.page opened) inner) (close l o p)) told in
     ap (λ l. laid l (or_else (last_name children) None) (or_else (last_contributing children) None) state.frame.passed.spine) (left-known given before name start children false state knows)
-    ∙ ap (λ o. laid (left_of before) o (or_else (last_contributing children) None) state.frame.passed.spine) (or_else-none (last_name children))
-    ∙ ap (λ o. laid (left_of before) (last_name children) o state.frame.passed.spine) (or_else-none (last_contributing children))
-    ∙ ap (λ told. laid (left_of before) (last_name children) (last_contributing children) told) knows.spine
-    ∙ ap (λ page. at page (told_by before.spine)) (lay_parts given.ending state.page opened inner (close (left_of before) (last_name children) (last_contributing children)))
+    ∙ ap (λ o. laid (left_of given.bytes before children) o (or_else (last_contributing children) None) state.frame.passed.spine) (or_else-none (last_name children))
+    ∙ ap (λ o. laid (left_of given.bytes before children) (last_name children) o state.frame.passed.spine) (or_else-none (last_contributing children))
+    ∙ ap (λ told. laid (left_of given.bytes before children) (last_name children) (last_contributing children) told) knows.spine
+    ∙ ap (λ page. at page (told_by before.spine)) (lay_parts given.ending state.page opened inner (close (left_of given.bytes before children) (last_name children) (last_contributing children)))
 
 -- a node is left behind its children, whose text is captured
 node_step-captured : (given : Given) (before : Before) (last : Bool) (name : Name) (start end : Point) (children : Forest) (state : State) → Knows state before →
@@ -209,19 +233,20 @@ node_step-captured given before last name start end children state knows =
     let inner : List Piece = printed given (inside given.options (is_loose children) name around) (before_children name before) children in
     let spine : Spine = told_by (spine_inside name before.spine ++ spine_names children) in
     let marks : List Mark = marks_of given.options (inside given.options (is_loose children) name around) (spine_inside name before.spine) children in
-    let close : Left → Option Name → Option Name → List Piece = λ left o p. closing given around left (ahead_of children) (record { last = o; contributing = p; spine = spine }) last start end (layout given.ending inner) name in
+    let close : Left → Option Name → Option Name → List Piece = λ left o p. closing given around left (ahead_of children) (record { last = o; contributing = p; spine = spine }) last start end (lay given.ending blank inner) name in
     let at : Page → Spine → State = λ page told. record state {
+      log = (after_node given before last true name start end children state).log;
       page = page;
       is_slurping = slurps_behind (own_marks around told name) (slurps_behind marks state.is_slurping);
       frame = record state.frame { passed = passing name spine state.frame.passed }
     } in
-    let left : Left = record { is_slurping = state.is_slurping; previous = state.frame.passed.last; spine = state.frame.passed.spine } in
+    let left : Left = record { calls = state.log.calls ++ calls_of given.bytes children; is_slurping = state.is_slurping; previous = state.frame.passed.last; spine = state.frame.passed.spine } in
     let laid : Left → Option Name → Option Name → Spine → State = λ l o p told. at (lay given.ending (lay given.ending state.page opened) (close l o p)) told in
     ap (λ l. laid l (or_else (last_name children) None) (or_else (last_contributing children) None) state.frame.passed.spine) (left-known given before name start children true state knows)
-    ∙ ap (λ o. laid (left_of before) o (or_else (last_contributing children) None) state.frame.passed.spine) (or_else-none (last_name children))
-    ∙ ap (λ o. laid (left_of before) (last_name children) o state.frame.passed.spine) (or_else-none (last_contributing children))
-    ∙ ap (λ told. laid (left_of before) (last_name children) (last_contributing children) told) knows.spine
-    ∙ ap (λ page. at page (told_by before.spine)) (lay_two given.ending state.page opened (close (left_of before) (last_name children) (last_contributing children)))
+    ∙ ap (λ o. laid (left_of given.bytes before children) o (or_else (last_contributing children) None) state.frame.passed.spine) (or_else-none (last_name children))
+    ∙ ap (λ o. laid (left_of given.bytes before children) (last_name children) o state.frame.passed.spine) (or_else-none (last_contributing children))
+    ∙ ap (λ told. laid (left_of given.bytes before children) (last_name children) (last_contributing children) told) knows.spine
+    ∙ ap (λ page. at page (told_by before.spine)) (lay_two given.ending state.page opened (close (left_of given.bytes before children) (last_name children) (last_contributing children)))
 
 node_step : (given : Given) (before : Before) (last captured : Bool) (name : Name) (start end : Point) (children : Forest) (state : State) → Knows state before →
     exited given last captured name end (after given (before_children name before) children (entered given (ahead_of children) captured name start state))
@@ -229,13 +254,29 @@ node_step : (given : Given) (before : Before) (last captured : Bool) (name : Nam
 node_step given before last true name start end children state knows = node_step-captured given before last name start end children state knows
 node_step given before last false name start end children state knows = node_step-streamed given before last name start end children state knows
 
+-- one more entry of a log, and those after it
+log-step : {A : Type 0} (b : Bool) (xs ys zs : List A) (x : A) → (if b then (xs ++ ys) ++ x ∷ [] else xs ++ ys) ++ zs ≡ xs ++ (ys ++ ((if b then x ∷ [] else []) ++ zs))
+log-step true xs ys zs x = append_assoc (xs ++ ys) (x ∷ []) zs ∙ append_assoc xs ys (x ∷ zs)
+log-step false xs ys zs x = append_assoc xs ys zs
+
+-- a definition's page is captured
+definition_page : (name : Name) (identifier : List ℕ) (page : Page) (definitions : List Defined) →
+    (if is_link_definition name then definitions ++ record { identifier = identifier; target = (if is_captured name then page else blank).notes.target } ∷ [] else definitions)
+    ≡ (if is_link_definition name then definitions ++ record { identifier = identifier; target = page.notes.target } ∷ [] else definitions)
+definition_page Definition identifier page definitions = refl
+definition_page _ identifier page definitions = refl
+
 -- the next sibling's state knows what stands before it
 next_knows : (given : Given) (before : Before) (last captured : Bool) (name : Name) (start end : Point) (children : Forest) (state : State) → Knows state before →
-    Knows (after_node given before last captured name start end children state) (before_next given state.frame.around name children before)
+    Knows (after_node given before last captured name start end children state) (before_next given state.frame.around name start end children before)
 next_knows given before last captured name start end children state knows =
     let own : List Mark = own_marks state.frame.around (told_by before.spine) name in
     let marks : List Mark = marks_of given.options (inside given.options (is_loose children) name state.frame.around) (spine_inside name before.spine) children in
     record {
+      calls =
+        sym (append-nil (after_node given before last captured name start end children state).log.calls)
+        ∙ log-step (is_call name) state.log.calls (calls_of given.bytes children) [] (identifier_at given.bytes (ahead_of children).label)
+        ∙ ap (λ cs. cs ++ calls_of given.bytes (Node name start end children Empty)) knows.calls;
       slurping =
         ap (λ s. slurps_behind own (slurps_behind marks s)) knows.slurping
         ∙ sym (is_slurping-append (own ++ marks) before.marks ∙ slurps_behind-append own marks (is_slurping before.marks));
@@ -248,17 +289,25 @@ next_knows given before last captured name start end children state knows =
 
 -- a node and then its siblings
 after-node : (given : Given) (before : Before) (name : Name) (start end : Point) (children rest : Forest) (state : State) →
-    after given (before_next given state.frame.around name children before) rest
+    after given (before_next given state.frame.around name start end children before) rest
         (after_node given before (state.frame.around.is_outermost && is_empty rest) (is_captured name) name start end children state)
     ≡ after given before (Node name start end children rest) state
 after-node given before name start end children rest state =
     let around = state.frame.around in
-    let next : Before = before_next given around name children before in
-    let node : List Piece = printed_node given around (left_of before) (ahead_of children) (passed_over (spine_inside name before.spine) children) (around.is_outermost && is_empty rest) start end name (printed given (inside given.options (is_loose children) name around) (before_children name before) children) in
+    let next : Before = before_next given around name start end children before in
+    let node : List Piece = printed_node given around (left_of given.bytes before children) (ahead_of children) (passed_over (spine_inside name before.spine) children) (around.is_outermost && is_empty rest) start end name (printed given (inside given.options (is_loose children) name around) (before_children name before) children) in
     let own : List Mark = own_marks around (told_by before.spine) name in
     let marks : List Mark = marks_of given.options (inside given.options (is_loose children) name around) (spine_inside name before.spine) children in
     let later : List Mark = marks_of given.options around (spine_behind name children before.spine) rest in
+    let inner : Page = lay given.ending blank (printed given (inside given.options (is_loose children) name around) (before_children name before) children) in
+    let identifier : List ℕ = identifier_at given.bytes (ahead_of children).defined in
+    let defined : Page → Defined = λ page. record { identifier = identifier; target = page.notes.target } in
+    let inner_definitions : List Defined = definitions_of given (inside given.options (is_loose children) name around) (before_children name before) children in
+    let later_definitions : List Defined = definitions_of given around next rest in
+    let label : List ℕ = identifier_at given.bytes (ahead_of children).label in
+    let called : List (List ℕ) → List Defined → State = λ cs ds. record (after given before (Node name start end children rest) state) { log = record { calls = cs; definitions = ds } } in
     let made : Page → Bool → Option Name → Option Name → List Name → State = λ page slurping o p names. record state {
+      log = (after given next rest (after_node given before (around.is_outermost && is_empty rest) (is_captured name) name start end children state)).log;
       page = page;
       is_slurping = slurping;
       frame = record state.frame { passed = record { last = o; contributing = p; spine = told_by names } }
@@ -274,6 +323,12 @@ after-node given before name start end children rest state =
         (or_else_assoc (last_contributing rest) (contributes name) name state.frame.passed.contributing)
     ∙ ap (λ names. made (lay given.ending state.page (node ++ printed given around next rest)) (slurps_behind (later ++ own ++ marks) state.is_slurping) (or_else (last_name (Node name start end children rest)) state.frame.passed.last) (or_else (last_contributing (Node name start end children rest)) state.frame.passed.contributing) names)
         (append_assoc before.spine (if is_transparent name then spine_names children else name ∷ []) (spine_names rest))
+    ∙ ap (λ ds. called ((after_node given before (around.is_outermost && is_empty rest) (is_captured name) name start end children state).log.calls ++ calls_of given.bytes rest) (ds ++ later_definitions))
+        (definition_page name identifier inner (state.log.definitions ++ inner_definitions))
+    ∙ ap (λ ds. called ((after_node given before (around.is_outermost && is_empty rest) (is_captured name) name start end children state).log.calls ++ calls_of given.bytes rest) ds)
+        (log-step (is_link_definition name) state.log.definitions inner_definitions later_definitions (defined inner))
+    ∙ ap (λ cs. called cs (state.log.definitions ++ definitions_of given around before (Node name start end children rest)))
+        (log-step (is_call name) state.log.calls (calls_of given.bytes children) (calls_of given.bytes rest) label)
 
 -- running the events of some nodes, and what follows them
 pub run-flatten : (given : Given) (forest : Forest) (before : Before) (tail : List Event) (aheads : List Ahead) (state : State) →
@@ -286,7 +341,7 @@ run-flatten given (Node name start end children rest) before tail aheads state k
     let inner : State = entered given (ahead_of children) captured name start state in
     let last : Bool = state.frame.around.is_outermost && is_empty rest in
     let left : State = after_node given before last captured name start end children state in
-    let next : Before = before_next given state.frame.around name children before in
+    let next : Before = before_next given state.frame.around name start end children before in
     ap (λ es. run given es (aheads_of children ++ no_ahead ∷ aheads_of rest ++ aheads) inner) (append_assoc (flatten children) (exiting name end ∷ flatten rest) tail)
     ∙ ap (λ as'. run given (flatten children ++ exiting name end ∷ (flatten rest ++ tail)) as' inner) (append_assoc (aheads_of children) (no_ahead ∷ aheads_of rest) aheads)
     ∙ run-flatten given children (before_children name before) (exiting name end ∷ (flatten rest ++ tail)) (no_ahead ∷ (aheads_of rest ++ aheads)) inner

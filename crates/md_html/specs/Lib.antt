@@ -4,6 +4,7 @@ pub mod Given
 pub mod Places
 pub mod Texts
 pub mod Blocks
+pub mod Media
 pub mod Printed
 pub mod Meaning
 pub mod Machine

@@ -9,12 +9,12 @@ use Rattle.md_base.specs.declared.event.Point.{Point}
 use Rattle.md_base.specs.declared.event.Event.{Event}
 use Rattle.md_base.specs.declared.event.Position.{Position}
 use Rattle.md_tree.specs.Tree.{Forest, Empty, Node}
-use Rattle.md_tree.specs.NameTests.{is_transparent, is_line_ending, is_blank_line_ending, is_space, is_item, is_item_prefix, is_item_value, is_block_quote, is_block_quote_prefix, is_heading_mark}
+use Rattle.md_tree.specs.NameTests.{is_transparent, is_line_ending, is_blank_line_ending, is_space, is_item, is_item_prefix, is_item_value, is_label, is_label_text, is_reference, is_definition_label, is_footnote_prefix, is_footnote_label, is_block_quote, is_block_quote_prefix, is_heading_mark}
 use Rattle.md_tree.specs.Children.{or_else, first_on_spine, is_empty, last_name}
 use Rattle.md_tree.specs.Looseness.{begins_blank, begins_space_blank, is_end, ends_bare, has_parting_blank, has_inner_blank, has_loose_item}
 use Rattle.md_html.specs.declared.facts.Ahead.{Ahead}
 use Rattle.md_html.specs.declared.facts.Gathered.{Gathered}
-use Rattle.md_html.specs.Places.{first_ending, position, number_in_prefix, number_in_item}
+use Rattle.md_html.specs.Places.{first_ending, position, text_in_label, label_in_prefix, number_in_prefix, number_in_item}
 use Rattle.md_html.specs.Machine.{first_or, others_of, no_ahead}
 
 -- what the nodes in a node that ends here tell
@@ -34,7 +34,13 @@ gathered end nodes = record {
   has_inner_blank = has_inner_blank nodes;
   has_loose_item = has_loose_item nodes;
   last = last_name nodes;
-  ending = first_ending nodes
+  ending = first_ending nodes;
+  label_text = first_on_spine is_label_text position nodes;
+  label = first_on_spine is_label (λ start end inner. text_in_label inner) nodes;
+  reference = first_on_spine is_reference position nodes;
+  defined = first_on_spine is_definition_label position nodes;
+  footnote_label = first_on_spine is_footnote_label position nodes;
+  footnote = first_on_spine is_footnote_prefix (λ start end inner. label_in_prefix inner) nodes
 }
 
 -- the first place on the spine of a node and what follows it: the node's own, that within a transparent node, or a later one
@@ -63,7 +69,13 @@ joined name start own later = record {
   has_inner_blank = not (is_item_prefix name) && (later.begins_blank && not (is_space name) || later.begins_space_blank) || later.has_inner_blank;
   has_loose_item = is_item name && (own.begins_blank || own.begins_space_blank || own.has_inner_blank) || later.has_loose_item;
   last = Some (unwrap_or later.last name);
-  ending = or_else own.ending (or_else (if is_line_ending name then Some (record { start = start; end = own.end }) else None) later.ending)
+  ending = or_else own.ending (or_else (if is_line_ending name then Some (record { start = start; end = own.end }) else None) later.ending);
+  label_text = first_found (is_label_text name) (is_transparent name) (record { start = start; end = own.end }) own.label_text later.label_text;
+  label = first_found (is_label name) (is_transparent name) own.label_text own.label later.label;
+  reference = first_found (is_reference name) (is_transparent name) (record { start = start; end = own.end }) own.reference later.reference;
+  defined = first_found (is_definition_label name) (is_transparent name) (record { start = start; end = own.end }) own.defined later.defined;
+  footnote_label = first_found (is_footnote_label name) (is_transparent name) (record { start = start; end = own.end }) own.footnote_label later.footnote_label;
+  footnote = first_found (is_footnote_prefix name) (is_transparent name) own.footnote_label own.footnote later.footnote
 }
 
 -- what is told ahead of a node by what its children tell
@@ -71,7 +83,11 @@ abbrev pub told_ahead : Gathered → Ahead
 told_ahead own = record {
   mark = own.mark;
   number = unwrap_or own.item None;
-  is_loose = own.begins_blank || own.has_parting_blank || own.has_loose_item
+  is_loose = own.begins_blank || own.has_parting_blank || own.has_loose_item;
+  label = unwrap_or own.label None;
+  reference = own.reference;
+  defined = own.defined;
+  footnote = unwrap_or own.footnote None
 }
 
 -- what is told ahead at the events so far, what the nodes behind the present place tell, and what those

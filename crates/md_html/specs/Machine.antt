@@ -7,7 +7,7 @@ use Rattle.md_base.specs.declared.event.Kind.TheVariants.{Enter, Exit}
 use Rattle.md_base.specs.declared.event.Point.{Point}
 use Rattle.md_base.specs.declared.event.Event.{Event}
 use Rattle.md_tree.specs.Tree.{Forest, Empty, Node}
-use Rattle.md_tree.specs.NameTests.{is_transparent, contributes, is_fence, is_chunk}
+use Rattle.md_tree.specs.NameTests.{is_call, is_link_definition, is_transparent, contributes, is_fence, is_chunk}
 use Rattle.md_html.specs.declared.facts.Surroundings.{Surroundings}
 use Rattle.md_html.specs.declared.facts.Spine.{Spine}
 use Rattle.md_html.specs.declared.facts.Ahead.{Ahead}
@@ -16,15 +16,21 @@ use Rattle.md_html.specs.declared.facts.Frame.{Frame}
 use Rattle.md_html.specs.declared.options.CompileOptions.{CompileOptions}
 use Rattle.md_html.specs.Piece.{Piece, Page, blank, lay}
 use Rattle.md_html.specs.Surroundings.{Mark, Sets, Clears, own_marks, inside, outermost}
-use Rattle.md_html.specs.Given.{Given}
-use Rattle.md_html.specs.Places.{Left, ahead_of}
+use Rattle.md_html.specs.Given.{Given, Defined}
+use Rattle.md_html.specs.Places.{Left, ahead_of, identifier_at}
 use Rattle.md_html.specs.Printed.{opening, closing, is_captured}
 
--- the page, those below it (the newest first), whether the last mark is a setting one, the innermost node
+-- what was seen so far: the footnote calls and the definitions, in the order of their exits
+pub record Log : Type 0 where
+  pub calls : List (List ℕ)
+  pub definitions : List Defined
+
+-- the page, those below it (the newest first), what was seen, whether the last mark is a setting one, the innermost node
 -- that is open, and those round it (the innermost first)
 pub record State : Type 0 where
   pub page : Page
   pub below : List Page
+  pub log : Log
   pub is_slurping : Bool
   pub frame : Frame
   pub frames : List Frame
@@ -45,7 +51,7 @@ no_spine = record { has_fence = false; has_second_fence = false; has_chunk = fal
 
 -- nothing is told ahead
 abbrev pub no_ahead : Ahead
-no_ahead = record { mark = None; number = None; is_loose = false }
+no_ahead = record { mark = None; number = None; is_loose = false; label = None; reference = None; defined = None; footnote = None }
 
 -- no child is passed, behind a spine
 abbrev pub nothing_passed : Spine → Passed
@@ -63,7 +69,7 @@ document_frame = record {
 
 -- before the first event
 abbrev pub beginning : State
-beginning = record { page = blank; below = []; is_slurping = false; frame = document_frame; frames = [] }
+beginning = record { page = blank; below = []; log = record { calls = []; definitions = [] }; is_slurping = false; frame = document_frame; frames = [] }
 
 -- some pieces are laid on the page
 abbrev pub printing : List ℕ → List Piece → State → State
@@ -142,19 +148,29 @@ leaving name state =
 abbrev pub left_in : State → Left
 left_in state =
     let parent = first_or document_frame state.frames in
-    record { is_slurping = state.frame.is_slurping; previous = parent.passed.last; spine = parent.passed.spine }
+    record { calls = state.log.calls; is_slurping = state.frame.is_slurping; previous = parent.passed.last; spine = parent.passed.spine }
 
 -- what is printed where the innermost node is left
-abbrev pub closing_in : Given → Bool → Name → Point → List ℕ → State → List Piece
+abbrev pub closing_in : Given → Bool → Name → Point → Page → State → List Piece
 closing_in given last name end inner state =
     closing given (first_or document_frame state.frames).around (left_in state) state.frame.ahead state.frame.passed last state.frame.start end inner name
+
+-- what a node that is exited is seen for, with its children's page
+abbrev pub logging : List ℕ → Name → Page → State → State
+logging bytes name inner state = record state { log = record {
+  calls = if is_call name then state.log.calls ++ identifier_at bytes state.frame.ahead.label ∷ [] else state.log.calls;
+  definitions =
+    if is_link_definition name
+    then state.log.definitions ++ record { identifier = identifier_at bytes state.frame.ahead.defined; target = inner.notes.target } ∷ []
+    else state.log.definitions
+} }
 
 -- a node is exited, whose children's text was captured or not
 abbrev pub exited : Given → Bool → Bool → Name → Point → State → State
 exited given last captured name end state =
     leaving name
-        (printing given.ending (closing_in given last name end (if captured then state.page.text else []) state)
-            (releasing captured state))
+        (printing given.ending (closing_in given last name end (if captured then state.page else blank) state)
+            (logging given.bytes name (if captured then state.page else blank) (releasing captured state)))
 
 -- there is no event
 abbrev pub is_nil : List Event → Bool

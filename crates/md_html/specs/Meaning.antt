@@ -9,7 +9,7 @@ use Rattle.md_html.specs.Piece.{layout}
 use Rattle.md_html.specs.Surroundings.{outermost}
 use Rattle.md_html.specs.Given.{Given, text_of}
 use Rattle.md_html.specs.Places.{nothing_before, first_ending}
-use Rattle.md_html.specs.Printed.{printed}
+use Rattle.md_html.specs.Printed.{printed, definitions_of}
 
 -- the line ending that is used: the text of the document's first, else that of the options
 abbrev pub ending_at : CompileOptions → List ℕ → Option Position → List ℕ
@@ -20,5 +20,6 @@ ending_at options bytes place =
 abbrev pub meaning : CompileOptions → List (List ℕ × List ℕ) → List ℕ → Forest → List ℕ
 meaning options names bytes document =
     let ending = ending_at options bytes (first_ending document) in
-    let given : Given = record { bytes = bytes; names = names; options = options; ending = ending; definitions = [] } in
+    let alone : Given = record { bytes = bytes; names = names; options = options; ending = ending; definitions = [] } in
+    let given : Given = record alone { definitions = definitions_of alone outermost nothing_before document } in
     layout ending (printed given outermost nothing_before document)

@@ -1,22 +1,56 @@
 -- What nodes print, and how it is laid out as one text.
 use Rattle.std.specs.Prelude.{ℕ, ◌-◌, Bool, true, ◌||◌, ◌==◌, if◌then◌else◌, List, [], ◌∷◌, ◌++◌, length, Option, Some, None, slice_get}
 
--- a part of what a node prints
+-- where a link or an image leads, and its title
+pub record Target : Type 0 where
+  pub destination : List ℕ
+  pub title : Option (List ℕ)
+
+-- a text that is noted where it stands, and printed by a later node or by the one round it
+pub data Note : Type 0 where
+  Heading : (text : List ℕ) → Note
+  Destination : (text : List ℕ) → Note
+  Title : (text : List ℕ) → Note
+  Resource : (target : Target) → Note
+
+-- a part of what a node prints: a text, a line ending where it is needed, a line ending, a note, or the
+-- text of a heading that was noted
 pub data Piece : Type 0 where
   Text : (text : List ℕ) → Piece
   Needed : Piece
   Forced : Piece
-  Aside : (text : List ℕ) → Piece
+  Noted : (note : Note) → Piece
   Recalled : Piece
 
--- what is laid out so far, and the text that was put aside last
+-- what was noted last: a heading's text, a destination and a title, a resource
+pub record Notes : Type 0 where
+  pub heading : List ℕ
+  pub target : Target
+  pub resource : Option Target
+
+-- what is laid out so far, and what was noted
 pub record Page : Type 0 where
   pub text : List ℕ
-  pub aside : List ℕ
+  pub notes : Notes
+
+-- nowhere, with no title
+abbrev pub nowhere : Target
+nowhere = record { destination = []; title = None }
+
+-- nothing is noted
+abbrev pub no_notes : Notes
+no_notes = record { heading = []; target = nowhere; resource = None }
 
 -- nothing is laid out yet
 abbrev pub blank : Page
-blank = record { text = []; aside = [] }
+blank = record { text = []; notes = no_notes }
+
+-- one note more
+abbrev pub with_note : Note → Notes → Notes
+with_note (Heading text) notes = record notes { heading = text }
+with_note (Destination text) notes = record notes { target = record { destination = text; title = notes.target.title } }
+with_note (Title text) notes = record notes { target = record { destination = notes.target.destination; title = Some text } }
+with_note (Resource target) notes = record notes { resource = Some target }
 
 -- a byte that ends a line, CR or LF; and where there is no byte, a line begins as well
 abbrev pub ends_line : Option ℕ → Bool
@@ -28,14 +62,14 @@ abbrev pub is_line_start : List ℕ → Bool
 is_line_start text = ends_line (slice_get text (length text - 1))
 
 -- one piece after what is laid out, where lines end in `ending`: a text stands as it is, a needed line
--- ending comes where no line starts, a forced one always, and a text put aside comes where it is recalled
+-- ending comes where no line starts, a forced one always, and the text of a heading where it is recalled
 abbrev pub lay_piece : List ℕ → Page → Piece → Page
 lay_piece ending page (Text text) = record page { text = page.text ++ text }
 lay_piece ending page Needed =
     record page { text = if is_line_start page.text then page.text else page.text ++ ending }
 lay_piece ending page Forced = record page { text = page.text ++ ending }
-lay_piece ending page (Aside text) = record page { aside = text }
-lay_piece ending page Recalled = record page { text = page.text ++ page.aside }
+lay_piece ending page (Noted note) = record page { notes = with_note note page.notes }
+lay_piece ending page Recalled = record page { text = page.text ++ page.notes.heading }
 
 -- the pieces after what is laid out, one after another
 abbrev pub lay : List ℕ → Page → List Piece → Page

@@ -3,9 +3,10 @@ use Rattle.std.specs.Prelude.{ℕ, ◌+◌, ◌-◌, Bool, nat_lt, slice_index, 
 use Rattle.md_base.specs.declared.event.Name.{Name}
 use Rattle.md_base.specs.declared.event.Point.{Point}
 use Rattle.md_base.specs.declared.event.Position.{Position}
+use Rattle.md_base.specs.Identifier.{normalized}
 use Rattle.md_base.specs.Place.{fits, byte_index, spaces_before, spaces_after}
 use Rattle.md_tree.specs.Tree.{Forest, Empty, Node}
-use Rattle.md_tree.specs.NameTests.{is_line_ending, is_heading_mark, is_item, is_item_prefix, is_item_value}
+use Rattle.md_tree.specs.NameTests.{is_line_ending, is_label, is_label_text, is_reference, is_definition_label, is_footnote_prefix, is_footnote_label, is_call, is_heading_mark, is_item, is_item_prefix, is_item_value}
 use Rattle.md_tree.specs.Children.{or_else, first_on_spine, spine_names, last_name, last_contributing}
 use Rattle.md_tree.specs.Looseness.{is_loose}
 use Rattle.md_html.specs.Surroundings.{Mark, is_slurping, told_by, spine_inside, spine_behind, own_marks, marks_of, inside}
@@ -13,33 +14,7 @@ use Rattle.md_html.specs.declared.facts.Surroundings.{Surroundings}
 use Rattle.md_html.specs.declared.facts.Spine.{Spine}
 use Rattle.md_html.specs.declared.facts.Ahead.{Ahead}
 use Rattle.md_html.specs.declared.facts.Passed.{Passed}
-use Rattle.md_html.specs.Given.{Given}
-
--- what stands before a node: the marks, the latest first; its previous sibling; the names on its spine
-pub record Before : Type 0 where
-  pub marks : List Mark
-  pub previous : Option Name
-  pub spine : List Name
-
--- nothing stands before
-abbrev pub nothing_before : Before
-nothing_before = record { marks = []; previous = None; spine = [] }
-
--- what stands before a node's first child
-abbrev pub before_children : Name → Before → Before
-before_children name before =
-    record { marks = before.marks; previous = None; spine = spine_inside name before.spine }
-
--- what stands before the next sibling of a node
-abbrev pub before_next : Given → Surroundings → Name → Forest → Before → Before
-before_next given around name children before = record {
-  marks =
-    own_marks around (told_by before.spine) name
-    ++ marks_of given.options (inside given.options (is_loose children) name around) (spine_inside name before.spine) children
-    ++ before.marks;
-  previous = Some name;
-  spine = spine_behind name children before.spine
-}
+use Rattle.md_html.specs.Given.{Given, label_of}
 
 -- the place of a node
 abbrev pub position : Point → Point → Forest → Position
@@ -75,13 +50,67 @@ first_ending (Node name start end children rest) =
     or_else (first_ending children)
         (or_else (if is_line_ending name then Some (record { start = start; end = end }) else None) (first_ending rest))
 
--- what some children tell ahead: the place of a heading's first mark, that of the number of a list's first
--- item, and whether a list is loose
+-- the place of the text in a label
+abbrev pub text_in_label : Forest → Option Position
+text_in_label children = first_on_spine is_label_text position children
+
+-- the place of the label in the prefix of a footnote definition
+abbrev pub label_in_prefix : Forest → Option Position
+label_in_prefix children = first_on_spine is_footnote_label position children
+
+-- what some children tell ahead: the places of a heading's first mark and of the number of a list's first item,
+-- whether a list is loose, and the places of the labels by which a node refers to others or is referred to
 abbrev pub ahead_of : Forest → Ahead
 ahead_of children = record {
   mark = first_on_spine is_heading_mark position children;
   number = unwrap_or (first_on_spine is_item (λ start end inner. number_in_item inner) children) None;
-  is_loose = is_loose children
+  is_loose = is_loose children;
+  label = unwrap_or (first_on_spine is_label (λ start end inner. text_in_label inner) children) None;
+  reference = first_on_spine is_reference position children;
+  defined = first_on_spine is_definition_label position children;
+  footnote = unwrap_or (first_on_spine is_footnote_prefix (λ start end inner. label_in_prefix inner) children) None
+}
+
+-- the identifier at a place
+abbrev pub identifier_at : List ℕ → Option Position → List ℕ
+identifier_at bytes None = []
+identifier_at bytes (Some place) = normalized (label_of bytes place.start place.end)
+
+-- the identifiers of the footnote calls in some nodes, in the order of their exits
+abbrev pub calls_of : List ℕ → Forest → List (List ℕ)
+calls_of bytes Empty = []
+calls_of bytes (Node name start end children rest) =
+    calls_of bytes children
+    ++ ((if is_call name then identifier_at bytes (ahead_of children).label ∷ [] else [])
+    ++ calls_of bytes rest)
+
+-- what stands before a node: the footnote calls; the marks, the latest first; its previous sibling; the names
+-- on its spine
+pub record Before : Type 0 where
+  pub calls : List (List ℕ)
+  pub marks : List Mark
+  pub previous : Option Name
+  pub spine : List Name
+
+-- nothing stands before
+abbrev pub nothing_before : Before
+nothing_before = record { calls = []; marks = []; previous = None; spine = [] }
+
+-- what stands before a node's first child
+abbrev pub before_children : Name → Before → Before
+before_children name before =
+    record { calls = before.calls; marks = before.marks; previous = None; spine = spine_inside name before.spine }
+
+-- what stands before the next sibling of a node
+abbrev pub before_next : Given → Surroundings → Name → Point → Point → Forest → Before → Before
+before_next given around name start end children before = record {
+  calls = before.calls ++ calls_of given.bytes (Node name start end children Empty);
+  marks =
+    own_marks around (told_by before.spine) name
+    ++ marks_of given.options (inside given.options (is_loose children) name around) (spine_inside name before.spine) children
+    ++ before.marks;
+  previous = Some name;
+  spine = spine_behind name children before.spine
 }
 
 -- what children tell at their end: the last one's name, the last contributing one's, and their spine, which
@@ -90,12 +119,13 @@ abbrev pub passed_over : List Name → Forest → Passed
 passed_over spine children =
     record { last = last_name children; contributing = last_contributing children; spine = told_by (spine ++ spine_names children) }
 
--- what a node learns from what stands before it
+-- what a node learns from what stands before it, and of footnote calls before its end
 pub record Left : Type 0 where
+  pub calls : List (List ℕ)
   pub is_slurping : Bool
   pub previous : Option Name
   pub spine : Spine
 
-abbrev pub left_of : Before → Left
-left_of before =
-    record { is_slurping = is_slurping before.marks; previous = before.previous; spine = told_by before.spine }
+abbrev pub left_of : List ℕ → Before → Forest → Left
+left_of bytes before children =
+    record { calls = before.calls ++ calls_of bytes children; is_slurping = is_slurping before.marks; previous = before.previous; spine = told_by before.spine }

@@ -2,30 +2,74 @@
 
 ghost use Rattle.std.specs.Prelude.{◌≡◌, ◌∷◌, [], ◌++◌, OnOk, codes, string_bytes, ◌||◌, ◌&&◌, not};
 ghost use Rattle.md_html.specs.Machine.{printing};
-ghost use Rattle.md_html.specs.Piece.{Text, Needed, Forced, Aside};
+ghost use Rattle.md_html.specs.Piece.{Text, Needed, Forced};
 ghost use Rattle.md_html.specs.Texts as texts;
 ghost use Rattle.md_html.specs.Texts.{said};
 ghost use Rattle.md_html.specs.Blocks as blocks;
+ghost use Rattle.md_html.specs.Printed as printed;
 ghost use Rattle.md_html.specs.Sources.{given_of, closing_at, left_at};
 
 use crate::code::code_text;
 use crate::facts::{Container, Exit, Passed, Surroundings};
 use crate::names::{is_fence, is_item_prefix, is_paragraph};
 use crate::open::{is_tight, on_own_line, outside_images, rank_of};
+use crate::media::{autolink, image, is_plain, link};
 use crate::printer::Printer;
+use crate::sheet::Sheet;
 use crate::source::{Source, serialized_of};
 use crate::texts::{data, html, line_ending, reference};
 use md_base::Name;
 use md_text::encode;
 use std::alloc::{AllocError, Global};
 
-/// Prints what a node prints after its children; `inner` is their text, where it was captured.
-pub fn close(alloc: Global, printer: &mut Printer, source: &Source, exit: &Exit, inner: String, name: Name) -> Result<(), AllocError>
-    ensures { OnOk result (printer.new ≡ printing source.now.ending.now (closing_at (given_of source.now) exit.now (string_bytes inner) name) printer.old) }
+/// Prints what a node prints after its children; `inner` is their page, where it was captured.
+pub fn close(alloc: Global, printer: &mut Printer, source: &Source, exit: &Exit, inner: Sheet, name: Name) -> Result<(), AllocError>
+    ensures { OnOk result (printer.new ≡ printing source.now.ending.now (closing_at (given_of source.now) exit.now printer.old.log.calls inner name) printer.old) }
+{
+    close_text(alloc, printer, source, exit, &inner, name)?;
+    close_block(alloc, printer, source, exit, name)?;
+    close_media(alloc, printer, source, exit, inner, name)
+}
+
+/// Prints what a text, a span or a break prints after its children.
+fn close_text(alloc: Global, printer: &mut Printer, source: &Source, exit: &Exit, inner: &Sheet, name: Name) -> Result<(), AllocError>
+    ensures { OnOk result (printer.new ≡ printing source.now.ending.now
+        (printed.text_closing (given_of source.now) exit.now.around (left_at exit.now printer.old.log.calls) exit.now.is_last exit.now.frame.start exit.now.end inner.now name) printer.old) }
 {
     match name {
         Name::LineEnding => line_ending(printer, source, exit),
         Name::BlankLineEnding => blank_line_ending(printer, source.ending, exit.is_last),
+        Name::Data => data(alloc, printer, source, exit),
+        Name::CharacterEscapeValue => data(alloc, printer, source, exit),
+        Name::CodeTextData => data(alloc, printer, source, exit),
+        Name::MathTextData => data(alloc, printer, source, exit),
+        Name::CharacterReferenceValue => reference(alloc, printer, source, exit),
+        Name::HtmlFlowData => html(alloc, printer, source, exit),
+        Name::HtmlTextData => html(alloc, printer, source, exit),
+        Name::CodeText => code(alloc, printer, exit.around, "<code>", inner.text()),
+        Name::MathText => {
+            let tag = "<code class=\"language-math math-inline\">";
+            code(alloc, printer, exit.around, tag, inner.text())
+        }
+        Name::Emphasis => outside_images(printer, exit.around, "</em>"),
+        Name::Strong => outside_images(printer, exit.around, "</strong>"),
+        Name::GfmStrikethrough => outside_images(printer, exit.around, "</del>"),
+        Name::HardBreakEscape => outside_images(printer, exit.around, "<br />"),
+        Name::HardBreakTrailing => outside_images(printer, exit.around, "<br />"),
+        Name::GfmTaskListItemCheck => outside_images(printer, exit.around, "/>"),
+        Name::GfmTaskListItemValueChecked => {
+            outside_images(printer, exit.around, "checked=\"\" ")
+        }
+        _ => Ok(()),
+    }
+}
+
+/// Prints what a block prints after its children.
+fn close_block(alloc: Global, printer: &mut Printer, source: &Source, exit: &Exit, name: Name) -> Result<(), AllocError>
+    ensures { OnOk result (printer.new ≡ printing source.now.ending.now
+        (printed.block_closing (given_of source.now) exit.now.around (left_at exit.now printer.old.log.calls) exit.now.frame.ahead exit.now.frame.passed exit.now.frame.start exit.now.end name) printer.old) }
+{
+    match name {
         Name::BlockQuote => on_own_line(printer, source.ending, "</blockquote>"),
         Name::ListOrdered => list(printer, source.ending, "</ol>"),
         Name::ListUnordered => list(printer, source.ending, "</ul>"),
@@ -35,35 +79,72 @@ pub fn close(alloc: Global, printer: &mut Printer, source: &Source, exit: &Exit,
         Name::HeadingAtx => {
             printer.put(heading_closing(rank_of(source.bytes, exit.frame.ahead.mark)))
         }
-        Name::HeadingSetextText => {
-            printer.put_aside(inner);
-            Ok(())
-        }
         Name::HeadingSetextUnderlineSequence => setext(printer, source, exit),
         Name::CodeIndented => indented(printer, source.ending, exit),
-        Name::CodeFenced | Name::MathFlow => fenced(printer, source.ending, exit),
-        Name::CodeFencedFence | Name::MathFlowFence => fence(printer, exit),
+        Name::CodeFenced => fenced(printer, source.ending, exit),
+        Name::MathFlow => fenced(printer, source.ending, exit),
+        Name::CodeFencedFence => fence(printer, exit),
+        Name::MathFlowFence => fence(printer, exit),
         Name::CodeFencedFenceInfo => printer.put("\""),
-        Name::CodeFlowChunk | Name::MathFlowChunk => chunk(alloc, printer, source, exit),
-        Name::Data | Name::CharacterEscapeValue | Name::CodeTextData | Name::MathTextData => {
-            data(alloc, printer, source, exit)
+        Name::CodeFlowChunk => chunk(alloc, printer, source, exit),
+        Name::MathFlowChunk => chunk(alloc, printer, source, exit),
+        _ => Ok(()),
+    }
+}
+
+/// Prints or notes what links and what they refer to print or note after their children, and notes a heading
+/// whose underline comes later.
+fn close_media(alloc: Global, printer: &mut Printer, source: &Source, exit: &Exit, inner: Sheet, name: Name) -> Result<(), AllocError>
+    ensures { OnOk result (printer.new ≡ printing source.now.ending.now
+        (printed.media_closing (given_of source.now) exit.now.around exit.now.frame.ahead exit.now.frame.start exit.now.end inner name) printer.old) }
+{
+    match name {
+        Name::HeadingSetextText => {
+            printer.note_heading(inner.into_text());
+            Ok(())
         }
-        Name::CharacterReferenceValue => reference(alloc, printer, source, exit),
-        Name::HtmlFlowData | Name::HtmlTextData => html(alloc, printer, source, exit),
-        Name::CodeText => code(alloc, printer, exit.around, "<code>", inner.as_str()),
-        Name::MathText => {
-            let tag = "<code class=\"language-math math-inline\">";
-            code(alloc, printer, exit.around, tag, inner.as_str())
+        Name::DefinitionDestinationString => {
+            printer.note_destination(inner.into_text());
+            Ok(())
         }
-        Name::Emphasis => outside_images(printer, exit.around, "</em>"),
-        Name::Strong => outside_images(printer, exit.around, "</strong>"),
-        Name::GfmStrikethrough => outside_images(printer, exit.around, "</del>"),
-        Name::HardBreakEscape | Name::HardBreakTrailing => {
-            outside_images(printer, exit.around, "<br />")
+        Name::DefinitionTitleString => {
+            printer.note_title(inner.into_text());
+            Ok(())
         }
-        Name::GfmTaskListItemCheck => outside_images(printer, exit.around, "/>"),
-        Name::GfmTaskListItemValueChecked => {
-            outside_images(printer, exit.around, "checked=\"\" ")
+        Name::ResourceDestinationString => {
+            printer.note_destination(inner.into_text());
+            Ok(())
+        }
+        Name::ResourceTitleString => {
+            printer.note_title(inner.into_text());
+            Ok(())
+        }
+        Name::Resource => {
+            printer.note_resource(inner.into_target());
+            Ok(())
+        }
+        Name::Link => link(alloc, printer, source, exit, &inner),
+        Name::Image => image(alloc, printer, source, exit, &inner),
+        Name::AutolinkEmail => {
+            autolink(alloc, printer, source, exit, "mailto:", exit.around.in_image)
+        }
+        Name::AutolinkProtocol => {
+            autolink(alloc, printer, source, exit, "", exit.around.in_image)
+        }
+        Name::GfmAutolinkLiteralEmail => {
+            autolink(alloc, printer, source, exit, "mailto:", is_plain(exit.around))
+        }
+        Name::GfmAutolinkLiteralMailto => {
+            autolink(alloc, printer, source, exit, "", is_plain(exit.around))
+        }
+        Name::GfmAutolinkLiteralProtocol => {
+            autolink(alloc, printer, source, exit, "", is_plain(exit.around))
+        }
+        Name::GfmAutolinkLiteralWww => {
+            autolink(alloc, printer, source, exit, "http://", is_plain(exit.around))
+        }
+        Name::GfmAutolinkLiteralXmpp => {
+            autolink(alloc, printer, source, exit, "", is_plain(exit.around))
         }
         _ => Ok(()),
     }
@@ -158,7 +239,7 @@ fn indented(printer: &mut Printer, ending: &str, exit: &Exit) -> Result<(), Allo
 
 /// The first fence ends the opening tag of the code.
 fn fence(printer: &mut Printer, exit: &Exit) -> Result<(), AllocError>
-    ensures { OnOk result (printer.new ≡ printing [] (blocks.fence_closing (left_at exit.now)) printer.old) }
+    ensures { OnOk result (printer.new ≡ printing [] (blocks.fence_closing (left_at exit.now [])) printer.old) }
 {
     if exit.spine.has_fence {
         Ok(())

@@ -16,7 +16,8 @@ use crate::names::is_captured;
 use crate::open::open;
 use crate::options::CompileOptions;
 use crate::printer::Printer;
-use crate::source::{Source, text_of};
+use crate::notes::Defined;
+use crate::source::{Source, identifier_at, text_of};
 use md_base::{Event, Kind, Name, Point, Position};
 use md_tree::Checked;
 use std::alloc::{AllocError, Global};
@@ -33,13 +34,21 @@ pub fn compile_checked(alloc: Global, checked: &Checked, options: &CompileOption
     let events = checked.events();
     let bytes = checked.bytes();
     let (aheads, ending) = look_ahead(alloc, events)?;
-    let source = Source {
+    let alone = Source {
         bytes,
         names: checked.names(),
         options,
         ending: ending_at(options, bytes, ending),
+        definitions: &[],
     };
-    print(alloc, &source, events, aheads.as_slice())
+    let first = run(alloc, &alone, events, aheads.as_slice())?;
+    let definitions = first.into_definitions();
+    let source = Source {
+        definitions: definitions.as_slice(),
+        ..alone
+    };
+    let second = run(alloc, &source, events, aheads.as_slice())?;
+    Ok(second.into_text())
 }
 
 /// The line ending that is used: the text of the document's first, else that of the options.
@@ -76,7 +85,17 @@ fn exit(alloc: Global, printer: &mut Printer, source: &Source, is_last: bool, na
         end,
     };
     let inner = printer.release_if(alloc, is_captured(name));
-    close(alloc, printer, source, &exit, inner, name)?;
+    match name {
+        Name::GfmFootnoteCall => {
+            printer.log_call(identifier_at(alloc, source.bytes, exit.frame.ahead.label)?)?;
+        }
+        Name::Definition => {
+            let identifier = identifier_at(alloc, source.bytes, exit.frame.ahead.defined)?;
+            let target = inner.into_target();
+            printer.log_definition(Defined { identifier, target })?;
+        }
+        _ => close(alloc, printer, source, &exit, inner, name)?,
+    }
     printer.leave(name);
     Ok(())
 }
@@ -91,9 +110,9 @@ fn step(alloc: Global, printer: &mut Printer, source: &Source, event: &Event, ah
     }
 }
 
-/// The text of the events, one after another, each with what is told ahead there.
-fn print(alloc: Global, source: &Source, events: &[Event], aheads: &[Ahead]) -> Result<String, AllocError>
-    ensures { IfOk result (λ text. string_bytes text ≡ (machine.run (given_of source.now) events.now aheads.now machine.beginning).page.text) }
+/// Prints the events, one after another, each with what is told ahead there.
+fn run(alloc: Global, source: &Source, events: &[Event], aheads: &[Ahead]) -> Result<Printer, AllocError>
+    ensures { IfOk result (λ printer. printer ≡ machine.run (given_of source.now) events.now aheads.now machine.beginning) }
 {
     let mut printer = Printer::new(alloc);
     let mut rest = events;
@@ -106,5 +125,5 @@ fn print(alloc: Global, source: &Source, events: &[Event], aheads: &[Ahead]) -> 
         rest = later;
         aheads = aheads_later;
     }
-    Ok(printer.into_text())
+    Ok(printer)
 }

@@ -58,6 +58,14 @@ pub struct Ahead {
     pub number: Option<Position>,
     /// The node is loose, as a list.
     pub is_loose: bool,
+    /// The place of the text of its label.
+    pub label: Option<Position>,
+    /// The place of its reference.
+    pub reference: Option<Position>,
+    /// The place of the label that it defines, as a definition.
+    pub defined: Option<Position>,
+    /// The place of the label that it defines, as a footnote definition.
+    pub footnote: Option<Position>,
 }
 
 /// What the children of a node that is open tell so far.
@@ -119,6 +127,18 @@ pub struct Gathered {
     pub last: Option<Name>,
     /// The place of the first line ending in them, blank or not.
     pub ending: Option<Position>,
+    /// The place of the first label's text on the spine.
+    pub label_text: Option<Position>,
+    /// The place of the text in the first label on the spine.
+    pub label: Option<Option<Position>>,
+    /// The place of the first reference on the spine.
+    pub reference: Option<Position>,
+    /// The place of the first label of a definition on the spine.
+    pub defined: Option<Position>,
+    /// The place of the first label of a footnote definition on the spine.
+    pub footnote_label: Option<Position>,
+    /// The place of the label in the first prefix of a footnote definition on the spine.
+    pub footnote: Option<Option<Position>>,
 }
 
 /// A node that is exited.

@@ -8,6 +8,7 @@ ghost use Rattle.md_tree.specs.Tree.{Forest, flatten};
 
 use crate::facts::{Ahead, Gathered};
 use crate::names::{
+    is_definition_label, is_footnote_label, is_footnote_prefix, is_label, is_label_text, is_reference,
     is_blank_line_ending, is_block_quote, is_block_quote_prefix, is_heading_mark, is_item,
     is_item_prefix, is_item_value, is_line_ending, is_space, is_transparent,
 };
@@ -47,6 +48,12 @@ fn nothing_gathered(end: Point) -> Gathered
         has_loose_item: false,
         last: None,
         ending: None,
+        label_text: None,
+        label: None,
+        reference: None,
+        defined: None,
+        footnote_label: None,
+        footnote: None,
     }
 }
 
@@ -137,6 +144,24 @@ fn joined(name: Name, start: Point, own: Gathered, later: Gathered) -> Gathered
         has_loose_item: is_loose_here(item, own, later.has_loose_item),
         last: Some(later.last.unwrap_or(name)),
         ending: first_ending(is_line_ending(name), place, own.ending, later.ending),
+        label_text: first_found(is_label_text(name), transparent, place, own.label_text, later.label_text),
+        label: first_found(is_label(name), transparent, own.label_text, own.label, later.label),
+        reference: first_found(is_reference(name), transparent, place, own.reference, later.reference),
+        defined: first_found(is_definition_label(name), transparent, place, own.defined, later.defined),
+        footnote_label: first_found(
+            is_footnote_label(name),
+            transparent,
+            place,
+            own.footnote_label,
+            later.footnote_label,
+        ),
+        footnote: first_found(
+            is_footnote_prefix(name),
+            transparent,
+            own.footnote_label,
+            own.footnote,
+            later.footnote,
+        ),
     }
 }
 
@@ -147,6 +172,10 @@ fn told_ahead(own: Gathered) -> Ahead
         mark: own.mark,
         number: own.item.unwrap_or(None),
         is_loose: own.begins_blank || own.has_parting_blank || own.has_loose_item,
+        label: own.label.unwrap_or(None),
+        reference: own.reference,
+        defined: own.defined,
+        footnote: own.footnote.unwrap_or(None),
     }
 }
 
@@ -172,6 +201,10 @@ const NO_AHEAD: Ahead = Ahead {
     mark: None,
     number: None,
     is_loose: false,
+    label: None,
+    reference: None,
+    defined: None,
+    footnote: None,
 };
 
 impl Outlook {

@@ -108,7 +108,43 @@ pub fn is_heading_mark(name: Name) -> bool
     matches!(name, Name::HeadingAtxSequence)
 }
 
-/// A node whose children's text is laid out by itself.
+pub fn is_label(name: Name) -> bool
+    ensures { result ≡ tests.is_label name }
+{
+    matches!(name, Name::Label)
+}
+
+pub fn is_label_text(name: Name) -> bool
+    ensures { result ≡ tests.is_label_text name }
+{
+    matches!(name, Name::LabelText)
+}
+
+pub fn is_reference(name: Name) -> bool
+    ensures { result ≡ tests.is_reference name }
+{
+    matches!(name, Name::ReferenceString)
+}
+
+pub fn is_definition_label(name: Name) -> bool
+    ensures { result ≡ tests.is_definition_label name }
+{
+    matches!(name, Name::DefinitionLabelString)
+}
+
+pub fn is_footnote_prefix(name: Name) -> bool
+    ensures { result ≡ tests.is_footnote_prefix name }
+{
+    matches!(name, Name::GfmFootnoteDefinitionPrefix)
+}
+
+pub fn is_footnote_label(name: Name) -> bool
+    ensures { result ≡ tests.is_footnote_label name }
+{
+    matches!(name, Name::GfmFootnoteDefinitionLabelString)
+}
+
+/// A node whose children are laid out on a page of their own.
 pub fn is_captured(name: Name) -> bool
     ensures { result ≡ printed.is_captured name }
 {
@@ -120,5 +156,18 @@ pub fn is_captured(name: Name) -> bool
             | Name::CodeFencedFenceMeta
             | Name::MathFlowFenceMeta
             | Name::Frontmatter
+            | Name::Definition
+            | Name::DefinitionLabelString
+            | Name::DefinitionDestinationString
+            | Name::DefinitionTitleString
+            | Name::GfmFootnoteDefinition
+            | Name::GfmFootnoteDefinitionLabelString
+            | Name::Link
+            | Name::Image
+            | Name::Resource
+            | Name::ResourceDestinationString
+            | Name::ResourceTitleString
+            | Name::ReferenceString
+            | Name::GfmFootnoteCall
     )
 }

@@ -1,12 +1,14 @@
 //! The compiler's state: the text so far, and the nodes that are open.
 
-ghost use Rattle.std.specs.Prelude.{◌≡◌, ◌∷◌, IfOk, OnOk, string_bytes, [], true, if◌then◌else◌};
+ghost use Rattle.std.specs.Prelude.{◌≡◌, ◌∷◌, ◌++◌, IfOk, OnOk, string_bytes, [], true, if◌then◌else◌};
 ghost use Rattle.md_html.specs.Machine as machine;
-ghost use Rattle.md_html.specs.Piece.{Text, Needed, Forced, Aside, Recalled, blank};
+ghost use Rattle.md_html.specs.Piece as piece;
+ghost use Rattle.md_html.specs.Piece.{Text, Needed, Forced, Noted, Recalled, blank};
 ghost use Rattle.md_html.specs.Texts.{said};
 
 use crate::facts::{Ahead, Container, Frame, Passed, Surroundings};
 use crate::options::CompileOptions;
+use crate::notes::{Defined, Target};
 use crate::sheet::Sheet;
 use crate::surroundings::{NO_SPINE, inside, passing, slurps_behind, spine_inside};
 use md_base::{Name, Point};
@@ -18,18 +20,20 @@ use std::marker::Model;
 pub struct Printer {
     sheet: Sheet,
     below: Vec<Sheet>,
+    calls: Vec<String>,
+    definitions: Vec<Defined>,
     is_slurping: bool,
     frame: Frame,
     frames: Vec<Frame>,
 }
 
 impl Model for Printer {
-    ghost use Rattle.std.specs.Prelude.{reverse};
+    ghost use Rattle.std.specs.Prelude.{reverse, map, string_bytes};
     ghost use Rattle.md_html.specs.Machine.{State};
 
     ghost Value = { State };
 
-    ghost view = { λ p. record { page = p.sheet; below = reverse p.below.items; is_slurping = p.is_slurping; frame = p.frame; frames = reverse p.frames.items } };
+    ghost view = { λ p. record { page = p.sheet; below = reverse p.below.items; log = record { calls = map string_bytes p.calls.items; definitions = p.definitions.items }; is_slurping = p.is_slurping; frame = p.frame; frames = reverse p.frames.items } };
 }
 
 impl Printer {
@@ -54,14 +58,51 @@ impl Printer {
         self.sheet.put(ending)
     }
 
-    /// Puts a text aside.
-    pub fn put_aside(&mut self, text: String)
-        ensures { self.new ≡ machine.printing [] (Aside (string_bytes text) ∷ []) self.old }
+    /// Notes a heading's text.
+    pub fn note_heading(&mut self, text: String)
+        ensures { self.new ≡ machine.printing [] (Noted (piece.Heading (string_bytes text)) ∷ []) self.old }
     {
-        self.sheet.put_aside(text);
+        self.sheet.note_heading(text);
     }
 
-    /// Prints the text that was put aside last.
+    /// Notes a destination.
+    pub fn note_destination(&mut self, text: String)
+        ensures { self.new ≡ machine.printing [] (Noted (piece.Destination (string_bytes text)) ∷ []) self.old }
+    {
+        self.sheet.note_destination(text);
+    }
+
+    /// Notes a title.
+    pub fn note_title(&mut self, text: String)
+        ensures { self.new ≡ machine.printing [] (Noted (piece.Title (string_bytes text)) ∷ []) self.old }
+    {
+        self.sheet.note_title(text);
+    }
+
+    /// Notes a resource.
+    pub fn note_resource(&mut self, target: Target)
+        ensures { self.new ≡ machine.printing [] (Noted (piece.Resource target) ∷ []) self.old }
+    {
+        self.sheet.note_resource(target);
+    }
+
+    /// Adds a footnote call to those that were seen.
+    pub fn log_call(&mut self, identifier: String) -> Result<(), AllocError>
+        ensures { OnOk result (self.new ≡ record self.old { log = record self.old.log { calls = self.old.log.calls ++ string_bytes identifier ∷ [] } }) }
+    {
+        self.calls.push(identifier)?;
+        Ok(())
+    }
+
+    /// Adds a definition to those that were seen.
+    pub fn log_definition(&mut self, definition: Defined) -> Result<(), AllocError>
+        ensures { OnOk result (self.new ≡ record self.old { log = record self.old.log { definitions = self.old.log.definitions ++ definition ∷ [] } }) }
+    {
+        self.definitions.push(definition)?;
+        Ok(())
+    }
+
+    /// Prints the heading's text that was noted last.
     pub fn recall(&mut self) -> Result<(), AllocError>
         ensures { OnOk result (self.new ≡ machine.printing [] (Recalled ∷ []) self.old) }
     {
@@ -77,13 +118,13 @@ impl Printer {
         Ok(())
     }
 
-    /// Ends the text that was captured last, and goes on with the one below.
-    pub fn release(&mut self, alloc: Global) -> String
-        ensures text { string_bytes result ≡ self.old.page.text }
+    /// Ends the page that was captured last, and goes on with the one below.
+    pub fn release(&mut self, alloc: Global) -> Sheet
+        ensures page { result ≡ self.old.page }
         ensures state { self.new ≡ machine.releasing true self.old }
     {
         let outer = self.below.pop().unwrap_or(Sheet::new(alloc));
-        std::mem::replace(&mut self.sheet, outer).into_text()
+        std::mem::replace(&mut self.sheet, outer)
     }
 
     /// The frame of the innermost node that is open.
@@ -118,14 +159,14 @@ impl Printer {
     }
 
     /// Releases what was captured, if it was.
-    pub fn release_if(&mut self, alloc: Global, captured: bool) -> String
-        ensures text { string_bytes result ≡ (if captured then self.old.page.text else []) }
+    pub fn release_if(&mut self, alloc: Global, captured: bool) -> Sheet
+        ensures page { result ≡ (if captured then self.old.page else blank) }
         ensures state { self.new ≡ machine.releasing captured self.old }
     {
         if captured {
             self.release(alloc)
         } else {
-            String::new(alloc)
+            Sheet::new(alloc)
         }
     }
 
@@ -162,6 +203,22 @@ impl Printer {
         };
     }
 
+    /// The definitions that were seen.
+    pub fn into_definitions(self) -> Vec<Defined>
+        ensures { result.items ≡ self.log.definitions }
+    {
+        let Printer {
+            sheet: _,
+            below: _,
+            calls: _,
+            definitions,
+            is_slurping: _,
+            frame: _,
+            frames: _,
+        } = self;
+        definitions
+    }
+
     /// The text, at the end.
     pub fn into_text(self) -> String
         ensures { string_bytes result ≡ self.page.text }
@@ -169,6 +226,8 @@ impl Printer {
         let Printer {
             sheet,
             below: _,
+            calls: _,
+            definitions: _,
             is_slurping: _,
             frame: _,
             frames: _,
@@ -182,6 +241,8 @@ impl Printer {
         Printer {
             sheet: Sheet::new(alloc),
             below: Vec::new(alloc),
+            calls: Vec::new(alloc),
+            definitions: Vec::new(alloc),
             is_slurping: false,
             frame: DOCUMENT_FRAME,
             frames: Vec::new(alloc),
@@ -213,6 +274,10 @@ const DOCUMENT_FRAME: Frame = Frame {
         mark: None,
         number: None,
         is_loose: false,
+        label: None,
+        reference: None,
+        defined: None,
+        footnote: None,
     },
     passed: Passed {
         last: None,

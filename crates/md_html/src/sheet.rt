@@ -1,8 +1,10 @@
 //! A text that is laid out piece by piece.
 
-ghost use Rattle.std.specs.Prelude.{◌≡◌, IfOk, OnOk, string_bytes, []};
-ghost use Rattle.md_html.specs.Piece.{Text, Needed, Forced, Aside, Recalled, lay_piece, is_line_start, blank};
+ghost use Rattle.std.specs.Prelude.{◌≡◌, IfOk, OnOk, string_bytes, [], option_copied};
+ghost use Rattle.md_html.specs.Piece as piece;
+ghost use Rattle.md_html.specs.Piece.{Text, Needed, Forced, Recalled, Noted, lay_piece, is_line_start, blank};
 
+use crate::notes::{Notes, Target};
 use std::alloc::{AllocError, Global};
 use std::marker::Model;
 
@@ -10,7 +12,7 @@ use std::marker::Model;
 #[derive(Drop)]
 pub struct Sheet {
     text: String,
-    aside: String,
+    notes: Notes,
 }
 
 impl Model for Sheet {
@@ -19,7 +21,7 @@ impl Model for Sheet {
 
     ghost Value = { Page };
 
-    ghost view = { λ s. record { text = string_bytes s.text; aside = string_bytes s.aside } };
+    ghost view = { λ s. record { text = string_bytes s.text; notes = s.notes } };
 }
 
 impl Sheet {
@@ -28,7 +30,7 @@ impl Sheet {
     {
         Sheet {
             text: String::new(alloc),
-            aside: String::new(alloc),
+            notes: Notes::new(alloc),
         }
     }
 
@@ -50,26 +52,69 @@ impl Sheet {
         }
     }
 
-    /// Puts a text aside.
-    pub fn put_aside(&mut self, text: String)
-        ensures { self.new ≡ lay_piece [] self.old (Aside (string_bytes text)) }
+    /// Notes a heading's text.
+    pub fn note_heading(&mut self, text: String)
+        ensures { self.new ≡ lay_piece [] self.old (Noted (piece.Heading (string_bytes text))) }
     {
-        self.aside = text;
+        self.notes.note_heading(text);
     }
 
-    /// Lays the text that was put aside last.
+    /// Notes a destination.
+    pub fn note_destination(&mut self, text: String)
+        ensures { self.new ≡ lay_piece [] self.old (Noted (piece.Destination (string_bytes text))) }
+    {
+        self.notes.note_destination(text);
+    }
+
+    /// Notes a title.
+    pub fn note_title(&mut self, text: String)
+        ensures { self.new ≡ lay_piece [] self.old (Noted (piece.Title (string_bytes text))) }
+    {
+        self.notes.note_title(text);
+    }
+
+    /// Notes a resource.
+    pub fn note_resource(&mut self, target: Target)
+        ensures { self.new ≡ lay_piece [] self.old (Noted (piece.Resource target)) }
+    {
+        self.notes.note_resource(target);
+    }
+
+    /// Lays the heading's text that was noted last.
     pub fn recall(&mut self) -> Result<(), AllocError>
         ensures { OnOk result (self.new ≡ lay_piece [] self.old Recalled) }
     {
-        self.text.push_str(self.aside.as_str())
+        self.text.push_str(self.notes.heading())
     }
 
     /// The text.
     pub fn into_text(self) -> String
         ensures { string_bytes result ≡ self.text }
     {
-        let Sheet { text, aside: _ } = self;
+        let Sheet { text, notes: _ } = self;
         text
+    }
+
+    /// The destination and the title that were noted.
+    pub fn into_target(self) -> Target
+        ensures { result ≡ self.notes.target }
+    {
+        let Sheet { text: _, notes } = self;
+        notes.into_target()
+    }
+
+    /// The text.
+    pub fn text(&self) -> &str
+        ensures { result.now ≡ self.now.text }
+    {
+        self.text.as_str()
+    }
+
+    /// The resource that was noted.
+    pub fn resource(&self) -> Option<&Target>
+        ensures { option_copied result ≡ self.now.notes.resource }
+    {
+        self.notes.resource()
     }
 }
 

@@ -6,10 +6,11 @@ ghost use Rattle.std.specs.Str.{IsCharBoundary};
 ghost use Rattle.md_base.specs.Place as place;
 ghost use Rattle.md_base.specs.Reference.{decoded, name_table};
 ghost use Rattle.md_html.specs.Given as given;
-ghost use Rattle.md_html.specs.Places.{length_of, without_zeros, has_leading_zero};
+ghost use Rattle.md_html.specs.Places.{length_of, identifier_at, without_zeros, has_leading_zero};
 
+use crate::notes::Defined;
 use crate::options::CompileOptions;
-use md_base::{Point, Position, Slice, decode_character_reference};
+use md_base::{Point, Position, Slice, normalize_identifier};
 use std::alloc::{AllocError, Global};
 
 /// The document's bytes, the names of references, the options and the line ending that is used.
@@ -19,6 +20,7 @@ pub struct Source<'a> {
     pub names: &'a [(&'a str, &'a str)],
     pub options: &'a CompileOptions,
     pub ending: &'a str,
+    pub definitions: &'a [Defined],
 }
 
 /// The text of a node that is one, else nothing.
@@ -28,6 +30,26 @@ pub fn text_of<'a>(bytes: &'a [u8], start: Point, end: Point) -> &'a str
     match Slice::from_position(bytes, &Position { start, end }) {
         Some(slice) => slice.as_str().unwrap_or(""),
         None => "",
+    }
+}
+
+/// The text of a label, by the indices of its points, else nothing.
+pub fn label_of<'a>(bytes: &'a [u8], start: Point, end: Point) -> &'a str
+    ensures { result.now ≡ given.label_of bytes.now start end }
+{
+    match Slice::from_indices(bytes, start.index, end.index) {
+        Some(slice) => slice.as_str().unwrap_or(""),
+        None => "",
+    }
+}
+
+/// The identifier at a place, if there is one.
+pub fn identifier_at(alloc: Global, bytes: &[u8], place: Option<Position>) -> Result<String, AllocError>
+    ensures { IfOk result (λ text. string_bytes text ≡ identifier_at bytes.now place) }
+{
+    match place {
+        Some(place) => normalize_identifier(alloc, label_of(bytes, place.start, place.end)),
+        None => Ok(String::new(alloc)),
     }
 }
 

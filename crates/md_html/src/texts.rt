@@ -47,7 +47,7 @@ fn marker_of(name: Option<Name>) -> u8
 
 /// Prints what a reference stands for, escaped where its surroundings say so.
 pub fn reference(alloc: Global, printer: &mut Printer, source: &Source, exit: &Exit) -> Result<(), AllocError>
-    ensures { OnOk result (printer.new ≡ printing [] (texts.reference_pieces (given_of source.now) exit.now.around (left_at exit.now) exit.now.frame.start exit.now.end) printer.old) }
+    ensures { OnOk result (printer.new ≡ printing [] (texts.reference_pieces (given_of source.now) exit.now.around (left_at exit.now []) exit.now.frame.start exit.now.end) printer.old) }
 {
     let value = text_of(source.bytes, exit.frame.start, exit.end);
     let marker = marker_of(exit.spine.last);
@@ -64,7 +64,7 @@ fn is_dropped_when(in_definition: bool, slurping: bool, behind_definition: bool)
 
 /// A line ending that isn't printed: it is slurped, or stands behind a definition.
 fn is_dropped(exit: &Exit) -> bool
-    ensures { result ≡ texts.is_dropped exit.now.around (left_at exit.now) }
+    ensures { result ≡ texts.is_dropped exit.now.around (left_at exit.now []) }
 {
     let behind_definition = match exit.previous {
         Some(name) => is_definition(name),
@@ -75,7 +75,7 @@ fn is_dropped(exit: &Exit) -> bool
 
 /// Prints a line ending: a space in code, else its own text unless it is dropped.
 pub fn line_ending(printer: &mut Printer, source: &Source, exit: &Exit) -> Result<(), AllocError>
-    ensures { OnOk result (printer.new ≡ printing [] (texts.line_ending_pieces (given_of source.now) exit.now.around (left_at exit.now) exit.now.frame.start exit.now.end) printer.old) }
+    ensures { OnOk result (printer.new ≡ printing [] (texts.line_ending_pieces (given_of source.now) exit.now.around (left_at exit.now []) exit.now.frame.start exit.now.end) printer.old) }
 {
     if exit.around.in_code {
         printer.put(" ")

@@ -1,7 +1,7 @@
 -- Tests on names, each true for the names that it lists.
 use Rattle.std.specs.Prelude.{Bool, true, false}
 use Rattle.md_base.specs.declared.event.Name.{Name}
-use Rattle.md_base.specs.declared.event.Name.TheVariants.{LineEnding, BlankLineEnding, BlockQuote, BlockQuotePrefix, ListOrdered, ListUnordered, ListItem, ListItemPrefix, ListItemValue, GfmFootnoteDefinition, Definition, CodeFencedFence, MathFlowFence, CodeFlowChunk, MathFlowChunk, HeadingAtxSequence, GfmTableCell, GfmTableDelimiterMarker, GfmTableDelimiterCellValue, GfmTableDelimiterRow, GfmTableHead, Resource, ResourceDestinationString, ResourceTitleString, ReferenceString, Label, LabelText, SpaceOrTab, Other, Paragraph}
+use Rattle.md_base.specs.declared.event.Name.TheVariants.{LineEnding, BlankLineEnding, BlockQuote, BlockQuotePrefix, ListOrdered, ListUnordered, ListItem, ListItemPrefix, ListItemValue, GfmFootnoteDefinition, GfmFootnoteDefinitionPrefix, GfmFootnoteDefinitionLabelString, GfmFootnoteCall, Definition, DefinitionLabelString, CodeFencedFence, MathFlowFence, CodeFlowChunk, MathFlowChunk, HeadingAtxSequence, GfmTableCell, GfmTableDelimiterMarker, GfmTableDelimiterCellValue, GfmTableDelimiterRow, GfmTableHead, Resource, ResourceDestinationString, ResourceTitleString, ReferenceString, Label, LabelText, SpaceOrTab, Other, Paragraph}
 
 -- a node that its parent's pattern looks through
 abbrev pub is_transparent : Name → Bool
@@ -77,6 +77,42 @@ is_chunk _ = false
 abbrev pub is_heading_mark : Name → Bool
 is_heading_mark HeadingAtxSequence = true
 is_heading_mark _ = false
+
+abbrev pub is_label : Name → Bool
+is_label Label = true
+is_label _ = false
+
+abbrev pub is_label_text : Name → Bool
+is_label_text LabelText = true
+is_label_text _ = false
+
+abbrev pub is_reference : Name → Bool
+is_reference ReferenceString = true
+is_reference _ = false
+
+abbrev pub is_definition_label : Name → Bool
+is_definition_label DefinitionLabelString = true
+is_definition_label _ = false
+
+abbrev pub is_footnote_prefix : Name → Bool
+is_footnote_prefix GfmFootnoteDefinitionPrefix = true
+is_footnote_prefix _ = false
+
+abbrev pub is_footnote_label : Name → Bool
+is_footnote_label GfmFootnoteDefinitionLabelString = true
+is_footnote_label _ = false
+
+abbrev pub is_link_definition : Name → Bool
+is_link_definition Definition = true
+is_link_definition _ = false
+
+abbrev pub is_footnote_definition : Name → Bool
+is_footnote_definition GfmFootnoteDefinition = true
+is_footnote_definition _ = false
+
+abbrev pub is_call : Name → Bool
+is_call GfmFootnoteCall = true
+is_call _ = false
 
 abbrev pub is_cell : Name → Bool
 is_cell GfmTableCell = true
