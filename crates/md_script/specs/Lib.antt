@@ -1,0 +1,5 @@
+pub mod Error
+pub mod Line
+pub mod Number
+pub mod Script
+pub mod Table

@@ -1,1 +1,13 @@
+//! Reads and compiles event scripts.
 #![tactic(auto)]
+
+mod error;
+mod event_names;
+mod line;
+mod name;
+mod number;
+mod script;
+mod split;
+mod table;
+
+pub use error::RunError;

@@ -1,0 +1,9 @@
+use Rattle.std.proofs.Common.{length}
+use Rattle.md_script.proofs.ScriptLemmas.{Progress}
+use Rattle.md_script.proofs.script.read_script.Given as goal
+
+abbrev pub invariant-lines : goal.invariant-lines
+invariant-lines l = Progress l.fn.input l.read_lines l.events.items l.rest
+
+abbrev pub decreases-lines : goal.decreases-lines
+decreases-lines l = length l.rest
