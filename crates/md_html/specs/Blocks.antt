@@ -42,13 +42,14 @@ abbrev pub paragraph_closing : Surroundings → List Piece
 paragraph_closing around = when (not (is_tight around.container)) (said (codes "</p>"))
 
 -- ` start="` number `"`, unless the number is 1
-abbrev pub number_attribute : List ℕ → List ℕ
-number_attribute number = if bytes_eq number (codes "1") then [] else codes " start=\"" ++ number ++ codes "\""
+abbrev pub number_pieces : List ℕ → List Piece
+number_pieces number =
+    if bytes_eq number (codes "1") then [] else Text (codes " start=\"") ∷ Text number ∷ Text (codes "\"") ∷ []
 
--- the attribute for the number of a list's first item, where there is one
-abbrev pub start_attribute : List ℕ → Option Position → List ℕ
-start_attribute bytes None = []
-start_attribute bytes (Some place) = number_attribute (without_zeros (text_of bytes place.start place.end))
+-- the same for the number of a list's first item, where there is one
+abbrev pub start_pieces : List ℕ → Option Position → List Piece
+start_pieces bytes None = []
+start_pieces bytes (Some place) = number_pieces (without_zeros (text_of bytes place.start place.end))
 
 -- an item's end stands on its own line, unless the item ends in its prefix, or in a paragraph of a tight list
 abbrev pub item_closing : Surroundings → Passed → List Piece

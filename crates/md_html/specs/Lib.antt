@@ -8,4 +8,5 @@ pub mod Printed
 pub mod Meaning
 pub mod Machine
 pub mod LookAhead
+pub mod Sources
 pub mod Try

@@ -1,5 +1,5 @@
 -- What stands before a node, what its children tell ahead, and what they leave at their end.
-use Rattle.std.specs.Prelude.{ℕ, ◌+◌, ◌-◌, Bool, not, ◌&&◌, ◌==◌, if◌then◌else◌, List, [], ◌∷◌, ◌++◌, length, Option, Some, None, unwrap_or}
+use Rattle.std.specs.Prelude.{ℕ, ◌+◌, ◌-◌, Bool, nat_lt, slice_index, ◌&&◌, ◌==◌, if◌then◌else◌, List, [], ◌∷◌, ◌++◌, length, Option, Some, None, unwrap_or}
 use Rattle.md_base.specs.declared.event.Name.{Name}
 use Rattle.md_base.specs.declared.event.Point.{Point}
 use Rattle.md_base.specs.declared.event.Position.{Position}
@@ -52,11 +52,14 @@ length_of bytes place =
     then spaces_before place.start + (byte_index place.end - byte_index place.start) + spaces_after place.end
     else 0
 
+-- a zero before other digits
+abbrev pub has_leading_zero : List ℕ → Bool
+has_leading_zero digits = nat_lt 1 (length digits) && (slice_index digits 0 == 48)
+
 -- digits without the zeros before the number that they write
 abbrev pub without_zeros : List ℕ → List ℕ
 without_zeros [] = []
-without_zeros (digit ∷ digits) =
-    if (digit == 48) && not (length digits == 0) then without_zeros digits else digit ∷ digits
+without_zeros (digit ∷ digits) = if has_leading_zero (digit ∷ digits) then without_zeros digits else digit ∷ digits
 
 -- the place of the number in an item's prefix; in the first prefix of an item
 abbrev pub number_in_prefix : Forest → Option Position

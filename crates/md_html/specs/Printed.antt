@@ -14,12 +14,12 @@ use Rattle.md_html.specs.Surroundings.{inside, spine_inside}
 use Rattle.md_html.specs.Given.{Given}
 use Rattle.md_html.specs.Places.{Before, before_children, before_next, ahead_of, passed_over, Left, left_of}
 use Rattle.md_html.specs.Texts.{said, outside_images, data_pieces, html_pieces, reference_pieces, line_ending_pieces, blank_line_pieces, code_pieces, task_pieces}
-use Rattle.md_html.specs.Blocks.{on_own_line, paragraph_opening, paragraph_closing, start_attribute, item_closing, heading_opening, heading_closing, rank_of, setext_pieces, chunk_pieces, indented_closing, fence_closing, fenced_closing}
+use Rattle.md_html.specs.Blocks.{on_own_line, paragraph_opening, paragraph_closing, start_pieces, item_closing, heading_opening, heading_closing, rank_of, setext_pieces, chunk_pieces, indented_closing, fence_closing, fenced_closing}
 
 -- what a node prints before its children
 abbrev pub opening : Given → Surroundings → Ahead → Name → List Piece
 opening given around ahead BlockQuote = on_own_line (codes "<blockquote>")
-opening given around ahead ListOrdered = on_own_line (codes "<ol" ++ start_attribute given.bytes ahead.number ++ codes ">")
+opening given around ahead ListOrdered = on_own_line (codes "<ol") ++ (start_pieces given.bytes ahead.number ++ said (codes ">"))
 opening given around ahead ListUnordered = on_own_line (codes "<ul>")
 opening given around ahead ListItem = on_own_line (codes "<li>")
 opening given around ahead Paragraph = paragraph_opening around

@@ -1,0 +1,136 @@
+//! The pass over the events from the last to the first, which finds what nodes tell before they are printed.
+
+ghost use Rattle.std.specs.Prelude.{◌≡◌, List, reverse, IfOk, OnOk, ◌||◌, ◌&&◌, not, if◌then◌else◌};
+ghost use Rattle.md_html.specs.LookAhead as spec;
+ghost use Rattle.md_html.specs.Machine.{aheads_of};
+ghost use Rattle.md_tree.specs.Tree.{Forest, flatten};
+
+use crate::facts::{Ahead, Gathered};
+use crate::names::{
+    is_blank_line_ending, is_block_quote, is_block_quote_prefix, is_heading_mark, is_item,
+    is_item_prefix, is_item_value, is_space, is_transparent,
+};
+use md_base::{Event, Kind, Name, Point, Position};
+use std::alloc::{AllocError, Global};
+
+/// The first of a node's own, of what is in a transparent node, and of what comes later.
+fn first_found<T: Copy>(found: bool, transparent: bool, own: T, inner: Option<T>, later: Option<T>) -> Option<T>
+    ensures { result ≡ spec.first_found found transparent own inner later }
+{
+    if found {
+        return Some(own);
+    }
+    match inner {
+        Some(place) if transparent => Some(place),
+        _ => later,
+    }
+}
+
+fn nothing_gathered(end: Point) -> Gathered
+    ensures { result ≡ spec.nothing_gathered end }
+{
+    Gathered {
+        end,
+        mark: None,
+        value: None,
+        prefix: None,
+        item: None,
+        is_empty: true,
+        begins_blank: false,
+        begins_space_blank: false,
+        is_end: true,
+        ends_bare: false,
+        has_parting_blank: false,
+        has_inner_blank: false,
+        has_loose_item: false,
+        last: None,
+    }
+}
+
+/// Nothing stands behind a marker in a node: an item's prefix, or a block quote that ends in its prefix.
+fn is_bare_node(name: Name, last: Option<Name>) -> bool
+    ensures { result ≡ spec.is_bare_node name last }
+{
+    match last {
+        Some(last) => is_item_prefix(name) || is_block_quote(name) && is_block_quote_prefix(last),
+        None => is_item_prefix(name),
+    }
+}
+
+/// A blank line ending comes next, and the node before it is no item that ends bare; or one does so later.
+fn parts(blank_next: bool, item: bool, ends_bare: bool, later: bool) -> bool
+    ensures { result ≡ (blank_next && not (item && ends_bare) || later) }
+{
+    blank_next && !(item && ends_bare) || later
+}
+
+/// The node is no prefix, and a blank line ending comes behind it; or one does so later.
+fn is_inner(prefix: bool, blank_next: bool, space: bool, space_blank_next: bool, later: bool) -> bool
+    ensures { result ≡ (not prefix && (blank_next && not space || space_blank_next) || later) }
+{
+    !prefix && (blank_next && !space || space_blank_next) || later
+}
+
+fn both(a: bool, b: bool) -> bool
+    ensures { result ≡ (a && b) }
+{
+    a && b
+}
+
+/// The node is an item and loose, or a later one is.
+fn is_loose_here(item: bool, own: Gathered, later: bool) -> bool
+    ensures { result ≡ (item && (own.begins_blank || own.begins_space_blank || own.has_inner_blank) || later) }
+{
+    item && (own.begins_blank || own.begins_space_blank || own.has_inner_blank) || later
+}
+
+fn choose(test: bool, a: bool, b: bool) -> bool
+    ensures { result ≡ (if test then a else b) }
+{
+    if test { a } else { b }
+}
+
+/// What a node tells with the nodes behind it, by what its children tell.
+fn joined(name: Name, start: Point, own: Gathered, later: Gathered) -> Gathered
+    ensures { result ≡ spec.joined name start own later }
+{
+    let place = Position {
+        start,
+        end: own.end,
+    };
+    let transparent = is_transparent(name);
+    let item = is_item(name);
+    let space = is_space(name);
+    Gathered {
+        end: later.end,
+        mark: first_found(is_heading_mark(name), transparent, place, own.mark, later.mark),
+        value: first_found(is_item_value(name), transparent, place, own.value, later.value),
+        prefix: first_found(is_item_prefix(name), transparent, own.value, own.prefix, later.prefix),
+        item: first_found(item, transparent, own.prefix.unwrap_or(None), own.item, later.item),
+        is_empty: false,
+        begins_blank: is_blank_line_ending(name),
+        begins_space_blank: both(space, later.begins_blank),
+        is_end: both(space, later.is_empty),
+        ends_bare: choose(later.is_end, is_bare_node(name, own.last), later.ends_bare),
+        has_parting_blank: parts(later.begins_blank, item, own.ends_bare, later.has_parting_blank),
+        has_inner_blank: is_inner(
+            is_item_prefix(name),
+            later.begins_blank,
+            space,
+            later.begins_space_blank,
+            later.has_inner_blank,
+        ),
+        has_loose_item: is_loose_here(item, own, later.has_loose_item),
+        last: Some(later.last.unwrap_or(name)),
+    }
+}
+
+fn told_ahead(own: Gathered) -> Ahead
+    ensures { result ≡ spec.told_ahead own }
+{
+    Ahead {
+        mark: own.mark,
+        number: own.item.unwrap_or(None),
+        is_loose: own.begins_blank || own.has_parting_blank || own.has_loose_item,
+    }
+}

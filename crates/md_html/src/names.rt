@@ -1,0 +1,117 @@
+//! Tests on names.
+
+ghost use Rattle.std.specs.Prelude.{◌≡◌};
+ghost use Rattle.md_tree.specs.NameTests as tests;
+ghost use Rattle.md_html.specs.Printed as printed;
+
+use md_base::Name;
+
+/// A node that its parent's pattern looks through.
+pub fn is_transparent(name: Name) -> bool
+    ensures { result ≡ tests.is_transparent name }
+{
+    matches!(name, Name::Other(_) | Name::BlockQuotePrefix | Name::SpaceOrTab)
+}
+
+pub fn is_blank_line_ending(name: Name) -> bool
+    ensures { result ≡ tests.is_blank_line_ending name }
+{
+    matches!(name, Name::BlankLineEnding)
+}
+
+pub fn is_space(name: Name) -> bool
+    ensures { result ≡ tests.is_space name }
+{
+    matches!(name, Name::SpaceOrTab)
+}
+
+pub fn is_item(name: Name) -> bool
+    ensures { result ≡ tests.is_item name }
+{
+    matches!(name, Name::ListItem)
+}
+
+pub fn is_item_prefix(name: Name) -> bool
+    ensures { result ≡ tests.is_item_prefix name }
+{
+    matches!(name, Name::ListItemPrefix)
+}
+
+pub fn is_item_value(name: Name) -> bool
+    ensures { result ≡ tests.is_item_value name }
+{
+    matches!(name, Name::ListItemValue)
+}
+
+pub fn is_block_quote(name: Name) -> bool
+    ensures { result ≡ tests.is_block_quote name }
+{
+    matches!(name, Name::BlockQuote)
+}
+
+pub fn is_block_quote_prefix(name: Name) -> bool
+    ensures { result ≡ tests.is_block_quote_prefix name }
+{
+    matches!(name, Name::BlockQuotePrefix)
+}
+
+pub fn is_paragraph(name: Name) -> bool
+    ensures { result ≡ tests.is_paragraph name }
+{
+    matches!(name, Name::Paragraph)
+}
+
+/// A node behind which a line ending is dropped.
+pub fn is_definition(name: Name) -> bool
+    ensures { result ≡ tests.is_definition name }
+{
+    matches!(name, Name::Definition | Name::GfmFootnoteDefinition)
+}
+
+/// A child that an item's end looks at.
+pub fn contributes(name: Name) -> bool
+    ensures { result ≡ tests.contributes name }
+{
+    !matches!(
+        name,
+        Name::BlankLineEnding
+            | Name::BlockQuotePrefix
+            | Name::LineEnding
+            | Name::SpaceOrTab
+            | Name::Definition
+            | Name::GfmFootnoteDefinition
+    )
+}
+
+pub fn is_fence(name: Name) -> bool
+    ensures { result ≡ tests.is_fence name }
+{
+    matches!(name, Name::CodeFencedFence | Name::MathFlowFence)
+}
+
+pub fn is_chunk(name: Name) -> bool
+    ensures { result ≡ tests.is_chunk name }
+{
+    matches!(name, Name::CodeFlowChunk | Name::MathFlowChunk)
+}
+
+pub fn is_heading_mark(name: Name) -> bool
+    ensures { result ≡ tests.is_heading_mark name }
+{
+    matches!(name, Name::HeadingAtxSequence)
+}
+
+/// A node whose children's text is laid out by itself.
+pub fn is_captured(name: Name) -> bool
+    ensures { result ≡ printed.is_captured name }
+{
+    matches!(
+        name,
+        Name::CodeText
+            | Name::MathText
+            | Name::HeadingSetextText
+            | Name::CodeFencedFenceMeta
+            | Name::MathFlowFenceMeta
+            | Name::Frontmatter
+    )
+}
