@@ -2,4 +2,5 @@ pub mod Error
 pub mod Line
 pub mod Number
 pub mod Script
+pub mod Setting
 pub mod Table

@@ -1,8 +1,10 @@
 -- What a whole script stands for, and which of its lines can't be read.
-use Rattle.std.specs.Prelude.{◌≡◌, ℕ, ◌+◌, Bool, ◌==◌, IsTrue, IsFalse, List, [], ◌∷◌, ◌++◌, length, filter_map, is_some, bytes_eq, codes}
+use Rattle.std.specs.Prelude.{◌≡◌, ℕ, ◌+◌, Bool, ◌&&◌, ◌||◌, ◌==◌, IsTrue, IsFalse, List, [], ◌∷◌, ◌++◌, length, filter_map, is_some, bytes_eq, codes}
 use Rattle.std.specs.List.{slice_split, join_with_byte}
 use Rattle.md_base.specs.declared.event.Event.{Event}
 use Rattle.md_script.specs.Line.{event_of}
+use Rattle.md_script.specs.Setting.{is_setting, option_name, is_new, HasOptions}
+use Rattle.md_script.specs.declared.options.CompileOptions.{CompileOptions}
 
 abbrev pub is_line_feed : ℕ → Bool
 is_line_feed byte = byte == 10
@@ -15,9 +17,9 @@ lines_of input = slice_split is_line_feed input
 abbrev pub end_line : List ℕ
 end_line = codes "--"
 
--- a line is readable behind these
+-- a line is readable behind these: an event, or an option that none of them sets
 abbrev pub is_readable_after : List (List ℕ) → List ℕ → Bool
-is_readable_after earlier line = is_some (event_of line)
+is_readable_after earlier line = is_some (event_of line) || is_setting line && is_new earlier (option_name line)
 
 -- each line is readable behind the earlier ones and those before it
 abbrev pub ReadsAfter : List (List ℕ) → List (List ℕ) → Type 0
@@ -32,12 +34,13 @@ pub record IsScript (input : List ℕ) (body document : List (List ℕ)) : Type 
 abbrev pub IsReadable : List ℕ → Type 0
 IsReadable input = (body : List (List ℕ)) × (document : List (List ℕ)) × IsScript input body document
 
--- it stands for these events over these bytes
-pub record StandsFor (input : List ℕ) (events : List Event) (bytes : List ℕ) : Type 0 where
+-- it stands for these events over these bytes, under these options
+pub record StandsFor (input : List ℕ) (events : List Event) (bytes : List ℕ) (options : CompileOptions) : Type 0 where
   pub body : List (List ℕ)
   pub document : List (List ℕ)
   pub script : IsScript input body document
   pub says : events ≡ filter_map event_of body
+  pub sets : HasOptions body options
   pub rest : bytes ≡ join_with_byte 10 document
 
 -- there is no line here, or one that is neither `--` nor readable
