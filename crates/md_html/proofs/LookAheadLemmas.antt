@@ -24,7 +24,7 @@ gathered_before-nothing end (Node name start last children rest) =
 told_ahead-gathered : (end : Point) (children : Forest) → told_ahead (gathered end children) ≡ ahead_of children
 told_ahead-gathered end children = refl
 
-looked_over-append : (xs ys : List Event) (outlook : Outlook) → looked_over (xs ++ ys) outlook ≡ looked_over xs (looked_over ys outlook)
+pub looked_over-append : (xs ys : List Event) (outlook : Outlook) → looked_over (xs ++ ys) outlook ≡ looked_over xs (looked_over ys outlook)
 looked_over-append [] ys outlook = refl
 looked_over-append (x ∷ xs) ys outlook = ap (λ o. looked_at x.kind x.name x.point o) (looked_over-append xs ys outlook)
 

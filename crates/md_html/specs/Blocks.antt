@@ -73,9 +73,13 @@ heading_opening rank = codes "<" ++ heading_name rank ++ codes ">"
 abbrev pub heading_closing : ℕ → List ℕ
 heading_closing rank = codes "</" ++ heading_name rank ++ codes ">"
 
+-- the byte at an index is `-`
+abbrev pub is_dash_at : List ℕ → ℕ → Bool
+is_dash_at bytes index = option_map_or (λ byte. byte == 45) (slice_get bytes index) false
+
 -- 2 where a setext heading's underline begins with `-`, else 1
 abbrev pub setext_rank : List ℕ → Point → ℕ
-setext_rank bytes start = if option_map_or (λ byte. byte == 45) (slice_get bytes start.index) false then 2 else 1
+setext_rank bytes start = if is_dash_at bytes start.index then 2 else 1
 
 -- the underline of a setext heading prints the heading, its text recalled
 abbrev pub setext_pieces : Given → Point → List Piece
@@ -102,9 +106,15 @@ fence_closing left = when (not left.spine.has_fence) (said (codes ">"))
 abbrev pub is_unclosed : Passed → Bool
 is_unclosed passed = passed.spine.has_fence && not passed.spine.has_second_fence
 
+-- code that isn't closed ends with what is round it, and its last line has more than the fence
+abbrev pub runs_out : Surroundings → Passed → Bool
+runs_out around passed =
+    is_unclosed passed && is_contained around.container && not (option_map_or is_fence passed.last false)
+
 -- the end of fenced code or math
 abbrev pub fenced_closing : Surroundings → Passed → List Piece
 fenced_closing around passed =
-    when (is_unclosed passed && is_contained around.container && not (option_map_or is_fence passed.last false)) (Forced ∷ [])
-    ++ when (passed.spine.has_chunk) (Needed ∷ [])
-    ++ Text code_end ∷ when (is_unclosed passed) (Needed ∷ [])
+    when (runs_out around passed) (Forced ∷ [])
+    ++ (when passed.spine.has_chunk (Needed ∷ [])
+    ++ (said code_end
+    ++ when (is_unclosed passed) (Needed ∷ [])))

@@ -13,6 +13,7 @@ use Rattle.md_html.specs.declared.facts.Spine.{Spine}
 use Rattle.md_html.specs.declared.facts.Ahead.{Ahead}
 use Rattle.md_html.specs.declared.facts.Passed.{Passed}
 use Rattle.md_html.specs.declared.facts.Frame.{Frame}
+use Rattle.md_html.specs.declared.options.CompileOptions.{CompileOptions}
 use Rattle.md_html.specs.Piece.{Piece, Page, blank, lay}
 use Rattle.md_html.specs.Surroundings.{Mark, Sets, Clears, own_marks, inside, outermost}
 use Rattle.md_html.specs.Given.{Given}
@@ -83,25 +84,25 @@ releasing captured state = record state {
 }
 
 -- the frame of a node that is entered
-abbrev pub frame_inside : Given → Ahead → Name → Point → Bool → Frame → Frame
-frame_inside given ahead name start slurping parent = record {
-  around = inside given.options ahead.is_loose name parent.around;
+abbrev pub frame_inside : CompileOptions → Ahead → Name → Point → Bool → Frame → Frame
+frame_inside options ahead name start slurping parent = record {
+  around = inside options ahead.is_loose name parent.around;
   start = start;
   is_slurping = slurping;
   ahead = ahead;
   passed = nothing_passed (if is_transparent name then parent.passed.spine else no_spine)
 }
 
-abbrev pub opening_frame : Given → Ahead → Name → Point → State → State
-opening_frame given ahead name start state = record state {
-  frame = frame_inside given ahead name start state.is_slurping state.frame;
+abbrev pub opening_frame : CompileOptions → Ahead → Name → Point → State → State
+opening_frame options ahead name start state = record state {
+  frame = frame_inside options ahead name start state.is_slurping state.frame;
   frames = state.frame ∷ state.frames
 }
 
 -- a node is entered, whose children's text is captured or not
 abbrev pub entered : Given → Ahead → Bool → Name → Point → State → State
 entered given ahead captured name start state =
-    opening_frame given ahead name start
+    opening_frame given.options ahead name start
         (capturing captured (printing given.ending (opening given state.frame.around ahead name) state))
 
 -- a spine with one more name

@@ -1,7 +1,12 @@
--- What a source, as the compiler has it, gives the nodes of a document.
-use Rattle.std.specs.Prelude.{[]}
+-- What the compiler has of a document and of a node that is exited, as the definitions name it.
+use Rattle.std.specs.Prelude.{ℕ, List, []}
 use Rattle.md_base.specs.Reference.{name_table}
 use Rattle.md_html.specs.declared.source.Source.{Source}
+use Rattle.md_base.specs.declared.event.Name.{Name}
+use Rattle.md_html.specs.declared.facts.Exit.{Exit}
+use Rattle.md_html.specs.Piece.{Piece}
+use Rattle.md_html.specs.Places.{Left}
+use Rattle.md_html.specs.Printed.{closing}
 use Rattle.md_html.specs.Given.{Given}
 
 abbrev pub given_of : Source → Given
@@ -12,3 +17,12 @@ given_of source = record {
   ending = source.ending.now;
   definitions = []
 }
+
+-- what a node learns from what stands before it
+abbrev pub left_at : Exit → Left
+left_at exit = record { is_slurping = exit.frame.is_slurping; previous = exit.previous; spine = exit.spine }
+
+-- what is printed where a node is exited
+abbrev pub closing_at : Given → Exit → List ℕ → Name → List Piece
+closing_at given exit inner name =
+    closing given exit.around (left_at exit) exit.frame.ahead exit.frame.passed exit.is_last exit.frame.start exit.end inner name

@@ -1,5 +1,5 @@
 -- What texts, spans and breaks print.
-use Rattle.std.specs.Prelude.{ℕ, ◌+◌, ◌-◌, Bool, true, false, not, ◌&&◌, ◌||◌, ◌==◌, if◌then◌else◌, List, [], ◌∷◌, ◌++◌, length, Option, Some, None, unwrap_or, codes, slice_get, take, drop}
+use Rattle.std.specs.Prelude.{ℕ, ◌+◌, ◌-◌, Bool, true, false, not, ◌&&◌, ◌||◌, ◌==◌, if◌then◌else◌, List, [], ◌∷◌, ◌++◌, length, Option, Some, None, unwrap_or, codes, slice_get, slice_range}
 use Rattle.std.specs.Option.{option_map_or}
 use Rattle.std.specs.List.{list_all}
 use Rattle.md_base.specs.declared.event.Name.{Name}
@@ -65,23 +65,37 @@ line_ending_pieces given around left start end =
 abbrev pub blank_line_pieces : Bool → List Piece
 blank_line_pieces last = if last then Needed ∷ [] else []
 
+-- a pipe comes first
+abbrev pub begins_with_pipe : List ℕ → Bool
+begins_with_pipe [] = false
+begins_with_pipe (byte ∷ bytes) = byte == 124
+
+-- a backslash directly before a pipe
+abbrev pub escapes_pipe : ℕ → List ℕ → Bool
+escapes_pipe byte bytes = (byte == 92) && begins_with_pipe bytes
+
 -- each backslash directly before a pipe goes
 abbrev pub unescaped_pipes : List ℕ → List ℕ
 unescaped_pipes [] = []
 unescaped_pipes (byte ∷ bytes) =
-    if (byte == 92) && (option_map_or (λ next. next == 124) (slice_get bytes 0) false)
-    then unescaped_pipes bytes else byte ∷ unescaped_pipes bytes
+    if escapes_pipe byte bytes then unescaped_pipes bytes else byte ∷ unescaped_pipes bytes
+
+-- a space is there
+abbrev pub is_space : Option ℕ → Bool
+is_space None = false
+is_space (Some byte) = byte == 32
+
+-- all spaces
+abbrev pub is_blank : List ℕ → Bool
+is_blank text = list_all (λ byte. byte == 32) text
 
 -- begins and ends with a space, and isn't all spaces
 abbrev pub is_padded : List ℕ → Bool
-is_padded text =
-    option_map_or (λ byte. byte == 32) (slice_get text 0) false
-    && option_map_or (λ byte. byte == 32) (slice_get text (length text - 1)) false
-    && not (list_all (λ byte. byte == 32) text)
+is_padded text = is_space (slice_get text 0) && is_space (slice_get text (length text - 1)) && not (is_blank text)
 
 -- the text of code: one space goes at each end of a padded one
 abbrev pub trimmed : List ℕ → List ℕ
-trimmed text = if is_padded text then take (length text - 2) (drop 1 text) else text
+trimmed text = if is_padded text then slice_range text 1 (length text - 1) else text
 
 -- the text of code where it stands
 abbrev pub code_text : Surroundings → List ℕ → List ℕ

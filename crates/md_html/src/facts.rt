@@ -118,3 +118,20 @@ pub struct Gathered {
     /// The name of the last of them.
     pub last: Option<Name>,
 }
+
+/// A node that is exited.
+#[derive(Clone, Copy)]
+pub struct Exit {
+    /// Its surroundings.
+    pub around: Surroundings,
+    /// The name of its previous sibling.
+    pub previous: Option<Name>,
+    /// The spine that it stands behind.
+    pub spine: Spine,
+    /// What was known of it while it was open.
+    pub frame: Frame,
+    /// Nothing follows it in the document.
+    pub is_last: bool,
+    /// Where it ends.
+    pub end: Point,
+}

@@ -1,13 +1,18 @@
 //! Compiles Markdown events to HTML.
 #![tactic(auto)]
 
+mod close;
+mod code;
+mod compile;
 mod facts;
 mod look_ahead;
 mod names;
+mod open;
 mod options;
 mod printer;
 mod sheet;
 mod source;
 mod surroundings;
+mod texts;
 
 pub use options::CompileOptions;

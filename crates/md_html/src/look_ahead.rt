@@ -12,6 +12,7 @@ use crate::names::{
 };
 use md_base::{Event, Kind, Name, Point, Position};
 use std::alloc::{AllocError, Global};
+use std::marker::Model;
 
 /// The first of a node's own, of what is in a transparent node, and of what comes later.
 fn first_found<T: Copy>(found: bool, transparent: bool, own: T, inner: Option<T>, later: Option<T>) -> Option<T>
@@ -133,4 +134,90 @@ fn told_ahead(own: Gathered) -> Ahead
         number: own.item.unwrap_or(None),
         is_loose: own.begins_blank || own.has_parting_blank || own.has_loose_item,
     }
+}
+
+/// What is told ahead at the events so far, the last event first, and what the nodes behind them tell.
+#[derive(Drop)]
+struct Outlook {
+    aheads: Vec<Ahead>,
+    here: Gathered,
+    round: Vec<Gathered>,
+}
+
+impl Model for Outlook {
+    ghost use Rattle.std.specs.Prelude.{reverse};
+    ghost use Rattle.md_html.specs.LookAhead.{Outlook as TheOutlook};
+
+    ghost Value = { TheOutlook };
+
+    ghost view = { λ o. record { aheads = reverse o.aheads.items; here = o.here; round = reverse o.round.items } };
+}
+
+/// What is told at a node's end.
+const NO_AHEAD: Ahead = Ahead {
+    mark: None,
+    number: None,
+    is_loose: false,
+};
+
+impl Outlook {
+    fn new(alloc: Global) -> Outlook
+        ensures { result ≡ spec.no_outlook }
+    {
+        let end = Point {
+            line: 0,
+            column: 0,
+            index: 0,
+            vs: 0,
+        };
+        Outlook {
+            aheads: Vec::new(alloc),
+            here: nothing_gathered(end),
+            round: Vec::new(alloc),
+        }
+    }
+
+    /// An event before those that are seen so far.
+    fn look_at(&mut self, event: &Event) -> Result<(), AllocError>
+        ensures { OnOk result (self.new ≡ spec.looked_at event.now.kind event.now.name event.now.point self.old) }
+    {
+        match event.kind {
+            Kind::Exit => {
+                self.aheads.push(NO_AHEAD)?;
+                self.round.push(self.here)?;
+                self.here = nothing_gathered(event.point);
+            }
+            Kind::Enter => {
+                self.aheads.push(told_ahead(self.here))?;
+                let outer = self.round.pop().unwrap_or(nothing_gathered(event.point));
+                self.here = joined(event.name, event.point, self.here, outer);
+            }
+        }
+        Ok(())
+    }
+
+    fn into_aheads(self) -> Vec<Ahead>
+        ensures { result.items ≡ self.aheads }
+    {
+        let Outlook {
+            mut aheads,
+            here: _,
+            round: _,
+        } = self;
+        aheads.reverse();
+        aheads
+    }
+}
+
+/// What is told ahead at each event.
+pub fn look_ahead(alloc: Global, events: &[Event]) -> Result<Vec<Ahead>, AllocError>
+    ensures { IfOk result (λ aheads. aheads.items ≡ (spec.looked_over events.now spec.no_outlook).aheads) }
+{
+    let mut outlook = Outlook::new(alloc);
+    let mut rest = events;
+    while let Some((event, before)) = rest.split_last() {
+        outlook.look_at(event)?;
+        rest = before;
+    }
+    Ok(outlook.into_aheads())
 }

@@ -1,12 +1,15 @@
 //! The compiler's state: the text so far, and the nodes that are open.
 
-ghost use Rattle.std.specs.Prelude.{◌≡◌, ◌∷◌, IfOk, OnOk, string_bytes, [], true};
+ghost use Rattle.std.specs.Prelude.{◌≡◌, ◌∷◌, IfOk, OnOk, string_bytes, [], true, if◌then◌else◌};
 ghost use Rattle.md_html.specs.Machine as machine;
 ghost use Rattle.md_html.specs.Piece.{Text, Needed, Forced, Aside, Recalled, blank};
 ghost use Rattle.md_html.specs.Texts.{said};
 
-use crate::facts::Frame;
+use crate::facts::{Ahead, Container, Frame, Passed, Surroundings};
+use crate::options::CompileOptions;
 use crate::sheet::Sheet;
+use crate::surroundings::{NO_SPINE, inside, passing, slurps_behind, spine_inside};
+use md_base::{Name, Point};
 use std::alloc::{AllocError, Global};
 use std::marker::Model;
 
@@ -96,4 +99,124 @@ impl Printer {
     {
         self.is_slurping
     }
+
+    /// What the innermost node that is open learns from what stands before it.
+    pub fn parent(&self) -> Frame
+        ensures { result ≡ machine.first_or machine.document_frame self.now.frames }
+    {
+        match self.frames.last() {
+            Some(frame) => *frame,
+            None => DOCUMENT_FRAME,
+        }
+    }
+
+    /// Captures what follows, if it is to be captured.
+    pub fn capture_if(&mut self, alloc: Global, captured: bool) -> Result<(), AllocError>
+        ensures { OnOk result (self.new ≡ machine.capturing captured self.old) }
+    {
+        if captured { self.capture(alloc) } else { Ok(()) }
+    }
+
+    /// Releases what was captured, if it was.
+    pub fn release_if(&mut self, alloc: Global, captured: bool) -> String
+        ensures text { string_bytes result ≡ (if captured then self.old.page.text else []) }
+        ensures state { self.new ≡ machine.releasing captured self.old }
+    {
+        if captured {
+            self.release(alloc)
+        } else {
+            String::new(alloc)
+        }
+    }
+
+    /// Opens a node's frame.
+    pub fn open_frame(&mut self, options: &CompileOptions, ahead: Ahead, name: Name, start: Point) -> Result<(), AllocError>
+        ensures { OnOk result (self.new ≡ machine.opening_frame options.now ahead name start self.old) }
+    {
+        let parent = self.frame;
+        self.frames.push(parent)?;
+        self.frame = Frame {
+            around: inside(options, ahead.is_loose, name, parent.around),
+            start,
+            is_slurping: self.is_slurping,
+            ahead,
+            passed: Passed {
+                last: None,
+                contributing: None,
+                spine: spine_inside(name, parent.passed.spine),
+            },
+        };
+        Ok(())
+    }
+
+    /// Leaves the innermost node that is open.
+    pub fn leave(&mut self, name: Name)
+        ensures { self.new ≡ machine.leaving name self.old }
+    {
+        let parent = self.frames.pop().unwrap_or(DOCUMENT_FRAME);
+        let inner = self.frame.passed.spine;
+        self.is_slurping = slurps_behind(parent.around, parent.passed.spine, name, self.is_slurping);
+        self.frame = Frame {
+            passed: passing(name, inner, parent.passed),
+            ..parent
+        };
+    }
+
+    /// The text, at the end.
+    pub fn into_text(self) -> String
+        ensures { string_bytes result ≡ self.page.text }
+    {
+        let Printer {
+            sheet,
+            below: _,
+            is_slurping: _,
+            frame: _,
+            frames: _,
+        } = self;
+        sheet.into_text()
+    }
+
+    pub fn new(alloc: Global) -> Printer
+        ensures { result ≡ machine.beginning }
+    {
+        Printer {
+            sheet: Sheet::new(alloc),
+            below: Vec::new(alloc),
+            is_slurping: false,
+            frame: DOCUMENT_FRAME,
+            frames: Vec::new(alloc),
+        }
+    }
 }
+
+/// The document round all nodes.
+const DOCUMENT_FRAME: Frame = Frame {
+    around: Surroundings {
+        container: Container::Nothing,
+        is_outermost: true,
+        in_image: false,
+        in_link: false,
+        in_table: false,
+        in_head: false,
+        in_code: false,
+        in_definition: false,
+        is_escaping: true,
+    },
+    start: Point {
+        line: 0,
+        column: 0,
+        index: 0,
+        vs: 0,
+    },
+    is_slurping: false,
+    ahead: Ahead {
+        mark: None,
+        number: None,
+        is_loose: false,
+    },
+    passed: Passed {
+        last: None,
+        contributing: None,
+        spine: NO_SPINE,
+    },
+};

@@ -1,3 +1,14 @@
+pub mod Checked
+pub mod Grammar
+pub mod Machine
+pub mod Mentions
+pub mod Names
+pub mod Pattern
+pub mod Refusal
+pub mod Rules
+pub mod Shape
+pub mod Spine
+pub mod Standing
 pub mod Tree
 pub mod NameTests
 pub mod Children

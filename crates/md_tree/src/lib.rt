@@ -1,2 +1,14 @@
 //! The grammar of Markdown's events: which lists of events are the flattening of a tree.
 #![tactic(auto)]
+
+mod checked;
+mod kinds;
+mod pattern;
+mod rule;
+mod shape;
+mod standing;
+mod state;
+mod steps;
+
+pub use checked::Checked;
+pub use rule::{CompileError, Rule};

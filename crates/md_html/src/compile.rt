@@ -1,0 +1,78 @@
+//! Events to HTML.
+
+ghost use Rattle.std.specs.Prelude.{◌≡◌, ◌∷◌, [], OnOk, IfOk, List, string_bytes, length, unwrap_or, option_copied};
+ghost use Rattle.md_base.specs.Reference.{name_table};
+ghost use Rattle.md_tree.specs.Tree.{Forest, flatten};
+ghost use Rattle.md_html.specs.Machine as machine;
+ghost use Rattle.md_html.specs.LookAhead as look;
+ghost use Rattle.md_html.specs.Meaning.{meaning};
+ghost use Rattle.md_html.specs.Sources.{given_of};
+ghost use Rattle.md_html.specs.Printed.{is_captured};
+
+use crate::close::close;
+use crate::facts::{Ahead, Exit};
+use crate::look_ahead::look_ahead;
+use crate::names::is_captured;
+use crate::open::open;
+use crate::options::CompileOptions;
+use crate::printer::Printer;
+use crate::source::Source;
+use md_base::{Event, Kind, Name, Point};
+use std::alloc::{AllocError, Global};
+
+/// Enters a node.
+fn enter(alloc: Global, printer: &mut Printer, source: &Source, ahead: Ahead, name: Name, start: Point) -> Result<(), AllocError>
+    ensures { OnOk result (printer.new ≡ machine.entered (given_of source.now) ahead (is_captured name) name start printer.old) }
+{
+    let around = printer.frame().around;
+    open(printer, source, around, ahead, name)?;
+    printer.capture_if(alloc, is_captured(name))?;
+    printer.open_frame(source.options, ahead, name, start)
+}
+
+/// Exits a node; `is_last` says that nothing follows in the document.
+fn exit(alloc: Global, printer: &mut Printer, source: &Source, is_last: bool, name: Name, end: Point) -> Result<(), AllocError>
+    ensures { OnOk result (printer.new ≡ machine.exited (given_of source.now) is_last (is_captured name) name end printer.old) }
+{
+    let parent = printer.parent();
+    let exit = Exit {
+        around: parent.around,
+        previous: parent.passed.last,
+        spine: parent.passed.spine,
+        frame: printer.frame(),
+        is_last,
+        end,
+    };
+    let inner = printer.release_if(alloc, is_captured(name));
+    close(alloc, printer, source, &exit, inner, name)?;
+    printer.leave(name);
+    Ok(())
+}
+
+/// Goes one event further.
+fn step(alloc: Global, printer: &mut Printer, source: &Source, event: &Event, ahead: Ahead, is_last: bool) -> Result<(), AllocError>
+    ensures { OnOk result (printer.new ≡ machine.stepped (given_of source.now) event.now.kind event.now.name event.now.point ahead is_last printer.old) }
+{
+    match event.kind {
+        Kind::Enter => enter(alloc, printer, source, ahead, event.name, event.point),
+        Kind::Exit => exit(alloc, printer, source, is_last, event.name, event.point),
+    }
+}
+
+/// The text of the events, one after another, each with what is told ahead there.
+fn print(alloc: Global, source: &Source, events: &[Event], aheads: &[Ahead]) -> Result<String, AllocError>
+    ensures { IfOk result (λ text. string_bytes text ≡ (machine.run (given_of source.now) events.now aheads.now machine.beginning).page.text) }
+{
+    let mut printer = Printer::new(alloc);
+    let mut rest = events;
+    let mut aheads = aheads;
+    while let Some((event, later)) = rest.split_first() {
+        let Some((ahead, aheads_later)) = aheads.split_first() else {
+            break;
+        };
+        step(alloc, &mut printer, source, event, *ahead, later.is_empty())?;
+        rest = later;
+        aheads = aheads_later;
+    }
+    Ok(printer.into_text())
+}

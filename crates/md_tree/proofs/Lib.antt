@@ -1,0 +1,4 @@
+pub mod Greedy
+pub mod Groups
+pub mod Paths
+pub mod Trees

@@ -1,0 +1,185 @@
+-- A tree with the shape of the grammar is read from its first event to its last.
+use Rattle.std.proofs.Common.{◌≡◌, ◌≢◌, ℕ, Bool, true, false, ◌&&◌, cond, Option, Some, None, MatchOption, List, [], ◌∷◌, ◌++◌, refl, sym, ap, ◌∙◌, subst, append_assoc, append-nil}
+use Rattle.std.specs.Prelude.{option_map, IsTrue}
+use Rattle.md_base.specs.declared.event.Point.{Point}
+use Rattle.md_base.specs.declared.event.Name.{Name}
+use Rattle.md_base.specs.declared.event.Event.{Event}
+use Rattle.md_base.specs.declared.event.Kind.TheVariants.{Enter, Exit}
+use Rattle.md_tree.specs.declared.kinds.Symbol.{Symbol}
+use Rattle.md_tree.specs.declared.kinds.Role.{Role}
+use Rattle.md_tree.specs.declared.kinds.Role.TheVariants.{Flow, Childless}
+use Rattle.md_tree.specs.declared.kinds.Reading.{Reading}
+use Rattle.md_tree.specs.declared.kinds.Reading.TheVariants.{Free}
+use Rattle.md_tree.specs.declared.kinds.Standing.{Standing}
+use Rattle.md_tree.specs.declared.kinds.Standing.TheVariants.{Through, Space, Solid, Mdx}
+use Rattle.md_tree.specs.declared.kinds.Target.{Target}
+use Rattle.md_tree.specs.declared.kinds.Target.TheVariants.{Missing}
+use Rattle.md_tree.specs.declared.kinds.Mention.TheVariants.{Nothing}
+use Rattle.md_tree.specs.declared.kinds.Note.{Note}
+use Rattle.md_tree.specs.declared.state.State.{State}
+use Rattle.md_tree.specs.declared.state.Entry.{Entry}
+use Rattle.md_tree.specs.Tree.{Forest, Empty, Node, flatten, entering, exiting}
+use Rattle.md_tree.specs.Standing.{standing_of}
+use Rattle.md_tree.specs.Spine.{spine, shown, Matches}
+use Rattle.md_tree.specs.Shape.{Claim, EachNode, IsShapedNode, IsStanding, IsShaped, AreShaped, inner_role, inner_before, last_symbol, role_for}
+use Rattle.md_tree.specs.Rules.{place, target_at, target_after, target_of}
+use Rattle.md_tree.specs.Mentions.{mention_of, mention_where, note, notes_of}
+use Rattle.md_tree.specs.Machine.{Reads, Course, Runs, Steps, StepsBy, Exits, ExitsWhere, after_entry, after_through, after_exit, entered, entered_on, may_hold, start_of, advance, is_complete, beginning}
+use Rattle.md_tree.proofs.Groups.{Feeds, Feeds-append, Feeds-split, Feeds-matches, advance_role}
+
+-- a claim about nodes that stand on a spine, of a node that stands so
+abbrev pub IsReadWhere : Reads → Standing → Role → Option Symbol → Point → Point → Target → Type 0
+IsReadWhere holds (Solid symbol usual reading) around before start end target = holds reading around before start end target
+IsReadWhere holds _ around before start end target = Unit {0}
+
+-- a node has its shape, and the claim holds of it
+abbrev pub IsFine : Reads → Claim
+IsFine holds around before name start end children =
+    IsShapedNode around before name start end children × IsReadWhere holds (standing_of name) around before start end (target_of children Missing)
+
+-- what is free is fine
+abbrev pub AllowsFree : Reads → Type 0
+AllowsFree holds = (around : Role) (before : Option Symbol) (start end : Point) (target : Target) → holds Free around before start end target
+
+pub Runs-append : (holds : Reads) (events others : List Event) (from middle to : Course) → Runs holds events from middle → Runs holds others middle to → Runs holds (events ++ others) from to
+Runs-append holds [] others from middle to r q = subst (λ c. Runs holds others c to) (sym r) q
+Runs-append holds (event ∷ events) others from middle to r q =
+    (r.0, r.1, Runs-append holds events others r.0 middle to r.2 q)
+
+pub Runs-split : (holds : Reads) (events others : List Event) (from to : Course) → Runs holds (events ++ others) from to → (middle : Course) × Runs holds events from middle × Runs holds others middle to
+Runs-split holds [] others from to r = (from, refl, r)
+Runs-split holds (event ∷ events) others from to r =
+    let rest = Runs-split holds events others r.0 to r.2 in (rest.0, (r.0, r.1, rest.1), rest.2)
+
+-- a spine keeps its role, and its last symbol is the last that was read
+pub Feeds-context : (from to : State) (symbols : List Symbol) → Feeds from symbols to → (to.role ≡ from.role) × (to.before ≡ last_symbol from.before symbols)
+Feeds-context from to [] f = (ap (λ (s : State). s.role) (sym f), ap (λ (s : State). s.before) (sym f))
+Feeds-context from to (symbol ∷ symbols) f =
+    let here = advance_role from f.0 symbol f.1 in
+    let rest = Feeds-context f.0 to symbols f.2 in
+    (rest.0 ∙ here.0, rest.1 ∙ ap (λ b. last_symbol b symbols) here.1)
+
+pub may_hold-from : (role : Role) → role ≢ Childless → may_hold role ≡ true
+may_hold-from Childless ne = absurd (ne refl)
+may_hold-from _ ne = refl
+
+-- after nodes
+abbrev pub after_nodes : Forest → State → Course → Course
+after_nodes forest end from =
+    record { state = end; target = target_of forest from.target; open_nodes = from.open_nodes; notes = from.notes ++ notes_of forest }
+
+-- a node is entered, its children are read, and it is left
+pub record NodeRuns (holds : Reads) (standing : Standing) (name : Name) (start end : Point) (children : Forest) (from : Course) (middle : State) : Type 0 where
+  pub inside : Course
+  pub last : Course
+  pub enters : MatchOption (entered standing from.state from.target) ⊥ (λ entry. inside ≡ after_entry entry name start from)
+  pub runs : Runs holds (flatten children) inside last
+  pub exits : Exits holds last.open_nodes name end last (record {
+    state = middle;
+    target = target_after standing from.target (target_of children) (place start end);
+    open_nodes = from.open_nodes;
+    notes = ((from.notes ++ note start Nothing ∷ []) ++ notes_of children) ++ note start (mention_where standing (target_of children Missing)) ∷ [];
+  })
+
+enters_with : (standing : Standing) (name : Name) (start : Point) (from : Course) (entry : Entry) → may_hold from.state.role ≡ true → entered_on standing from.state from.target ≡ Some entry → MatchOption (entered standing from.state from.target) ⊥ (λ e. after_entry entry name start from ≡ after_entry e name start from)
+enters_with standing name start from entry may is =
+    subst (λ b. MatchOption (cond b (entered_on standing from.state from.target) None) ⊥ (λ e. after_entry entry name start from ≡ after_entry e name start from)) (sym may)
+    (subst (λ o. MatchOption o ⊥ (λ e. after_entry entry name start from ≡ after_entry e name start from)) (sym is) refl)
+
+-- children are read
+abbrev pub ReadsChildren : Reads → Forest → Type 0
+ReadsChildren holds children =
+    (from : Course) (end : State) → EachNode (IsFine holds) children from.state.role from.state.before → Feeds from.state (spine children) end → Runs holds (flatten children) from (after_nodes children end from)
+
+node_through : (holds : Reads) (name : Name) (start end : Point) (children : Forest) (from : Course) (middle : State) → may_hold from.state.role ≡ true → ReadsChildren holds children → EachNode (IsFine holds) children from.state.role from.state.before → Feeds from.state (spine children) middle → NodeRuns holds Through name start end children from middle
+node_through holds name start end children from middle may reads fine feeds =
+    let entry : Entry = record { state = from.state; target = from.target; outer = None } in
+    record {
+      inside = after_entry entry name start from;
+      last = after_nodes children middle (after_entry entry name start from);
+      enters = enters_with Through name start from entry may refl;
+      runs = reads (after_entry entry name start from) middle fine feeds;
+      exits = (refl, refl);
+    }
+
+node_space : (holds : Reads) → AllowsFree holds → (name : Name) (start end : Point) (children : Forest) (from : Course) (middle : State) → may_hold from.state.role ≡ true → ReadsChildren holds children → EachNode (IsFine holds) children Childless None → children ≡ Empty → from.state ≡ middle → NodeRuns holds Space name start end children from middle
+node_space holds free name start end children from middle may reads fine empty same =
+    let entry : Entry = record { state = start_of Childless; target = Missing; outer = Some (record { state = from.state; before = from.state.before; target = from.target; reading = Free }) } in
+    record {
+      inside = after_entry entry name start from;
+      last = after_nodes children (start_of Childless) (after_entry entry name start from);
+      enters = enters_with Space name start from entry may refl;
+      runs = reads (after_entry entry name start from) (start_of Childless) fine (subst (λ c. Feeds (start_of Childless) (spine c) (start_of Childless)) (sym empty) refl);
+      exits = (
+        refl,
+        (
+          refl,
+          free from.state.role from.state.before start end (target_of children Missing),
+          ap (λ (s : State). record {
+            state = s;
+            target = from.target;
+            open_nodes = from.open_nodes;
+            notes = ((from.notes ++ note start Nothing ∷ []) ++ notes_of children) ++ note start Nothing ∷ [];
+          }) (sym same),
+        ),
+      );
+    }
+
+node_solid : (holds : Reads) (name : Name) (start end : Point) (children : Forest) (from : Course) (middle : State) (symbol : Symbol) (usual : Role) (reading : Reading) → may_hold from.state.role ≡ true → ReadsChildren holds children → EachNode (IsFine holds) children (role_for from.state.role from.state.before usual) None → Matches (role_for from.state.role from.state.before usual) (spine children) → holds reading from.state.role from.state.before start end (target_of children Missing) → advance from.state symbol ≡ Some middle → NodeRuns holds (Solid symbol usual reading) name start end children from middle
+node_solid holds name start end children from middle symbol usual reading may reads fine matches read moved =
+    let role = role_for from.state.role from.state.before usual in
+    let entry : Entry = record { state = start_of role; target = Missing; outer = Some (record { state = middle; before = from.state.before; target = from.target; reading = reading }) } in
+    let whole = Feeds-matches role (spine children) matches in
+    record {
+      inside = after_entry entry name start from;
+      last = after_nodes children whole.0 (after_entry entry name start from);
+      enters = enters_with (Solid symbol usual reading) name start from entry may (ap (option_map (λ (next : State). record { state = start_of role; target = Missing; outer = Some (record { state = next; before = from.state.before; target = from.target; reading = reading }) })) moved);
+      runs = reads (after_entry entry name start from) whole.0 fine whole.1;
+      exits = (refl, (whole.2, subst (λ r. holds reading r from.state.before start end (target_of children Missing)) (sym (advance_role from.state middle symbol moved).0) read, refl));
+    }
+
+node_runs : (holds : Reads) → AllowsFree holds → (standing : Standing) (name : Name) (start end : Point) (children : Forest) (from : Course) (middle : State) → from.state.role ≢ Childless → IsStanding standing from.state.role from.state.before children → IsReadWhere holds standing from.state.role from.state.before start end (target_of children Missing) → ReadsChildren holds children → EachNode (IsFine holds) children (inner_role standing from.state.role from.state.before) (inner_before standing from.state.before) → Feeds from.state (shown standing (spine children)) middle → NodeRuns holds standing name start end children from middle
+node_runs holds free Through name start end children from middle ne stands read reads fine feeds =
+    node_through holds name start end children from middle (may_hold-from from.state.role ne) reads fine feeds
+node_runs holds free Space name start end children from middle ne stands read reads fine feeds =
+    node_space holds free name start end children from middle (may_hold-from from.state.role ne) reads fine stands feeds
+node_runs holds free (Solid symbol usual reading) name start end children from middle ne stands read reads fine feeds =
+    node_solid holds name start end children from middle symbol usual reading (may_hold-from from.state.role ne) reads fine stands read (feeds.1 ∙ ap Some feeds.2)
+node_runs holds free Mdx name start end children from middle ne stands read reads fine feeds = absurd stands
+
+notes_joined : (a b c : List Note) (x y : Note) → (((a ++ x ∷ []) ++ b) ++ y ∷ []) ++ c ≡ a ++ (x ∷ b ++ y ∷ c)
+notes_joined a b c x y =
+    append_assoc ((a ++ x ∷ []) ++ b) (y ∷ []) c ∙ append_assoc (a ++ x ∷ []) b (y ∷ c) ∙ append_assoc a (x ∷ []) (b ++ y ∷ c)
+
+-- nodes that are fine are read, from a spine that takes theirs
+pub Runs-nodes : (holds : Reads) → AllowsFree holds → (forest : Forest) (from : Course) (end : State) → EachNode (IsFine holds) forest from.state.role from.state.before → Feeds from.state (spine forest) end → Runs holds (flatten forest) from (after_nodes forest end from)
+Runs-nodes holds free Empty from end fine feeds =
+    ap (λ (s : State). record { state = s; target = from.target; open_nodes = from.open_nodes; notes = from.notes }) feeds
+    ∙ ap (λ (n : List Note). record { state = end; target = from.target; open_nodes = from.open_nodes; notes = n }) (sym (append-nil from.notes))
+Runs-nodes holds free (Node name start stop children rest) from end fine feeds =
+    let st = standing_of name in
+    let parts = Feeds-split from.state end (shown st (spine children)) (spine rest) feeds in
+    let middle = parts.0 in
+    let node = node_runs holds free st name start stop children from middle fine.0.0.0 fine.0.0.1 fine.0.1 (Runs-nodes holds free children) fine.1 parts.1 in
+    let context = Feeds-context from.state middle (shown st (spine children)) parts.1 in
+    let after : Course = record {
+      state = middle;
+      target = target_after st from.target (target_of children) (place start stop);
+      open_nodes = from.open_nodes;
+      notes = ((from.notes ++ note start Nothing ∷ []) ++ notes_of children) ++ note start (mention_where st (target_of children Missing)) ∷ [];
+    } in
+    let rest_fine = subst (λ b. EachNode (IsFine holds) rest middle.role b) (sym context.1) (subst (λ r. EachNode (IsFine holds) rest r (last_symbol from.state.before (shown st (spine children)))) (sym context.0) fine.2) in
+    let rest_runs = Runs-nodes holds free rest after end rest_fine parts.2 in
+    let same = ap (λ (n : List Note). record { state = end; target = target_of rest (target_after st from.target (target_of children) (place start stop)); open_nodes = from.open_nodes; notes = n }) (notes_joined from.notes (notes_of children) (notes_of rest) (note start Nothing) (note start (mention_where st (target_of children Missing)))) in
+    (node.inside, node.enters, Runs-append holds (flatten children) (exiting name stop ∷ flatten rest) node.inside node.last (after_nodes (Node name start stop children rest) end from) node.runs (after, node.exits, subst (λ c. Runs holds (flatten rest) after c) same rest_runs))
+
+pub EachNode-map : (P Q : Claim) → ((around : Role) (before : Option Symbol) (name : Name) (start end : Point) (children : Forest) → P around before name start end children → Q around before name start end children) → (forest : Forest) (around : Role) (before : Option Symbol) → EachNode P forest around before → EachNode Q forest around before
+EachNode-map P Q f Empty around before each = tt
+EachNode-map P Q f (Node name start end children rest) around before each =
+    (f around before name start end children each.0, EachNode-map P Q f children (inner_role (standing_of name) around before) (inner_before (standing_of name) before) each.1, EachNode-map P Q f rest around (last_symbol before (shown (standing_of name) (spine children))) each.2)
+
+-- a document that is fine is read to an end
+pub Runs-document : (holds : Reads) → AllowsFree holds → (forest : Forest) → EachNode (IsFine holds) forest Flow None → Matches Flow (spine forest) → (end : State) × Runs holds (flatten forest) beginning (after_nodes forest end beginning) × (is_complete end ≡ true)
+Runs-document holds free forest fine matches =
+    let whole = Feeds-matches Flow (spine forest) matches in
+    (whole.0, Runs-nodes holds free forest beginning whole.0 fine whole.1, whole.2)

@@ -1,0 +1,8 @@
+use Rattle.std.proofs.Common.{◌≡◌, drop}
+use Rattle.std.specs.List.{list_all}
+use Rattle.md_tree.specs.Machine.{is_optional}
+use Rattle.md_tree.proofs.steps.all_optional.Given as goal
+
+abbrev pub invariant-loop-position : goal.invariant-loop-position
+invariant-loop-position l =
+    list_all is_optional (drop l.fn.from l.items) ≡ list_all is_optional (drop l.position l.items)

@@ -1,0 +1,7 @@
+use Rattle.std.proofs.Common.{◌≡◌, drop}
+use Rattle.md_tree.specs.Machine.{seek}
+use Rattle.md_tree.proofs.steps.sought.Given as goal
+
+abbrev pub invariant-loop-position : goal.invariant-loop-position
+invariant-loop-position l =
+    seek l.fn.from (drop l.fn.from l.items) l.symbol ≡ seek l.position (drop l.position l.items) l.symbol

@@ -1,0 +1,30 @@
+-- The event grammar over a document's bytes and a table of names.
+use Rattle.std.specs.Prelude.{◌≡◌, ℕ, Option, None, List}
+use Rattle.std.specs.List.{All}
+use Rattle.md_base.specs.declared.event.Event.{Event}
+use Rattle.md_tree.specs.declared.kinds.Role.TheVariants as role
+use Rattle.md_tree.specs.Tree.{Forest, flatten}
+use Rattle.md_tree.specs.Shape.{IsShaped}
+use Rattle.md_tree.specs.Rules.{MeetRules}
+use Rattle.md_tree.specs.Mentions.{notes_of, mentions_in, IsResolved}
+
+-- a document is one of the grammar over these bytes and names
+pub record IsGrammatical (bytes : List ℕ) (names : List (List ℕ × List ℕ)) (forest : Forest) : Type 0 where
+  pub shape : IsShaped forest
+  pub rules : MeetRules bytes names forest role.Flow None
+  pub resolved : All (IsResolved bytes (mentions_in (notes_of forest))) (mentions_in (notes_of forest))
+
+-- what is handed to a check: events, the document's bytes, the names of character references with their texts
+pub record Document : Type 0 where
+  pub events : List Event
+  pub bytes : List ℕ
+  pub names : List (List ℕ × List ℕ)
+
+-- the events are the flattening of this document of the grammar over the bytes and names
+pub record IsReadAs (given : Document) (forest : Forest) : Type 0 where
+  pub flattened : flatten forest ≡ given.events
+  pub grammatical : IsGrammatical given.bytes given.names forest
+
+-- the events are the flattening of a document of the grammar over the bytes and names
+abbrev pub IsChecked : Document → Type 0
+IsChecked given = (forest : Forest) × IsReadAs given forest

@@ -1,0 +1,184 @@
+-- How a check reads events: one small state for each open node.
+use Rattle.std.specs.Prelude.{◌≡◌, ℕ, ◌+◌, Bool, true, false, ◌&&◌, if◌then◌else◌, Option, Some, None, option_map, List, [], ◌∷◌, ◌++◌, drop, reverse, IsTrue, MatchOption}
+use Rattle.std.specs.List.{list_all}
+use Rattle.md_base.specs.declared.event.Point.{Point}
+use Rattle.md_base.specs.declared.event.Name.{Name}
+use Rattle.md_base.specs.declared.event.Event.{Event}
+use Rattle.md_base.specs.declared.event.Kind.{Kind}
+use Rattle.md_base.specs.declared.event.Kind.TheVariants.{Enter, Exit}
+use Rattle.md_tree.specs.declared.kinds.Symbol.{Symbol}
+use Rattle.md_tree.specs.declared.kinds.Symbol.TheVariants.{ReferenceMarker, ReferenceNumeric, ReferenceHexadecimal, ReferenceValue, SetextText, SetextUnderline, LineEnding}
+use Rattle.md_tree.specs.declared.kinds.Role.{Role}
+use Rattle.md_tree.specs.declared.kinds.Role.TheVariants as role
+use Rattle.md_tree.specs.declared.kinds.Standing.{Standing}
+use Rattle.md_tree.specs.declared.kinds.Standing.TheVariants.{Through, Space, Solid, Mdx}
+use Rattle.md_tree.specs.declared.kinds.Reading.{Reading}
+use Rattle.md_tree.specs.declared.kinds.Reading.TheVariants.{Free}
+use Rattle.md_tree.specs.declared.kinds.Times.{Times}
+use Rattle.md_tree.specs.declared.kinds.Times.TheVariants.{Once, Maybe, Many}
+use Rattle.md_tree.specs.declared.kinds.Item.{Item}
+use Rattle.md_tree.specs.declared.kinds.Target.{Target}
+use Rattle.md_tree.specs.declared.kinds.Target.TheVariants.{Missing}
+use Rattle.md_tree.specs.declared.kinds.Mention.TheVariants.{Nothing}
+use Rattle.md_tree.specs.declared.kinds.Note.{Note}
+use Rattle.md_tree.specs.declared.state.Stage.{Stage}
+use Rattle.md_tree.specs.declared.state.Stage.TheVariants.{Whole, Marker, Numeric, Hexadecimal, Setext}
+use Rattle.md_tree.specs.declared.state.State.{State}
+use Rattle.md_tree.specs.declared.state.Outer.{Outer}
+use Rattle.md_tree.specs.declared.state.Open.{Open}
+use Rattle.md_tree.specs.declared.state.Entry.{Entry}
+use Rattle.md_tree.specs.Standing.{standing_of}
+use Rattle.md_tree.specs.Pattern.{pattern_of, takes}
+use Rattle.md_tree.specs.Shape.{role_for}
+use Rattle.md_tree.specs.Rules.{place, target_at}
+use Rattle.md_tree.specs.Mentions.{mention_of, note}
+
+-- the group that a symbol begins
+abbrev pub begun_by : Symbol → Stage
+begun_by ReferenceMarker = Marker
+begun_by SetextText = Setext
+begun_by _ = Whole
+
+-- the next stage of a group that has begun
+abbrev pub continued : Stage → Symbol → Option Stage
+continued Marker ReferenceNumeric = Some Numeric
+continued Marker ReferenceValue = Some Whole
+continued Numeric ReferenceHexadecimal = Some Hexadecimal
+continued Numeric ReferenceValue = Some Whole
+continued Hexadecimal ReferenceValue = Some Whole
+continued Setext LineEnding = Some Setext
+continued Setext SetextUnderline = Some Whole
+continued _ _ = None
+
+-- an item may be left out
+abbrev pub is_optional : Item → Bool
+is_optional item = optional item.times
+  where
+    optional : Times → Bool
+    optional Once = false
+    optional _ = true
+
+-- the item from which on the next symbol is taken, where the first of these items that takes the symbol is this one
+abbrev pub after_item : Times → ℕ → ℕ
+after_item Many position = position
+after_item _ position = position + 1
+
+-- the same, of the first item that takes the symbol, where each before it may be left out
+abbrev pub seek : ℕ → List Item → Symbol → Option ℕ
+seek position [] symbol = None
+seek position (item ∷ items) symbol =
+    if takes item.class symbol then Some (after_item item.times position)
+    else (if is_optional item then seek (position + 1) items symbol else None)
+
+-- position and stage after a symbol
+abbrev pub moved : Stage → ℕ → List Item → Symbol → Option (ℕ × Stage)
+moved Whole position items symbol = option_map (λ next. (next, begun_by symbol)) (seek position items symbol)
+moved stage position items symbol = option_map (λ next. (position, next)) (continued stage symbol)
+
+-- the items that are left
+abbrev pub items_of : State → List Item
+items_of state = drop state.position (pattern_of state.role)
+
+-- the state after a symbol
+abbrev pub advance : State → Symbol → Option State
+advance state symbol =
+    option_map (λ next. record { role = state.role; before = Some symbol; position = next.0; stage = next.1 }) (moved state.stage state.position (items_of state) symbol)
+
+-- no group is open
+abbrev pub is_whole : Stage → Bool
+is_whole Whole = true
+is_whole _ = false
+
+-- the spine may end here
+abbrev pub is_complete : State → Bool
+is_complete state = is_whole state.stage && list_all is_optional (items_of state)
+
+-- a spine of which nothing has been read
+abbrev pub start_of : Role → State
+start_of role = record { role = role; before = None; position = 0; stage = Whole }
+
+-- a node of this role may have children
+abbrev pub may_hold : Role → Bool
+may_hold role.Childless = false
+may_hold _ = true
+
+-- where the children of a node begin, if it may stand on this spine
+abbrev pub entered_on : Standing → State → Target → Option Entry
+entered_on Through state target = Some (record { state = state; target = target; outer = None })
+entered_on Space state target =
+    Some (record { state = start_of role.Childless; target = Missing; outer = Some (record { state = state; before = state.before; target = target; reading = Free }) })
+entered_on (Solid symbol usual reading) state target =
+    option_map (λ next. record { state = start_of (role_for state.role state.before usual); target = Missing; outer = Some (record { state = next; before = state.before; target = target; reading = reading }) }) (advance state symbol)
+entered_on Mdx state target = None
+
+-- the same, where the node around may have children
+abbrev pub entered : Standing → State → Target → Option Entry
+entered standing state target = if may_hold state.role then entered_on standing state target else None
+
+-- how far events have been read; of the open nodes the innermost is first
+pub record Course : Type 0 where
+  pub state : State
+  pub target : Target
+  pub open_nodes : List Open
+  pub notes : List Note
+
+-- after an entering event
+abbrev pub after_entry : Entry → Name → Point → Course → Course
+after_entry entry name point course = record {
+  state = entry.state;
+  target = entry.target;
+  open_nodes = record { name = name; start = point; outer = entry.outer } ∷ course.open_nodes;
+  notes = course.notes ++ note point Nothing ∷ [];
+}
+
+-- after the exit of a transparent node
+abbrev pub after_through : Point → List Open → Course → Course
+after_through start others course = record {
+  state = course.state;
+  target = course.target;
+  open_nodes = others;
+  notes = course.notes ++ note start Nothing ∷ [];
+}
+
+-- after the exit of another node
+abbrev pub after_exit : Outer → Point → Point → List Open → Course → Course
+after_exit outer start end others course = record {
+  state = outer.state;
+  target = target_at outer.reading outer.target course.target (place start end);
+  open_nodes = others;
+  notes = course.notes ++ note start (mention_of outer.reading course.target) ∷ [];
+}
+
+-- a claim about nodes that stand on a spine: what is read of each, the role around it, the symbol before it, its start, end and target
+abbrev pub Reads : Type 1
+Reads = Reading → Role → Option Symbol → Point → Point → Target → Type 0
+
+-- the exit of a node that waits so
+abbrev pub ExitsWhere : Reads → Option Outer → Point → Point → List Open → Course → Course → Type 0
+ExitsWhere holds None start end others from to = to ≡ after_through start others from
+ExitsWhere holds (Some outer) start end others from to =
+    IsTrue (is_complete from.state) × holds outer.reading outer.state.role outer.before start end from.target × (to ≡ after_exit outer start end others from)
+
+-- an exiting event: of the innermost open node
+abbrev pub Exits : Reads → List Open → Name → Point → Course → Course → Type 0
+Exits holds [] name point from to = ⊥
+Exits holds (open_node ∷ others) name point from to =
+    (open_node.name ≡ name) × ExitsWhere holds open_node.outer open_node.start point others from to
+
+-- an event
+abbrev pub StepsBy : Reads → Kind → Name → Point → Course → Course → Type 0
+StepsBy holds Enter name point from to =
+    MatchOption (entered (standing_of name) from.state from.target) ⊥ (λ entry. to ≡ after_entry entry name point from)
+StepsBy holds Exit name point from to = Exits holds from.open_nodes name point from to
+
+abbrev pub Steps : Reads → Event → Course → Course → Type 0
+Steps holds event from to = StepsBy holds event.kind event.name event.point from to
+
+-- events, one after another
+abbrev pub Runs : Reads → List Event → Course → Course → Type 0
+Runs holds [] from to = from ≡ to
+Runs holds (event ∷ events) from to = (next : Course) × Steps holds event from next × Runs holds events next to
+
+-- before any event
+abbrev pub beginning : Course
+beginning = record { state = start_of role.Flow; target = Missing; open_nodes = []; notes = [] }

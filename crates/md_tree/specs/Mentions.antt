@@ -1,0 +1,76 @@
+-- What the nodes of a document mention: definitions, and what leads to them.
+use Rattle.std.specs.Prelude.{ℕ, Option, option_map, List, [], ◌∷◌, ◌++◌, map}
+use Rattle.std.specs.List.{Contains}
+use Rattle.md_base.specs.declared.event.Point.{Point}
+use Rattle.md_base.specs.declared.event.Position.{Position}
+use Rattle.md_base.specs.Place.{label_between}
+use Rattle.md_base.specs.Identifier.{normalized}
+use Rattle.md_tree.specs.declared.kinds.Reading.{Reading}
+use Rattle.md_tree.specs.declared.kinds.Reading.TheVariants as reading
+use Rattle.md_tree.specs.declared.kinds.Standing.{Standing}
+use Rattle.md_tree.specs.declared.kinds.Standing.TheVariants.{Through, Space, Solid, Mdx}
+use Rattle.md_tree.specs.declared.kinds.Target.{Target}
+use Rattle.md_tree.specs.declared.kinds.Target.TheVariants.{Missing, Resource, Label}
+use Rattle.md_tree.specs.declared.kinds.Mention.{Mention}
+use Rattle.md_tree.specs.declared.kinds.Mention.TheVariants.{Nothing, Reference, Call, Definition, FootnoteDefinition}
+use Rattle.md_tree.specs.declared.kinds.Note.{Note}
+use Rattle.md_tree.specs.Tree.{Forest, Empty, Node}
+use Rattle.md_tree.specs.Standing.{standing_of}
+use Rattle.md_tree.specs.Rules.{target_of}
+
+-- what a node mentions, by what is read of it and its target
+abbrev pub mention_of : Reading → Target → Mention
+mention_of reading.Media (Label label) = Reference label
+mention_of reading.Call (Label label) = Call label
+mention_of reading.Definition (Label label) = Definition label
+mention_of reading.FootnoteDefinition (Label label) = FootnoteDefinition label
+mention_of _ _ = Nothing
+
+-- the same for each way to stand
+abbrev pub mention_where : Standing → Target → Mention
+mention_where (Solid symbol usual reading) target = mention_of reading target
+mention_where _ target = Nothing
+
+-- a start and a mention
+abbrev pub note : Point → Mention → Note
+note start mention = record { start = start; mention = mention }
+
+-- for each event of the nodes, in order: where its node starts, and at an exit what the node mentions
+abbrev pub notes_of : Forest → List Note
+notes_of Empty = []
+notes_of (Node name start end children rest) =
+    note start Nothing ∷ notes_of children ++ note start (mention_where (standing_of name) (target_of children Missing)) ∷ notes_of rest
+
+-- what each event mentions
+abbrev pub mentions_in : List Note → List Mention
+mentions_in notes = map (λ note. note.mention) notes
+
+-- the identifier at a label's place
+abbrev pub identifier_at : List ℕ → Position → Option (List ℕ)
+identifier_at bytes label = option_map normalized (label_between bytes label.start label.end)
+
+-- one more identifier, where a definition is mentioned
+abbrev pub defined_by : List ℕ → Mention → List (Option (List ℕ)) → List (Option (List ℕ))
+defined_by bytes (Definition label) others = identifier_at bytes label ∷ others
+defined_by bytes _ others = others
+
+-- the identifiers of the definitions
+abbrev pub defined : List ℕ → List Mention → List (Option (List ℕ))
+defined bytes [] = []
+defined bytes (mention ∷ mentions) = defined_by bytes mention (defined bytes mentions)
+
+-- one more identifier, where a footnote definition is mentioned
+abbrev pub footnoted_by : List ℕ → Mention → List (Option (List ℕ)) → List (Option (List ℕ))
+footnoted_by bytes (FootnoteDefinition label) others = identifier_at bytes label ∷ others
+footnoted_by bytes _ others = others
+
+-- the identifiers of the footnote definitions
+abbrev pub footnoted : List ℕ → List Mention → List (Option (List ℕ))
+footnoted bytes [] = []
+footnoted bytes (mention ∷ mentions) = footnoted_by bytes mention (footnoted bytes mentions)
+
+-- what leads to a definition or a footnote definition has one among these mentions
+abbrev pub IsResolved : List ℕ → List Mention → Mention → Type 0
+IsResolved bytes mentions (Reference label) = Contains (defined bytes mentions) (identifier_at bytes label)
+IsResolved bytes mentions (Call label) = Contains (footnoted bytes mentions) (identifier_at bytes label)
+IsResolved bytes mentions _ = Unit {0}

@@ -1,0 +1,121 @@
+-- What is known of a list of events, where a check refuses it.
+use Rattle.std.specs.Prelude.{◌≡◌, ◌≢◌, ◌⊎◌, ℕ, suc, ◌<◌, ◌≤◌, Option, Some, None, List, [], ◌∷◌, ◌++◌, length, take, slice_get}
+use Rattle.md_base.specs.declared.event.Point.{Point}
+use Rattle.md_base.specs.declared.event.Position.{Position}
+use Rattle.md_base.specs.declared.event.Event.{Event}
+use Rattle.md_base.specs.declared.event.Kind.TheVariants.{Enter}
+use Rattle.md_base.specs.declared.event.Name.{Name}
+use Rattle.md_tree.specs.declared.kinds.Symbol.{Symbol}
+use Rattle.md_tree.specs.declared.kinds.Role.{Role}
+use Rattle.md_tree.specs.declared.kinds.Role.TheVariants as role
+use Rattle.md_tree.specs.declared.kinds.Standing.TheVariants as standing
+use Rattle.md_tree.specs.declared.kinds.Mention.{Mention}
+use Rattle.md_tree.specs.declared.kinds.Mention.TheVariants.{Reference, Call}
+use Rattle.md_tree.specs.declared.rule.Rule.{Rule}
+use Rattle.md_tree.specs.declared.rule.Rule.TheVariants as rule
+use Rattle.md_tree.specs.declared.rule.CompileError.{CompileError}
+use Rattle.md_tree.specs.declared.rule.CompileError.TheVariants as error
+use Rattle.md_tree.specs.Tree.{Forest, Empty, Node, flatten, entering}
+use Rattle.md_tree.specs.Standing.{standing_of}
+use Rattle.md_tree.specs.Spine.{spine, IsBegunGroup}
+use Rattle.md_tree.specs.Shape.{AreShaped, IsShaped, inner_role, inner_before, last_symbol}
+use Rattle.md_tree.specs.Rules.{MeetRules, broken_at}
+use Rattle.md_tree.specs.Mentions.{notes_of, mentions_in, IsResolved}
+use Rattle.md_tree.specs.Grammar.{Document, IsChecked}
+
+-- a node that is still open, with the whole nodes before it in the node around
+pub record Level : Type 0 where
+  pub before : Forest
+  pub name : Name
+  pub start : Point
+
+-- the events of open nodes, the innermost first in the list, and of the whole nodes before each
+abbrev pub opening : List Level → List Event
+opening [] = []
+opening (level ∷ path) = opening path ++ flatten level.before ++ entering level.name level.start ∷ []
+
+-- the last symbol on the spine of nodes that stand after a symbol
+abbrev pub symbol_after : Option Symbol → Forest → Option Symbol
+symbol_after before nodes = last_symbol before (spine nodes)
+
+-- the role and the last symbol of the spine on which the innermost open node's children stand
+abbrev pub before_in : List Level → Option Symbol
+before_in [] = None
+before_in (level ∷ path) = inner_before (standing_of level.name) (symbol_after (before_in path) level.before)
+
+abbrev pub role_in : List Level → Role
+role_in [] = role.Flow
+role_in (level ∷ path) = inner_role (standing_of level.name) (role_in path) (symbol_after (before_in path) level.before)
+
+-- the whole nodes before each open one have the shape of the grammar
+abbrev pub IsShapedPath : List Level → Type 0
+IsShapedPath [] = Unit {0}
+IsShapedPath (level ∷ path) = AreShaped level.before (role_in path) (before_in path) × IsShapedPath path
+
+-- the events begin a tree in which each node that has ended matches its pattern: some are open, and these nodes stand whole in the innermost one
+pub record Begins (events : List Event) (path : List Level) (nodes : Forest) : Type 0 where
+  pub events_are : events ≡ opening path ++ flatten nodes
+  pub path_shaped : IsShapedPath path
+  pub nodes_shaped : AreShaped nodes (role_in path) (before_in path)
+
+-- no tree with the shape of the grammar has a flattening that begins with these events
+abbrev pub BeginNoTree : List Event → Type 0
+BeginNoTree events = (forest : Forest) (more : List Event) → IsShaped forest → flatten forest ≡ events ++ more → ⊥
+
+-- a spine ends in a group that has begun and isn't complete
+abbrev pub EndsInGroup : List Symbol → Type 0
+EndsInGroup symbols = (before group : List Symbol) × (symbols ≡ before ++ group) × IsBegunGroup group
+
+-- each node that has ended matches its pattern, and a node, or a group on the document's own spine, is open
+abbrev pub LeaveOpen : List Event → Type 0
+LeaveOpen events =
+    (path : List Level) × (nodes : Forest) × Begins events path nodes × ((path ≢ []) ⊎ ((path ≡ []) × EndsInGroup (spine nodes)))
+
+-- the node that ends with the last of these events breaks the rule, and each that has ended by then matches its pattern
+pub record EndsBroken (bytes : List ℕ) (names : List (List ℕ × List ℕ)) (events : List Event) (broken : Rule) : Type 0 where
+  pub path : List Level
+  pub nodes : Forest
+  pub name : Name
+  pub start : Point
+  pub end : Point
+  pub children : Forest
+  pub events_are : events ≡ opening path ++ flatten nodes ++ flatten (Node name start end children Empty)
+  pub path_shaped : IsShapedPath path
+  pub nodes_shaped : AreShaped nodes (role_in path) (before_in path)
+  pub shaped : AreShaped (Node name start end children Empty) (role_in path) (symbol_after (before_in path) nodes)
+  pub breaks : broken_at bytes names (role_in path) (symbol_after (before_in path) nodes) name start end children ≡ Some broken
+
+-- the events are a document that has its shape and meets the other rules, and what its node that ends at the index leads to isn't there
+pub record EndsUnresolved (bytes : List ℕ) (names : List (List ℕ × List ℕ)) (events : List Event) (index : ℕ) (mention : Mention) : Type 0 where
+  pub forest : Forest
+  pub flattened : flatten forest ≡ events
+  pub shape : IsShaped forest
+  pub rules : MeetRules bytes names forest role.Flow None
+  pub mentioned : slice_get (mentions_in (notes_of forest)) index ≡ Some mention
+  pub unresolved : IsResolved bytes (mentions_in (notes_of forest)) mention → ⊥
+
+-- the event at the index enters a name of MDX
+abbrev pub EntersMdx : List Event → ℕ → Type 0
+EntersMdx events index =
+    (event : Event) × (slice_get events index ≡ Some event) × (event.kind ≡ Enter) × (standing_of event.name ≡ standing.Mdx)
+
+-- what is known where a rule is named at an index
+abbrev pub IsBroken : Document → ℕ → Rule → Type 0
+IsBroken given index rule.Order =
+    (index ≤ length given.events) × (index < length given.events → BeginNoTree (take (suc index) given.events)) × (index ≡ length given.events → LeaveOpen given.events)
+IsBroken given index rule.Mdx = EntersMdx given.events index
+IsBroken given index rule.Definition =
+    (label : Position) × EndsUnresolved given.bytes given.names given.events index (Reference label)
+IsBroken given index rule.Footnote = (label : Position) × EndsUnresolved given.bytes given.names given.events index (Call label)
+IsBroken given index broken =
+    (index < length given.events) × EndsBroken given.bytes given.names (take (suc index) given.events) broken
+
+-- want of memory says nothing; else the rule is broken at the event
+abbrev pub IsRefusal : Document → CompileError → Type 0
+IsRefusal given error.Memory = Unit {0}
+IsRefusal given (error.Event index broken) = IsBroken given index broken
+
+-- an event is refused only where the events are the flattening of no document of the grammar
+abbrev pub IsOutside : Document → CompileError → Type 0
+IsOutside given error.Memory = Unit {0}
+IsOutside given (error.Event index broken) = IsChecked given → ⊥

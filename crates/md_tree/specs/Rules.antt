@@ -1,0 +1,118 @@
+-- The side conditions of the grammar: what the bytes of each node have to be.
+use Rattle.std.specs.Prelude.{◌≡◌, ℕ, ◌+◌, ◌-◌, Bool, ◌&&◌, ◌||◌, ◌==◌, nat_lt, nat_le, if◌then◌else◌, Option, Some, None, is_some, List, [], ◌∷◌, length, bytes_eq}
+use Rattle.md_base.specs.declared.event.Name.{Name}
+use Rattle.md_base.specs.declared.event.Point.{Point}
+use Rattle.md_base.specs.declared.event.Position.{Position}
+use Rattle.md_base.specs.Place.{byte_index, spaces_before, spaces_after, fits, text_between, label_between}
+use Rattle.md_base.specs.Reference.{is_number, decoded}
+use Rattle.md_tree.specs.declared.kinds.Symbol.{Symbol}
+use Rattle.md_tree.specs.declared.kinds.Symbol.TheVariants.{ReferenceNumeric, ReferenceHexadecimal}
+use Rattle.md_tree.specs.declared.kinds.Role.{Role}
+use Rattle.md_tree.specs.declared.kinds.Role.TheVariants as role
+use Rattle.md_tree.specs.declared.kinds.Reading.{Reading}
+use Rattle.md_tree.specs.declared.kinds.Reading.TheVariants as reading
+use Rattle.md_tree.specs.declared.kinds.Standing.{Standing}
+use Rattle.md_tree.specs.declared.kinds.Standing.TheVariants.{Through, Space, Solid, Mdx}
+use Rattle.md_tree.specs.declared.kinds.Target.{Target}
+use Rattle.md_tree.specs.declared.kinds.Target.TheVariants.{Missing, Resource, Label}
+use Rattle.md_tree.specs.declared.rule.Rule.{Rule}
+use Rattle.md_tree.specs.declared.rule.Rule.TheVariants as rule
+use Rattle.md_tree.specs.Tree.{Forest, Empty, Node}
+use Rattle.md_tree.specs.Standing.{standing_of}
+use Rattle.md_tree.specs.Shape.{Claim, EachNode}
+
+-- where a node starts and ends
+abbrev pub place : Point → Point → Position
+place start end = record { start = start; end = end }
+
+-- what a node leaves as the target of the node around, by what is read of it, the target so far and what its own spine has
+abbrev pub target_at : Reading → Target → Target → Position → Target
+target_at reading.Identifier found inner where_it_is = Label where_it_is
+target_at reading.Holder found inner where_it_is = inner
+target_at reading.Resource found inner where_it_is = Resource
+target_at _ found inner where_it_is = found
+
+-- the same for each way to stand
+abbrev pub target_after : Standing → Target → (Target → Target) → Position → Target
+target_after Through found inner where_it_is = inner found
+target_after (Solid symbol usual reading) found inner where_it_is = target_at reading found (inner Missing) where_it_is
+target_after _ found inner where_it_is = found
+
+-- the target that a spine leaves: its resource, or its label's place, of which the last one counts
+abbrev pub target_of : Forest → Target → Target
+target_of Empty found = found
+target_of (Node name start end children rest) found =
+    target_of rest (target_after (standing_of name) found (target_of children) (place start end))
+
+-- one of the three texts of line endings
+abbrev pub is_line_ending : List ℕ → Bool
+is_line_ending text = bytes_eq text (10 ∷ []) || bytes_eq text (13 ∷ []) || bytes_eq text (13 ∷ 10 ∷ [])
+
+-- the marker of a reference whose value stands after this symbol: `#`, `x` or `&`
+abbrev pub marker_after : Option Symbol → ℕ
+marker_after (Some ReferenceNumeric) = 35
+marker_after (Some ReferenceHexadecimal) = 120
+marker_after _ = 38
+
+-- the number of an ordered list is that of its first item's value
+abbrev pub is_list_number : Role → List ℕ → Bool
+is_list_number role.FirstOrderedPrefix text = is_number 10 text
+is_list_number _ text = nat_le 0 0
+
+-- how long a node is, the columns of tabs at its ends included
+abbrev pub columns : Point → Point → ℕ
+columns start end = spaces_before start + (byte_index end - byte_index start) + spaces_after end
+
+-- the first mark of a heading is its rank
+abbrev pub is_rank : Option Symbol → ℕ → Bool
+is_rank None length = nat_le 1 length && nat_le length 6
+is_rank (Some before) length = nat_le 0 0
+
+-- nothing is broken where the condition holds
+abbrev pub unless : Bool → Rule → Option Rule
+unless condition broken = if condition then None else Some broken
+
+-- what a text breaks: its place where there is no text
+abbrev pub broken_by : Option (List ℕ) → (List ℕ → Option Rule) → Option Rule
+broken_by None judged = Some rule.Place
+broken_by (Some text) judged = judged text
+
+-- the target of a link or an image
+abbrev pub broken_by_target : Target → Option Rule
+broken_by_target Missing = Some rule.Target
+broken_by_target _ = None
+
+-- the rule that a node breaks, by what is read of it, the role around it, the symbol before it, its place and its target
+abbrev pub broken_rule : List ℕ → List (List ℕ × List ℕ) → Reading → Role → Option Symbol → Point → Point → Target → Option Rule
+broken_rule bytes names reading.Text around before start end target = broken_by (text_between bytes start end) (λ text. None)
+broken_rule bytes names reading.LineEnding around before start end target =
+    broken_by (text_between bytes start end) (λ text. unless (is_line_ending text) rule.LineEnding)
+broken_rule bytes names reading.Number around before start end target =
+    broken_by (text_between bytes start end) (λ text. unless (is_list_number around text) rule.ListNumber)
+broken_rule bytes names reading.Value around before start end target =
+    broken_by (text_between bytes start end) (λ text. unless (is_some (decoded names (marker_after before) text)) rule.CharacterReference)
+broken_rule bytes names reading.Mark around before start end target =
+    if fits bytes start end then unless (is_rank before (columns start end)) rule.HeadingMark else Some rule.Place
+broken_rule bytes names reading.Underline around before start end target = unless (nat_lt start.index (length bytes)) rule.Place
+broken_rule bytes names reading.Identifier around before start end target = broken_by (label_between bytes start end) (λ text. None)
+broken_rule bytes names reading.Media around before start end target = broken_by_target target
+broken_rule bytes names _ around before start end target = None
+
+-- the same for each way to stand: of a node that stands on no spine nothing is read
+abbrev pub broken_where : List ℕ → List (List ℕ × List ℕ) → Standing → Role → Option Symbol → Point → Point → Target → Option Rule
+broken_where bytes names (Solid symbol usual reading) around before start end target =
+    broken_rule bytes names reading around before start end target
+broken_where bytes names _ around before start end target = None
+
+-- the rule that a node breaks, in a node of a role and after a symbol on its spine
+abbrev pub broken_at : List ℕ → List (List ℕ × List ℕ) → Role → Option Symbol → Name → Point → Point → Forest → Option Rule
+broken_at bytes names around before name start end children =
+    broken_where bytes names (standing_of name) around before start end (target_of children Missing)
+
+-- a node meets the rules that are judged by itself and by what stands before it in the nodes around
+abbrev pub MeetsRules : List ℕ → List (List ℕ × List ℕ) → Claim
+MeetsRules bytes names around before name start end children = broken_at bytes names around before name start end children ≡ None
+
+-- each node meets them
+abbrev pub MeetRules : List ℕ → List (List ℕ × List ℕ) → Forest → Role → Option Symbol → Type 0
+MeetRules bytes names forest around before = EachNode (MeetsRules bytes names) forest around before

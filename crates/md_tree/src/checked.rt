@@ -1,0 +1,53 @@
+use crate::kinds::Note;
+use md_base::Event;
+use std::marker::Model;
+
+/// Events, a document's bytes and a table of names that have passed a check: the events are the
+/// flattening of a document of the grammar over the bytes and names.
+#[derive(Drop)]
+pub struct Checked<'a> {
+    events: &'a [Event],
+    bytes: &'a [u8],
+    names: &'a [(&'a str, &'a str)],
+    notes: Vec<Note>,
+}
+
+impl<'a> Model for Checked<'a> {
+    ghost use Rattle.md_tree.specs.Grammar.{Document};
+
+    ghost Value = { Document };
+
+    ghost use Rattle.md_tree.specs.Checked.{given_of, IsKept};
+
+    ghost view = { given_of };
+
+    ghost invariant = { IsKept };
+}
+
+impl<'a> Checked<'a> {
+    ghost use Rattle.std.specs.Prelude.{◌≡◌};
+    ghost use Rattle.md_base.specs.Reference.{name_table};
+    ghost use Rattle.md_tree.specs.Grammar.{IsChecked};
+
+    /// The events.
+    pub fn events(&self) -> &'a [Event]
+        ensures events { result.now ≡ self.now.events }
+        ensures grammatical { IsChecked self.now }
+    {
+        self.events
+    }
+
+    /// The document's bytes.
+    pub fn bytes(&self) -> &'a [u8]
+        ensures { result.now ≡ self.now.bytes }
+    {
+        self.bytes
+    }
+
+    /// The names of character references, each with its text.
+    pub fn names(&self) -> &'a [(&'a str, &'a str)]
+        ensures { name_table result.now ≡ self.now.names }
+    {
+        self.names
+    }
+}

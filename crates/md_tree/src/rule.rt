@@ -1,0 +1,87 @@
+use std::alloc::AllocError;
+use std::error::Error;
+use std::fmt;
+
+/// Why a list of events is refused.
+#[derive(Clone, Copy, Debug, PartialEq, Eq)]
+pub enum Rule {
+    /// No tree's events begin so, or a node or a group is open at the end.
+    Order,
+    /// A name of MDX.
+    Mdx,
+    /// A place that is read doesn't fit the bytes, or isn't a text.
+    Place,
+    /// The text of a line ending is none.
+    LineEnding,
+    /// The first mark of a heading has not a length of 1 to 6.
+    HeadingMark,
+    /// The value of an ordered list's first item is no number under 2^32.
+    ListNumber,
+    /// A character reference doesn't decode.
+    CharacterReference,
+    /// A link or an image has an identifier that no definition has.
+    Definition,
+    /// A footnote call has an identifier that no footnote definition has.
+    Footnote,
+    /// A link or an image leads nowhere.
+    Target,
+}
+
+impl fmt::Display for Rule {
+    ghost use Rattle.std.specs.Prelude.{Some};
+    ghost use Rattle.md_tree.specs.Names.{name_of};
+
+    ghost output = { λ rule. Some (name_of rule) };
+
+    fn fmt<W: fmt::Write>(&self, f: &mut fmt::Formatter<W>) -> fmt::Result {
+        match *self {
+            Rule::Order => write!(f, "Order"),
+            Rule::Mdx => write!(f, "Mdx"),
+            Rule::Place => write!(f, "Place"),
+            Rule::LineEnding => write!(f, "LineEnding"),
+            Rule::HeadingMark => write!(f, "HeadingMark"),
+            Rule::ListNumber => write!(f, "ListNumber"),
+            Rule::CharacterReference => write!(f, "CharacterReference"),
+            Rule::Definition => write!(f, "Definition"),
+            Rule::Footnote => write!(f, "Footnote"),
+            Rule::Target => write!(f, "Target"),
+        }
+    }
+}
+
+/// Why `check` answers nothing.
+#[derive(Debug, PartialEq, Eq, Drop)]
+pub enum CompileError {
+    /// Want of memory.
+    Memory,
+    /// An event breaks a rule; the index is the number of events where something is open at the
+    /// end.
+    Event { index: usize, rule: Rule },
+}
+
+impl fmt::Display for CompileError {
+    ghost use Rattle.std.specs.Prelude.{Some};
+    ghost use Rattle.md_tree.specs.Names.{message_of};
+
+    ghost output = { λ error. Some (message_of error) };
+
+    fn fmt<W: fmt::Write>(&self, f: &mut fmt::Formatter<W>) -> fmt::Result {
+        match self {
+            CompileError::Memory => write!(f, "out of memory"),
+            CompileError::Event { index, rule } => write!(f, "event {index}: {rule}"),
+        }
+    }
+}
+
+impl Error for CompileError {}
+
+impl From<AllocError> for CompileError {
+    ghost use Rattle.std.specs.Prelude.{◌≡◌};
+    ghost use Rattle.md_tree.specs.declared.rule.CompileError.TheVariants.{Memory};
+
+    ghost from_gives = { λ _ made. made ≡ Memory };
+
+    fn from(_error: AllocError) -> CompileError {
+        CompileError::Memory
+    }
+}

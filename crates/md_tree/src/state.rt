@@ -1,0 +1,59 @@
+use crate::kinds::{Reading, Role, Symbol, Target};
+use md_base::{Name, Point};
+
+/// Which symbols of a group have been read.
+#[derive(Clone, Copy, Debug, PartialEq, Eq)]
+pub enum Stage {
+    /// No group is open.
+    Whole,
+    /// The marker of a reference.
+    Marker,
+    /// Its numeric marker.
+    Numeric,
+    /// Its hexadecimal marker.
+    Hexadecimal,
+    /// The text of a setext heading, and line endings.
+    Setext,
+}
+
+/// How much of a spine has been read.
+#[derive(Clone, Copy, Debug, PartialEq, Eq)]
+pub struct State {
+    /// The role of the node whose spine it is.
+    pub role: Role,
+    /// The last symbol.
+    pub before: Option<Symbol>,
+    /// The item of the pattern from which on the next symbol may be taken.
+    pub position: usize,
+    pub stage: Stage,
+}
+
+/// What waits for the end of a node that has a spine of its own.
+#[derive(Clone, Copy, Debug, PartialEq, Eq)]
+pub struct Outer {
+    /// The spine around the node, the node included.
+    pub state: State,
+    /// The symbol before the node.
+    pub before: Option<Symbol>,
+    /// The target of the spine around, so far.
+    pub target: Target,
+    /// What is read of the node.
+    pub reading: Reading,
+}
+
+/// A node that is open.
+#[derive(Clone, Copy, Debug, PartialEq, Eq)]
+pub struct Open {
+    pub name: Name,
+    pub start: Point,
+    /// None where the node is transparent.
+    pub outer: Option<Outer>,
+}
+
+/// Where a node's children begin.
+#[derive(Clone, Copy, Debug, PartialEq, Eq)]
+pub struct Entry {
+    pub state: State,
+    pub target: Target,
+    pub outer: Option<Outer>,
+}
