@@ -10,7 +10,7 @@ use Rattle.std.proofs.lemmas.Slice.Eq.{bytes_eq-Decides}
 use Rattle.md_base.specs.declared.event.Event.{Event}
 use Rattle.md_script.specs.Line.{event_of}
 use Rattle.md_script.specs.Script.{lines_of, end_line, is_readable_after, ReadsAfter, StandsFor, StopsAfter, IsFirstUnreadable}
-use Rattle.md_script.specs.Error.{Explains}
+use Rattle.md_script.specs.Script.{Explains}
 use Rattle.md_script.specs.declared.error.RunError.TheVariants.{Line}
 use Rattle.md_script.specs.declared.options.CompileOptions.{CompileOptions}
 use Rattle.md_script.specs.Setting.{is_setting, option_name, is_new, HasOptions}

@@ -1,10 +1,18 @@
--- Why a script is refused.
-use Rattle.std.specs.Prelude.{ℕ, List}
+-- Why a script gives no text, and what is said of it.
+use Rattle.std.specs.Prelude.{ℕ, List, ◌++◌, codes}
+use Rattle.std.specs.Fmt.{decimal}
+use Rattle.md_tree.specs.Names.{name_of}
 use Rattle.md_script.specs.declared.error.RunError.{RunError}
-use Rattle.md_script.specs.declared.error.RunError.TheVariants.{Memory, Line}
-use Rattle.md_script.specs.Script.{IsReadable, IsFirstUnreadable}
+use Rattle.md_script.specs.declared.error.RunError.TheVariants.{Memory, Line, Event}
 
--- a line is named only where the input isn't readable, and it is the first one that can't be read
-abbrev pub Explains : List ℕ → RunError → Type 0
-Explains input Memory = Unit {0}
-Explains input (Line number) = (¬ IsReadable input) × IsFirstUnreadable input number
+-- the line on standard error
+abbrev pub message_of : RunError → List ℕ
+message_of Memory = codes "out of memory"
+message_of (Line number) = codes "line " ++ decimal number ++ codes ": unreadable"
+message_of (Event index rule) = codes "event " ++ decimal index ++ codes ": " ++ name_of rule
+
+-- the status of a program that ends with it
+abbrev pub status_of : RunError → ℕ
+status_of Memory = 3
+status_of (Line number) = 2
+status_of (Event index rule) = 1

@@ -1,7 +1,9 @@
 -- What a whole script stands for, and which of its lines can't be read.
 use Rattle.std.specs.Prelude.{◌≡◌, ℕ, ◌+◌, Bool, ◌&&◌, ◌||◌, ◌==◌, IsTrue, IsFalse, List, [], ◌∷◌, ◌++◌, length, filter_map, is_some, bytes_eq, codes}
 use Rattle.std.specs.List.{slice_split, join_with_byte}
-use Rattle.md_base.specs.declared.event.Event.{Event}
+use Rattle.md_base.specs.declared.event.Event as event
+use Rattle.md_script.specs.declared.error.RunError.{RunError}
+use Rattle.md_script.specs.declared.error.RunError.TheVariants.{Memory, Line, Event}
 use Rattle.md_script.specs.Line.{event_of}
 use Rattle.md_script.specs.Setting.{is_setting, option_name, is_new, HasOptions}
 use Rattle.md_script.specs.declared.options.CompileOptions.{CompileOptions}
@@ -35,7 +37,7 @@ abbrev pub IsReadable : List ℕ → Type 0
 IsReadable input = (body : List (List ℕ)) × (document : List (List ℕ)) × IsScript input body document
 
 -- it stands for these events over these bytes, under these options
-pub record StandsFor (input : List ℕ) (events : List Event) (bytes : List ℕ) (options : CompileOptions) : Type 0 where
+pub record StandsFor (input : List ℕ) (events : List event.Event) (bytes : List ℕ) (options : CompileOptions) : Type 0 where
   pub body : List (List ℕ)
   pub document : List (List ℕ)
   pub script : IsScript input body document
@@ -56,3 +58,9 @@ pub record IsFirstUnreadable (input : List ℕ) (number : ℕ) : Type 0 where
   pub reads : ReadsAfter [] earlier
   pub stops : StopsAfter earlier others
   pub counted : number ≡ length earlier + 1
+
+-- why a script isn't read: a line is named only where the input isn't readable, and it is the first that can't be read
+abbrev pub Explains : List ℕ → RunError → Type 0
+Explains input Memory = Unit {0}
+Explains input (Line number) = (¬ IsReadable input) × IsFirstUnreadable input number
+Explains input (Event index rule) = ⊥

@@ -1,7 +1,7 @@
-ghost use Rattle.md_script.specs.declared.error.RunError.TheVariants.{Memory};
-ghost use Rattle.std.specs.Prelude.{◌≡◌};
-
-use std::alloc::{AllocError, AllocFailed};
+use md_tree::Rule;
+use std::alloc::AllocError;
+use std::error::Error;
+use std::fmt;
 
 /// Why a script gives no text.
 #[derive(Debug, PartialEq, Eq, Drop)]
@@ -10,20 +10,51 @@ pub enum RunError {
     Memory,
     /// The line with this number, from 1, can't be read.
     Line(usize),
+    /// An event breaks a rule; the index is the number of events where something is open at the
+    /// end.
+    Event { index: usize, rule: Rule },
 }
 
-impl From<AllocError> for RunError {
-    ghost from_gives = { λ _ error. error ≡ Memory };
+impl RunError {
+    ghost use Rattle.std.specs.Prelude.{◌≡◌};
+    ghost use Rattle.md_script.specs.Error.{status_of};
 
-    fn from(_error: AllocError) -> RunError {
-        RunError::Memory
+    /// The status with which a program ends: 1 for an event, 2 for a line, 3 for memory.
+    pub fn status(&self) -> u8
+        ensures { result ≡ status_of self.now }
+    {
+        match self {
+            RunError::Memory => 3,
+            RunError::Line(_) => 2,
+            RunError::Event { .. } => 1,
+        }
     }
 }
 
-impl<T: Drop> From<AllocFailed<T>> for RunError {
+impl fmt::Display for RunError {
+    ghost use Rattle.std.specs.Prelude.{Some};
+    ghost use Rattle.md_script.specs.Error.{message_of};
+
+    ghost output = { λ error. Some (message_of error) };
+
+    fn fmt<W: fmt::Write>(&self, f: &mut fmt::Formatter<W>) -> fmt::Result {
+        match self {
+            RunError::Memory => write!(f, "out of memory"),
+            RunError::Line(number) => write!(f, "line {number}: unreadable"),
+            RunError::Event { index, rule } => write!(f, "event {index}: {rule}"),
+        }
+    }
+}
+
+impl Error for RunError {}
+
+impl From<AllocError> for RunError {
+    ghost use Rattle.std.specs.Prelude.{◌≡◌};
+    ghost use Rattle.md_script.specs.declared.error.RunError.TheVariants.{Memory};
+
     ghost from_gives = { λ _ error. error ≡ Memory };
 
-    fn from(_error: AllocFailed<T>) -> RunError {
+    fn from(_error: AllocError) -> RunError {
         RunError::Memory
     }
 }

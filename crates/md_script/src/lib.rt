@@ -11,5 +11,7 @@ mod script;
 mod setting;
 mod split;
 mod table;
+#[cfg(test)]
+mod tests;
 
 pub use error::RunError;

@@ -1,7 +1,7 @@
 ghost use Rattle.std.specs.Prelude.{◌≡◌, ◌+◌, ◌&&◌, ◌||◌, [], ◌∷◌, ◌++◌, true, if◌then◌else◌, is_some, option_to_list, length, MatchOption, IfOk, OnOk, IfErr};
 ghost use Rattle.md_script.specs.Line.{event_of};
 ghost use Rattle.md_script.specs.Setting.{texts_of, is_setting, option_name, is_new};
-ghost use Rattle.md_script.specs.Error.{Explains};
+ghost use Rattle.md_script.specs.Script.{Explains};
 ghost use Rattle.md_script.specs.Script.{lines_of, StandsFor};
 
 use crate::error::RunError;
