@@ -7,7 +7,7 @@ use Rattle.md_base.specs.declared.event.Event.{Event}
 use Rattle.md_tree.specs.Tree.{Forest, Empty, Node, flatten, exiting}
 use Rattle.md_html.specs.declared.facts.Ahead.{Ahead}
 use Rattle.md_html.specs.declared.facts.Gathered.{Gathered}
-use Rattle.md_html.specs.Places.{ahead_of}
+use Rattle.md_html.specs.Places.{ahead_of, first_ending}
 use Rattle.md_html.specs.Machine.{aheads_of, no_ahead}
 use Rattle.md_html.specs.LookAhead.{Outlook, gathered, joined, told_ahead, looked_over, looked_at, no_outlook, nothing_gathered}
 
@@ -56,3 +56,10 @@ aheads-looked_over forest events e =
     ap (λ es. (looked_over es no_outlook).aheads) (sym e)
     ∙ ap (λ o. o.aheads) (looked_over-flatten forest no_outlook)
     ∙ append-nil (aheads_of forest)
+
+-- the first line ending that the pass finds
+pub ending-looked_over : (forest : Forest) (events : List Event) → flatten forest ≡ events → (looked_over events no_outlook).here.ending ≡ first_ending forest
+ending-looked_over forest events e =
+    ap (λ es. (looked_over es no_outlook).here.ending) (sym e)
+    ∙ ap (λ o. o.here.ending) (looked_over-flatten forest no_outlook)
+    ∙ ap (λ g. g.ending) (gathered_before-nothing (record { line = 0; column = 0; index = 0; vs = 0 }) forest)

@@ -9,12 +9,12 @@ use Rattle.md_base.specs.declared.event.Point.{Point}
 use Rattle.md_base.specs.declared.event.Event.{Event}
 use Rattle.md_base.specs.declared.event.Position.{Position}
 use Rattle.md_tree.specs.Tree.{Forest, Empty, Node}
-use Rattle.md_tree.specs.NameTests.{is_transparent, is_blank_line_ending, is_space, is_item, is_item_prefix, is_item_value, is_block_quote, is_block_quote_prefix, is_heading_mark}
+use Rattle.md_tree.specs.NameTests.{is_transparent, is_line_ending, is_blank_line_ending, is_space, is_item, is_item_prefix, is_item_value, is_block_quote, is_block_quote_prefix, is_heading_mark}
 use Rattle.md_tree.specs.Children.{or_else, first_on_spine, is_empty, last_name}
 use Rattle.md_tree.specs.Looseness.{begins_blank, begins_space_blank, is_end, ends_bare, has_parting_blank, has_inner_blank, has_loose_item}
 use Rattle.md_html.specs.declared.facts.Ahead.{Ahead}
 use Rattle.md_html.specs.declared.facts.Gathered.{Gathered}
-use Rattle.md_html.specs.Places.{position, number_in_prefix, number_in_item}
+use Rattle.md_html.specs.Places.{first_ending, position, number_in_prefix, number_in_item}
 use Rattle.md_html.specs.Machine.{first_or, others_of, no_ahead}
 
 -- what the nodes in a node that ends here tell
@@ -33,7 +33,8 @@ gathered end nodes = record {
   has_parting_blank = has_parting_blank nodes;
   has_inner_blank = has_inner_blank nodes;
   has_loose_item = has_loose_item nodes;
-  last = last_name nodes
+  last = last_name nodes;
+  ending = first_ending nodes
 }
 
 -- the first place on the spine of a node and what follows it: the node's own, that within a transparent node, or a later one
@@ -61,7 +62,8 @@ joined name start own later = record {
   has_parting_blank = later.begins_blank && not (is_item name && own.ends_bare) || later.has_parting_blank;
   has_inner_blank = not (is_item_prefix name) && (later.begins_blank && not (is_space name) || later.begins_space_blank) || later.has_inner_blank;
   has_loose_item = is_item name && (own.begins_blank || own.begins_space_blank || own.has_inner_blank) || later.has_loose_item;
-  last = Some (unwrap_or later.last name)
+  last = Some (unwrap_or later.last name);
+  ending = or_else own.ending (or_else (if is_line_ending name then Some (record { start = start; end = own.end }) else None) later.ending)
 }
 
 -- what is told ahead of a node by what its children tell

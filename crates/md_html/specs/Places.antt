@@ -5,8 +5,8 @@ use Rattle.md_base.specs.declared.event.Point.{Point}
 use Rattle.md_base.specs.declared.event.Position.{Position}
 use Rattle.md_base.specs.Place.{fits, byte_index, spaces_before, spaces_after}
 use Rattle.md_tree.specs.Tree.{Forest, Empty, Node}
-use Rattle.md_tree.specs.NameTests.{is_heading_mark, is_item, is_item_prefix, is_item_value}
-use Rattle.md_tree.specs.Children.{first_on_spine, spine_names, last_name, last_contributing}
+use Rattle.md_tree.specs.NameTests.{is_line_ending, is_heading_mark, is_item, is_item_prefix, is_item_value}
+use Rattle.md_tree.specs.Children.{or_else, first_on_spine, spine_names, last_name, last_contributing}
 use Rattle.md_tree.specs.Looseness.{is_loose}
 use Rattle.md_html.specs.Surroundings.{Mark, is_slurping, told_by, spine_inside, spine_behind, own_marks, marks_of, inside}
 use Rattle.md_html.specs.declared.facts.Surroundings.{Surroundings}
@@ -67,6 +67,13 @@ number_in_prefix children = first_on_spine is_item_value position children
 
 abbrev pub number_in_item : Forest → Option Position
 number_in_item children = unwrap_or (first_on_spine is_item_prefix (λ start end inner. number_in_prefix inner) children) None
+
+-- the place of the line ending, blank or not, that exits first
+abbrev pub first_ending : Forest → Option Position
+first_ending Empty = None
+first_ending (Node name start end children rest) =
+    or_else (first_ending children)
+        (or_else (if is_line_ending name then Some (record { start = start; end = end }) else None) (first_ending rest))
 
 -- what some children tell ahead: the place of a heading's first mark, that of the number of a list's first
 -- item, and whether a list is loose

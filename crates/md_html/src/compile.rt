@@ -5,7 +5,7 @@ ghost use Rattle.md_base.specs.Reference.{name_table};
 ghost use Rattle.md_tree.specs.Tree.{Forest, flatten};
 ghost use Rattle.md_html.specs.Machine as machine;
 ghost use Rattle.md_html.specs.LookAhead as look;
-ghost use Rattle.md_html.specs.Meaning.{meaning};
+ghost use Rattle.md_html.specs.Meaning.{meaning, ending_at};
 ghost use Rattle.md_html.specs.Sources.{given_of};
 ghost use Rattle.md_html.specs.Printed.{is_captured};
 
@@ -16,9 +16,41 @@ use crate::names::is_captured;
 use crate::open::open;
 use crate::options::CompileOptions;
 use crate::printer::Printer;
-use crate::source::Source;
-use md_base::{Event, Kind, Name, Point};
+use crate::source::{Source, text_of};
+use md_base::{Event, Kind, Name, Point, Position};
+use md_tree::Checked;
 use std::alloc::{AllocError, Global};
+
+/// The HTML of events that have passed a check: the meaning of the document that they are.
+///
+/// # Errors
+///
+/// Only where memory runs out.
+pub fn compile_checked(alloc: Global, checked: &Checked, options: &CompileOptions) -> Result<String, AllocError>
+    ensures meaning { IfOk result (λ text. (document : Forest) → flatten document ≡ checked.now.events →
+        string_bytes text ≡ meaning options.now checked.now.names checked.now.bytes document) }
+{
+    let events = checked.events();
+    let bytes = checked.bytes();
+    let (aheads, ending) = look_ahead(alloc, events)?;
+    let source = Source {
+        bytes,
+        names: checked.names(),
+        options,
+        ending: ending_at(options, bytes, ending),
+    };
+    print(alloc, &source, events, aheads.as_slice())
+}
+
+/// The line ending that is used: the text of the document's first, else that of the options.
+fn ending_at<'a>(options: &'a CompileOptions, bytes: &'a [u8], place: Option<Position>) -> &'a str
+    ensures { result.now ≡ ending_at options.now bytes.now place }
+{
+    match place {
+        Some(found) => text_of(bytes, found.start, found.end),
+        None => options.default_line_ending.as_str(),
+    }
+}
 
 /// Enters a node.
 fn enter(alloc: Global, printer: &mut Printer, source: &Source, ahead: Ahead, name: Name, start: Point) -> Result<(), AllocError>

@@ -117,6 +117,8 @@ pub struct Gathered {
     pub has_loose_item: bool,
     /// The name of the last of them.
     pub last: Option<Name>,
+    /// The place of the first line ending in them, blank or not.
+    pub ending: Option<Position>,
 }
 
 /// A node that is exited.

@@ -15,4 +15,5 @@ mod source;
 mod surroundings;
 mod texts;
 
+pub use compile::compile_checked;
 pub use options::CompileOptions;

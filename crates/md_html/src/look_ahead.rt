@@ -1,6 +1,7 @@
 //! The pass over the events from the last to the first, which finds what nodes tell before they are printed.
 
 ghost use Rattle.std.specs.Prelude.{◌≡◌, List, reverse, IfOk, OnOk, ◌||◌, ◌&&◌, not, if◌then◌else◌};
+ghost use Rattle.md_tree.specs.Children.{or_else};
 ghost use Rattle.md_html.specs.LookAhead as spec;
 ghost use Rattle.md_html.specs.Machine.{aheads_of};
 ghost use Rattle.md_tree.specs.Tree.{Forest, flatten};
@@ -8,7 +9,7 @@ ghost use Rattle.md_tree.specs.Tree.{Forest, flatten};
 use crate::facts::{Ahead, Gathered};
 use crate::names::{
     is_blank_line_ending, is_block_quote, is_block_quote_prefix, is_heading_mark, is_item,
-    is_item_prefix, is_item_value, is_space, is_transparent,
+    is_item_prefix, is_item_value, is_line_ending, is_space, is_transparent,
 };
 use md_base::{Event, Kind, Name, Point, Position};
 use std::alloc::{AllocError, Global};
@@ -45,6 +46,18 @@ fn nothing_gathered(end: Point) -> Gathered
         has_inner_blank: false,
         has_loose_item: false,
         last: None,
+        ending: None,
+    }
+}
+
+/// The place of the first line ending: one in a node's children, the node itself, or a later one.
+fn first_ending(is_ending: bool, place: Position, inner: Option<Position>, later: Option<Position>) -> Option<Position>
+    ensures { result ≡ or_else inner (or_else (if is_ending then Some place else None) later) }
+{
+    match inner {
+        Some(inner) => Some(inner),
+        None if is_ending => Some(place),
+        None => later,
     }
 }
 
@@ -123,6 +136,7 @@ fn joined(name: Name, start: Point, own: Gathered, later: Gathered) -> Gathered
         ),
         has_loose_item: is_loose_here(item, own, later.has_loose_item),
         last: Some(later.last.unwrap_or(name)),
+        ending: first_ending(is_line_ending(name), place, own.ending, later.ending),
     }
 }
 
@@ -196,6 +210,13 @@ impl Outlook {
         Ok(())
     }
 
+    /// The place of the first line ending.
+    fn ending(&self) -> Option<Position>
+        ensures { result ≡ self.now.here.ending }
+    {
+        self.here.ending
+    }
+
     fn into_aheads(self) -> Vec<Ahead>
         ensures { result.items ≡ self.aheads }
     {
@@ -209,9 +230,10 @@ impl Outlook {
     }
 }
 
-/// What is told ahead at each event.
-pub fn look_ahead(alloc: Global, events: &[Event]) -> Result<Vec<Ahead>, AllocError>
-    ensures { IfOk result (λ aheads. aheads.items ≡ (spec.looked_over events.now spec.no_outlook).aheads) }
+/// What is told ahead at each event, and the place of the first line ending.
+pub fn look_ahead(alloc: Global, events: &[Event]) -> Result<(Vec<Ahead>, Option<Position>), AllocError>
+    ensures aheads { IfOk result (λ seen. seen.0.items ≡ (spec.looked_over events.now spec.no_outlook).aheads) }
+    ensures ending { IfOk result (λ seen. seen.1 ≡ (spec.looked_over events.now spec.no_outlook).here.ending) }
 {
     let mut outlook = Outlook::new(alloc);
     let mut rest = events;
@@ -219,5 +241,6 @@ pub fn look_ahead(alloc: Global, events: &[Event]) -> Result<Vec<Ahead>, AllocEr
         outlook.look_at(event)?;
         rest = before;
     }
-    Ok(outlook.into_aheads())
+    let ending = outlook.ending();
+    Ok((outlook.into_aheads(), ending))
 }

@@ -19,6 +19,13 @@ pub fn is_blank_line_ending(name: Name) -> bool
     matches!(name, Name::BlankLineEnding)
 }
 
+/// A line ending, blank or not.
+pub fn is_line_ending(name: Name) -> bool
+    ensures { result ≡ tests.is_line_ending name }
+{
+    matches!(name, Name::LineEnding | Name::BlankLineEnding)
+}
+
 pub fn is_space(name: Name) -> bool
     ensures { result ≡ tests.is_space name }
 {

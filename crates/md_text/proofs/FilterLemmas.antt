@@ -1,5 +1,5 @@
 -- The tag filter, character by character.
-use Rattle.std.proofs.Common.{◌≡◌, ◌≢◌, ℕ, ◌<◌, ◌≤◌, Bool, true, false, ◌&&◌, cond, eqb, List, [], ◌∷◌, ◌++◌, refl, sym, ap, ◌∙◌, subst, encode_utf8, arith, ne_eqb, append-nil, append_assoc, inl, inr, codes}
+use Rattle.std.proofs.Common.{◌≡◌, ◌≢◌, ℕ, Bool, ◌&&◌, cond, eqb, List, [], ◌∷◌, ◌++◌, refl, sym, ap, ◌∙◌, subst, encode_utf8, arith, ne_eqb, inl, inr, codes}
 use Rattle.std.proofs.lemmas.Bool.{cases_lt, cases_eq}
 use Rattle.std.proofs.lemmas.Str.{encode_ascii}
 use Rattle.md_text.specs.Filter.{tag_filtered, filtered_byte, begins_disarmed_name, past_slash}
@@ -9,7 +9,7 @@ use Rattle.md_text.proofs.HighBytes.{AllHigh, encode_utf8-high}
 pub filtered_byte-other : (b : ℕ) (rest : List ℕ) → b ≢ 60 → filtered_byte b rest ≡ b ∷ []
 filtered_byte-other b rest ne = ap (λ t. cond (t && begins_disarmed_name (past_slash rest)) (codes "&lt;") (b ∷ [])) (ne_eqb b 60 ne)
 
-tag_filtered-other : (b : ℕ) (rest : List ℕ) → b ≢ 60 → tag_filtered (b ∷ rest) ≡ b ∷ tag_filtered rest
+pub tag_filtered-other : (b : ℕ) (rest : List ℕ) → b ≢ 60 → tag_filtered (b ∷ rest) ≡ b ∷ tag_filtered rest
 tag_filtered-other b rest ne = ap (λ x. x ++ tag_filtered rest) (filtered_byte-other b rest ne)
 
 tag_filtered-high : (bs rest : List ℕ) → AllHigh bs → tag_filtered (bs ++ rest) ≡ bs ++ tag_filtered rest

@@ -1,5 +1,5 @@
 -- The bytes of a character past ASCII are 128 or more, so no definition by bytes mistakes one for an ASCII character.
-use Rattle.std.proofs.Common.{◌≡◌, ℕ, ◌+◌, ◌<◌, ◌≤◌, List, [], ◌∷◌, ◌++◌, length, get_or, refl, sym, subst, encode_utf8, arith, zero, suc, append-nil, zero-lt-suc, suc-le-suc, inl, inr}
+use Rattle.std.proofs.Common.{◌≡◌, ℕ, ◌<◌, ◌≤◌, List, [], ◌∷◌, length, get_or, sym, encode_utf8, arith, suc, append-nil, zero-lt-suc, suc-le-suc, inl, inr}
 use Rattle.std.proofs.lemmas.Bool.{cases_lt}
 use Rattle.std.proofs.lemmas.Str.{inside_one}
 

@@ -2,3 +2,15 @@ pub mod HighBytes
 pub mod EncodeLemmas
 pub mod UrlLemmas
 pub mod FilterLemmas
+pub mod EncodeLaws
+pub mod FilterLaws
+pub mod UrlLaws
+pub mod UrlTwice
+pub mod ProtocolLemmas
+pub mod HtmlWriting
+pub mod HtmlNames
+pub mod HtmlSplit
+pub mod HtmlReading
+pub mod HtmlJoin
+pub mod HtmlPut
+pub mod HtmlRead

@@ -1,10 +1,10 @@
 -- Which bytes a URL keeps, and what becomes of them in HTML.
-use Rattle.std.proofs.Common.{◌≡◌, ◌≢◌, ℕ, ◌+◌, ◌<◌, ◌≤◌, ◌/◌, ◌%◌, Bool, true, false, ◌&&◌, ◌||◌, cond, eqb, leb, ltb, List, [], ◌∷◌, ◌++◌, refl, sym, ap, ◌∙◌, subst, encode_utf8, arith, ne_eqb, append-nil, inl, inr, true≢false}
+use Rattle.std.proofs.Common.{◌≡◌, ◌≢◌, ℕ, ◌<◌, ◌≤◌, true, false, cond, eqb, List, [], ◌∷◌, refl, sym, ap, ◌∙◌, subst, encode_utf8, arith, ne_eqb, append-nil, inl, inr}
 use Rattle.std.proofs.lemmas.Bool.{cases_lt, both_ways}
 use Rattle.std.proofs.lemmas.Bool.Decides.{nat_tests}
 use Rattle.std.proofs.lemmas.Str.{encode_ascii}
 use Rattle.md_text.specs.Encode.{encoded, encoded_byte}
-use Rattle.md_text.specs.Url.{stays, stays_anywhere, normalized_byte, percent, hex_digit}
+use Rattle.md_text.specs.Url.{stays, normalized_byte, percent}
 use Rattle.md_text.proofs.EncodeLemmas.{encoded_byte-plain}
 
 -- a byte past ASCII doesn't stay

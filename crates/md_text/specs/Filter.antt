@@ -1,5 +1,5 @@
 -- The tag filter of GitHub flavored Markdown.
-use Rattle.std.specs.Prelude.{ℕ, Bool, true, false, ◌&&◌, ◌||◌, ◌==◌, if◌then◌else◌, List, [], ◌∷◌, ◌++◌, map, length, drop, take_while, codes}
+use Rattle.std.specs.Prelude.{ℕ, Bool, true, ◌&&◌, ◌||◌, ◌==◌, if◌then◌else◌, List, [], ◌∷◌, ◌++◌, map, length, drop, take_while, codes}
 use Rattle.md_base.specs.declared.lists.TheConstants.{GFM_HTML_TAGFILTER_NAMES}
 use Rattle.md_text.specs.Bytes.{is_letter, lowered, is_one_of}
 

@@ -28,6 +28,14 @@ written (Void name attributes rest) = 60 ∷ (name ++ (written_attributes attrib
 written (Element name attributes children rest) =
     60 ∷ (name ++ (written_attributes attributes ++ (62 ∷ (written children ++ (60 ∷ 47 ∷ (name ++ (62 ∷ written rest)))))))
 
+-- `<`, name, attributes, `>`
+abbrev pub opening_tag : List ℕ → List Attribute → List ℕ
+opening_tag name attributes = 60 ∷ (name ++ (written_attributes attributes ++ (62 ∷ [])))
+
+-- `</`, name, `>`
+abbrev pub closing_tag : List ℕ → List ℕ
+closing_tag name = 60 ∷ 47 ∷ (name ++ (62 ∷ []))
+
 -- a tag's name and the names of the attributes that it may have
 pub record TagRule : Type 0 where
   pub name : List ℕ

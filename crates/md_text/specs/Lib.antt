@@ -6,3 +6,4 @@ pub mod Filter
 pub mod References
 pub mod Html
 pub mod Safe
+pub mod Laws

@@ -1,6 +1,6 @@
 -- The four character references that are written, where they stand and what they stand for.
-use Rattle.std.specs.Prelude.{ℕ, suc, zero, Bool, true, false, ◌&&◌, ◌||◌, ◌==◌, if◌then◌else◌, nat_eq, List, [], ◌∷◌, take, length, codes}
-use Rattle.std.specs.List.{starts_with, list_any}
+use Rattle.std.specs.Prelude.{ℕ, suc, zero, Bool, true, false, ◌&&◌, ◌||◌, ◌==◌, if◌then◌else◌, nat_eq, List, [], ◌∷◌, codes}
+use Rattle.std.specs.List.{starts_with}
 
 -- a text begins so
 abbrev pub begins_with : List ℕ → List ℕ → Bool

@@ -1,7 +1,7 @@
 -- URLs: what stays of a text, which protocol it has, and which protocols are kept.
-use Rattle.std.specs.Prelude.{ℕ, ◌+◌, ◌/◌, ◌%◌, Bool, true, false, ◌&&◌, ◌||◌, ◌==◌, if◌then◌else◌, nat_lt, List, [], ◌∷◌, ◌++◌, map, Option, Some, None, option_map}
+use Rattle.std.specs.Prelude.{ℕ, ◌+◌, ◌/◌, ◌%◌, Bool, true, false, ◌&&◌, ◌||◌, ◌==◌, if◌then◌else◌, nat_lt, List, [], ◌∷◌, ◌++◌, Option, Some, None, option_map}
 use Rattle.std.specs.Option.{option_map_or}
-use Rattle.md_text.specs.Bytes.{is_between, is_letter, is_letter_or_digit, lowered, is_one_of}
+use Rattle.md_text.specs.Bytes.{is_between, is_letter_or_digit, lowered, is_one_of}
 use Rattle.md_text.specs.Encode.{encoded}
 
 -- `!`, `#`, `$`, from `&` to `;`, `=`, from `?` to `Z`, `_`, a lower-case letter, `~`

@@ -16,8 +16,8 @@ use std::alloc::{AllocError, Global};
 /// Only where memory runs out.
 pub fn encode(alloc: Global, value: &str, encode_html: bool) -> Result<String, AllocError>
     ensures by_byte { IfOk result (λ text. string_bytes text ≡ encoded encode_html value.now) }
-    ensures by_character { IfOk result
-        (λ text. string_bytes text ≡ encode_utf8_all (flat_map (encoded_character encode_html) (chars value.now))) }
+    ensures by_character { IfOk result (λ text. string_bytes text
+        ≡ encode_utf8_all (flat_map (encoded_character encode_html) (chars value.now))) }
 {
     let mut out = String::with_capacity(alloc, value.len())?;
     for c in value.chars() {
@@ -28,7 +28,8 @@ pub fn encode(alloc: Global, value: &str, encode_html: bool) -> Result<String, A
 
 /// Writes one character.
 fn push_encoded(out: &mut String, c: char, encode_html: bool) -> Result<(), AllocError>
-    ensures { OnOk result (string_bytes out.new ≡ string_bytes out.old ++ encoded encode_html (encode_utf8 c)) }
+    ensures { OnOk result
+        (string_bytes out.new ≡ string_bytes out.old ++ encoded encode_html (encode_utf8 c)) }
 {
     match replacement(c, encode_html) {
         Some(text) => out.push_str(text),

@@ -31,7 +31,8 @@ pub fn gfm_tagfilter(alloc: Global, value: &str) -> Result<String, AllocError>
 /// Writes a character by what follows it.
 fn push_filtered(out: &mut String, c: char, rest: &str) -> Result<(), AllocError>
     ensures { OnOk result
-        (string_bytes out.new ++ tag_filtered rest.now ≡ string_bytes out.old ++ tag_filtered (encode_utf8 c ++ rest.now)) }
+        (string_bytes out.new ++ tag_filtered rest.now
+        ≡ string_bytes out.old ++ tag_filtered (encode_utf8 c ++ rest.now)) }
 {
     if opens_disarmed_tag(c, rest.as_bytes()) {
         out.push_str("&lt;")

@@ -4,6 +4,7 @@
 
 mod escape;
 mod filter;
+pub mod laws;
 mod line_ending;
 mod names;
 mod url;
@@ -12,3 +13,6 @@ pub use escape::encode;
 pub use filter::gfm_tagfilter;
 pub use line_ending::{LineEnding, LineEndingError};
 pub use url::{sanitize, sanitize_with_protocols};
+
+#[cfg(test)]
+mod tests;

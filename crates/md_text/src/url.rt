@@ -1,7 +1,9 @@
 ghost use Rattle.std.specs.Prelude.{◌≡◌, ◌≤◌, ◌<◌, ◌++◌, ◌/◌, ◌%◌, IfOk, OnOk, MatchOption, take, length, map, true};
 ghost use Rattle.std.specs.String.{string_bytes};
 ghost use Rattle.md_text.specs.Encode.{encoded};
-ghost use Rattle.md_text.specs.Url.{stays_anywhere, stays, completes_triple, hex_digit, percent, normalized_byte, sanitized, protocol_of, has_permitted_protocol, sanitized_with};
+ghost use Rattle.md_text.specs.Url.{stays_anywhere, stays, completes_triple, hex_digit, percent};
+ghost use Rattle.md_text.specs.Url.{normalized_byte, sanitized, sanitized_with};
+ghost use Rattle.md_text.specs.Url.{protocol_of, has_permitted_protocol};
 
 use crate::names::lowered_is_one_of;
 use std::alloc::{AllocError, Global};
@@ -41,7 +43,8 @@ pub fn sanitize_with_protocols(
     value: &str,
     protocols: &[&str],
 ) -> Result<String, AllocError>
-    ensures { IfOk result (λ url. string_bytes url ≡ sanitized_with (map (λ protocol. protocol.now) protocols.now) value.now) }
+    ensures { IfOk result (λ url. string_bytes url
+        ≡ sanitized_with (map (λ protocol. protocol.now) protocols.now) value.now) }
 {
     let mut url = sanitize(alloc, value)?;
     if !has_permitted_protocol(url.as_bytes(), protocols) {
@@ -52,7 +55,8 @@ pub fn sanitize_with_protocols(
 
 /// Writes one byte of a URL.
 fn push_sanitized(url: &mut String, byte: u8, rest: &[u8]) -> Result<(), AllocError>
-    ensures { OnOk result (string_bytes url.new ≡ string_bytes url.old ++ encoded true (normalized_byte byte rest.now)) }
+    ensures { OnOk result (string_bytes url.new
+        ≡ string_bytes url.old ++ encoded true (normalized_byte byte rest.now)) }
 {
     if !stays(byte, rest) {
         push_percent(url, byte)
@@ -114,7 +118,8 @@ fn completes_triple(rest: &[u8]) -> bool
 
 /// Whether a URL has no protocol, or one of these.
 fn has_permitted_protocol(url: &[u8], protocols: &[&str]) -> bool
-    ensures { result ≡ has_permitted_protocol (map (λ protocol. protocol.now) protocols.now) url.now }
+    ensures { result
+        ≡ has_permitted_protocol (map (λ protocol. protocol.now) protocols.now) url.now }
 {
     match protocol_end(url) {
         Some(end) => lowered_is_one_of(&url[..end], protocols),

@@ -14,6 +14,12 @@ abbrev pub is_blank_line_ending : Name → Bool
 is_blank_line_ending BlankLineEnding = true
 is_blank_line_ending _ = false
 
+-- a line ending, blank or not
+abbrev pub is_line_ending : Name → Bool
+is_line_ending LineEnding = true
+is_line_ending BlankLineEnding = true
+is_line_ending _ = false
+
 abbrev pub is_space : Name → Bool
 is_space SpaceOrTab = true
 is_space _ = false

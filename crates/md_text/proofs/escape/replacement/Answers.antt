@@ -1,5 +1,5 @@
 -- A character that no test picks out stays as it is.
-use Rattle.std.proofs.Common.{◌≡◌, ◌≢◌, ℕ, false, ◌&&◌, eqb, ne_eqb, refl, ap, ◌∙◌, arith}
+use Rattle.std.proofs.Common.{◌≢◌, ℕ, ◌&&◌, eqb, ne_eqb, ap, ◌∙◌, arith}
 use Rattle.md_text.proofs.EncodeLemmas.{encoded-plain, and_false}
 use Rattle.md_text.proofs.escape.replacement.Goals as goal
 

@@ -1,5 +1,5 @@
 -- A character that opens no tag to disarm stays.
-use Rattle.std.proofs.Common.{◌≡◌, ◌++◌, OnOk, string_bytes, encode_utf8, sym, subst, ◌∙◌, arith}
+use Rattle.std.proofs.Common.{◌≡◌, ◌++◌, OnOk, string_bytes, sym, subst, arith}
 use Rattle.std.proofs.lemmas.Grind.{common_steps}
 use Rattle.md_text.specs.Filter.{tag_filtered}
 use Rattle.md_text.proofs.FilterLemmas.{tag_filtered-step}

@@ -1,0 +1,83 @@
+-- A sanitized URL is ASCII, and a second time nothing changes where no `&` stands in it.
+use Rattle.std.proofs.Common.{◌≡◌, ℕ, ◌==◌, ◌<◌, ◌/◌, ◌%◌, Bool, true, false, ◌&&◌, ◌||◌, cond, eqb, List, [], ◌∷◌, All, refl, sym, subst, arith, inl, inr, codes, lit<}
+use Rattle.std.proofs.lemmas.Bool.{cases_eq, cases_Bool, agree_below_at, or_cases, and_parts, or_left, or_right, and_from}
+use Rattle.std.proofs.lemmas.List.Elements.{All-nil, All-cons, All-head, All-tail, All-append, All-from_recursion}
+use Rattle.md_text.specs.Bytes.{is_letter_or_digit}
+use Rattle.md_text.specs.Encode.{encoded, encoded_byte}
+use Rattle.md_text.specs.Url.{stays, stays_anywhere, completes_triple, normalized_byte, normalized_url, percent, hex_digit, sanitized}
+use Rattle.md_text.specs.Laws.{AreBytes, AreAscii}
+use Rattle.md_text.proofs.UrlLemmas.{stays-ascii, encoded_byte-stays}
+
+-- the bytes of a normalized URL: those that stay anywhere, and `%`
+abbrev pub is_url_byte : ℕ → Bool
+is_url_byte b = stays_anywhere b || (b == 37)
+
+abbrev pub AreUrlBytes : List ℕ → Type 0
+AreUrlBytes text = All (λ b. is_url_byte b ≡ true) text
+
+-- a hexadecimal digit is a letter or digit that stays
+pub hex_digit-stays : (d : ℕ) → d < 16 → stays_anywhere (hex_digit d) ≡ true
+hex_digit-stays d l = agree_below_at (λ d. stays_anywhere (hex_digit d)) (λ d. true) 16 d refl l
+
+pub hex_digit-plain : (d : ℕ) → d < 16 → is_letter_or_digit (hex_digit d) ≡ true
+hex_digit-plain d l = agree_below_at (λ d. is_letter_or_digit (hex_digit d)) (λ d. true) 16 d refl l
+
+pub hex_digit-no_and : (d : ℕ) → d < 16 → eqb (hex_digit d) 38 ≡ false
+hex_digit-no_and d l = agree_below_at (λ d. eqb (hex_digit d) 38) (λ d. false) 16 d refl l
+
+pub high_digit : (b : ℕ) → b < 256 → b / 16 < 16
+high_digit b l = omega arith
+
+pub low_digit : (b : ℕ) → b % 16 < 16
+low_digit b = omega arith
+
+stays-url : (b : ℕ) (rest : List ℕ) → stays b rest ≡ true → is_url_byte b ≡ true
+stays-url b rest s = elim (or_cases (stays_anywhere b) ((b == 37) && completes_triple rest) s) [
+  | inl anywhere ↦ or_left (stays_anywhere b) (b == 37) anywhere
+  | inr triple ↦ or_right (stays_anywhere b) (b == 37) (and_parts (b == 37) (completes_triple rest) triple).0
+]
+
+abbrev pub IsUrl : ℕ → Type 0
+IsUrl b = is_url_byte b ≡ true
+
+abbrev pub IsByte : ℕ → Type 0
+IsByte b = b < 256
+
+normalized_byte-url : (b : ℕ) (rest : List ℕ) → b < 256 → AreUrlBytes (normalized_byte b rest)
+normalized_byte-url b rest l = elim (cases_Bool (stays b rest)) [
+  | inl s ↦ subst (λ t. AreUrlBytes (cond t (b ∷ []) (percent b))) (sym s) (All-cons IsUrl b [] (stays-url b rest s) (All-nil IsUrl))
+  | inr gone ↦ subst (λ t. AreUrlBytes (cond t (b ∷ []) (percent b))) (sym gone)
+      (All-from_recursion IsUrl (percent b)
+      (refl, (or_left _ (hex_digit (b / 16) == 37) (hex_digit-stays (b / 16) (high_digit b l)), (or_left _ (hex_digit (b % 16) == 37) (hex_digit-stays (b % 16) (low_digit b)), tt))))
+]
+
+pub normalized-url : (x : List ℕ) → AreBytes x → AreUrlBytes (normalized_url x)
+normalized-url [] h = All-nil IsUrl
+normalized-url (b ∷ rest) h =
+    All-append IsUrl (normalized_byte b rest) (normalized_url rest) (normalized_byte-url b rest (All-head IsByte b rest h)) (normalized-url rest (All-tail IsByte b rest h))
+
+-- such a byte stays before two digits, so it is one that stays
+pub url_stays : (b : ℕ) → is_url_byte b ≡ true → stays b (48 ∷ 48 ∷ []) ≡ true
+url_stays b u = elim (or_cases (stays_anywhere b) (b == 37) u) [
+  | inl anywhere ↦ or_left (stays_anywhere b) ((b == 37) && true) anywhere
+  | inr percent ↦ or_right (stays_anywhere b) ((b == 37) && true) (and_from (b == 37) true percent refl)
+]
+
+abbrev IsAsciiByte : ℕ → Type 0
+IsAsciiByte b = b < 128
+
+encoded_byte-ascii : (b : ℕ) → is_url_byte b ≡ true → AreAscii (encoded_byte true b)
+encoded_byte-ascii b u = elim (cases_eq b 38) [
+  | inl e ↦ subst (λ b. AreAscii (encoded_byte true b)) (sym e) amp-ascii
+  | inr ne ↦ subst AreAscii (sym (encoded_byte-stays b (48 ∷ 48 ∷ []) (url_stays b u) ne)) (All-cons IsAsciiByte b [] (stays-ascii b (48 ∷ 48 ∷ []) (url_stays b u)) (All-nil IsAsciiByte))
+]
+  where
+    amp-ascii : AreAscii (codes "&amp;")
+    amp-ascii = All-from_recursion IsAsciiByte (codes "&amp;") (lit< tt, (lit< tt, (lit< tt, (lit< tt, (lit< tt, tt)))))
+
+encoded-ascii : (y : List ℕ) → AreUrlBytes y → AreAscii (encoded true y)
+encoded-ascii [] h = All-nil IsAsciiByte
+encoded-ascii (b ∷ y) h = All-append IsAsciiByte (encoded_byte true b) (encoded true y) (encoded_byte-ascii b (All-head IsUrl b y h)) (encoded-ascii y (All-tail IsUrl b y h))
+
+pub sanitized-ascii : (x : List ℕ) → AreBytes x → AreAscii (sanitized x)
+sanitized-ascii x h = encoded-ascii (normalized_url x) (normalized-url x h)

@@ -1,0 +1,22 @@
+-- The words of the laws.
+use Rattle.std.specs.Prelude.{◌≡◌, ℕ, ◌⊎◌, ◌<◌, ◌||◌, ◌==◌, Bool, true, ◌&&◌, List, [], ◌∷◌, ◌++◌, All, codes}
+
+-- the second text is the first with some of its `<` changed into `&lt;`
+abbrev pub ChangesOnlyAngles : List ℕ → List ℕ → Type 0
+ChangesOnlyAngles [] after = after ≡ []
+ChangesOnlyAngles (b ∷ rest) after =
+    ((more : List ℕ) × (after ≡ b ∷ more) × ChangesOnlyAngles rest more)
+    ⊎ ((b ≡ 60) × ((more : List ℕ) × (after ≡ codes "&lt;" ++ more) × ChangesOnlyAngles rest more))
+
+-- numbers that fit a byte
+abbrev pub AreBytes : List ℕ → Type 0
+AreBytes text = All (λ b. b < 256) text
+
+-- ASCII characters
+abbrev pub AreAscii : List ℕ → Type 0
+AreAscii text = All (λ b. b < 128) text
+
+-- carriage returns (13) and line feeds (10)
+abbrev pub is_line_ends : List ℕ → Bool
+is_line_ends [] = true
+is_line_ends (b ∷ rest) = ((b == 13) || (b == 10)) && is_line_ends rest

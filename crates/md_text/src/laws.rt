@@ -1,0 +1,114 @@
+//! What holds of every text, as the contracts of functions that do nothing.
+
+pub mod cases;
+
+ghost use Rattle.std.specs.Prelude.{◌≡◌, ◌≢◌, ◌⊎◌, ℕ, [], ◌++◌, List, Bool, true, false, codes};
+ghost use Rattle.std.specs.Prelude.{All, IsTrue, MatchOption};
+ghost use Rattle.md_text.specs.declared.line_ending.LineEnding.{LineEnding};
+ghost use Rattle.md_text.specs.Encode.{encoded};
+ghost use Rattle.md_text.specs.Filter.{tag_filtered};
+ghost use Rattle.md_text.specs.Html.{Attribute, Forest, Empty, Void, IsReading, HasReadingWith};
+ghost use Rattle.md_text.specs.Html.{all_pass, is_tag, elements, void_tags, written, opening_tag, closing_tag};
+ghost use Rattle.md_text.specs.Laws.{ChangesOnlyAngles, AreBytes, AreAscii, is_line_ends};
+ghost use Rattle.md_text.specs.LineEnding.{ending_text, ending_of};
+ghost use Rattle.md_text.specs.References.{is_escaped, read_back};
+ghost use Rattle.md_text.specs.Safe.{is_safe_value, link_protocols, image_protocols};
+ghost use Rattle.md_text.specs.Url.{sanitized, sanitized_with};
+
+/// Two texts joined are escaped as each by itself.
+pub fn encode_of_append()
+    ensures { (html : Bool) (x y : List ℕ) → encoded html (x ++ y) ≡ encoded html x ++ encoded html y }
+{}
+
+/// An escaped text, its references read back once, is the text with U+FFFD for each NUL.
+pub fn encode_reads_back()
+    ensures { (x : List ℕ) → read_back (encoded true x) ≡ encoded false x }
+{}
+
+/// An escaped text holds no NUL, `<`, `>` or `"`, and each `&` begins one of the four references.
+pub fn encode_is_clean()
+    ensures { (x : List ℕ) → IsTrue (is_escaped (encoded true x)) }
+{}
+
+/// The tag filter changes some `<` into `&lt;` and nothing else, and a second time nothing.
+pub fn tagfilter_changes_only_angles()
+    ensures only_angles { (x : List ℕ) → ChangesOnlyAngles x (tag_filtered x) }
+    ensures twice_is_once { (x : List ℕ) → tag_filtered (tag_filtered x) ≡ tag_filtered x }
+{}
+
+/// A sanitized URL is ASCII, and where a text holds no `&`, to sanitize it twice is to do it once.
+pub fn sanitize_is_ascii()
+    ensures ascii { (x : List ℕ) → AreBytes x → AreAscii (sanitized x) }
+    ensures twice_is_once { (x : List ℕ)
+        → AreBytes x → All (λ b. b ≢ 38) x → sanitized (sanitized x) ≡ sanitized x }
+{}
+
+/// A URL is kept whole, as [`crate::sanitize`] makes it, or dropped.
+pub fn sanitize_with_protocols_is_all_or_nothing()
+    ensures { (protocols : List (List ℕ)) (x : List ℕ)
+        → (sanitized_with protocols x ≡ []) ⊎ (sanitized_with protocols x ≡ sanitized x) }
+{}
+
+/// The text of a line ending is parsed as it, and every other text is refused.
+pub fn line_ending_round_trip()
+    ensures parsed { (ending : LineEnding) → ending_of (ending_text ending) ≡ Some ending }
+    ensures only_three { (text : List ℕ)
+        → MatchOption (ending_of text)
+        ((ending : LineEnding) → ending_text ending ≢ text)
+        (λ ending. ending_text ending ≡ text) }
+{}
+
+/// Where a URL is kept, its references read back, it has no protocol or one that, its ASCII
+/// letters lowered, is in the list.
+pub fn kept_protocol_is_permitted()
+    ensures links { (x : List ℕ)
+        → IsTrue (is_safe_value link_protocols (sanitized_with link_protocols x)) }
+    ensures images { (x : List ℕ)
+        → IsTrue (is_safe_value image_protocols (sanitized_with image_protocols x)) }
+{}
+
+/// No text has two readings in the HTML grammar.
+pub fn html_has_one_reading()
+    ensures { (text : List ℕ) (x y : Forest) → IsReading text x → IsReading text y → x ≡ y }
+{}
+
+/// Nothing has a reading, in which each attribute passes any test.
+pub fn nothing_has_a_reading()
+    ensures { (p : Attribute → Bool) → HasReadingWith p [] }
+{}
+
+/// An escaped text has a reading.
+pub fn text_has_a_reading()
+    ensures { (p : Attribute → Bool) (text : List ℕ)
+        → IsTrue (is_escaped text) → HasReadingWith p text }
+{}
+
+/// A void tag of the table has a reading.
+pub fn void_tag_has_a_reading()
+    ensures { (p : Attribute → Bool) (name : List ℕ) (attributes : List Attribute)
+        → IsTrue (is_tag void_tags name attributes) → IsTrue (all_pass p attributes)
+        → HasReadingWith p (written (Void name attributes Empty)) }
+{}
+
+/// An element of the table round a text that has a reading has one.
+pub fn element_has_a_reading()
+    ensures { (p : Attribute → Bool) (name : List ℕ) (attributes : List Attribute) (inside : List ℕ)
+        → IsTrue (is_tag elements name attributes) → IsTrue (all_pass p attributes)
+        → HasReadingWith p inside
+        → HasReadingWith p (opening_tag name attributes ++ inside ++ closing_tag name) }
+{}
+
+/// Two texts that have readings have one when they are joined.
+pub fn readings_join()
+    ensures { (p : Attribute → Bool) (x y : List ℕ)
+        → HasReadingWith p x → HasReadingWith p y → HasReadingWith p (x ++ y) }
+{}
+
+/// Where a text has a reading and, CR and LF bytes at its end aside, ends in `</p>`, another that
+/// has one may be put before that `</p>`.
+pub fn paragraph_takes_an_insertion()
+    ensures { (p : Attribute → Bool) (before endings inserted : List ℕ)
+        → IsTrue (is_line_ends endings)
+        → HasReadingWith p (before ++ codes "</p>" ++ endings) → HasReadingWith p inserted
+        → HasReadingWith p (before ++ inserted ++ codes "</p>" ++ endings) }
+{}

@@ -1,0 +1,151 @@
+//! Texts that have a reading in the HTML grammar, and texts that have none.
+
+ghost use Rattle.std.specs.Prelude.{◌≡◌, ◌∷◌, [], ◌++◌, codes};
+ghost use Rattle.md_text.specs.Filter.{disarmed_names};
+ghost use Rattle.md_text.specs.Html.{HasReading};
+ghost use Rattle.md_text.specs.Safe.{link_protocols, image_protocols};
+
+/// Each element of the table may stand alone.
+pub fn elements_stand_alone()
+    ensures blockquote { HasReading (codes "<blockquote></blockquote>") }
+    ensures pre { HasReading (codes "<pre></pre>") }
+    ensures p { HasReading (codes "<p></p>") }
+    ensures ul { HasReading (codes "<ul></ul>") }
+    ensures em { HasReading (codes "<em></em>") }
+    ensures strong { HasReading (codes "<strong></strong>") }
+    ensures del { HasReading (codes "<del></del>") }
+    ensures sup { HasReading (codes "<sup></sup>") }
+    ensures table { HasReading (codes "<table></table>") }
+    ensures thead { HasReading (codes "<thead></thead>") }
+    ensures tbody { HasReading (codes "<tbody></tbody>") }
+    ensures tr { HasReading (codes "<tr></tr>") }
+    ensures h1 { HasReading (codes "<h1></h1>") }
+    ensures h2 { HasReading (codes "<h2></h2>") }
+    ensures h3 { HasReading (codes "<h3></h3>") }
+    ensures h4 { HasReading (codes "<h4></h4>") }
+    ensures h5 { HasReading (codes "<h5></h5>") }
+    ensures h6 { HasReading (codes "<h6></h6>") }
+    ensures code { HasReading (codes "<code></code>") }
+    ensures ol { HasReading (codes "<ol></ol>") }
+    ensures li { HasReading (codes "<li></li>") }
+    ensures th { HasReading (codes "<th></th>") }
+    ensures td { HasReading (codes "<td></td>") }
+    ensures section { HasReading (codes "<section></section>") }
+    ensures a { HasReading (codes "<a></a>") }
+{}
+
+/// Each void tag of the table may stand alone.
+pub fn void_tags_stand_alone()
+    ensures br { HasReading (codes "<br />") }
+    ensures hr { HasReading (codes "<hr />") }
+    ensures img { HasReading (codes "<img />") }
+    ensures input { HasReading (codes "<input />") }
+{}
+
+/// Each tag may have the attributes that the table lists for it, in any order.
+pub fn listed_attributes_are_allowed()
+    ensures code { HasReading (codes "<code class=\"language-a\"></code>") }
+    ensures ol { HasReading (codes "<ol start=\"2\"></ol>") }
+    ensures li { HasReading (codes "<li id=\"a\"></li>") }
+    ensures h2 { HasReading (codes "<h2 class=\"sr-only\" id=\"a\"></h2>") }
+    ensures th { HasReading (codes "<th align=\"left\"></th>") }
+    ensures td { HasReading (codes "<td align=\"right\"></td>") }
+    ensures section { HasReading (codes "<section data-footnotes=\"\" class=\"footnotes\"></section>") }
+    ensures a { HasReading (codes "<a href=\"a\" title=\"b\" id=\"c\" class=\"d\" data-footnote-ref=\"\" data-footnote-backref=\"\" aria-describedby=\"e\" aria-label=\"f\">"
+        ++ codes "</a>") }
+    ensures img { HasReading (codes "<img src=\"a\" alt=\"b\" title=\"c\" />") }
+    ensures input { HasReading (codes "<input type=\"checkbox\" disabled=\"\" checked=\"\" />") }
+{}
+
+/// A text whose special characters are references has a reading, and so has nothing.
+pub fn texts_stand_alone()
+    ensures nothing { HasReading (codes "") }
+    ensures text { HasReading (codes "a\n b") }
+    ensures references { HasReading (codes "&amp;&lt;&gt;&quot;") }
+    ensures escaped_reference { HasReading (codes "&amp;colon;") }
+{}
+
+/// Nested lists, a table and a section of footnotes.
+pub fn documents_have_readings()
+    ensures nested_lists { HasReading (codes "<ul>\n<li>a\n<ul>\n<li>b</li>\n</ul>\n</li>\n</ul>") }
+    ensures aligned_table { HasReading (codes "<table>\n<thead>\n<tr>\n<th align=\"left\">a</th>\n</tr>\n</thead>\n"
+        ++ codes "<tbody>\n<tr>\n<td>b</td>\n</tr>\n</tbody>\n</table>") }
+    ensures footnotes { HasReading (codes "<section data-footnotes=\"\" class=\"footnotes\">"
+        ++ codes "<h2 id=\"footnote-label\" class=\"sr-only\">Footnotes</h2>\n<ol>\n"
+        ++ codes "<li id=\"fn-a\">\n<p>"
+        ++ codes "b <a href=\"#fnref-a\" data-footnote-backref=\"\" aria-label=\"Back to content\" class=\"data-footnote-backref\">"
+        ++ codes "back</a></p>\n</li>\n</ol>\n</section>\n") }
+    ensures inline { HasReading (codes "<p>a <strong>b</strong><em>c</em>d<br />\n<del>e</del></p>\n<hr />") }
+{}
+
+/// A tag that the tables don't list, whatever its case.
+pub fn other_tags_have_no_reading()
+    ensures script { ¬ HasReading (codes "<script>") }
+    ensures script_pair { ¬ HasReading (codes "<script></script>") }
+    ensures style { ¬ HasReading (codes "<style></style>") }
+    ensures iframe { ¬ HasReading (codes "<iframe></iframe>") }
+    ensures bold { ¬ HasReading (codes "<b></b>") }
+    ensures div { ¬ HasReading (codes "<div></div>") }
+    ensures upper_case { ¬ HasReading (codes "<P></P>") }
+    ensures comment { ¬ HasReading (codes "<!-- a -->") }
+    ensures doctype { ¬ HasReading (codes "<!doctype html>") }
+    ensures longer_name { ¬ HasReading (codes "<pp></pp>") }
+    ensures shorter_name { ¬ HasReading (codes "<h></h>") }
+{}
+
+/// Tags that aren't closed, cross each other or aren't written as the grammar writes them.
+pub fn broken_tags_have_no_reading()
+    ensures inner_unclosed { ¬ HasReading (codes "<p><b></p>") }
+    ensures unclosed { ¬ HasReading (codes "<p>") }
+    ensures unopened { ¬ HasReading (codes "</p>") }
+    ensures crossing { ¬ HasReading (codes "<em><strong></em></strong>") }
+    ensures other_end { ¬ HasReading (codes "<em></strong>") }
+    ensures space_in_tag { ¬ HasReading (codes "<p ></p>") }
+    ensures space_in_end { ¬ HasReading (codes "<p></p >") }
+    ensures element_without_content { ¬ HasReading (codes "<p />") }
+    ensures void_without_slash { ¬ HasReading (codes "<br>") }
+    ensures void_without_space { ¬ HasReading (codes "<br/>") }
+    ensures void_with_end { ¬ HasReading (codes "<br /></br>") }
+    ensures open_at_the_end { ¬ HasReading (codes "<p") }
+    ensures angle_alone { ¬ HasReading (codes "<") }
+{}
+
+/// An attribute that isn't listed for its tag, or that stands twice.
+pub fn other_attributes_have_no_reading()
+    ensures handler { ¬ HasReading (codes "<img onerror=\"x\">") }
+    ensures handler_in_void { ¬ HasReading (codes "<img onerror=\"x\" />") }
+    ensures style { ¬ HasReading (codes "<p style=\"a\"></p>") }
+    ensures class_of_another { ¬ HasReading (codes "<p class=\"a\"></p>") }
+    ensures href_of_an_image { ¬ HasReading (codes "<img href=\"a\" />") }
+    ensures upper_case { ¬ HasReading (codes "<a HREF=\"a\"></a>") }
+    ensures twice { ¬ HasReading (codes "<a href=\"a\" href=\"b\"></a>") }
+    ensures same_twice { ¬ HasReading (codes "<li id=\"a\" id=\"a\"></li>") }
+    ensures without_value { ¬ HasReading (codes "<input checked />") }
+    ensures without_quotes { ¬ HasReading (codes "<a href=a></a>") }
+    ensures single_quotes { ¬ HasReading (codes "<a href='a'></a>") }
+    ensures two_spaces { ¬ HasReading (codes "<a  href=\"a\"></a>") }
+{}
+
+/// A special character that is no reference.
+pub fn raw_characters_have_no_reading()
+    ensures ampersand { ¬ HasReading (codes "a & b") }
+    ensures other_reference { ¬ HasReading (codes "&colon;") }
+    ensures unended_reference { ¬ HasReading (codes "&amp") }
+    ensures quote { ¬ HasReading (codes "\"") }
+    ensures angle { ¬ HasReading (codes "a > b") }
+    ensures quote_in_value { ¬ HasReading (codes "<a href=\"\"\"></a>") }
+    ensures angle_in_value { ¬ HasReading (codes "<a href=\"<\"></a>") }
+    ensures closing_angle_in_value { ¬ HasReading (codes "<a href=\">\"></a>") }
+    ensures ampersand_in_value { ¬ HasReading (codes "<a href=\"&\"></a>") }
+    ensures nul { ¬ HasReading (0 ∷ []) }
+{}
+
+/// The protocols of links and of images, and the names that the tag filter disarms.
+pub fn lists_are_as_written()
+    ensures links { link_protocols
+        ≡ codes "http" ∷ codes "https" ∷ codes "irc" ∷ codes "ircs" ∷ codes "mailto" ∷ codes "xmpp" ∷ [] }
+    ensures images { image_protocols ≡ codes "http" ∷ codes "https" ∷ [] }
+    ensures disarmed { disarmed_names
+        ≡ codes "iframe" ∷ codes "noembed" ∷ codes "noframes" ∷ codes "plaintext" ∷ codes "script"
+        ∷ codes "style" ∷ codes "textarea" ∷ codes "title" ∷ codes "xmp" ∷ [] }
+{}
