@@ -6,7 +6,6 @@ mod event_names;
 mod line;
 mod name;
 mod number;
-mod options;
 mod script;
 mod setting;
 mod split;

@@ -6,10 +6,10 @@ ghost use Rattle.md_script.specs.Script.{lines_of, StandsFor};
 
 use crate::error::RunError;
 use crate::line::read_event;
-use crate::options::CompileOptions;
 use crate::setting::{is_new, is_setting, options_given};
 use crate::split::split_at_first;
 use md_base::Event;
+use md_html::CompileOptions;
 use std::alloc::{AllocError, Global};
 
 /// The line that ends a script.

@@ -5,8 +5,8 @@ ghost use Rattle.std.specs.List.{after_first};
 ghost use Rattle.std.specs.Str.{is_utf8};
 ghost use Rattle.md_text.specs.declared.line_ending.LineEnding.TheVariants.{LineFeed};
 
-use crate::options::CompileOptions;
 use crate::split::split_at_first;
+use md_html::CompileOptions;
 use md_text::LineEnding;
 use std::alloc::{AllocError, Global};
 
