@@ -1,4 +1,5 @@
 pub mod Error
+pub mod EventNames
 pub mod Line
 pub mod Number
 pub mod Script

@@ -1,5 +1,5 @@
 -- What a line of a script says.
-use Rattle.std.specs.Prelude.{ℕ, Bool, ◌==◌, nat_le, if◌then◌else◌, List, [], ◌∷◌, map, take, drop, Option, Some, None, option_and_then, bytes_eq, codes}
+use Rattle.std.specs.Prelude.{ℕ, Bool, ◌==◌, nat_le, if◌then◌else◌, List, [], ◌∷◌, take, drop, Option, Some, None, option_and_then, bytes_eq, codes}
 use Rattle.std.specs.List.{list_any, before_first, after_first}
 use Rattle.md_base.specs.declared.event.Kind.{Kind}
 use Rattle.md_base.specs.declared.event.Kind.TheVariants.{Enter, Exit}
@@ -7,7 +7,7 @@ use Rattle.md_base.specs.declared.event.Name.{Name}
 use Rattle.md_base.specs.declared.event.Name.TheVariants.{Other}
 use Rattle.md_base.specs.declared.event.Point.{Point}
 use Rattle.md_base.specs.declared.event.Event.{Event}
-use Rattle.md_script.specs.declared.event_names.TheConstants.{EVENT_NAMES}
+use Rattle.md_script.specs.EventNames.{event_names}
 use Rattle.md_script.specs.Number.{number_of}
 use Rattle.md_script.specs.Table.{listed}
 
@@ -23,10 +23,6 @@ other_name text =
 abbrev pub otherwise : {A : Type 0} → Option A → Option A → Option A
 otherwise (Some value) other = Some value
 otherwise None other = other
-
--- the names and how they are spelled
-abbrev pub event_names : List (List ℕ × Name)
-event_names = map (λ entry. (entry.0.now, entry.1)) EVENT_NAMES
 
 -- the name that a text spells
 abbrev pub name_of : List ℕ → Option Name
