@@ -1,8 +1,8 @@
-ghost use Rattle.std.specs.Prelude.{◌≡◌, ◌+◌, ◌&&◌, ◌||◌, [], ◌∷◌, ◌++◌, true, if◌then◌else◌, is_some, option_to_list, length, MatchOption, IfOk, OnOk, IfErr};
+ghost use Rattle.std.specs.Prelude.{◌≡◌, bytes_eq, ◌+◌, ◌&&◌, ◌||◌, [], ◌∷◌, ◌++◌, true, if◌then◌else◌, is_some, option_to_list, length, MatchOption, IfOk, OnOk, IfErr};
 ghost use Rattle.md_script.specs.Line.{event_of};
 ghost use Rattle.md_script.specs.Setting.{texts_of, is_setting, option_name, is_new};
 ghost use Rattle.md_script.specs.Script.{Explains};
-ghost use Rattle.md_script.specs.Script.{lines_of, StandsFor};
+ghost use Rattle.md_script.specs.Script.{end_line, lines_of, StandsFor};
 
 use crate::error::RunError;
 use crate::line::read_event;
@@ -35,7 +35,7 @@ pub(crate) fn read_script(alloc: Global, input: &[u8]) -> Result<Script<'_>, Run
     let mut rest = input;
     'lines: loop {
         let (line, following) = first_line(rest);
-        if line == END_LINE {
+        if is_end(line) {
             let document = following.unwrap_or(&[]);
             let options = options_given(alloc, settings.as_slice())?;
             return Ok(Script {
@@ -77,6 +77,13 @@ fn take_line<'a>(
         return Ok(true);
     }
     Ok(false)
+}
+
+/// Whether a line ends a script.
+fn is_end(line: &[u8]) -> bool
+    ensures { result ≡ bytes_eq line.now end_line }
+{
+    line == END_LINE
 }
 
 /// The first line, and what follows its line feed, where it has one.

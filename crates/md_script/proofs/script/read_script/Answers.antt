@@ -4,15 +4,15 @@ use Rattle.md_script.specs.Setting.{texts_of, HasOptions}
 use Rattle.md_script.proofs.ScriptLemmas.{Progress, takes, line_more, script_ends_at, line_stops, input_stops}
 use Rattle.md_script.proofs.script.read_script.Goals as goal
 
-pub returns-then-eq-clause-ok : goal.returns-then-eq-clause-ok
-returns-then-eq-clause-ok c =
+pub returns-then-is_end-clause-ok : goal.returns-then-is_end-clause-ok
+returns-then-is_end-clause-ok c =
     script_ends_at c.lines.invariant c.first_line.result.0.now c.first_line.result.1 c.unwrap_or-document.result _ c.in_ok-options.options
-    c.first_line.ensures.lines (sym c.if-eq.ensures) c.unwrap_or-document.ensures refl
+    c.first_line.ensures.lines (sym c.if-is_end.ensures) c.unwrap_or-document.ensures refl
     (subst (λ items. HasOptions (texts_of items) c.in_ok-options.options) c.as_slice.ensures.value c.in_ok-options.ensures)
 
 pub returns-then-not-branch-clause-err : goal.returns-then-not-branch-clause-err
 returns-then-not-branch-clause-err c =
-    line_stops c.lines.invariant c.first_line.result.0.now c.first_line.result.1 c.first_line.ensures.lines (sym c.if-eq.ensures)
+    line_stops c.lines.invariant c.first_line.result.0.now c.first_line.result.1 c.first_line.ensures.lines (sym c.if-is_end.ensures)
     (sym c.in_ok-take_line.ensures.taken ∙ c.if-not-branch.true)
 
 pub returns-in_default-clause-err : goal.returns-in_default-clause-err
