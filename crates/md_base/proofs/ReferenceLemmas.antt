@@ -1,36 +1,14 @@
--- Names looked up in a table, and digits read as a number.
-use Rattle.std.proofs.Common.{◌≡◌, ℕ, ◌+◌, ◌<◌, ◌≤◌, ◌^◌, Bool, true, false, not, eqb, nat_lt, cond, ◌&&◌, ◌≢◌, inl, inr, subst, List, [], ◌∷◌, length, get_or, drop, Option, Some, None, Result, Ok, Err, Decides, refl, sym, ap, ◌∙◌, arith, bytes_eq}
-use Rattle.std.specs.Prelude.{option_map, find, OkIff}
-use Rattle.std.specs.Borrow.{Bor}
+-- Digits read as a number.
+use Rattle.std.proofs.Common.{◌≡◌, ℕ, ◌<◌, ◌^◌, Bool, not, eqb, nat_lt, cond, ◌&&◌, ◌≢◌, inl, inr, subst, List, [], ◌∷◌, length, get_or, Option, Some, None, Result, Ok, Err, Decides, refl, sym, ap, ◌∙◌, arith}
+use Rattle.std.specs.Prelude.{OkIff}
 use Rattle.std.specs.Char.{digit_value}
 use Rattle.std.specs.List.{list_all}
 use Rattle.std.specs.Result.{result_ok}
 use Rattle.std.specs.Str.Parse.{AllDigits, IsNumeral, digits_value, ParsesUnsigned}
-use Rattle.std.proofs.lemmas.List.{drop_more, drop_all}
 use Rattle.std.proofs.lemmas.Bool.{cases_Bool}
 use Rattle.std.proofs.lemmas.Bool.Decides.{Decides-and, Decides-ltb, Decides-eqb, Decides-not, Decides-like}
 use Rattle.std.proofs.lemmas.Str.Parse.{without_leading_plus_none}
-use Rattle.md_base.specs.Reference.{name_table, named, is_number, character_of, numbered}
-
-abbrev Entry : Type 0
-Entry = Bor (List ℕ) × Bor (List ℕ)
-
--- ---- a look-up, one entry on
-
-abbrev chosen : List ℕ → Entry → List Entry → Bool → Option (List ℕ)
-chosen name entry rest test =
-    option_map (λ pair. pair.1) (cond test (Some (entry.0.now, entry.1.now)) (find (λ pair. bytes_eq pair.0 name) (name_table rest)))
-
-pub named_here : (names : List Entry) (i : ℕ) (d : Entry) (name : List ℕ) → i < length names → bytes_eq (get_or names i d).0.now name ≡ true → named (name_table (drop i names)) name ≡ Some (get_or names i d).1.now
-named_here names i d name inside same =
-    ap (λ rest. named (name_table rest) name) (drop_more names i d inside) ∙ ap (chosen name (get_or names i d) (drop (i + 1) names)) same
-
-pub named_past : (names : List Entry) (i : ℕ) (d : Entry) (name : List ℕ) → i < length names → bytes_eq (get_or names i d).0.now name ≡ false → named (name_table (drop i names)) name ≡ named (name_table (drop (i + 1) names)) name
-named_past names i d name inside other =
-    ap (λ rest. named (name_table rest) name) (drop_more names i d inside) ∙ ap (chosen name (get_or names i d) (drop (i + 1) names)) other
-
-pub named_end : (names : List Entry) (i : ℕ) (name : List ℕ) → length names ≤ i → named (name_table (drop i names)) name ≡ None
-named_end names i name past = ap (λ rest. named (name_table rest) name) (drop_all i names past)
+use Rattle.md_base.specs.Reference.{is_number, character_of, numbered}
 
 -- ---- a number
 
@@ -79,18 +57,5 @@ numbered_none radix digits r no_plus parsed e =
     let no = read_none r _ (digits_value radix digits) e (plain radix digits r no_plus parsed) in
     elim (cases_Bool (is_number radix digits)) [
       | inl holds ↦ absurd (no ((is_number-Decides radix digits).0 holds))
-      | inr isnt ↦ sym (ap (chosen_number radix digits) isnt)
-    ]
-
-plus_is_no_digit : (radix : ℕ) (digits : List ℕ) → radix ≤ 36 → get_or digits 0 0 ≡ 43 → AllDigits radix digits → 0 < length digits → ⊥
-plus_is_no_digit radix [] low e all some = omega (arith, some)
-plus_is_no_digit radix (digit ∷ digits) low e all some =
-    let big : digit_value digit ≡ 36 = ap digit_value e in
-    omega (arith, all.0)
-
-pub numbered_plus : (radix : ℕ) (digits : List ℕ) → radix ≤ 36 → get_or digits 0 0 ≡ 43 → None ≡ numbered radix digits
-numbered_plus radix digits low e =
-    elim (cases_Bool (is_number radix digits)) [
-      | inl holds ↦ (let number = (is_number-Decides radix digits).0 holds in absurd (plus_is_no_digit radix digits low e number.0.1 number.0.0))
       | inr isnt ↦ sym (ap (chosen_number radix digits) isnt)
     ]

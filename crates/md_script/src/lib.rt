@@ -1,1 +1,16 @@
+//! Reads and compiles event scripts.
 #![tactic(auto)]
+
+mod error;
+mod event_names;
+mod line;
+mod name;
+mod number;
+mod script;
+mod setting;
+mod split;
+mod table;
+#[cfg(test)]
+mod tests;
+
+pub use error::RunError;

@@ -1,0 +1,5 @@
+pub mod LineLemmas
+pub mod NumberLemmas
+pub mod ScriptLemmas
+pub mod SettingLemmas
+pub mod SplitLemmas

@@ -1,0 +1,18 @@
+-- Why a script gives no text, and what is said of it.
+use Rattle.std.specs.Prelude.{ℕ, List, ◌++◌, codes}
+use Rattle.std.specs.Fmt.{decimal}
+use Rattle.md_tree.specs.Names.{name_of}
+use Rattle.md_script.specs.declared.error.RunError.{RunError}
+use Rattle.md_script.specs.declared.error.RunError.TheVariants.{Memory, Line, Event}
+
+-- the line on standard error
+abbrev pub message_of : RunError → List ℕ
+message_of Memory = codes "out of memory"
+message_of (Line number) = codes "line " ++ decimal number ++ codes ": unreadable"
+message_of (Event index rule) = codes "event " ++ decimal index ++ codes ": " ++ name_of rule
+
+-- the status of a program that ends with it
+abbrev pub status_of : RunError → ℕ
+status_of Memory = 3
+status_of (Line number) = 2
+status_of (Event index rule) = 1

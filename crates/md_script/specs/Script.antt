@@ -1,0 +1,66 @@
+-- What a whole script stands for, and which of its lines can't be read.
+use Rattle.std.specs.Prelude.{◌≡◌, ℕ, ◌+◌, Bool, ◌&&◌, ◌||◌, ◌==◌, IsTrue, IsFalse, List, [], ◌∷◌, ◌++◌, length, filter_map, is_some, bytes_eq, codes}
+use Rattle.std.specs.List.{slice_split, join_with_byte}
+use Rattle.md_base.specs.declared.event.Event as event
+use Rattle.md_script.specs.declared.error.RunError.{RunError}
+use Rattle.md_script.specs.declared.error.RunError.TheVariants.{Memory, Line, Event}
+use Rattle.md_script.specs.Line.{event_of}
+use Rattle.md_script.specs.Setting.{is_setting, option_name, is_new, HasOptions}
+use Rattle.md_html.specs.declared.options.CompileOptions.{CompileOptions}
+
+abbrev pub is_line_feed : ℕ → Bool
+is_line_feed byte = byte == 10
+
+-- the lines of an input; the last one may be empty
+abbrev pub lines_of : List ℕ → List (List ℕ)
+lines_of input = slice_split is_line_feed input
+
+-- the line that ends a script
+abbrev pub end_line : List ℕ
+end_line = codes "--"
+
+-- a line is readable behind these: an event, or an option that none of them sets
+abbrev pub is_readable_after : List (List ℕ) → List ℕ → Bool
+is_readable_after earlier line = is_some (event_of line) || is_setting line && is_new earlier (option_name line)
+
+-- each line is readable behind the earlier ones and those before it
+abbrev pub ReadsAfter : List (List ℕ) → List (List ℕ) → Type 0
+ReadsAfter earlier [] = Unit {0}
+ReadsAfter earlier (line ∷ lines) = IsTrue (is_readable_after earlier line) × ReadsAfter (earlier ++ line ∷ []) lines
+
+-- an input is readable lines, the line `--`, and the lines of a document
+pub record IsScript (input : List ℕ) (body document : List (List ℕ)) : Type 0 where
+  pub whole : lines_of input ≡ body ++ end_line ∷ document
+  pub reads : ReadsAfter [] body
+
+abbrev pub IsReadable : List ℕ → Type 0
+IsReadable input = (body : List (List ℕ)) × (document : List (List ℕ)) × IsScript input body document
+
+-- it stands for these events over these bytes, under these options
+pub record StandsFor (input : List ℕ) (events : List event.Event) (bytes : List ℕ) (options : CompileOptions) : Type 0 where
+  pub body : List (List ℕ)
+  pub document : List (List ℕ)
+  pub script : IsScript input body document
+  pub says : events ≡ filter_map event_of body
+  pub sets : HasOptions body options
+  pub rest : bytes ≡ join_with_byte 10 document
+
+-- there is no line here, or one that is neither `--` nor readable
+abbrev pub StopsAfter : List (List ℕ) → List (List ℕ) → Type 0
+StopsAfter earlier [] = Unit {0}
+StopsAfter earlier (line ∷ lines) = IsFalse (bytes_eq line end_line) × IsFalse (is_readable_after earlier line)
+
+-- the first line that can't be read has this number: the lines before it are readable
+pub record IsFirstUnreadable (input : List ℕ) (number : ℕ) : Type 0 where
+  pub earlier : List (List ℕ)
+  pub others : List (List ℕ)
+  pub whole : lines_of input ≡ earlier ++ others
+  pub reads : ReadsAfter [] earlier
+  pub stops : StopsAfter earlier others
+  pub counted : number ≡ length earlier + 1
+
+-- why a script isn't read: a line is named only where the input isn't readable, and it is the first that can't be read
+abbrev pub Explains : List ℕ → RunError → Type 0
+Explains input Memory = Unit {0}
+Explains input (Line number) = (¬ IsReadable input) × IsFirstUnreadable input number
+Explains input (Event index rule) = ⊥

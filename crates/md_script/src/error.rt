@@ -1,0 +1,60 @@
+use md_tree::Rule;
+use std::alloc::AllocError;
+use std::error::Error;
+use std::fmt;
+
+/// Why a script gives no text.
+#[derive(Debug, PartialEq, Eq, Drop)]
+pub enum RunError {
+    /// There is no more memory.
+    Memory,
+    /// The line with this number, from 1, can't be read.
+    Line(usize),
+    /// An event breaks a rule; the index is the number of events where something is open at the
+    /// end.
+    Event { index: usize, rule: Rule },
+}
+
+impl RunError {
+    ghost use Rattle.std.specs.Prelude.{◌≡◌};
+    ghost use Rattle.md_script.specs.Error.{status_of};
+
+    /// The status with which a program ends: 1 for an event, 2 for a line, 3 for memory.
+    pub fn status(&self) -> u8
+        ensures { result ≡ status_of self.now }
+    {
+        match self {
+            RunError::Memory => 3,
+            RunError::Line(_) => 2,
+            RunError::Event { .. } => 1,
+        }
+    }
+}
+
+impl fmt::Display for RunError {
+    ghost use Rattle.std.specs.Prelude.{Some};
+    ghost use Rattle.md_script.specs.Error.{message_of};
+
+    ghost output = { λ error. Some (message_of error) };
+
+    fn fmt<W: fmt::Write>(&self, f: &mut fmt::Formatter<W>) -> fmt::Result {
+        match self {
+            RunError::Memory => write!(f, "out of memory"),
+            RunError::Line(number) => write!(f, "line {number}: unreadable"),
+            RunError::Event { index, rule } => write!(f, "event {index}: {rule}"),
+        }
+    }
+}
+
+impl Error for RunError {}
+
+impl From<AllocError> for RunError {
+    ghost use Rattle.std.specs.Prelude.{◌≡◌};
+    ghost use Rattle.md_script.specs.declared.error.RunError.TheVariants.{Memory};
+
+    ghost from_gives = { λ _ error. error ≡ Memory };
+
+    fn from(_error: AllocError) -> RunError {
+        RunError::Memory
+    }
+}

@@ -1,0 +1,100 @@
+ghost use Rattle.std.specs.Prelude.{◌≡◌, bytes_eq, ◌+◌, ◌&&◌, ◌||◌, [], ◌∷◌, ◌++◌, true, if◌then◌else◌, is_some, option_to_list, length, MatchOption, IfOk, OnOk, IfErr};
+ghost use Rattle.md_script.specs.Line.{event_of};
+ghost use Rattle.md_script.specs.Setting.{texts_of, is_setting, option_name, is_new};
+ghost use Rattle.md_script.specs.Script.{Explains};
+ghost use Rattle.md_script.specs.Script.{end_line, lines_of, StandsFor};
+
+use crate::error::RunError;
+use crate::line::read_event;
+use crate::setting::{is_new, is_setting, options_given};
+use crate::split::split_at_first;
+use md_base::Event;
+use md_html::CompileOptions;
+use std::alloc::{AllocError, Global};
+
+/// The line that ends a script.
+const END_LINE: &[u8] = b"--";
+
+/// What a script stands for.
+#[derive(Drop)]
+pub(crate) struct Script<'a> {
+    pub(crate) events: Vec<Event>,
+    pub(crate) document: &'a [u8],
+    pub(crate) options: CompileOptions,
+}
+
+/// Reads the lines of a script up to the line that ends it; the document follows that line.
+pub(crate) fn read_script(alloc: Global, input: &[u8]) -> Result<Script<'_>, RunError>
+    ensures ok { IfOk result (λ script.
+        StandsFor input.now script.events.items script.document.now script.options) }
+    ensures err { IfErr result (λ error. Explains input.now error) }
+{
+    let mut events = Vec::new(alloc);
+    let mut settings = Vec::new(alloc);
+    let mut read_lines = 0;
+    let mut rest = input;
+    'lines: loop {
+        let (line, following) = first_line(rest);
+        if is_end(line) {
+            let document = following.unwrap_or(&[]);
+            let options = options_given(alloc, settings.as_slice())?;
+            return Ok(Script {
+                events,
+                document,
+                options,
+            });
+        }
+        if !take_line(&mut events, &mut settings, line)? {
+            return Err(RunError::Line(read_lines + 1));
+        }
+        read_lines += 1;
+        let Some(following) = following else {
+            return Err(RunError::Line(read_lines + 1));
+        };
+        rest = following;
+    }
+}
+
+/// Takes a line's event, or the line itself where it sets an option; whether it could be read.
+fn take_line<'a>(
+    events: &mut Vec<Event>,
+    settings: &mut Vec<&'a [u8]>,
+    line: &'a [u8],
+) -> Result<bool, AllocError>
+    ensures taken { IfOk result (λ taken. taken ≡ (is_some (event_of line.now)
+        || is_setting line.now && is_new (texts_of settings.old.items) (option_name line.now))) }
+    ensures events { OnOk result
+        (events.new.items ≡ events.old.items ++ option_to_list (event_of line.now)) }
+    ensures settings { IfOk result (λ taken. taken ≡ true → texts_of settings.new.items
+        ≡ texts_of settings.old.items ++ (if is_some (event_of line.now) then [] else line.now ∷ [])) }
+{
+    if let Some(event) = read_event(line) {
+        events.push(event)?;
+        return Ok(true);
+    }
+    if is_setting(line) && is_new(settings.as_slice(), line) {
+        settings.push(line)?;
+        return Ok(true);
+    }
+    Ok(false)
+}
+
+/// Whether a line ends a script.
+fn is_end(line: &[u8]) -> bool
+    ensures { result ≡ bytes_eq line.now end_line }
+{
+    line == END_LINE
+}
+
+/// The first line, and what follows its line feed, where it has one.
+fn first_line(input: &[u8]) -> (&[u8], Option<&[u8]>)
+    ensures lines { MatchOption result.1 (lines_of input.now ≡ result.0.now ∷ [])
+        (λ following. lines_of input.now ≡ result.0.now ∷ lines_of following.now) }
+    ensures len { MatchOption result.1 (length result.0.now ≡ length input.now)
+        (λ following. length result.0.now + length following.now + 1 ≡ length input.now) }
+{
+    match split_at_first(input, b'\n') {
+        Some((line, following)) => (line, Some(following)),
+        None => (input, None),
+    }
+}

@@ -1,0 +1,143 @@
+use crate::RunError;
+use crate::script::read_script;
+use md_base::{Kind, Name};
+use md_text::LineEnding;
+use md_tree::Rule;
+use std::test::Fail;
+
+/// The number of the line that can't be read, or 0.
+fn unreadable_line(rt: &HostRuntime, input: &[u8]) -> usize {
+    match read_script(rt.alloc(), input) {
+        Ok(_) => 0,
+        Err(RunError::Line(number)) => number,
+        Err(_) => 999,
+    }
+}
+
+const THEMATIC_BREAK: &[u8] = b"+ThematicBreak 0\n-ThematicBreak 3\n--\n***";
+
+#[test]
+fn thematic_break_is_read(rt: HostRuntime) -> Result<(), Fail> {
+    let script = read_script(rt.alloc(), THEMATIC_BREAK)?;
+    assert_eq!(rt; script.document, b"***".as_slice());
+    assert_eq!(rt; script.events.len(), 2);
+    assert_eq!(rt; script.events[0].kind, Kind::Enter);
+    assert_eq!(rt; script.events[1].kind, Kind::Exit);
+    assert_eq!(rt; script.events[1].name, Name::ThematicBreak);
+    assert_eq!(rt; script.events[1].point.index, 3);
+    Ok(())
+}
+
+#[test]
+fn script_cut_at_each_byte(rt: HostRuntime) {
+    for cut in 0..=THEMATIC_BREAK.len() {
+        let wanted = match cut {
+            0..=15 => 1,
+            16..=32 => 2,
+            33..=35 => 3,
+            _ => 0,
+        };
+        assert_eq!(rt;
+            unreadable_line(&rt, &THEMATIC_BREAK[..cut]),
+            wanted,
+            "at {cut}"
+        );
+    }
+}
+
+#[test]
+fn first_unreadable_line_is_named(rt: HostRuntime) {
+    let cases: [(&[u8], usize); 30] = [
+        (b"", 1),
+        (b"\n--", 1),
+        (b"--", 0),
+        (b"--\r\n--", 1),
+        (b"+ThematicBreak 0\n", 2),
+        (b"+ThematicBreak 0\r\n--", 1),
+        (b"+ThematicBreak 0\n+Thematicbreak 0\n--", 2),
+        (b"+ThematicBreak  0\n--", 1),
+        (b" +ThematicBreak 0\n--", 1),
+        (b"*ThematicBreak 0\n--", 1),
+        (b"+ThematicBreak\n--", 1),
+        (b"+ThematicBreak \n--", 1),
+        (b"+Data 123456789\n--", 0),
+        (b"+Data 000000000\n--", 0),
+        (b"+Data 1234567890\n--", 1),
+        (b"+Data 1.123\n--", 0),
+        (b"+Data 1.1234\n--", 1),
+        (b"+Data 1.\n--", 1),
+        (b"+Data .1\n--", 1),
+        (b"+Data 1.2.3\n--", 1),
+        (b"+Data +1\n--", 1),
+        (b"+Other7 0\n--", 0),
+        (b"+Other00007 0\n--", 0),
+        (b"+Other65535 0\n--", 0),
+        (b"+Other65536 0\n--", 1),
+        (b"+Other000007 0\n--", 1),
+        (b"+Other 0\n--", 1),
+        (b"+MdxEsm 0\n--", 0),
+        (b"!unknown\n--", 1),
+        (b"!\n--", 1),
+    ];
+    for (input, wanted) in cases {
+        assert_eq!(rt; unreadable_line(&rt, input), wanted, "at {input:?}");
+    }
+}
+
+#[test]
+fn option_lines_are_read_once(rt: HostRuntime) {
+    let cases: [(&[u8], usize); 12] = [
+        (b"!gfm_tagfilter\n--", 0),
+        (b"!gfm_tagfilter\n!gfm_tagfilter\n--", 2),
+        (b"!gfm_tagfilter=\n--", 1),
+        (b"!gfm_tagfilter \n--", 1),
+        (b"!gfm_footnote_label=\n--", 0),
+        (b"!gfm_footnote_label\n--", 1),
+        (
+            b"!gfm_footnote_label=a\n+Data 0\n!gfm_footnote_label=b\n--",
+            3,
+        ),
+        (b"!gfm_footnote_label=\xff\n--", 1),
+        (b"!default_line_ending=lf\n!default_line_ending=lf\n--", 2),
+        (b"!default_line_ending=\n--", 1),
+        (b"!default_line_ending\n--", 1),
+        (b"!default_line_ending=crlf\r\n--", 1),
+    ];
+    for (input, wanted) in cases {
+        assert_eq!(rt; unreadable_line(&rt, input), wanted, "at {input:?}");
+    }
+}
+
+#[test]
+fn options_are_kept(rt: HostRuntime) -> Result<(), Fail> {
+    let script = read_script(
+        rt.alloc(),
+        b"!allow_dangerous_html\n!default_line_ending=cr\n!gfm_footnote_label=a=b\r\n--",
+    )?;
+    let options = script.options;
+    assert!(rt; options.allow_dangerous_html);
+    assert!(rt; !options.gfm_tagfilter);
+    assert_eq!(rt; options.default_line_ending, LineEnding::CarriageReturn);
+    let label = options.gfm_footnote_label.ok_or("it is set")?;
+    assert_eq!(rt; label.as_str(), "a=b\r");
+    assert!(rt; options.gfm_footnote_back_label.is_none());
+    Ok(())
+}
+
+#[test]
+fn errors_are_told(rt: HostRuntime) -> Result<(), Fail> {
+    let refused = RunError::Event {
+        index: 3,
+        rule: Rule::Place,
+    };
+    let cases = [
+        (RunError::Memory, 3, "out of memory"),
+        (RunError::Line(4), 2, "line 4: unreadable"),
+        (refused, 1, "event 3: Place"),
+    ];
+    for (error, status, message) in cases {
+        assert_eq!(rt; error.status(), status);
+        assert_eq!(rt; error.to_string(rt.alloc())?.as_str(), message);
+    }
+    Ok(())
+}
