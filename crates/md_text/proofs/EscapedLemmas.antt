@@ -1,8 +1,7 @@
 -- Escaped texts: joined, cut and with a byte taken out.
-use Rattle.std.proofs.Common.{◌≡◌, ◌≢◌, ◌⊎◌, ℕ, ◌==◌, Bool, true, false, not, ◌&&◌, ◌||◌, cond, eqb, List, [], ◌∷◌, ◌++◌, take, drop, length, refl, sym, ap, ap₂, ◌∙◌, subst, inl, inr, append-nil, append_assoc, codes, zero, suc, eqb-true}
+use Rattle.std.proofs.Common.{◌≡◌, ℕ, ◌==◌, Bool, true, false, not, ◌||◌, cond, eqb, List, [], ◌∷◌, ◌++◌, refl, inl, inr, codes}
 use Rattle.std.specs.List.{list_all}
 use Rattle.std.proofs.lemmas.Bool.{and_parts, and_from, or_cases, or_left, or_right, cond_both}
-use Rattle.md_text.specs.Encode.{encoded}
 use Rattle.md_text.specs.References.{is_escaped, is_escaped_byte, completes_reference, begins_with, outside_references}
 use Rattle.md_text.specs.Url.{sanitized, sanitized_with, normalized_url, has_permitted_protocol}
 use Rattle.md_text.proofs.EncodeLaws.{is_escaped-encoded}

@@ -1,15 +1,14 @@
 -- A reader of HTML: it guesses a forest, which is a reading where it is one and is written as the text.
-use Rattle.std.proofs.Common.{◌≡◌, ◌≢◌, ◌⊎◌, ℕ, ◌+◌, ◌-◌, ◌≤◌, ◌<◌, ◌==◌, Bool, true, false, not, ◌&&◌, ◌||◌, cond, if◌then◌else◌, eqb, List, [], ◌∷◌, ◌++◌, drop, length, refl, sym, ap, ap₂, ◌∙◌, subst, inl, inr, append-nil, append_assoc, zero, suc, arith, ne_eqb, eq-eqb, length-append, drop_at}
+use Rattle.std.proofs.Common.{◌≡◌, ℕ, ◌+◌, ◌≤◌, ◌==◌, Bool, true, false, not, ◌&&◌, cond, if◌then◌else◌, List, [], ◌∷◌, ◌++◌, drop, length, refl, sym, ap, ◌∙◌, subst, inl, inr, append-nil, zero, suc, arith, ne_eqb, length-append}
 use Rattle.std.specs.List.{list_all}
-use Rattle.std.proofs.lemmas.Bool.{and_parts, and_from, cases_eq, not_from_true}
+use Rattle.std.proofs.lemmas.Bool.{and_parts, and_from}
 use Rattle.std.specs.Cmp.Lexicographic.{bytes_decides}
 use Rattle.md_text.specs.Bytes.{same_text}
-use Rattle.md_text.specs.References.{is_escaped}
-use Rattle.md_text.specs.Html.{Attribute, Forest, Empty, Text, Void, Element, is_forest, is_filled, begins_with_text, written, written_attributes, IsReading, HasReading, HasReadingWith, all_attributes, all_pass, any_attribute}
+use Rattle.md_text.specs.Html.{Attribute, Forest, Empty, Text, Void, Element, is_forest, is_filled, written, written_attributes, IsReading, HasReading, all_attributes, all_pass, any_attribute}
 use Rattle.md_text.proofs.HtmlNames.{is_name, is_name_byte, no_angle, no_quote, are_tidy}
 use Rattle.md_text.proofs.HtmlSplit.{stops, EndsAttributes}
 use Rattle.md_text.proofs.HtmlWriting.{attributes_before, forest_before, written-before}
-use Rattle.md_text.proofs.HtmlReading.{IsEnd, IsTextNode, text_parts, IsElementNode, element_parts, IsVoidNode, void_parts, after_text, attributes_stop}
+use Rattle.md_text.proofs.HtmlReading.{IsEnd, text_parts, element_parts, void_parts, after_text, attributes_stop}
 
 -- something read, and what is left
 pub record Left (X : Type 0) : Type 0 where
