@@ -4,7 +4,7 @@ use Rattle.std.specs.List.{list_all}
 use Rattle.std.proofs.lemmas.Bool.{and_parts, and_from}
 use Rattle.std.specs.Cmp.Lexicographic.{bytes_decides}
 use Rattle.md_text.specs.Bytes.{same_text}
-use Rattle.md_text.specs.Html.{Attribute, Forest, Empty, Text, Void, Element, is_forest, is_filled, written, written_attributes, IsReading, HasReading, all_attributes, all_pass, any_attribute}
+use Rattle.md_text.specs.Html.{Attribute, Forest, Empty, Text, Void, Element, is_forest, is_filled, written, written_attributes, IsReading, HasReading, HasReadingWith, all_attributes, all_pass, any_attribute}
 use Rattle.md_text.proofs.HtmlNames.{is_name, is_name_byte, no_angle, no_quote, are_tidy}
 use Rattle.md_text.proofs.HtmlSplit.{stops, EndsAttributes}
 use Rattle.md_text.proofs.HtmlWriting.{attributes_before, forest_before, written-before}
@@ -251,14 +251,13 @@ any_pass (Element name attributes children rest) =
 abbrev pub is_readable : List ℕ → Bool
 is_readable text = is_forest (guessed text) && same_text (written (guessed text)) text
 
-pub readable : (text : List ℕ) → is_readable text ≡ true → HasReading text
-readable text h =
+guessed_reading : (text : List ℕ) → is_readable text ≡ true → IsReading text (guessed text)
+guessed_reading text h =
     let p = and_parts (is_forest (guessed text)) (same_text (written (guessed text)) text) h in
-    record {
-      forest = guessed text;
-      reading = record { in_grammar = p.0; written_so = (bytes_decides (written (guessed text)) text).0 p.1 };
-      passes = any_pass (guessed text);
-    }
+    record { in_grammar = p.0; written_so = (bytes_decides (written (guessed text)) text).0 p.1 }
+
+pub readable : (text : List ℕ) → is_readable text ≡ true → HasReading text
+readable text h = record { forest = guessed text; reading = guessed_reading text h; passes = any_pass (guessed text) }
 
 guessed-is : (text : List ℕ) (f : Forest) → IsReading text f → guessed text ≡ f
 guessed-is text f reading =
@@ -275,3 +274,10 @@ reads text h =
 
 pub unreadable : (text : List ℕ) → is_readable text ≡ false → HasReading text → ⊥
 unreadable text e h = lie (sym e ∙ reads text h)
+
+-- a text with a reading whose attributes pass, and one with a reading of which an attribute fails
+pub readable_with : (p : Attribute → Bool) (text : List ℕ) → is_readable text ≡ true → all_attributes p (guessed text) ≡ true → HasReadingWith p text
+readable_with p text h passes = record { forest = guessed text; reading = guessed_reading text h; passes = passes }
+
+pub fails_with : (p : Attribute → Bool) (text : List ℕ) → all_attributes p (guessed text) ≡ false → HasReadingWith p text → ⊥
+fails_with p text e h = lie (sym e ∙ ap (all_attributes p) (guessed-is text h.forest h.reading) ∙ h.passes)

@@ -7,7 +7,7 @@ ghost use Rattle.std.specs.Prelude.{All, IsTrue, MatchOption};
 ghost use Rattle.md_text.specs.declared.line_ending.LineEnding.{LineEnding};
 ghost use Rattle.md_text.specs.Encode.{encoded};
 ghost use Rattle.md_text.specs.Filter.{tag_filtered};
-ghost use Rattle.md_text.specs.Html.{Attribute, Forest, Empty, Void, IsReading, HasReadingWith};
+ghost use Rattle.md_text.specs.Html.{Attribute, Forest, Empty, Void, IsReading, HasReadingWith, HasOneReadingWith};
 ghost use Rattle.md_text.specs.Html.{all_pass, is_tag, elements, void_tags, written, opening_tag, closing_tag};
 ghost use Rattle.md_text.specs.Laws.{ChangesOnlyAngles, AreBytes, AreAscii, is_line_ends};
 ghost use Rattle.md_text.specs.LineEnding.{ending_text, ending_of};
@@ -89,6 +89,12 @@ pub fn kept_protocol_is_permitted()
 /// No text has two readings in the HTML grammar.
 pub fn html_has_one_reading()
     ensures { (text : List ℕ) (x y : Forest) → IsReading text x → IsReading text y → x ≡ y }
+{}
+
+/// What has a reading in which each attribute passes a test has exactly one, and it is that one.
+pub fn reading_is_the_only_one()
+    ensures { (p : Attribute → Bool) (text : List ℕ)
+        → HasReadingWith p text → HasOneReadingWith p text }
 {}
 
 /// Nothing has a reading, in which each attribute passes any test.
