@@ -1,38 +1,9 @@
 -- What has a reading: nothing, a text, tags round what has one, and two such texts joined.
-use Rattle.std.proofs.Common.{◌≡◌, ℕ, ◌==◌, Bool, true, false, not, ◌&&◌, ◌||◌, cond, eqb, List, [], ◌∷◌, ◌++◌, refl, sym, ap, ap₂, ◌∙◌, subst, inl, inr, append-nil, append_assoc, codes}
-use Rattle.std.proofs.lemmas.Bool.{and_parts, and_from, or_cases, or_left, or_right}
-use Rattle.md_text.specs.References.{is_escaped, is_escaped_byte, completes_reference, begins_with}
+use Rattle.std.proofs.Common.{◌≡◌, ℕ, Bool, true, not, ◌&&◌, List, [], ◌∷◌, ◌++◌, refl, sym, ap, ap₂, ◌∙◌, subst, append-nil, append_assoc}
+use Rattle.std.proofs.lemmas.Bool.{and_parts, and_from}
+use Rattle.md_text.specs.References.{is_escaped}
 use Rattle.md_text.specs.Html.{Attribute, Forest, Empty, Text, Void, Element, is_forest, is_tag, is_filled, begins_with_text, elements, void_tags, written, written_attributes, opening_tag, closing_tag, HasReadingWith, all_attributes, all_pass}
-
--- a text that begins so still does when more follows
-begins-append : (start text more : List ℕ) → begins_with start text ≡ true → begins_with start (text ++ more) ≡ true
-begins-append [] text more h = refl
-begins-append (s ∷ start) [] more h = cc
-begins-append (s ∷ start) (b ∷ text) more h =
-    let parts = and_parts (eqb s b) (begins_with start text) h in
-    and_from (eqb s b) (begins_with start (text ++ more)) parts.0 (begins-append start text more parts.1)
-
-or_keeps : (a b c d : Bool) → (a ≡ true → c ≡ true) → (b ≡ true → d ≡ true) → (a || b) ≡ true → (c || d) ≡ true
-or_keeps a b c d f g h = elim (or_cases a b h) [ inl x ↦ or_left c d (f x) | inr y ↦ or_right c d (g y) ]
-
-completes-append : (rest more : List ℕ) → completes_reference rest ≡ true → completes_reference (rest ++ more) ≡ true
-completes-append rest more h =
-    let on = λ (start : List ℕ). begins-append start rest more in
-    or_keeps _ _ _ _ (or_keeps _ _ _ _ (or_keeps _ _ _ _ (on (codes "amp;")) (on (codes "quot;"))) (on (codes "lt;"))) (on (codes "gt;")) h
-
-escaped_byte-append : (b : ℕ) (rest more : List ℕ) → is_escaped_byte b rest ≡ true → is_escaped_byte b (rest ++ more) ≡ true
-escaped_byte-append b rest more h = by ((b == 0) || (b == 60) || (b == 62) || (b == 34)) (b == 38) h
-  where
-    by : (special and : Bool) → cond special false (cond and (completes_reference rest) true) ≡ true → cond special false (cond and (completes_reference (rest ++ more)) true) ≡ true
-    by true and h = h
-    by false true h = completes-append rest more h
-    by false false h = refl
-
-pub escaped-append : (x y : List ℕ) → is_escaped x ≡ true → is_escaped y ≡ true → is_escaped (x ++ y) ≡ true
-escaped-append [] y hx hy = hy
-escaped-append (b ∷ x) y hx hy =
-    let parts = and_parts (is_escaped_byte b x) (is_escaped x) hx in
-    and_from (is_escaped_byte b (x ++ y)) (is_escaped (x ++ y)) (escaped_byte-append b x y parts.0) (escaped-append x y parts.1 hy)
+use Rattle.md_text.proofs.EscapedLemmas.{escaped-append}
 
 filled-append : (x y : List ℕ) → is_filled x ≡ true → is_filled (x ++ y) ≡ true
 filled-append [] y h = cc

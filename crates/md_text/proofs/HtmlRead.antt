@@ -1,15 +1,14 @@
 -- A reader of HTML: it guesses a forest, which is a reading where it is one and is written as the text.
-use Rattle.std.proofs.Common.{◌≡◌, ◌≢◌, ◌⊎◌, ℕ, ◌+◌, ◌-◌, ◌≤◌, ◌<◌, ◌==◌, Bool, true, false, not, ◌&&◌, ◌||◌, cond, if◌then◌else◌, eqb, List, [], ◌∷◌, ◌++◌, drop, length, refl, sym, ap, ap₂, ◌∙◌, subst, inl, inr, append-nil, append_assoc, zero, suc, arith, ne_eqb, eq-eqb, length-append, drop_at}
+use Rattle.std.proofs.Common.{◌≡◌, ℕ, ◌+◌, ◌≤◌, ◌==◌, Bool, true, false, not, ◌&&◌, cond, if◌then◌else◌, List, [], ◌∷◌, ◌++◌, drop, length, refl, sym, ap, ◌∙◌, subst, inl, inr, append-nil, zero, suc, arith, ne_eqb, length-append}
 use Rattle.std.specs.List.{list_all}
-use Rattle.std.proofs.lemmas.Bool.{and_parts, and_from, cases_eq, not_from_true}
+use Rattle.std.proofs.lemmas.Bool.{and_parts, and_from}
 use Rattle.std.specs.Cmp.Lexicographic.{bytes_decides}
 use Rattle.md_text.specs.Bytes.{same_text}
-use Rattle.md_text.specs.References.{is_escaped}
-use Rattle.md_text.specs.Html.{Attribute, Forest, Empty, Text, Void, Element, is_forest, is_filled, begins_with_text, written, written_attributes, IsReading, HasReading, HasReadingWith, all_attributes, all_pass, any_attribute}
+use Rattle.md_text.specs.Html.{Attribute, Forest, Empty, Text, Void, Element, is_forest, is_filled, written, written_attributes, IsReading, HasReading, HasReadingWith, all_attributes, all_pass, any_attribute}
 use Rattle.md_text.proofs.HtmlNames.{is_name, is_name_byte, no_angle, no_quote, are_tidy}
 use Rattle.md_text.proofs.HtmlSplit.{stops, EndsAttributes}
 use Rattle.md_text.proofs.HtmlWriting.{attributes_before, forest_before, written-before}
-use Rattle.md_text.proofs.HtmlReading.{IsEnd, IsTextNode, text_parts, IsElementNode, element_parts, IsVoidNode, void_parts, after_text, attributes_stop}
+use Rattle.md_text.proofs.HtmlReading.{IsEnd, text_parts, element_parts, void_parts, after_text, attributes_stop}
 
 -- something read, and what is left
 pub record Left (X : Type 0) : Type 0 where
@@ -252,14 +251,13 @@ any_pass (Element name attributes children rest) =
 abbrev pub is_readable : List ℕ → Bool
 is_readable text = is_forest (guessed text) && same_text (written (guessed text)) text
 
-pub readable : (text : List ℕ) → is_readable text ≡ true → HasReading text
-readable text h =
+guessed_reading : (text : List ℕ) → is_readable text ≡ true → IsReading text (guessed text)
+guessed_reading text h =
     let p = and_parts (is_forest (guessed text)) (same_text (written (guessed text)) text) h in
-    record {
-      forest = guessed text;
-      reading = record { in_grammar = p.0; written_so = (bytes_decides (written (guessed text)) text).0 p.1 };
-      passes = any_pass (guessed text);
-    }
+    record { in_grammar = p.0; written_so = (bytes_decides (written (guessed text)) text).0 p.1 }
+
+pub readable : (text : List ℕ) → is_readable text ≡ true → HasReading text
+readable text h = record { forest = guessed text; reading = guessed_reading text h; passes = any_pass (guessed text) }
 
 guessed-is : (text : List ℕ) (f : Forest) → IsReading text f → guessed text ≡ f
 guessed-is text f reading =
@@ -276,3 +274,10 @@ reads text h =
 
 pub unreadable : (text : List ℕ) → is_readable text ≡ false → HasReading text → ⊥
 unreadable text e h = lie (sym e ∙ reads text h)
+
+-- a text with a reading whose attributes pass, and one with a reading of which an attribute fails
+pub readable_with : (p : Attribute → Bool) (text : List ℕ) → is_readable text ≡ true → all_attributes p (guessed text) ≡ true → HasReadingWith p text
+readable_with p text h passes = record { forest = guessed text; reading = guessed_reading text h; passes = passes }
+
+pub fails_with : (p : Attribute → Bool) (text : List ℕ) → all_attributes p (guessed text) ≡ false → HasReadingWith p text → ⊥
+fails_with p text e h = lie (sym e ∙ ap (all_attributes p) (guessed-is text h.forest h.reading) ∙ h.passes)

@@ -1,9 +1,9 @@
 -- No text has two readings.
-use Rattle.std.proofs.Common.{◌≡◌, ◌⊎◌, ℕ, true, false, not, ◌&&◌, List, [], ◌∷◌, ◌++◌, refl, sym, ap, ◌∙◌, subst, inl, inr, append-nil}
+use Rattle.std.proofs.Common.{Bool, ◌≡◌, ◌⊎◌, ℕ, true, false, not, ◌&&◌, List, [], ◌∷◌, ◌++◌, refl, sym, ap, ◌∙◌, subst, inl, inr, append-nil}
 use Rattle.std.specs.List.{list_all}
 use Rattle.std.proofs.lemmas.Bool.{and_parts}
 use Rattle.md_text.specs.References.{is_escaped}
-use Rattle.md_text.specs.Html.{Attribute, Forest, Empty, Text, Void, Element, is_forest, is_tag, is_filled, begins_with_text, elements, void_tags, written, IsReading}
+use Rattle.md_text.specs.Html.{Attribute, Forest, Empty, Text, Void, Element, is_forest, is_tag, is_filled, begins_with_text, elements, void_tags, written, IsReading, HasReadingWith, HasOneReadingWith}
 use Rattle.md_text.proofs.HtmlNames.{is_name, is_name_byte, no_angle, are_tidy, element-tidy, void-tidy, escaped-angle}
 use Rattle.md_text.proofs.HtmlSplit.{stops, split, EndsAttributes, same_attributes, name-not}
 use Rattle.md_text.proofs.HtmlWriting.{attributes_before, forest_before, written-before}
@@ -160,3 +160,11 @@ pub one_reading : (text : List ℕ) (f g : Forest) → IsReading text f → IsRe
 one_reading text f g x y =
     (same f g [] [] x.in_grammar y.in_grammar (inl refl) (inl refl)
     (sym (written-before f []) ∙ append-nil (written f) ∙ x.written_so ∙ sym y.written_so ∙ sym (append-nil (written g)) ∙ written-before g [])).0
+
+pub only_reading : (p : Attribute → Bool) (text : List ℕ) → HasReadingWith p text → HasOneReadingWith p text
+only_reading p text h = record {
+  forest = h.forest;
+  reading = h.reading;
+  passes = h.passes;
+  only = λ other reading. one_reading text other h.forest reading h.reading;
+}

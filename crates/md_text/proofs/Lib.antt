@@ -7,6 +7,7 @@ pub mod FilterLaws
 pub mod UrlLaws
 pub mod UrlTwice
 pub mod ProtocolLemmas
+pub mod EscapedLemmas
 pub mod HtmlWriting
 pub mod HtmlNames
 pub mod HtmlSplit

@@ -2,9 +2,8 @@
 use Rattle.std.proofs.Common.{◌≡◌, ℕ, ◌==◌, ◌<◌, ◌/◌, ◌%◌, Bool, true, false, ◌&&◌, ◌||◌, cond, eqb, List, [], ◌∷◌, All, refl, sym, subst, arith, inl, inr, codes, lit<}
 use Rattle.std.proofs.lemmas.Bool.{cases_eq, cases_Bool, agree_below_at, or_cases, and_parts, or_left, or_right, and_from}
 use Rattle.std.proofs.lemmas.List.Elements.{All-nil, All-cons, All-head, All-tail, All-append, All-from_recursion}
-use Rattle.md_text.specs.Bytes.{is_letter_or_digit}
 use Rattle.md_text.specs.Encode.{encoded, encoded_byte}
-use Rattle.md_text.specs.Url.{stays, stays_anywhere, completes_triple, normalized_byte, normalized_url, percent, hex_digit, sanitized}
+use Rattle.md_text.specs.Url.{is_triple_byte, stays, stays_anywhere, completes_triple, normalized_byte, normalized_url, percent, hex_digit, sanitized}
 use Rattle.md_text.specs.Laws.{AreBytes, AreAscii}
 use Rattle.md_text.proofs.UrlLemmas.{stays-ascii, encoded_byte-stays}
 
@@ -19,8 +18,8 @@ AreUrlBytes text = All (λ b. is_url_byte b ≡ true) text
 pub hex_digit-stays : (d : ℕ) → d < 16 → stays_anywhere (hex_digit d) ≡ true
 hex_digit-stays d l = agree_below_at (λ d. stays_anywhere (hex_digit d)) (λ d. true) 16 d refl l
 
-pub hex_digit-plain : (d : ℕ) → d < 16 → is_letter_or_digit (hex_digit d) ≡ true
-hex_digit-plain d l = agree_below_at (λ d. is_letter_or_digit (hex_digit d)) (λ d. true) 16 d refl l
+pub hex_digit-plain : (d : ℕ) → d < 16 → is_triple_byte (hex_digit d) ≡ true
+hex_digit-plain d l = agree_below_at (λ d. is_triple_byte (hex_digit d)) (λ d. true) 16 d refl l
 
 pub hex_digit-no_and : (d : ℕ) → d < 16 → eqb (hex_digit d) 38 ≡ false
 hex_digit-no_and d l = agree_below_at (λ d. eqb (hex_digit d) 38) (λ d. false) 16 d refl l

@@ -2,9 +2,8 @@
 use Rattle.std.proofs.Common.{◌≡◌, ◌≢◌, ℕ, ◌==◌, ◌<◌, ◌/◌, ◌%◌, true, false, not, ◌&&◌, ◌||◌, cond, eqb, List, [], ◌∷◌, ◌++◌, All, refl, sym, ap, ap₂, ◌∙◌, subst, inl, inr}
 use Rattle.std.proofs.lemmas.Bool.{cases_Bool, agree_below_at, or_cases, and_parts, or_left, or_right, and_from, both_ways}
 use Rattle.std.proofs.lemmas.List.Elements.{All-nil, All-cons, All-head, All-tail, All-append, All-from_recursion}
-use Rattle.md_text.specs.Bytes.{is_letter_or_digit}
 use Rattle.md_text.specs.Encode.{encoded}
-use Rattle.md_text.specs.Url.{stays, stays_anywhere, completes_triple, normalized_byte, normalized_url, percent, hex_digit, sanitized}
+use Rattle.md_text.specs.Url.{is_triple_byte, stays, stays_anywhere, completes_triple, normalized_byte, normalized_url, percent, hex_digit, sanitized}
 use Rattle.md_text.specs.Laws.{AreBytes}
 use Rattle.md_text.proofs.UrlLemmas.{encoded_byte-stays}
 use Rattle.md_text.proofs.UrlLaws.{IsUrl, IsByte, AreUrlBytes, normalized-url, url_stays, hex_digit-stays, hex_digit-plain, hex_digit-no_and, high_digit, low_digit}
@@ -19,11 +18,11 @@ normalized-stays b rest s = ap (λ x. x ++ normalized_url rest) (normalized_byte
 stays-anywhere : (b : ℕ) (rest : List ℕ) → stays_anywhere b ≡ true → stays b rest ≡ true
 stays-anywhere b rest e = or_left (stays_anywhere b) ((b == 37) && completes_triple rest) e
 
--- a letter or digit stays anywhere
-plain_or_not : (b : ℕ) → b < 256 → (not (is_letter_or_digit b) || stays_anywhere b) ≡ true
-plain_or_not b l = agree_below_at (λ b. not (is_letter_or_digit b) || stays_anywhere b) (λ b. true) 256 b refl l
+-- such a byte stays anywhere
+plain_or_not : (b : ℕ) → b < 256 → (not (is_triple_byte b) || stays_anywhere b) ≡ true
+plain_or_not b l = agree_below_at (λ b. not (is_triple_byte b) || stays_anywhere b) (λ b. true) 256 b refl l
 
-plain-stays : (b : ℕ) → b < 256 → is_letter_or_digit b ≡ true → stays_anywhere b ≡ true
+plain-stays : (b : ℕ) → b < 256 → is_triple_byte b ≡ true → stays_anywhere b ≡ true
 plain-stays b l e = ap (λ t. not t || stays_anywhere b) (sym e) ∙ plain_or_not b l
 
 -- a percent triple stays one
@@ -31,7 +30,7 @@ completes-normalized : (rest : List ℕ) → AreBytes rest → completes_triple 
 completes-normalized [] h e = cc
 completes-normalized (a ∷ []) h e = cc
 completes-normalized (a ∷ b ∷ rest) h e =
-    let plain = and_parts (is_letter_or_digit a) (is_letter_or_digit b) e in
+    let plain = and_parts (is_triple_byte a) (is_triple_byte b) e in
     let a_stays = stays-anywhere a (b ∷ rest) (plain-stays a (All-head IsByte a (b ∷ rest) h) plain.0) in
     let b_stays = stays-anywhere b rest (plain-stays b (All-head IsByte b rest (All-tail IsByte a (b ∷ rest) h)) plain.1) in
     ap completes_triple (normalized-stays a (b ∷ rest) a_stays ∙ ap (λ x. a ∷ x) (normalized-stays b rest b_stays)) ∙ e
@@ -43,9 +42,9 @@ stays-normalized b rest h s = elim (or_cases (stays_anywhere b) ((b == 37) && co
       or_right (stays_anywhere b) ((b == 37) && completes_triple (normalized_url rest)) (and_from (b == 37) (completes_triple (normalized_url rest)) parts.0 (completes-normalized rest h parts.1)))
 ]
 
-normalized-percent : (h1 h2 : ℕ) (rest : List ℕ) → stays_anywhere h1 ≡ true → stays_anywhere h2 ≡ true → is_letter_or_digit h1 ≡ true → is_letter_or_digit h2 ≡ true → normalized_url (37 ∷ h1 ∷ h2 ∷ rest) ≡ 37 ∷ h1 ∷ h2 ∷ normalized_url rest
+normalized-percent : (h1 h2 : ℕ) (rest : List ℕ) → stays_anywhere h1 ≡ true → stays_anywhere h2 ≡ true → is_triple_byte h1 ≡ true → is_triple_byte h2 ≡ true → normalized_url (37 ∷ h1 ∷ h2 ∷ rest) ≡ 37 ∷ h1 ∷ h2 ∷ normalized_url rest
 normalized-percent h1 h2 rest s1 s2 p1 p2 =
-    normalized-stays 37 (h1 ∷ h2 ∷ rest) (and_from (is_letter_or_digit h1) (is_letter_or_digit h2) p1 p2)
+    normalized-stays 37 (h1 ∷ h2 ∷ rest) (and_from (is_triple_byte h1) (is_triple_byte h2) p1 p2)
     ∙ ap (λ x. 37 ∷ x) (normalized-stays h1 (h2 ∷ rest) (stays-anywhere h1 (h2 ∷ rest) s1) ∙ ap (λ x. h1 ∷ x) (normalized-stays h2 rest (stays-anywhere h2 rest s2)))
 
 pub normalized-twice : (x : List ℕ) → AreBytes x → normalized_url (normalized_url x) ≡ normalized_url x

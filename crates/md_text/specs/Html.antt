@@ -140,3 +140,10 @@ any_attribute a = true
 -- a text has a reading
 abbrev pub HasReading : List ℕ → Type 0
 HasReading text = HasReadingWith any_attribute text
+
+-- a text has exactly one reading, and in it each attribute passes the test
+pub record HasOneReadingWith (p : Attribute → Bool) (text : List ℕ) : Type 0 where
+  pub forest : Forest
+  pub reading : IsReading text forest
+  pub passes : IsTrue (all_attributes p forest)
+  pub only : (other : Forest) → IsReading text other → other ≡ forest

@@ -1,6 +1,6 @@
 -- The four character references that are written, where they stand and what they stand for.
-use Rattle.std.specs.Prelude.{ℕ, suc, zero, Bool, true, false, ◌&&◌, ◌||◌, ◌==◌, if◌then◌else◌, nat_eq, List, [], ◌∷◌, codes}
-use Rattle.std.specs.List.{starts_with}
+use Rattle.std.specs.Prelude.{ℕ, suc, zero, Bool, true, false, not, ◌&&◌, ◌||◌, ◌==◌, if◌then◌else◌, nat_eq, List, [], ◌∷◌, codes}
+use Rattle.std.specs.List.{starts_with, list_all}
 
 -- a text begins so
 abbrev pub begins_with : List ℕ → List ℕ → Bool
@@ -50,3 +50,7 @@ is_escaped_byte b rest =
 abbrev pub is_escaped : List ℕ → Bool
 is_escaped [] = true
 is_escaped (b ∷ rest) = is_escaped_byte b rest && is_escaped rest
+
+-- neither `&` nor a byte of the four references after it
+abbrev pub outside_references : ℕ → Bool
+outside_references b = not (b == 38) && list_all (λ c. not (c == b)) (codes "amp;quot;lt;gt;")

@@ -9,11 +9,15 @@ abbrev pub stays_anywhere : ℕ → Bool
 stays_anywhere b =
     (b == 33) || (b == 35) || (b == 36) || is_between 38 59 b || (b == 61) || is_between 63 90 b || (b == 95) || is_between 97 122 b || (b == 126)
 
--- what follows a `%` makes it the first byte of a percent triple: two ASCII letters or digits
+-- a byte that a percent triple may have after its `%`: an ASCII letter or digit
+abbrev pub is_triple_byte : ℕ → Bool
+is_triple_byte b = is_letter_or_digit b
+
+-- what follows a `%` makes it the first byte of a percent triple: two such bytes
 abbrev pub completes_triple : List ℕ → Bool
 completes_triple [] = false
 completes_triple (a ∷ []) = false
-completes_triple (a ∷ b ∷ rest) = is_letter_or_digit a && is_letter_or_digit b
+completes_triple (a ∷ b ∷ rest) = is_triple_byte a && is_triple_byte b
 
 -- a byte stays as it is before the bytes that follow it
 abbrev pub stays : ℕ → List ℕ → Bool

@@ -2,16 +2,16 @@
 
 pub mod cases;
 
-ghost use Rattle.std.specs.Prelude.{◌≡◌, ◌≢◌, ◌⊎◌, ℕ, [], ◌++◌, List, Bool, true, false, codes};
+ghost use Rattle.std.specs.Prelude.{◌≡◌, ◌≢◌, ◌⊎◌, ℕ, [], ◌∷◌, ◌++◌, List, Bool, true, false, codes};
 ghost use Rattle.std.specs.Prelude.{All, IsTrue, MatchOption};
 ghost use Rattle.md_text.specs.declared.line_ending.LineEnding.{LineEnding};
 ghost use Rattle.md_text.specs.Encode.{encoded};
 ghost use Rattle.md_text.specs.Filter.{tag_filtered};
-ghost use Rattle.md_text.specs.Html.{Attribute, Forest, Empty, Void, IsReading, HasReadingWith};
+ghost use Rattle.md_text.specs.Html.{Attribute, Forest, Empty, Void, IsReading, HasReadingWith, HasOneReadingWith};
 ghost use Rattle.md_text.specs.Html.{all_pass, is_tag, elements, void_tags, written, opening_tag, closing_tag};
 ghost use Rattle.md_text.specs.Laws.{ChangesOnlyAngles, AreBytes, AreAscii, is_line_ends};
 ghost use Rattle.md_text.specs.LineEnding.{ending_text, ending_of};
-ghost use Rattle.md_text.specs.References.{is_escaped, read_back};
+ghost use Rattle.md_text.specs.References.{is_escaped, outside_references, read_back};
 ghost use Rattle.md_text.specs.Safe.{is_safe_value, link_protocols, image_protocols};
 ghost use Rattle.md_text.specs.Url.{sanitized, sanitized_with};
 
@@ -28,6 +28,25 @@ pub fn encode_reads_back()
 /// An escaped text holds no NUL, `<`, `>` or `"`, and each `&` begins one of the four references.
 pub fn encode_is_clean()
     ensures { (x : List ℕ) → IsTrue (is_escaped (encoded true x)) }
+{}
+
+/// Two escaped texts joined are escaped.
+pub fn escaped_texts_join()
+    ensures { (x y : List ℕ)
+        → IsTrue (is_escaped x) → IsTrue (is_escaped y) → IsTrue (is_escaped (x ++ y)) }
+{}
+
+/// A byte that stands in none of the four references may be taken out of an escaped text.
+pub fn escaped_text_loses_a_byte()
+    ensures { (b : ℕ) (x y : List ℕ) → IsTrue (outside_references b)
+        → IsTrue (is_escaped (x ++ b ∷ y)) → IsTrue (is_escaped (x ++ y)) }
+{}
+
+/// A sanitized URL is escaped, whether its protocol is looked at or not.
+pub fn urls_are_escaped()
+    ensures any { (x : List ℕ) → IsTrue (is_escaped (sanitized x)) }
+    ensures permitted { (protocols : List (List ℕ)) (x : List ℕ)
+        → IsTrue (is_escaped (sanitized_with protocols x)) }
 {}
 
 /// The tag filter changes some `<` into `&lt;` and nothing else, and a second time nothing.
@@ -70,6 +89,12 @@ pub fn kept_protocol_is_permitted()
 /// No text has two readings in the HTML grammar.
 pub fn html_has_one_reading()
     ensures { (text : List ℕ) (x y : Forest) → IsReading text x → IsReading text y → x ≡ y }
+{}
+
+/// What has a reading in which each attribute passes a test has exactly one, and it is that one.
+pub fn reading_is_the_only_one()
+    ensures { (p : Attribute → Bool) (text : List ℕ)
+        → HasReadingWith p text → HasOneReadingWith p text }
 {}
 
 /// Nothing has a reading, in which each attribute passes any test.

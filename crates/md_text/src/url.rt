@@ -1,7 +1,8 @@
 ghost use Rattle.std.specs.Prelude.{◌≡◌, ◌≤◌, ◌<◌, ◌++◌, ◌/◌, ◌%◌, IfOk, OnOk, MatchOption, take, length, map, true};
 ghost use Rattle.std.specs.String.{string_bytes};
 ghost use Rattle.md_text.specs.Encode.{encoded};
-ghost use Rattle.md_text.specs.Url.{stays_anywhere, stays, completes_triple, hex_digit, percent};
+ghost use Rattle.md_text.specs.Url.{stays_anywhere, stays, hex_digit, percent};
+ghost use Rattle.md_text.specs.Url.{is_triple_byte, completes_triple};
 ghost use Rattle.md_text.specs.Url.{normalized_byte, sanitized, sanitized_with};
 ghost use Rattle.md_text.specs.Url.{protocol_of, has_permitted_protocol};
 
@@ -111,9 +112,16 @@ fn completes_triple(rest: &[u8]) -> bool
     ensures { result ≡ completes_triple rest.now }
 {
     match rest {
-        [first, second, ..] => first.is_ascii_alphanumeric() && second.is_ascii_alphanumeric(),
+        [first, second, ..] => is_triple_byte(*first) && is_triple_byte(*second),
         _ => false,
     }
+}
+
+/// Whether a percent triple may have this byte after its `%`.
+fn is_triple_byte(byte: u8) -> bool
+    ensures { result ≡ is_triple_byte byte }
+{
+    byte.is_ascii_alphanumeric()
 }
 
 /// Whether a URL has no protocol, or one of these.

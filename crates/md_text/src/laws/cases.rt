@@ -2,8 +2,8 @@
 
 ghost use Rattle.std.specs.Prelude.{◌≡◌, ◌∷◌, [], ◌++◌, codes};
 ghost use Rattle.md_text.specs.Filter.{disarmed_names};
-ghost use Rattle.md_text.specs.Html.{HasReading};
-ghost use Rattle.md_text.specs.Safe.{link_protocols, image_protocols};
+ghost use Rattle.md_text.specs.Html.{HasReading, HasReadingWith};
+ghost use Rattle.md_text.specs.Safe.{link_protocols, image_protocols, is_safe_link, is_safe_image};
 
 /// Each element of the table may stand alone.
 pub fn elements_stand_alone()
@@ -138,6 +138,46 @@ pub fn raw_characters_have_no_reading()
     ensures closing_angle_in_value { ¬ HasReading (codes "<a href=\">\"></a>") }
     ensures ampersand_in_value { ¬ HasReading (codes "<a href=\"&\"></a>") }
     ensures nul { ¬ HasReading (0 ∷ []) }
+{}
+
+/// Links with no protocol, or one that a link may have.
+pub fn safe_links()
+    ensures no_protocol { HasReadingWith is_safe_link (codes "<a href=\"a\"></a>") }
+    ensures nothing { HasReadingWith is_safe_link (codes "<a href=\"\"></a>") }
+    ensures https { HasReadingWith is_safe_link (codes "<a href=\"https://a\"></a>") }
+    ensures upper_case { HasReadingWith is_safe_link (codes "<a href=\"HTTP:a\"></a>") }
+    ensures mailto { HasReadingWith is_safe_link (codes "<a href=\"mailto:a\"></a>") }
+    ensures colon_in_a_path { HasReadingWith is_safe_link (codes "<a href=\"./a:b\"></a>") }
+    ensures colon_in_a_query { HasReadingWith is_safe_link (codes "<a href=\"?a:b\"></a>") }
+    ensures colon_in_a_fragment { HasReadingWith is_safe_link (codes "<a href=\"#a:b\"></a>") }
+    ensures nested { HasReadingWith is_safe_link (codes "<p><em><a href=\"irc:a\"></a></em></p>") }
+    ensures another_attribute { HasReadingWith is_safe_link (codes "<a title=\"javascript:a\"></a>") }
+    ensures an_image { HasReadingWith is_safe_link (codes "<img src=\"data:a\" />") }
+{}
+
+/// Links with another protocol.
+pub fn unsafe_links()
+    ensures javascript { ¬ HasReadingWith is_safe_link (codes "<a href=\"javascript:a\"></a>") }
+    ensures data { ¬ HasReadingWith is_safe_link (codes "<a href=\"data:a\"></a>") }
+    ensures longer { ¬ HasReadingWith is_safe_link (codes "<a href=\"httpsx:a\"></a>") }
+    ensures shorter { ¬ HasReadingWith is_safe_link (codes "<a href=\"htt:a\"></a>") }
+    ensures empty_protocol { ¬ HasReadingWith is_safe_link (codes "<a href=\":a\"></a>") }
+    ensures reference_in_the_protocol { ¬ HasReadingWith is_safe_link (codes "<a href=\"http&amp;:a\"></a>") }
+    ensures nested { ¬ HasReadingWith is_safe_link (codes "<p><em><a href=\"javascript:a\"></a></em></p>") }
+    ensures after_a_safe_one { ¬ HasReadingWith is_safe_link (codes "<a href=\"a\"></a><a href=\"b:c\"></a>") }
+{}
+
+/// Images with no protocol, or one that an image may have.
+pub fn safe_images()
+    ensures no_protocol { HasReadingWith is_safe_image (codes "<img src=\"a\" />") }
+    ensures https { HasReadingWith is_safe_image (codes "<img src=\"https:a\" />") }
+    ensures a_link { HasReadingWith is_safe_image (codes "<a href=\"javascript:a\"></a>") }
+{}
+
+/// Images with another protocol.
+pub fn unsafe_images()
+    ensures data { ¬ HasReadingWith is_safe_image (codes "<img src=\"data:a\" />") }
+    ensures of_a_link { ¬ HasReadingWith is_safe_image (codes "<img src=\"mailto:a\" />") }
 {}
 
 /// The protocols of links and of images, and the names that the tag filter disarms.
