@@ -10,3 +10,4 @@ pub mod Shape
 pub mod Spine
 pub mod Standing
 pub mod Tree
+pub mod Walk

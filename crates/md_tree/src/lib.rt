@@ -2,6 +2,7 @@
 #![tactic(auto)]
 
 mod checked;
+mod judge;
 mod kinds;
 mod pattern;
 mod rule;
@@ -9,6 +10,7 @@ mod shape;
 mod standing;
 mod state;
 mod steps;
+mod walk;
 
 pub use checked::Checked;
 pub use rule::{CompileError, Rule};
