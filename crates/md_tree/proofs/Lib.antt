@@ -1,3 +1,4 @@
+pub mod Breaks
 pub mod Greedy
 pub mod Groups
 pub mod Paths
