@@ -3,3 +3,4 @@ pub mod Greedy
 pub mod Groups
 pub mod Paths
 pub mod Trees
+pub mod Verdicts
