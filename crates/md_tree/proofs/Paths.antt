@@ -248,6 +248,7 @@ pub record Left (holds ending : Reads) (events : List Event) (name : Name) (poin
   pub stands : Stands path others around found
   pub feeds : Feeds around (spine level.before) here
   pub name_is : level.name ≡ name
+  pub start_is : open_node.start ≡ level.start
   pub may : may_hold here.role ≡ true
   pub entered_is : entered_on (standing_of level.name) here (target_of level.before found) ≡ Some (record { state = base; target = inner; outer = open_node.outer })
   pub inside : Feeds base (spine nodes) from.state
@@ -279,6 +280,7 @@ left_from holds ending events name point from to (level ∷ path) (open_node ∷
       stands = stands.3;
       feeds = stands.4;
       name_is = sym stands.5 ∙ exits.0;
+      start_is = stands.6;
       may = on.0;
       entered_is = on.1;
       inside = feeds;

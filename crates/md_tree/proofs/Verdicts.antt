@@ -98,15 +98,15 @@ fine_unbroken bytes names forest around before shaped meets =
     EachNode-map (λ r b name start end children. IsShapedNode r b name start end children × MeetsRules bytes names r b name start end children) (IsFine (Unbroken bytes names))
     (λ r b name start end children p. (p.0, reads_unbroken bytes names (standing_of name) r b start end (target_of children Missing) p.1)) forest around before (EachNode-both IsShapedNode (MeetsRules bytes names) forest around before shaped meets)
 
-fine_shaped : (holds : Reads) (forest : Forest) (around : Role) (before : Option Symbol) → EachNode (IsFine holds) forest around before → AreShaped forest around before
+pub fine_shaped : (holds : Reads) (forest : Forest) (around : Role) (before : Option Symbol) → EachNode (IsFine holds) forest around before → AreShaped forest around before
 fine_shaped holds forest around before fine =
     EachNode-map (IsFine holds) IsShapedNode (λ r b name start end children p. p.0) forest around before fine
 
-fine_meets : (bytes : List ℕ) (names : List (List ℕ × List ℕ)) (forest : Forest) (around : Role) (before : Option Symbol) → EachNode (IsFine (Unbroken bytes names)) forest around before → MeetRules bytes names forest around before
+pub fine_meets : (bytes : List ℕ) (names : List (List ℕ × List ℕ)) (forest : Forest) (around : Role) (before : Option Symbol) → EachNode (IsFine (Unbroken bytes names)) forest around before → MeetRules bytes names forest around before
 fine_meets bytes names forest around before fine =
     EachNode-map (IsFine (Unbroken bytes names)) (MeetsRules bytes names) (λ r b name start end children p. unbroken_reads bytes names (standing_of name) r b start end (target_of children Missing) p.1) forest around before fine
 
-fine_path_shaped : (holds : Reads) (path : List Level) → IsFinePath holds path → IsShapedPath path
+pub fine_path_shaped : (holds : Reads) (path : List Level) → IsFinePath holds path → IsShapedPath path
 fine_path_shaped holds [] fine = tt
 fine_path_shaped holds (level ∷ path) fine =
     (fine_shaped holds level.before (role_in path) (before_in path) fine.0, fine_path_shaped holds path fine.1)

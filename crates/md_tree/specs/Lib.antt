@@ -5,6 +5,7 @@ pub mod Mentions
 pub mod Names
 pub mod Pattern
 pub mod Refusal
+pub mod Resolve
 pub mod Rules
 pub mod Shape
 pub mod Spine

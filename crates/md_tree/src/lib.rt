@@ -5,6 +5,7 @@ mod checked;
 mod judge;
 mod kinds;
 mod pattern;
+mod resolve;
 mod rule;
 mod shape;
 mod standing;
