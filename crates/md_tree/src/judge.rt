@@ -27,7 +27,7 @@ pub fn label_at<'a>(bytes: &'a [u8], position: &Position) -> Option<&'a str>
 }
 
 /// The rule, unless its condition holds.
-fn rule_unless(condition: bool, rule: Rule) -> Option<Rule>
+pub fn rule_unless(condition: bool, rule: Rule) -> Option<Rule>
     ensures { result ≡ unless condition rule }
 {
     if condition { None } else { Some(rule) }
