@@ -1,4 +1,5 @@
 pub mod Breaks
+pub mod Checking
 pub mod Endings
 pub mod Greedy
 pub mod Groups

@@ -27,7 +27,26 @@ impl<'a> Model for Checked<'a> {
 impl<'a> Checked<'a> {
     ghost use Rattle.std.specs.Prelude.{◌≡◌};
     ghost use Rattle.md_base.specs.Reference.{name_table};
-    ghost use Rattle.md_tree.specs.Grammar.{IsChecked};
+    ghost use Rattle.md_tree.specs.Grammar.{IsChecked, handed};
+    ghost use Rattle.md_tree.specs.Noted.{IsNoted};
+
+    /// What has passed a check, with the notes of its events.
+    pub(crate) fn new(
+        events: &'a [Event],
+        bytes: &'a [u8],
+        names: &'a [(&'a str, &'a str)],
+        notes: Vec<Note>,
+    ) -> Checked<'a>
+        requires { IsNoted (handed events.now bytes.now names.now) notes.items }
+        ensures { result ≡ handed events.entry.now bytes.entry.now names.entry.now }
+    {
+        Checked {
+            events,
+            bytes,
+            names,
+            notes,
+        }
+    }
 
     /// The events.
     pub fn events(&self) -> &'a [Event]

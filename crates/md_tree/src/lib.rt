@@ -2,6 +2,7 @@
 #![tactic(auto)]
 
 mod checked;
+mod grammar;
 mod judge;
 mod kinds;
 mod pattern;
@@ -14,4 +15,5 @@ mod steps;
 mod walk;
 
 pub use checked::Checked;
+pub use grammar::check;
 pub use rule::{CompileError, Rule};
