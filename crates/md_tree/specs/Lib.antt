@@ -11,5 +11,6 @@ pub mod Rules
 pub mod Shape
 pub mod Spine
 pub mod Standing
+pub mod Texts
 pub mod Tree
 pub mod Walk

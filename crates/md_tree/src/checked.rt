@@ -1,5 +1,8 @@
+ghost use Rattle.std.specs.Prelude.{◌≡◌, ◌↔◌, IsTrue};
+ghost use Rattle.md_tree.specs.Texts.{IsEventAt};
+
 use crate::kinds::Note;
-use md_base::Event;
+use md_base::{Event, Kind, Name, is_same_name};
 use std::marker::Model;
 
 /// Events, a document's bytes and a table of names that have passed a check: the events are the
@@ -25,7 +28,8 @@ impl<'a> Model for Checked<'a> {
 }
 
 impl<'a> Checked<'a> {
-    ghost use Rattle.std.specs.Prelude.{◌≡◌};
+    ghost use Rattle.std.specs.Prelude.{◌≡◌, ◌↔◌, IsTrue};
+    ghost use Rattle.md_tree.specs.Texts.{EntersAt, ExitsAt};
     ghost use Rattle.md_base.specs.Reference.{name_table};
     ghost use Rattle.md_tree.specs.Grammar.{IsChecked, handed};
     ghost use Rattle.md_tree.specs.Noted.{IsNoted};
@@ -68,5 +72,29 @@ impl<'a> Checked<'a> {
         ensures { name_table result.now ≡ self.now.names }
     {
         self.names
+    }
+
+    /// Whether the event at the index is there and enters a node of this name.
+    pub fn enters(&self, index: usize, name: Name) -> bool
+        ensures { IsTrue result ↔ EntersAt self.now.events index name }
+    {
+        is_event(self.events, index, Kind::Enter, name)
+    }
+
+    /// Whether the event at the index is there and exits a node of this name.
+    pub fn exits(&self, index: usize, name: Name) -> bool
+        ensures { IsTrue result ↔ ExitsAt self.now.events index name }
+    {
+        is_event(self.events, index, Kind::Exit, name)
+    }
+}
+
+/// Whether the event at the index is there, of this kind and name.
+fn is_event(events: &[Event], index: usize, kind: Kind, name: Name) -> bool
+    ensures { IsTrue result ↔ IsEventAt events.now index kind name }
+{
+    match events.get(index) {
+        Some(event) => event.kind == kind && is_same_name(event.name, name),
+        None => false,
     }
 }
