@@ -2,6 +2,7 @@ pub mod Breaks
 pub mod Checking
 pub mod Endings
 pub mod Greedy
+pub mod Indexed
 pub mod Groups
 pub mod Paths
 pub mod Resolving

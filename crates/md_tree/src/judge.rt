@@ -13,7 +13,7 @@ use md_text::LineEnding;
 use std::alloc::{AllocError, Global};
 
 /// The text of a node, where its place fits the bytes and is one.
-fn text_at<'a>(bytes: &'a [u8], position: &Position) -> Option<&'a str>
+pub fn text_at<'a>(bytes: &'a [u8], position: &Position) -> Option<&'a str>
     ensures { option_copied result ≡ text_between bytes.now position.now.start position.now.end }
 {
     Slice::from_position(bytes, position)?.as_str()
