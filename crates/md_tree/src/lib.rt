@@ -12,6 +12,8 @@ mod shape;
 mod standing;
 mod state;
 mod steps;
+#[cfg(test)]
+mod tests;
 mod walk;
 
 pub use checked::Checked;
