@@ -1,4 +1,10 @@
+pub mod Breaks
+pub mod Checking
+pub mod Endings
 pub mod Greedy
+pub mod Indexed
 pub mod Groups
 pub mod Paths
+pub mod Resolving
 pub mod Trees
+pub mod Verdicts

@@ -103,7 +103,7 @@ Reached-beginning holds = record {
   nodes_fine = tt;
 }
 
-may_hold_true : (b : Bool) (o : Option Entry) (entry : Entry) → cond b o None ≡ Some entry → (b ≡ true) × (o ≡ Some entry)
+pub may_hold_true : (b : Bool) (o : Option Entry) (entry : Entry) → cond b o None ≡ Some entry → (b ≡ true) × (o ≡ Some entry)
 may_hold_true true o entry e = (refl, e)
 may_hold_true false o entry e = cc
 
@@ -176,7 +176,7 @@ nothing_inside holds Empty before fine = refl
 nothing_inside holds (Node name start end children rest) before fine = absurd (fine.0.0.0 refl)
 
 -- an entry's parts
-entry_is : (a b : Entry) → Some a ≡ Some b → (a.state ≡ b.state) × (a.target ≡ b.target) × (a.outer ≡ b.outer)
+pub entry_is : (a b : Entry) → Some a ≡ Some b → (a.state ≡ b.state) × (a.target ≡ b.target) × (a.outer ≡ b.outer)
 entry_is a b e =
     let same = some_entry a b e in
     (ap (λ (n : Entry). n.state) same, ap (λ (n : Entry). n.target) same, ap (λ (n : Entry). n.outer) same)
@@ -243,25 +243,27 @@ pub record Left (holds ending : Reads) (events : List Event) (name : Name) (poin
   pub base : State
   pub found : Target
   pub inner : Target
-  pub waiting : Option Outer
+  pub open_node : Open
   pub others : List Open
   pub stands : Stands path others around found
   pub feeds : Feeds around (spine level.before) here
   pub name_is : level.name ≡ name
+  pub start_is : open_node.start ≡ level.start
   pub may : may_hold here.role ≡ true
-  pub entered_is : entered_on (standing_of level.name) here (target_of level.before found) ≡ Some (record { state = base; target = inner; outer = waiting })
+  pub entered_is : entered_on (standing_of level.name) here (target_of level.before found) ≡ Some (record { state = base; target = inner; outer = open_node.outer })
   pub inside : Feeds base (spine nodes) from.state
   pub target_is : from.target ≡ target_of nodes inner
-  pub exits : ExitsWhere ending waiting level.start point others from to
+  pub opens_are : from.open_nodes ≡ open_node ∷ others
+  pub exits : ExitsWhere ending open_node.outer level.start point others from to
   pub events_are : events ≡ opening (level ∷ path) ++ flatten nodes
   pub path_fine : IsFinePath holds (level ∷ path)
   pub nodes_fine : EachNode (IsFine holds) nodes base.role base.before
 
-left_from : (holds ending : Reads) (events : List Event) (name : Name) (point : Point) (from to : Course) (path : List Level) (opens : List Open) (nodes : Forest) (base : State) (found : Target) → Stands path opens base found → Feeds base (spine nodes) from.state → from.target ≡ target_of nodes found → events ≡ opening path ++ flatten nodes → IsFinePath holds path → EachNode (IsFine holds) nodes base.role base.before → Exits ending opens name point from to → Left holds ending events name point from to
-left_from holds ending events name point from to [] [] nodes base found stands feeds target events_are path_fine fine exits = absurd exits
-left_from holds ending events name point from to [] (open_node ∷ others) nodes base found stands feeds target events_are path_fine fine exits = absurd stands
-left_from holds ending events name point from to (level ∷ path) [] nodes base found stands feeds target events_are path_fine fine exits = absurd stands
-left_from holds ending events name point from to (level ∷ path) (open_node ∷ others) nodes base found stands feeds target events_are path_fine fine exits =
+left_from : (holds ending : Reads) (events : List Event) (name : Name) (point : Point) (from to : Course) (path : List Level) (opens : List Open) (nodes : Forest) (base : State) (found : Target) → from.open_nodes ≡ opens → Stands path opens base found → Feeds base (spine nodes) from.state → from.target ≡ target_of nodes found → events ≡ opening path ++ flatten nodes → IsFinePath holds path → EachNode (IsFine holds) nodes base.role base.before → Exits ending opens name point from to → Left holds ending events name point from to
+left_from holds ending events name point from to [] [] nodes base found opens_are stands feeds target events_are path_fine fine exits = absurd exits
+left_from holds ending events name point from to [] (open_node ∷ others) nodes base found opens_are stands feeds target events_are path_fine fine exits = absurd stands
+left_from holds ending events name point from to (level ∷ path) [] nodes base found opens_are stands feeds target events_are path_fine fine exits = absurd stands
+left_from holds ending events name point from to (level ∷ path) (open_node ∷ others) nodes base found opens_are stands feeds target events_are path_fine fine exits =
     let here = stands.2 in
     let on = may_hold_true (may_hold (State.role here)) (entered_on (standing_of level.name) here (target_of level.before stands.1)) (record { state = base; target = found; outer = open_node.outer }) stands.7 in
     record {
@@ -273,15 +275,17 @@ left_from holds ending events name point from to (level ∷ path) (open_node ∷
       base = base;
       found = stands.1;
       inner = found;
-      waiting = open_node.outer;
+      open_node = open_node;
       others = others;
       stands = stands.3;
       feeds = stands.4;
       name_is = sym stands.5 ∙ exits.0;
+      start_is = stands.6;
       may = on.0;
       entered_is = on.1;
       inside = feeds;
       target_is = target;
+      opens_are = opens_are;
       exits = subst (λ p. ExitsWhere ending open_node.outer p point others from to) stands.6 exits.1;
       events_are = events_are;
       path_fine = path_fine;
@@ -290,13 +294,13 @@ left_from holds ending events name point from to (level ∷ path) (open_node ∷
 
 pub Reached-left : (holds ending : Reads) (events : List Event) (name : Name) (point : Point) (from to : Course) → Reached holds events from → Exits ending from.open_nodes name point from to → Left holds ending events name point from to
 Reached-left holds ending events name point from to reached exits =
-    left_from holds ending events name point from to reached.path from.open_nodes reached.nodes reached.base reached.found reached.stands reached.feeds reached.target_is reached.events_are reached.path_fine reached.nodes_fine exits
+    left_from holds ending events name point from to reached.path from.open_nodes reached.nodes reached.base reached.found refl reached.stands reached.feeds reached.target_is reached.events_are reached.path_fine reached.nodes_fine exits
 
-Left-closed : (holds ending : Reads) (events : List Event) (name : Name) (point : Point) (from to : Course) → (left : Left holds ending events name point from to) → Closed ending (standing_of left.level.name) left.level.name left.level.start point left.nodes left.here to.state (target_of left.level.before left.found) to.target
+pub Left-closed : (holds ending : Reads) (events : List Event) (name : Name) (point : Point) (from to : Course) → (left : Left holds ending events name point from to) → Closed ending (standing_of left.level.name) left.level.name left.level.start point left.nodes left.here to.state (target_of left.level.before left.found) to.target
 Left-closed holds ending events name point from to left =
-    closed holds ending (standing_of left.level.name) left.level.name left.level.start point left.nodes left.here left.base (target_of left.level.before left.found) left.inner left.waiting left.others from to left.may left.entered_is left.nodes_fine left.inside left.target_is left.exits
+    closed holds ending (standing_of left.level.name) left.level.name left.level.start point left.nodes left.here left.base (target_of left.level.before left.found) left.inner left.open_node.outer left.others from to left.may left.entered_is left.nodes_fine left.inside left.target_is left.exits
 
-exits_open : (ending : Reads) (waiting : Option Outer) (start point : Point) (others : List Open) (from to : Course) → ExitsWhere ending waiting start point others from to → to.open_nodes ≡ others
+pub exits_open : (ending : Reads) (waiting : Option Outer) (start point : Point) (others : List Open) (from to : Course) → ExitsWhere ending waiting start point others from to → to.open_nodes ≡ others
 exits_open ending None start point others from to exits = ap (λ (c : Course). c.open_nodes) exits
 exits_open ending (Some outer) start point others from to exits = ap (λ (c : Course). c.open_nodes) exits.2
 
@@ -305,9 +309,9 @@ events_joined a b c x y =
     append_assoc ((a ++ b) ++ x ∷ []) c (y ∷ []) ∙ append_assoc (a ++ b) (x ∷ []) (c ++ y ∷ []) ∙ append_assoc a b (x ∷ c ++ y ∷ [])
 
 -- the inner context of a node that is left, by the spine around it
-Left-inner : (holds ending : Reads) (events : List Event) (name : Name) (point : Point) (from to : Course) → (left : Left holds ending events name point from to) → EachNode (IsFine holds) left.nodes (inner_role (standing_of left.level.name) left.here.role left.here.before) (inner_before (standing_of left.level.name) left.here.before)
+pub Left-inner : (holds ending : Reads) (events : List Event) (name : Name) (point : Point) (from to : Course) → (left : Left holds ending events name point from to) → EachNode (IsFine holds) left.nodes (inner_role (standing_of left.level.name) left.here.role left.here.before) (inner_before (standing_of left.level.name) left.here.before)
 Left-inner holds ending events name point from to left =
-    let context = entered_context (standing_of left.level.name) left.here (target_of left.level.before left.found) (record { state = left.base; target = left.inner; outer = left.waiting }) left.entered_is in
+    let context = entered_context (standing_of left.level.name) left.here (target_of left.level.before left.found) (record { state = left.base; target = left.inner; outer = left.open_node.outer }) left.entered_is in
     subst (λ b. EachNode (IsFine holds) left.nodes (inner_role (standing_of left.level.name) left.here.role left.here.before) b) context.1 (subst (λ r. EachNode (IsFine holds) left.nodes r left.base.before) context.0 left.nodes_fine)
 
 left_reached : (holds : Reads) (events : List Event) (point : Point) (from to : Course) (path : List Level) (level : Level) (nodes : Forest) (around here : State) (found : Target) → Stands path to.open_nodes around found → Feeds around (spine level.before) here → Closed holds (standing_of level.name) level.name level.start point nodes here to.state (target_of level.before found) to.target → EachNode (IsFine holds) nodes (inner_role (standing_of level.name) here.role here.before) (inner_before (standing_of level.name) here.before) → events ≡ opening (level ∷ path) ++ flatten nodes → IsFinePath holds (level ∷ path) → Reached holds (events ++ exiting level.name point ∷ []) to
@@ -337,5 +341,5 @@ left_reached holds events point from to path level nodes around here found stand
 pub Reached-exit : (holds : Reads) (events : List Event) (name : Name) (point : Point) (from to : Course) → Reached holds events from → Exits holds from.open_nodes name point from to → Reached holds (events ++ exiting name point ∷ []) to
 Reached-exit holds events name point from to reached exits =
     let left = Reached-left holds holds events name point from to reached exits in
-    let stands = subst (λ os. Stands left.path os left.around left.found) (sym (exits_open holds left.waiting left.level.start point left.others from to left.exits)) left.stands in
+    let stands = subst (λ os. Stands left.path os left.around left.found) (sym (exits_open holds left.open_node.outer left.level.start point left.others from to left.exits)) left.stands in
     subst (λ n. Reached holds (events ++ exiting n point ∷ []) to) left.name_is (left_reached holds events point from to left.path left.level left.nodes left.around left.here left.found stands left.feeds (Left-closed holds holds events name point from to left) (Left-inner holds holds events name point from to left) left.events_are left.path_fine)

@@ -1,6 +1,8 @@
 -- The event grammar over a document's bytes and a table of names.
 use Rattle.std.specs.Prelude.{◌≡◌, ℕ, Option, None, List}
 use Rattle.std.specs.List.{All}
+use Rattle.std.specs.Borrow.{Bor}
+use Rattle.md_base.specs.Reference.{name_table}
 use Rattle.md_base.specs.declared.event.Event.{Event}
 use Rattle.md_tree.specs.declared.kinds.Role.TheVariants as role
 use Rattle.md_tree.specs.Tree.{Forest, flatten}
@@ -19,6 +21,10 @@ pub record Document : Type 0 where
   pub events : List Event
   pub bytes : List ℕ
   pub names : List (List ℕ × List ℕ)
+
+-- the three, as they are handed in
+abbrev pub handed : List Event → List ℕ → List (Bor (List ℕ) × Bor (List ℕ)) → Document
+handed events bytes names = record { events = events; bytes = bytes; names = name_table names }
 
 -- the events are the flattening of this document of the grammar over the bytes and names
 pub record IsReadAs (given : Document) (forest : Forest) : Type 0 where

@@ -3,13 +3,17 @@ pub mod Grammar
 pub mod Machine
 pub mod Mentions
 pub mod Names
+pub mod Noted
 pub mod Pattern
 pub mod Refusal
+pub mod Resolve
 pub mod Rules
 pub mod Shape
 pub mod Spine
 pub mod Standing
+pub mod Texts
 pub mod Tree
 pub mod NameTests
 pub mod Children
 pub mod Looseness
+pub mod Walk

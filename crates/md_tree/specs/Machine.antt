@@ -165,10 +165,14 @@ Exits holds [] name point from to = ⊥
 Exits holds (open_node ∷ others) name point from to =
     (open_node.name ≡ name) × ExitsWhere holds open_node.outer open_node.start point others from to
 
+-- an entering event
+abbrev pub Enters : Name → Point → Course → Course → Type 0
+Enters name point from to =
+    MatchOption (entered (standing_of name) from.state from.target) ⊥ (λ entry. to ≡ after_entry entry name point from)
+
 -- an event
 abbrev pub StepsBy : Reads → Kind → Name → Point → Course → Course → Type 0
-StepsBy holds Enter name point from to =
-    MatchOption (entered (standing_of name) from.state from.target) ⊥ (λ entry. to ≡ after_entry entry name point from)
+StepsBy holds Enter name point from to = Enters name point from to
 StepsBy holds Exit name point from to = Exits holds from.open_nodes name point from to
 
 abbrev pub Steps : Reads → Event → Course → Course → Type 0

@@ -99,23 +99,45 @@ abbrev pub EntersMdx : List Event → ℕ → Type 0
 EntersMdx events index =
     (event : Event) × (slice_get events index ≡ Some event) × (event.kind ≡ Enter) × (standing_of event.name ≡ standing.Mdx)
 
--- what is known where a rule is named at an index
-abbrev pub IsBroken : Document → ℕ → Rule → Type 0
-IsBroken given index rule.Order =
+-- Order at an event: no tree begins so; Order at the number of events: something is open
+abbrev pub IsOrder : Document → CompileError → Type 0
+IsOrder given (error.Event index rule.Order) =
     (index ≤ length given.events) × (index < length given.events → BeginNoTree (take (suc index) given.events)) × (index ≡ length given.events → LeaveOpen given.events)
-IsBroken given index rule.Mdx = EntersMdx given.events index
-IsBroken given index rule.Definition =
-    (label : Position) × EndsUnresolved given.bytes given.names given.events index (Reference label)
-IsBroken given index rule.Footnote = (label : Position) × EndsUnresolved given.bytes given.names given.events index (Call label)
-IsBroken given index broken =
-    (index < length given.events) × EndsBroken given.bytes given.names (take (suc index) given.events) broken
+IsOrder given _ = Unit {0}
 
--- want of memory says nothing; else the rule is broken at the event
-abbrev pub IsRefusal : Document → CompileError → Type 0
-IsRefusal given error.Memory = Unit {0}
-IsRefusal given (error.Event index broken) = IsBroken given index broken
+-- Mdx: that event enters a name of MDX
+abbrev pub IsMdx : Document → CompileError → Type 0
+IsMdx given (error.Event index rule.Mdx) = EntersMdx given.events index
+IsMdx given _ = Unit {0}
+
+-- a rule that is judged when a node ends: the node that ends there breaks it
+abbrev pub IsBroken : Document → ℕ → Rule → Type 0
+IsBroken given index broken = (index < length given.events) × EndsBroken given.bytes given.names (take (suc index) given.events) broken
+
+abbrev pub IsOfNode : Document → CompileError → Type 0
+IsOfNode given (error.Event index rule.Place) = IsBroken given index rule.Place
+IsOfNode given (error.Event index rule.LineEnding) = IsBroken given index rule.LineEnding
+IsOfNode given (error.Event index rule.HeadingMark) = IsBroken given index rule.HeadingMark
+IsOfNode given (error.Event index rule.ListNumber) = IsBroken given index rule.ListNumber
+IsOfNode given (error.Event index rule.CharacterReference) = IsBroken given index rule.CharacterReference
+IsOfNode given (error.Event index rule.Target) = IsBroken given index rule.Target
+IsOfNode given _ = Unit {0}
+
+-- Definition or Footnote: what the node that ends there leads to isn't there, in a document that meets all else
+abbrev pub IsLost : Document → CompileError → Type 0
+IsLost given (error.Event index rule.Definition) = (label : Position) × EndsUnresolved given.bytes given.names given.events index (Reference label)
+IsLost given (error.Event index rule.Footnote) = (label : Position) × EndsUnresolved given.bytes given.names given.events index (Call label)
+IsLost given _ = Unit {0}
 
 -- an event is refused only where the events are the flattening of no document of the grammar
 abbrev pub IsOutside : Document → CompileError → Type 0
 IsOutside given error.Memory = Unit {0}
 IsOutside given (error.Event index broken) = IsChecked given → ⊥
+
+-- all of these
+pub record IsRefusal (given : Document) (refusal : CompileError) : Type 0 where
+  pub order : IsOrder given refusal
+  pub mdx : IsMdx given refusal
+  pub of_node : IsOfNode given refusal
+  pub lost : IsLost given refusal
+  pub outside : IsOutside given refusal

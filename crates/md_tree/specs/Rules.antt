@@ -1,10 +1,11 @@
 -- The side conditions of the grammar: what the bytes of each node have to be.
-use Rattle.std.specs.Prelude.{◌≡◌, ℕ, ◌+◌, ◌-◌, Bool, ◌&&◌, ◌||◌, ◌==◌, nat_lt, nat_le, if◌then◌else◌, Option, Some, None, is_some, List, [], ◌∷◌, length, bytes_eq}
+use Rattle.std.specs.Prelude.{◌≡◌, ℕ, ◌+◌, ◌-◌, Bool, ◌&&◌, true, nat_lt, nat_le, if◌then◌else◌, Option, Some, None, is_some, List, length}
 use Rattle.md_base.specs.declared.event.Name.{Name}
 use Rattle.md_base.specs.declared.event.Point.{Point}
 use Rattle.md_base.specs.declared.event.Position.{Position}
 use Rattle.md_base.specs.Place.{byte_index, spaces_before, spaces_after, fits, text_between, label_between}
 use Rattle.md_base.specs.Reference.{is_number, decoded}
+use Rattle.md_text.specs.LineEnding.{ending_of}
 use Rattle.md_tree.specs.declared.kinds.Symbol.{Symbol}
 use Rattle.md_tree.specs.declared.kinds.Symbol.TheVariants.{ReferenceNumeric, ReferenceHexadecimal}
 use Rattle.md_tree.specs.declared.kinds.Role.{Role}
@@ -46,7 +47,7 @@ target_of (Node name start end children rest) found =
 
 -- one of the three texts of line endings
 abbrev pub is_line_ending : List ℕ → Bool
-is_line_ending text = bytes_eq text (10 ∷ []) || bytes_eq text (13 ∷ []) || bytes_eq text (13 ∷ 10 ∷ [])
+is_line_ending text = is_some (ending_of text)
 
 -- the marker of a reference whose value stands after this symbol: `#`, `x` or `&`
 abbrev pub marker_after : Option Symbol → ℕ
@@ -57,7 +58,7 @@ marker_after _ = 38
 -- the number of an ordered list is that of its first item's value
 abbrev pub is_list_number : Role → List ℕ → Bool
 is_list_number role.FirstOrderedPrefix text = is_number 10 text
-is_list_number _ text = nat_le 0 0
+is_list_number _ text = true
 
 -- how long a node is, the columns of tabs at its ends included
 abbrev pub columns : Point → Point → ℕ
@@ -66,7 +67,7 @@ columns start end = spaces_before start + (byte_index end - byte_index start) + 
 -- the first mark of a heading is its rank
 abbrev pub is_rank : Option Symbol → ℕ → Bool
 is_rank None length = nat_le 1 length && nat_le length 6
-is_rank (Some before) length = nat_le 0 0
+is_rank (Some before) length = true
 
 -- nothing is broken where the condition holds
 abbrev pub unless : Bool → Rule → Option Rule

@@ -1,5 +1,11 @@
+ghost use Rattle.std.specs.Prelude.{◌≡◌, ◌↔◌, ◌<◌, length, slice_index_or, IsTrue};
+ghost use Rattle.md_base.specs.declared.event.Event.{Event};
+ghost use Rattle.md_tree.specs.declared.kinds.Note.{Note};
+ghost use Rattle.md_tree.specs.Texts.{IsEventAt};
+
+use crate::judge::{label_at, text_at};
 use crate::kinds::Note;
-use md_base::Event;
+use md_base::{Event, Kind, Name, Position, is_same_name};
 use std::marker::Model;
 
 /// Events, a document's bytes and a table of names that have passed a check: the events are the
@@ -25,9 +31,29 @@ impl<'a> Model for Checked<'a> {
 }
 
 impl<'a> Checked<'a> {
-    ghost use Rattle.std.specs.Prelude.{◌≡◌};
+    ghost use Rattle.std.specs.Prelude.{◌≡◌, ◌↔◌, IsTrue};
+    ghost use Rattle.md_tree.specs.Texts.{EntersAt, ExitsAt, ExitsText, ExitsIdentifier, IsTextAt, IsIdentifierAt};
     ghost use Rattle.md_base.specs.Reference.{name_table};
-    ghost use Rattle.md_tree.specs.Grammar.{IsChecked};
+    ghost use Rattle.md_tree.specs.Grammar.{IsChecked, handed};
+    ghost use Rattle.md_tree.specs.Noted.{IsNoted};
+
+    /// What has passed a check, with the notes of its events.
+    pub(crate) fn new(
+        events: &'a [Event],
+        bytes: &'a [u8],
+        names: &'a [(&'a str, &'a str)],
+        notes: Vec<Note>,
+    ) -> Checked<'a>
+        requires { IsNoted (handed events.now bytes.now names.now) notes.items }
+        ensures { result ≡ handed events.entry.now bytes.entry.now names.entry.now }
+    {
+        Checked {
+            events,
+            bytes,
+            names,
+            notes,
+        }
+    }
 
     /// The events.
     pub fn events(&self) -> &'a [Event]
@@ -49,5 +75,60 @@ impl<'a> Checked<'a> {
         ensures { name_table result.now ≡ self.now.names }
     {
         self.names
+    }
+
+    /// Whether the event at the index is there and enters a node of this name.
+    pub fn enters(&self, index: usize, name: Name) -> bool
+        ensures { IsTrue result ↔ EntersAt self.now.events index name }
+    {
+        is_event(self.events, index, Kind::Enter, name)
+    }
+
+    /// Whether the event at the index is there and exits a node of this name.
+    pub fn exits(&self, index: usize, name: Name) -> bool
+        ensures { IsTrue result ↔ ExitsAt self.now.events index name }
+    {
+        is_event(self.events, index, Kind::Exit, name)
+    }
+
+    /// The text of the node that ends with the event at the index: its bytes alone.
+    pub fn text(&self, index: usize) -> &'a str
+        requires { ExitsText self.now.events index }
+        ensures { IsTextAt self.now index result.now }
+    {
+        let position = position_at(self.events, &self.notes, index);
+        text_at(self.bytes, &position).unwrap()
+    }
+
+    /// The text between the indices of the node that ends with the event at the index.
+    pub fn identifier(&self, index: usize) -> &'a str
+        requires { ExitsIdentifier self.now.events index }
+        ensures { IsIdentifierAt self.now index result.now }
+    {
+        let position = position_at(self.events, &self.notes, index);
+        label_at(self.bytes, &position).unwrap()
+    }
+}
+
+/// Where the node that ends with the event at the index starts and ends.
+fn position_at(events: &[Event], notes: &[Note], index: usize) -> Position
+    requires event { index < length events.now }
+    requires note { index < length notes.now }
+    ensures start { (d : Note) → result.start ≡ Note.start (slice_index_or notes.now index d) }
+    ensures end { (d : Event) → result.end ≡ Event.point (slice_index_or events.now index d) }
+{
+    Position {
+        start: notes[index].start,
+        end: events[index].point,
+    }
+}
+
+/// Whether the event at the index is there, of this kind and name.
+fn is_event(events: &[Event], index: usize, kind: Kind, name: Name) -> bool
+    ensures { IsTrue result ↔ IsEventAt events.now index kind name }
+{
+    match events.get(index) {
+        Some(event) => event.kind == kind && is_same_name(event.name, name),
+        None => false,
     }
 }

@@ -1,4 +1,4 @@
-use std::alloc::AllocError;
+use std::alloc::{AllocError, AllocFailed};
 use std::error::Error;
 use std::fmt;
 
@@ -82,6 +82,17 @@ impl From<AllocError> for CompileError {
     ghost from_gives = { λ _ made. made ≡ Memory };
 
     fn from(_error: AllocError) -> CompileError {
+        CompileError::Memory
+    }
+}
+
+impl<T: Drop> From<AllocFailed<T>> for CompileError {
+    ghost use Rattle.std.specs.Prelude.{◌≡◌};
+    ghost use Rattle.md_tree.specs.declared.rule.CompileError.TheVariants.{Memory};
+
+    ghost from_gives = { λ _ made. made ≡ Memory };
+
+    fn from(_error: AllocFailed<T>) -> CompileError {
         CompileError::Memory
     }
 }

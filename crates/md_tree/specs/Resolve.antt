@@ -1,0 +1,42 @@
+-- What leads nowhere.
+use Rattle.std.specs.Prelude.{◌≡◌, ℕ, Option, Some, option_map, List, map, slice_get, string_bytes, String}
+use Rattle.std.specs.List.{Contains}
+use Rattle.std.specs.declared.alloc.Global.{Global}
+use Rattle.md_base.specs.declared.event.Position.{Position}
+use Rattle.md_tree.specs.declared.kinds.Mention.{Mention}
+use Rattle.md_tree.specs.declared.kinds.Mention.TheVariants.{Reference, Call}
+use Rattle.md_tree.specs.declared.rule.Rule.{Rule}
+use Rattle.md_tree.specs.declared.rule.Rule.TheVariants as rule
+use Rattle.md_tree.specs.declared.rule.CompileError.{CompileError}
+use Rattle.md_tree.specs.declared.rule.CompileError.TheVariants as error
+use Rattle.md_tree.specs.Mentions.{IsResolved, identifier_at}
+
+-- the event at the index mentions this, and nothing of the kind is defined
+abbrev pub LeadsNowhere : List ℕ → List Mention → ℕ → Mention → Type 0
+LeadsNowhere bytes mentions index mention = (slice_get mentions index ≡ Some mention) × (IsResolved bytes mentions mention → ⊥)
+
+-- the rule that what leads nowhere breaks
+abbrev pub IsUnresolvedBy : List ℕ → List Mention → ℕ → Rule → Type 0
+IsUnresolvedBy bytes mentions index rule.Definition = (label : Position) × LeadsNowhere bytes mentions index (Reference label)
+IsUnresolvedBy bytes mentions index rule.Footnote = (label : Position) × LeadsNowhere bytes mentions index (Call label)
+IsUnresolvedBy bytes mentions index _ = ⊥
+
+abbrev pub IsUnresolved : List ℕ → List Mention → CompileError → Type 0
+IsUnresolved bytes mentions error.Memory = Unit {0}
+IsUnresolved bytes mentions (error.Event index broken) = IsUnresolvedBy bytes mentions index broken
+
+-- the bytes of identifiers
+abbrev pub identifiers_of : List (Option (String Global)) → List (Option (List ℕ))
+identifiers_of texts = map (λ text. option_map string_bytes text) texts
+
+-- what a mention leads to is among these identifiers of definitions and footnote definitions
+abbrev pub IsFound : List ℕ → List (Option (List ℕ)) → List (Option (List ℕ)) → Mention → Type 0
+IsFound bytes definitions footnotes (Reference label) = Contains definitions (identifier_at bytes label)
+IsFound bytes definitions footnotes (Call label) = Contains footnotes (identifier_at bytes label)
+IsFound bytes definitions footnotes _ = Unit {0}
+
+-- it isn't, and so the rule is broken
+abbrev pub IsLost : List ℕ → List (Option (List ℕ)) → List (Option (List ℕ)) → Mention → Rule → Type 0
+IsLost bytes definitions footnotes (Reference label) broken = (broken ≡ rule.Definition) × (Contains definitions (identifier_at bytes label) → ⊥)
+IsLost bytes definitions footnotes (Call label) broken = (broken ≡ rule.Footnote) × (Contains footnotes (identifier_at bytes label) → ⊥)
+IsLost bytes definitions footnotes _ broken = ⊥

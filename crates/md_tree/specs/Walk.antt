@@ -1,0 +1,91 @@
+-- How a walk over events stands, and why it stops.
+use Rattle.std.specs.Prelude.{◌≡◌, ℕ, false, Option, Some, None, List, [], ◌∷◌, reverse, IsTrue}
+use Rattle.md_base.specs.declared.event.Point.{Point}
+use Rattle.md_base.specs.declared.event.Position.{Position}
+use Rattle.md_base.specs.declared.event.Name.{Name}
+use Rattle.md_base.specs.declared.event.Kind.{Kind}
+use Rattle.md_base.specs.declared.event.Kind.TheVariants.{Enter, Exit}
+use Rattle.md_tree.specs.declared.kinds.Standing.TheVariants as standing
+use Rattle.md_tree.specs.declared.rule.Rule.{Rule}
+use Rattle.md_tree.specs.declared.rule.Rule.TheVariants as rule
+use Rattle.md_tree.specs.declared.rule.CompileError.{CompileError}
+use Rattle.md_tree.specs.declared.rule.CompileError.TheVariants as error
+use Rattle.md_tree.specs.declared.state.Open.{Open}
+use Rattle.md_tree.specs.declared.state.Outer.{Outer}
+use Rattle.md_tree.specs.declared.walk.Walk.{Walk}
+use Rattle.md_tree.specs.Standing.{standing_of}
+use Rattle.md_tree.specs.Rules.{broken_rule, target_at}
+use Rattle.md_tree.specs.Mentions.{mention_of}
+use Rattle.md_tree.specs.declared.kinds.Mention.{Mention}
+use Rattle.md_tree.specs.Machine.{Reads, Course, Enters, Exits, is_complete}
+
+-- the course of a walk, whose vector has the innermost open node last
+abbrev pub course_of : Walk → Course
+course_of walk = record {
+  state = walk.state;
+  target = walk.target;
+  open_nodes = reverse walk.open_nodes.items;
+  notes = walk.notes.items;
+}
+
+-- any node
+abbrev pub Anything : Reads
+Anything reading around before start end target = Unit {0}
+
+-- a node that breaks no rule
+abbrev pub Unbroken : List ℕ → List (List ℕ × List ℕ) → Reads
+Unbroken bytes names reading around before start end target = broken_rule bytes names reading around before start end target ≡ None
+
+-- a node that breaks a rule
+abbrev pub Broken : List ℕ → List (List ℕ × List ℕ) → Rule → Reads
+Broken bytes names broken reading around before start end target = broken_rule bytes names reading around before start end target ≡ Some broken
+
+-- the innermost open node would end here, and breaks the rule
+abbrev pub BreaksWhere : List ℕ → List (List ℕ × List ℕ) → Rule → Option Outer → Point → Point → Course → Type 0
+BreaksWhere bytes names broken None start end course = ⊥
+BreaksWhere bytes names broken (Some outer) start end course =
+    IsTrue (is_complete course.state) × Broken bytes names broken outer.reading outer.state.role outer.before start end course.target
+
+abbrev pub BreaksAtExit : List ℕ → List (List ℕ × List ℕ) → Rule → List Open → Name → Point → Course → Type 0
+BreaksAtExit bytes names broken [] name point course = ⊥
+BreaksAtExit bytes names broken (open_node ∷ others) name point course =
+    (open_node.name ≡ name) × BreaksWhere bytes names broken open_node.outer open_node.start point course
+
+-- why an entering event stops a walk: nothing may stand there, or it is a name of MDX
+abbrev pub StopsAtEntry : Rule → Name → Point → Course → Type 0
+StopsAtEntry rule.Order name point course = (next : Course) → Enters name point course next → ⊥
+StopsAtEntry rule.Mdx name point course = standing_of name ≡ standing.Mdx
+StopsAtEntry _ name point course = ⊥
+
+-- why an exiting event stops a walk: no node may end there, or its node breaks a rule
+abbrev pub StopsAtExit : List ℕ → List (List ℕ × List ℕ) → Rule → Name → Point → Course → Type 0
+StopsAtExit bytes names rule.Order name point course = (next : Course) → Exits Anything course.open_nodes name point course next → ⊥
+StopsAtExit bytes names rule.Mdx name point course = ⊥
+StopsAtExit bytes names broken name point course = BreaksAtExit bytes names broken course.open_nodes name point course
+
+abbrev pub StopsBy : List ℕ → List (List ℕ × List ℕ) → Kind → Rule → Name → Point → Course → Type 0
+StopsBy bytes names Enter broken name point course = StopsAtEntry broken name point course
+StopsBy bytes names Exit broken name point course = StopsAtExit bytes names broken name point course
+
+-- want of memory, or a rule at this event
+abbrev pub IsStop : List ℕ → List (List ℕ × List ℕ) → ℕ → Kind → Name → Point → Course → CompileError → Type 0
+IsStop bytes names index kind name point course error.Memory = Unit {0}
+IsStop bytes names index kind name point course (error.Event named broken) =
+    (named ≡ index) × StopsBy bytes names kind broken name point course
+
+-- a node with a spine of its own is left, and mentions this
+abbrev pub Leaves : Reads → Outer → Position → Walk → Walk → Mention → Type 0
+Leaves holds outer position from to mention =
+    IsTrue (is_complete from.state) × holds outer.reading outer.state.role outer.before position.start position.end from.target
+    × (to ≡ record from { state = outer.state; target = target_at outer.reading outer.target from.target position })
+    × (mention ≡ mention_of outer.reading from.target)
+
+-- such a node may not end, or it breaks a rule
+abbrev pub StopsInside : List ℕ → List (List ℕ × List ℕ) → Rule → Outer → Position → Course → Type 0
+StopsInside bytes names rule.Order outer position course = is_complete course.state ≡ false
+StopsInside bytes names broken outer position course = BreaksWhere bytes names broken (Some outer) position.start position.end course
+
+abbrev pub IsStopInside : List ℕ → List (List ℕ × List ℕ) → ℕ → Outer → Position → Course → CompileError → Type 0
+IsStopInside bytes names index outer position course error.Memory = Unit {0}
+IsStopInside bytes names index outer position course (error.Event named broken) =
+    (named ≡ index) × StopsInside bytes names broken outer position course

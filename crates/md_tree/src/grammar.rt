@@ -1,0 +1,75 @@
+ghost use Rattle.std.specs.Prelude.{◌≡◌, [], true, false, IfOk, OnOk, IfErr};
+ghost use Rattle.md_base.specs.Reference.{name_table};
+ghost use Rattle.md_tree.specs.Grammar.{handed, IsChecked};
+ghost use Rattle.md_tree.specs.Refusal.{IsOrder, IsMdx, IsOfNode, IsLost, IsOutside, IsRefusal};
+ghost use Rattle.md_tree.specs.Machine.{Runs, beginning, is_complete};
+ghost use Rattle.md_tree.specs.Walk.{course_of, Unbroken};
+
+use crate::checked::Checked;
+use crate::judge::Source;
+use crate::resolve::resolve;
+use crate::rule::{CompileError, Rule};
+use crate::steps::can_end;
+use crate::walk::Walk;
+use md_base::Event;
+use std::alloc::Global;
+
+/// Checks that events are the flattening of a document of the grammar over the document's bytes
+/// and the names of character references, each with its text.
+///
+/// # Errors
+///
+/// `CompileError::Memory` where memory is lacking, and `CompileError::Event` exactly where the
+/// events are the flattening of no such document.
+pub fn check<'a>(
+    alloc: Global,
+    events: &'a [Event],
+    bytes: &'a [u8],
+    names: &'a [(&'a str, &'a str)],
+) -> Result<Checked<'a>, CompileError>
+    ensures ok { IfOk result (λ checked. checked ≡ handed events.now bytes.now names.now) }
+    ensures grammatical { OnOk result (IsChecked (handed events.now bytes.now names.now)) }
+
+    ensures outside { IfErr result (IsOutside (handed events.now bytes.now names.now)) }
+    ensures order { IfErr result (IsOrder (handed events.now bytes.now names.now)) }
+    ensures mdx { IfErr result (IsMdx (handed events.now bytes.now names.now)) }
+    ensures of_node { IfErr result (IsOfNode (handed events.now bytes.now names.now)) }
+    ensures lost { IfErr result (IsLost (handed events.now bytes.now names.now)) }
+{
+    let walk = walk_through(alloc, events, Source { bytes, names })?;
+    if !is_done(&walk) {
+        return Err(CompileError::Event {
+            index: events.len(),
+            rule: Rule::Order,
+        });
+    }
+    let Walk {
+        state: _,
+        target: _,
+        open_nodes: _,
+        notes,
+    } = walk;
+    resolve(alloc, bytes, &notes)?;
+    Ok(Checked::new(events, bytes, names, notes))
+}
+
+/// Walks over all events.
+fn walk_through(alloc: Global, events: &[Event], source: Source) -> Result<Walk, CompileError>
+    ensures walked { IfOk result
+        (λ walk. Runs (Unbroken source.entry.bytes.now (name_table source.entry.names.now)) events.now beginning (course_of walk)) }
+    ensures refused { IfErr result (IsRefusal (handed events.now source.entry.bytes.now source.entry.names.now)) }
+{
+    let mut walk = Walk::new(alloc);
+    for (index, event) in events.iter().enumerate() {
+        walk.step(alloc, source, index, *event)?;
+    }
+    Ok(walk)
+}
+
+/// Whether all nodes have ended, and the document's spine may end.
+fn is_done(walk: &Walk) -> bool
+    ensures done { result ≡ true → (walk.now.open_nodes.items ≡ []) × (is_complete walk.now.state ≡ true) }
+    ensures undone { result ≡ false → walk.now.open_nodes.items ≡ [] → is_complete walk.now.state ≡ false }
+{
+    walk.open_nodes.is_empty() && can_end(walk.state)
+}

@@ -1,0 +1,226 @@
+ghost use Rattle.std.specs.Prelude.{◌≡◌, length, nat_lt, is_some, option_copied, IfOk, if◌then◌else◌};
+ghost use Rattle.md_base.specs.Place.{fits, text_between, label_between};
+ghost use Rattle.md_base.specs.Reference.{name_table, decoded, is_number};
+ghost use Rattle.md_tree.specs.Rules.{is_line_ending, is_list_number, is_rank, marker_after, columns, unless, broken_by, broken_by_target, broken_rule, target_at};
+ghost use Rattle.md_tree.specs.Mentions.{mention_of};
+ghost use Rattle.md_tree.specs.declared.rule.Rule.TheVariants as rule;
+
+use crate::kinds::{Mention, Reading, Role, Symbol, Target};
+use crate::rule::Rule;
+use crate::state::Outer;
+use md_base::{Point, Position, Slice, decode_character_reference};
+use md_text::LineEnding;
+use std::alloc::{AllocError, Global};
+
+/// The text of a node, where its place fits the bytes and is one.
+pub fn text_at<'a>(bytes: &'a [u8], position: &Position) -> Option<&'a str>
+    ensures { option_copied result ≡ text_between bytes.now position.now.start position.now.end }
+{
+    Slice::from_position(bytes, position)?.as_str()
+}
+
+/// The text between the indices of a node's points, where they fit the bytes and it is one.
+pub fn label_at<'a>(bytes: &'a [u8], position: &Position) -> Option<&'a str>
+    ensures { option_copied result ≡ label_between bytes.now position.now.start position.now.end }
+{
+    Slice::from_indices(bytes, position.start.index, position.end.index)?.as_str()
+}
+
+/// The rule, unless its condition holds.
+pub fn rule_unless(condition: bool, rule: Rule) -> Option<Rule>
+    ensures { result ≡ unless condition rule }
+{
+    if condition { None } else { Some(rule) }
+}
+
+/// A place that is a text.
+fn broken_text(text: Option<&str>) -> Option<Rule>
+    ensures { result ≡ broken_by (option_copied text.entry) (λ _. None) }
+{
+    match text {
+        None => Some(Rule::Place),
+        Some(_) => None,
+    }
+}
+
+/// The text of a line ending.
+fn broken_ending(text: Option<&str>) -> Option<Rule>
+    ensures { result ≡ broken_by (option_copied text.entry) (λ t. unless (is_line_ending t) rule.LineEnding) }
+{
+    match text {
+        None => Some(Rule::Place),
+        Some(text) => rule_unless(is_ending(text), Rule::LineEnding),
+    }
+}
+
+/// Whether a text is a line ending's.
+fn is_ending(text: &str) -> bool
+    ensures { result ≡ is_line_ending text.now }
+{
+    text.parse::<LineEnding>().is_ok()
+}
+
+/// The value of an item, which is a number in the first one of an ordered list.
+fn broken_number(around: Role, text: Option<&str>) -> Option<Rule>
+    ensures { result ≡ broken_by (option_copied text.entry) (λ t. unless (is_list_number around t) rule.ListNumber) }
+{
+    match text {
+        None => Some(Rule::Place),
+        Some(text) => rule_unless(is_right_number(around, text), Rule::ListNumber),
+    }
+}
+
+/// Whether a text is the number that it has to be in a node of this role.
+fn is_right_number(around: Role, text: &str) -> bool
+    ensures { result ≡ is_list_number around text.now }
+{
+    match around {
+        Role::FirstOrderedPrefix => is_decimal(text),
+        _ => true,
+    }
+}
+
+/// Whether a text is one or more ASCII digits whose number fits a `u32`.
+fn is_decimal(text: &str) -> bool
+    ensures { result ≡ is_number 10 text.now }
+{
+    // `parse` takes a plus sign, which a list's number can't have.
+    if text.starts_with('+') {
+        return false;
+    }
+    u32::from_str_radix(text, 10).is_ok()
+}
+
+/// The value of a character reference.
+fn broken_value(
+    alloc: Global,
+    names: &[(&str, &str)],
+    before: Option<Symbol>,
+    text: Option<&str>,
+) -> Result<Option<Rule>, AllocError>
+    ensures { IfOk result
+        (λ broken. broken ≡ broken_by (option_copied text.entry) (λ t. unless (is_some (decoded (name_table names.now) (marker_after before) t)) rule.CharacterReference)) }
+{
+    let Some(text) = text else {
+        return Ok(Some(Rule::Place));
+    };
+    let value = decode_character_reference(alloc, text, marker(before), names)?;
+    Ok(rule_unless(value.is_some(), Rule::CharacterReference))
+}
+
+/// The marker of a reference whose value stands after a symbol.
+fn marker(before: Option<Symbol>) -> u8
+    ensures { result ≡ marker_after before }
+{
+    match before {
+        Some(Symbol::ReferenceNumeric) => b'#',
+        Some(Symbol::ReferenceHexadecimal) => b'x',
+        _ => b'&',
+    }
+}
+
+/// A mark of a heading, the first of which is its rank.
+fn broken_mark(bytes: &[u8], before: Option<Symbol>, position: &Position) -> Option<Rule>
+    ensures { result ≡ (if fits bytes.now position.now.start position.now.end then unless (is_rank before (columns position.now.start position.now.end)) rule.HeadingMark else Some rule.Place) }
+{
+    match Slice::from_position(bytes, position) {
+        None => Some(Rule::Place),
+        Some(slice) => rule_unless(is_right_mark(before, slice.len()), Rule::HeadingMark),
+    }
+}
+
+/// Whether a mark of this length may stand after a symbol.
+fn is_right_mark(before: Option<Symbol>, length: usize) -> bool
+    ensures { result ≡ is_rank before length }
+{
+    match before {
+        None => 1 <= length && length <= 6,
+        Some(_) => true,
+    }
+}
+
+/// The first byte of an underline.
+fn broken_underline(bytes: &[u8], start: Point) -> Option<Rule>
+    ensures { result ≡ unless (nat_lt start.index (length bytes.now)) rule.Place }
+{
+    rule_unless(start.index < bytes.len(), Rule::Place)
+}
+
+/// The target of a link or an image.
+fn broken_target(target: Target) -> Option<Rule>
+    ensures { result ≡ broken_by_target target }
+{
+    match target {
+        Target::Missing => Some(Rule::Target),
+        Target::Resource | Target::Label(_) => None,
+    }
+}
+
+/// What a node leaves as the target of the node around.
+pub fn target_left(reading: Reading, found: Target, inner: Target, position: Position) -> Target
+    ensures { result ≡ target_at reading found inner position }
+{
+    match reading {
+        Reading::Identifier => Target::Label(position),
+        Reading::Holder => inner,
+        Reading::Resource => Target::Resource,
+        _ => found,
+    }
+}
+
+/// What a node mentions.
+pub fn mention(reading: Reading, target: Target) -> Mention
+    ensures { result ≡ mention_of reading target }
+{
+    let Target::Label(label) = target else {
+        return Mention::Nothing;
+    };
+    match reading {
+        Reading::Media => Mention::Reference(label),
+        Reading::Call => Mention::Call(label),
+        Reading::Definition => Mention::Definition(label),
+        Reading::FootnoteDefinition => Mention::FootnoteDefinition(label),
+        _ => Mention::Nothing,
+    }
+}
+
+/// A document's bytes, and the names of character references with their texts.
+#[derive(Clone, Copy)]
+pub struct Source<'a> {
+    pub bytes: &'a [u8],
+    pub names: &'a [(&'a str, &'a str)],
+}
+
+/// The rule that a node breaks, by what is read of it, the role around it, the symbol before it,
+/// its place and its target.
+pub fn broken(
+    alloc: Global,
+    source: Source,
+    outer: &Outer,
+    position: &Position,
+    target: Target,
+) -> Result<Option<Rule>, AllocError>
+    ensures { IfOk result
+        (λ broken. broken ≡ broken_rule source.entry.bytes.now (name_table source.entry.names.now) outer.now.reading outer.now.state.role outer.now.before position.now.start position.now.end target) }
+{
+    let around = outer.state.role;
+    match outer.reading {
+        Reading::Text => Ok(broken_text(text_at(source.bytes, position))),
+        Reading::LineEnding => Ok(broken_ending(text_at(source.bytes, position))),
+        Reading::Number => Ok(broken_number(around, text_at(source.bytes, position))),
+        Reading::Value => {
+            let text = text_at(source.bytes, position);
+            broken_value(alloc, source.names, outer.before, text)
+        }
+        Reading::Mark => Ok(broken_mark(source.bytes, outer.before, position)),
+        Reading::Underline => Ok(broken_underline(source.bytes, position.start)),
+        Reading::Identifier => Ok(broken_text(label_at(source.bytes, position))),
+        Reading::Media => Ok(broken_target(target)),
+        Reading::Free
+        | Reading::Holder
+        | Reading::Resource
+        | Reading::Call
+        | Reading::Definition
+        | Reading::FootnoteDefinition => Ok(None),
+    }
+}

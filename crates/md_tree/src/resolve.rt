@@ -1,0 +1,116 @@
+ghost use Rattle.std.specs.Prelude.{◌≡◌, ◌↔◌, option_map, string_bytes, IfOk, OnOk, IfErr, IfSome, None, IsTrue};
+ghost use Rattle.std.specs.List.{All, Contains};
+ghost use Rattle.md_tree.specs.Mentions.{identifier_at, defined, footnoted, mentions_in, IsResolved};
+ghost use Rattle.md_tree.specs.Resolve.{IsUnresolved, identifiers_of, IsFound, IsLost};
+
+use crate::judge::{label_at, rule_unless};
+use crate::kinds::{Mention, Note};
+use crate::rule::{CompileError, Rule};
+use md_base::{Position, normalize_identifier};
+use std::alloc::{AllocError, Global};
+
+/// The identifier at a label's place, where it is a text.
+fn identifier(alloc: Global, bytes: &[u8], label: Position) -> Result<Option<String>, AllocError>
+    ensures { IfOk result (λ text. option_map string_bytes text ≡ identifier_at bytes.now label) }
+{
+    match label_at(bytes, &label) {
+        None => Ok(None),
+        Some(text) => Ok(Some(normalize_identifier(alloc, text)?)),
+    }
+}
+
+/// The identifiers of the definitions.
+fn definitions(
+    alloc: Global,
+    bytes: &[u8],
+    notes: &[Note],
+) -> Result<Vec<Option<String>>, AllocError>
+    ensures { IfOk result
+        (λ found. identifiers_of found.items ≡ defined bytes.now (mentions_in notes.now)) }
+{
+    let mut found = Vec::new(alloc);
+    for note in notes {
+        if let Mention::Definition(label) = note.mention {
+            found.push(identifier(alloc, bytes, label)?)?;
+        }
+    }
+    Ok(found)
+}
+
+/// The identifiers of the footnote definitions.
+fn footnotes(alloc: Global, bytes: &[u8], notes: &[Note]) -> Result<Vec<Option<String>>, AllocError>
+    ensures { IfOk result
+        (λ found. identifiers_of found.items ≡ footnoted bytes.now (mentions_in notes.now)) }
+{
+    let mut found = Vec::new(alloc);
+    for note in notes {
+        if let Mention::FootnoteDefinition(label) = note.mention {
+            found.push(identifier(alloc, bytes, label)?)?;
+        }
+    }
+    Ok(found)
+}
+
+/// Whether two identifiers are one.
+fn is_same(one: &Option<String>, other: &Option<String>) -> bool
+    ensures { IsTrue result ↔ (option_map string_bytes one.now ≡ option_map string_bytes other.now) }
+{
+    match (one, other) {
+        (Some(one), Some(other)) => one.as_str() == other.as_str(),
+        (None, None) => true,
+        _ => false,
+    }
+}
+
+/// Whether an identifier is among others.
+fn is_among(found: &[Option<String>], wanted: &Option<String>) -> bool
+    ensures { IsTrue result ↔ Contains (identifiers_of found.now) (option_map string_bytes wanted.now) }
+{
+    for text in found {
+        if is_same(text, wanted) {
+            return true;
+        }
+    }
+    false
+}
+
+/// Refuses what leads to a definition or a footnote definition that isn't there.
+pub fn resolve(alloc: Global, bytes: &[u8], notes: &[Note]) -> Result<(), CompileError>
+    ensures ok { OnOk result (All (IsResolved bytes.now (mentions_in notes.now)) (mentions_in notes.now)) }
+    ensures refused { IfErr result (IsUnresolved bytes.now (mentions_in notes.now)) }
+{
+    let definitions = definitions(alloc, bytes, notes)?;
+    let footnotes = footnotes(alloc, bytes, notes)?;
+    for (index, note) in notes.iter().enumerate() {
+        if let Some(rule) = unresolved(alloc, bytes, note.mention, &definitions, &footnotes)? {
+            return Err(CompileError::Event { index, rule });
+        }
+    }
+    Ok(())
+}
+
+/// The rule that a mention breaks whose identifier isn't among those defined.
+fn unresolved(
+    alloc: Global,
+    bytes: &[u8],
+    mention: Mention,
+    definitions: &[Option<String>],
+    footnotes: &[Option<String>],
+) -> Result<Option<Rule>, AllocError>
+    ensures none { IfOk result
+        (λ rule. rule ≡ None → IsFound bytes.now (identifiers_of definitions.now) (identifiers_of footnotes.now) mention) }
+    ensures some { IfOk result
+        (λ broken. IfSome broken (λ rule. IsLost bytes.now (identifiers_of definitions.now) (identifiers_of footnotes.now) mention rule)) }
+{
+    match mention {
+        Mention::Reference(label) => {
+            let wanted = identifier(alloc, bytes, label)?;
+            Ok(rule_unless(is_among(definitions, &wanted), Rule::Definition))
+        }
+        Mention::Call(label) => {
+            let wanted = identifier(alloc, bytes, label)?;
+            Ok(rule_unless(is_among(footnotes, &wanted), Rule::Footnote))
+        }
+        _ => Ok(None),
+    }
+}
