@@ -3,7 +3,7 @@
 
 mod close;
 mod code;
-mod compile;
+mod compiler;
 mod facts;
 mod look_ahead;
 mod media;
@@ -17,5 +17,13 @@ mod source;
 mod surroundings;
 mod texts;
 
-pub use compile::compile_checked;
+pub use compiler::{compile, compile_checked};
 pub use options::CompileOptions;
+pub use md_base::{
+    AlignKind, Event, GFM_HTML_TAGFILTER_NAMES, Kind, Name, Point, Position, SAFE_PROTOCOL_HREF,
+    SAFE_PROTOCOL_SRC, Slice, decode_character_reference, is_same_name, normalize_identifier,
+};
+pub use md_text::{
+    LineEnding, LineEndingError, encode, gfm_tagfilter, sanitize, sanitize_with_protocols,
+};
+pub use md_tree::{Checked, CompileError, Rule, check};

@@ -2,7 +2,7 @@
 use Rattle.std.proofs.Common.{◌≡◌, length}
 use Rattle.md_html.specs.Machine.{run, beginning}
 use Rattle.md_html.specs.Sources.{given_of}
-use Rattle.md_html.proofs.compile.run.Given as goal
+use Rattle.md_html.proofs.compiler.run.Given as goal
 
 abbrev pub invariant-loop-event : goal.invariant-loop-event
 invariant-loop-event l =

@@ -1,8 +1,10 @@
 //! Events to HTML.
 
-ghost use Rattle.std.specs.Prelude.{◌≡◌, ◌∷◌, [], OnOk, IfOk, List, string_bytes, length, unwrap_or, option_copied};
+ghost use Rattle.std.specs.Prelude.{◌≡◌, ◌∷◌, [], OnOk, IfOk, IfErr, List, string_bytes, length, unwrap_or, option_copied};
 ghost use Rattle.md_base.specs.Reference.{name_table};
 ghost use Rattle.md_tree.specs.Tree.{Forest, flatten};
+ghost use Rattle.md_tree.specs.Grammar.{IsChecked, handed};
+ghost use Rattle.md_tree.specs.Refusal.{IsOutside, IsOrder, IsMdx, IsOfNode, IsLost};
 ghost use Rattle.md_html.specs.Machine as machine;
 ghost use Rattle.md_html.specs.LookAhead as look;
 ghost use Rattle.md_html.specs.Meaning.{meaning, ending_at};
@@ -19,8 +21,31 @@ use crate::printer::Printer;
 use crate::notes::Defined;
 use crate::source::{Source, identifier_at, text_of};
 use md_base::{Event, Kind, Name, Point, Position};
-use md_tree::Checked;
+use md_tree::{Checked, CompileError, check};
 use std::alloc::{AllocError, Global};
+
+/// The HTML of a list of Markdown events over a document's bytes: the meaning of the document that the list is.
+///
+/// `names` is the table of named character references.
+///
+/// # Errors
+///
+/// An event where the list is no flattening of a document of the event grammar over these bytes and names, as
+/// [`check`] names it; or want of memory.
+pub fn compile(alloc: Global, events: &[Event], bytes: &[u8], options: &CompileOptions, names: &[(&str, &str)]) -> Result<String, CompileError>
+    ensures grammatical { OnOk result (IsChecked (handed events.now bytes.now names.now)) }
+    ensures meaning { IfOk result (λ text. (document : Forest) → flatten document ≡ events.now →
+        string_bytes text ≡ meaning options.now (name_table names.now) bytes.now document) }
+
+    ensures outside { IfErr result (IsOutside (handed events.now bytes.now names.now)) }
+    ensures order { IfErr result (IsOrder (handed events.now bytes.now names.now)) }
+    ensures mdx { IfErr result (IsMdx (handed events.now bytes.now names.now)) }
+    ensures of_node { IfErr result (IsOfNode (handed events.now bytes.now names.now)) }
+    ensures lost { IfErr result (IsLost (handed events.now bytes.now names.now)) }
+{
+    let checked = check(alloc, events, bytes, names)?;
+    Ok(compile_checked(alloc, &checked, options)?)
+}
 
 /// The HTML of events that have passed a check: the meaning of the document that they are.
 ///

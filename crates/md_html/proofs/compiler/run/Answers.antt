@@ -4,7 +4,7 @@ use Rattle.md_base.specs.declared.event.Event.{Event}
 use Rattle.md_html.specs.declared.facts.Ahead.{Ahead}
 use Rattle.md_html.specs.Machine.{State, run, stepped, is_nil}
 use Rattle.md_html.specs.Sources.{given_of}
-use Rattle.md_html.proofs.compile.run.Goals as goal
+use Rattle.md_html.proofs.compiler.run.Goals as goal
 
 is_nil-length : (events : List Event) → (length events == 0) ≡ is_nil events
 is_nil-length [] = refl

@@ -7,7 +7,7 @@ use Rattle.md_html.specs.Given.{Defined}
 use Rattle.md_html.specs.Machine.{run, beginning}
 use Rattle.md_html.specs.Meaning.{meaning}
 use Rattle.md_html.proofs.Whole.{given_with, text-run}
-use Rattle.md_html.proofs.compile.compile_checked.Goals as goal
+use Rattle.md_html.proofs.compiler.compile_checked.Goals as goal
 
 pub returns : goal.returns
 returns c =
