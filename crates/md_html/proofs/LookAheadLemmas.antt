@@ -33,7 +33,7 @@ abbrev outlook_before : Forest → Outlook → Outlook
 outlook_before forest outlook = record {
   aheads = aheads_of forest ++ outlook.aheads;
   here = gathered_before forest outlook.here;
-  round = outlook.round
+  round = outlook.round;
 }
 
 looked_over-flatten : (forest : Forest) (outlook : Outlook) → looked_over (flatten forest) outlook ≡ outlook_before forest outlook
@@ -42,13 +42,13 @@ looked_over-flatten (Node name start end children rest) outlook =
     let entering_event : Outlook → Outlook = λ o. looked_at Enter name start o in
     let exited : Outlook = looked_at Exit name end (outlook_before rest outlook) in
     ap entering_event
-        (looked_over-append (flatten children) (exiting name end ∷ flatten rest) outlook
-        ∙ ap (λ o. looked_over (flatten children) (looked_at Exit name end o)) (looked_over-flatten rest outlook)
-        ∙ looked_over-flatten children exited)
+    (looked_over-append (flatten children) (exiting name end ∷ flatten rest) outlook
+    ∙ ap (λ o. looked_over (flatten children) (looked_at Exit name end o)) (looked_over-flatten rest outlook)
+    ∙ looked_over-flatten children exited)
     ∙ ap (λ g. let made : Outlook = record { aheads = told_ahead g ∷ (aheads_of children ++ no_ahead ∷ (aheads_of rest ++ outlook.aheads)); here = joined name start g (gathered_before rest outlook.here); round = outlook.round } in made)
-        (gathered_before-nothing end children)
+    (gathered_before-nothing end children)
     ∙ ap (λ as'. let made : Outlook = record { aheads = ahead_of children ∷ as'; here = joined name start (gathered end children) (gathered_before rest outlook.here); round = outlook.round } in made)
-        (sym (append_assoc (aheads_of children) (no_ahead ∷ aheads_of rest) outlook.aheads))
+    (sym (append_assoc (aheads_of children) (no_ahead ∷ aheads_of rest) outlook.aheads))
 
 -- what the pass finds at the events of a forest
 pub aheads-looked_over : (forest : Forest) (events : List Event) → flatten forest ≡ events → (looked_over events no_outlook).aheads ≡ aheads_of forest

@@ -118,15 +118,17 @@ abbrev pub after : Given → Before → Forest → State → State
 after given before forest state = record state {
   log = record {
     calls = state.log.calls ++ calls_of given.bytes forest;
-    definitions = state.log.definitions ++ definitions_of given state.frame.around before forest
+    definitions = state.log.definitions ++ definitions_of given state.frame.around before forest;
   };
   page = lay given.ending state.page (printed given state.frame.around before forest);
   is_slurping = slurps_behind (marks_of given.options state.frame.around before.spine forest) state.is_slurping;
-  frame = record state.frame { passed = record {
-    last = or_else (last_name forest) state.frame.passed.last;
-    contributing = or_else (last_contributing forest) state.frame.passed.contributing;
-    spine = told_by (before.spine ++ spine_names forest)
-  } }
+  frame = record state.frame {
+    passed = record {
+      last = or_else (last_name forest) state.frame.passed.last;
+      contributing = or_else (last_contributing forest) state.frame.passed.contributing;
+      spine = told_by (before.spine ++ spine_names forest);
+    };
+  };
 }
 
 -- the state knows what stands before
@@ -151,8 +153,8 @@ children_know given before name start children captured state knows = record {
   slurping = knows.slurping;
   previous = refl;
   spine =
-    ap (λ s. if is_transparent name then s else no_spine) knows.spine
-    ∙ elim (is_transparent name) as (λ b. (if b then told_by before.spine else no_spine) ≡ told_by (if b then before.spine else [])) [ true ↦ refl | false ↦ refl ]
+      ap (λ s. if is_transparent name then s else no_spine) knows.spine
+      ∙ elim (is_transparent name) as (λ b. (if b then told_by before.spine else no_spine) ≡ told_by (if b then before.spine else [])) [ true ↦ refl | false ↦ refl ];
 }
 
 -- what stands before a node's next sibling, as the state knows it when the node is left
@@ -160,24 +162,24 @@ abbrev pub after_node : Given → Before → Bool → Bool → Name → Point �
 after_node given before last captured name start end children state = record state {
   log = record {
     calls =
-      if is_call name then (state.log.calls ++ calls_of given.bytes children) ++ identifier_at given.bytes (ahead_of children).label ∷ []
-      else state.log.calls ++ calls_of given.bytes children;
+        if is_call name then (state.log.calls ++ calls_of given.bytes children) ++ identifier_at given.bytes (ahead_of children).label ∷ []
+        else state.log.calls ++ calls_of given.bytes children;
     definitions =
-      if is_link_definition name
-      then (state.log.definitions ++ definitions_of given (inside given.options (is_loose children) name state.frame.around) (before_children name before) children)
+        if is_link_definition name
+        then (state.log.definitions ++ definitions_of given (inside given.options (is_loose children) name state.frame.around) (before_children name before) children)
         ++ record {
           identifier = identifier_at given.bytes (ahead_of children).defined;
-          target = (if captured then lay given.ending blank (printed given (inside given.options (is_loose children) name state.frame.around) (before_children name before) children) else blank).notes.target
+          target = (if captured then lay given.ending blank (printed given (inside given.options (is_loose children) name state.frame.around) (before_children name before) children) else blank).notes.target;
         } ∷ []
-      else state.log.definitions ++ definitions_of given (inside given.options (is_loose children) name state.frame.around) (before_children name before) children
+        else state.log.definitions ++ definitions_of given (inside given.options (is_loose children) name state.frame.around) (before_children name before) children;
   };
   page = lay given.ending state.page
-    (opening given state.frame.around (ahead_of children) name
-    ++ ((if captured then [] else printed given (inside given.options (is_loose children) name state.frame.around) (before_children name before) children)
-    ++ closing given state.frame.around (left_of given.bytes before children) (ahead_of children) (passed_over (spine_inside name before.spine) children) last start end
-        (if captured then lay given.ending blank (printed given (inside given.options (is_loose children) name state.frame.around) (before_children name before) children) else blank) name));
+      (opening given state.frame.around (ahead_of children) name
+      ++ ((if captured then [] else printed given (inside given.options (is_loose children) name state.frame.around) (before_children name before) children)
+      ++ closing given state.frame.around (left_of given.bytes before children) (ahead_of children) (passed_over (spine_inside name before.spine) children) last start end
+      (if captured then lay given.ending blank (printed given (inside given.options (is_loose children) name state.frame.around) (before_children name before) children) else blank) name));
   is_slurping = slurps_behind (own_marks state.frame.around (told_by before.spine) name) (slurps_behind (marks_of given.options (inside given.options (is_loose children) name state.frame.around) (spine_inside name before.spine) children) state.is_slurping);
-  frame = record state.frame { passed = passing name (told_by (spine_inside name before.spine ++ spine_names children)) state.frame.passed }
+  frame = record state.frame { passed = passing name (told_by (spine_inside name before.spine ++ spine_names children)) state.frame.passed };
 }
 
 -- a page, laid on in parts
@@ -213,7 +215,7 @@ node_step-streamed given before last name start end children state knows =
       log = (after_node given before last false name start end children state).log;
       page = page;
       is_slurping = slurps_behind (own_marks around told name) (slurps_behind marks state.is_slurping);
-      frame = record state.frame { passed = passing name spine state.frame.passed }
+      frame = record state.frame { passed = passing name spine state.frame.passed };
     } in
     let left : Left = record { calls = state.log.calls ++ calls_of given.bytes children; is_slurping = state.is_slurping; previous = state.frame.passed.last; spine = state.frame.passed.spine } in
     let laid : Left → Option Name → Option Name → Spine → State = λ l o p told. at (lay given.ending (lay given.ending (lay given.ending state.page opened) inner) (close l o p)) told in
@@ -238,7 +240,7 @@ node_step-captured given before last name start end children state knows =
       log = (after_node given before last true name start end children state).log;
       page = page;
       is_slurping = slurps_behind (own_marks around told name) (slurps_behind marks state.is_slurping);
-      frame = record state.frame { passed = passing name spine state.frame.passed }
+      frame = record state.frame { passed = passing name spine state.frame.passed };
     } in
     let left : Left = record { calls = state.log.calls ++ calls_of given.bytes children; is_slurping = state.is_slurping; previous = state.frame.passed.last; spine = state.frame.passed.spine } in
     let laid : Left → Option Name → Option Name → Spine → State = λ l o p told. at (lay given.ending (lay given.ending state.page opened) (close l o p)) told in
@@ -274,23 +276,23 @@ next_knows given before last captured name start end children state knows =
     let marks : List Mark = marks_of given.options (inside given.options (is_loose children) name state.frame.around) (spine_inside name before.spine) children in
     record {
       calls =
-        sym (append-nil (after_node given before last captured name start end children state).log.calls)
-        ∙ log-step (is_call name) state.log.calls (calls_of given.bytes children) [] (identifier_at given.bytes (ahead_of children).label)
-        ∙ ap (λ cs. cs ++ calls_of given.bytes (Node name start end children Empty)) knows.calls;
+          sym (append-nil (after_node given before last captured name start end children state).log.calls)
+          ∙ log-step (is_call name) state.log.calls (calls_of given.bytes children) [] (identifier_at given.bytes (ahead_of children).label)
+          ∙ ap (λ cs. cs ++ calls_of given.bytes (Node name start end children Empty)) knows.calls;
       slurping =
-        ap (λ s. slurps_behind own (slurps_behind marks s)) knows.slurping
-        ∙ sym (is_slurping-append (own ++ marks) before.marks ∙ slurps_behind-append own marks (is_slurping before.marks));
+          ap (λ s. slurps_behind own (slurps_behind marks s)) knows.slurping
+          ∙ sym (is_slurping-append (own ++ marks) before.marks ∙ slurps_behind-append own marks (is_slurping before.marks));
       previous = refl;
       spine = elim (is_transparent name) as (λ b. (if b then told_by ((if b then before.spine else []) ++ spine_names children) else with_name name state.frame.passed.spine) ≡ told_by (before.spine ++ (if b then spine_names children else name ∷ []))) [
-          true ↦ refl
+        | true ↦ refl
         | false ↦ ap (λ s. with_name name s) knows.spine ∙ sym (told_by-push before.spine name)
-        ]
+      ];
     }
 
 -- a node and then its siblings
 after-node : (given : Given) (before : Before) (name : Name) (start end : Point) (children rest : Forest) (state : State) →
     after given (before_next given state.frame.around name start end children before) rest
-        (after_node given before (state.frame.around.is_outermost && is_empty rest) (is_captured name) name start end children state)
+    (after_node given before (state.frame.around.is_outermost && is_empty rest) (is_captured name) name start end children state)
     ≡ after given before (Node name start end children rest) state
 after-node given before name start end children rest state =
     let around = state.frame.around in
@@ -310,25 +312,25 @@ after-node given before name start end children rest state =
       log = (after given next rest (after_node given before (around.is_outermost && is_empty rest) (is_captured name) name start end children state)).log;
       page = page;
       is_slurping = slurping;
-      frame = record state.frame { passed = record { last = o; contributing = p; spine = told_by names } }
+      frame = record state.frame { passed = record { last = o; contributing = p; spine = told_by names } };
     } in
     let own_contribution : Option Name = if contributes name then Some name else state.frame.passed.contributing in
     ap (λ page. made page (slurps_behind later (slurps_behind own (slurps_behind marks state.is_slurping))) (or_else (last_name rest) (Some name)) (or_else (last_contributing rest) own_contribution) (spine_behind name children before.spine ++ spine_names rest))
-        (lay_two given.ending state.page node (printed given around next rest))
+    (lay_two given.ending state.page node (printed given around next rest))
     ∙ ap (λ s. made (lay given.ending state.page (node ++ printed given around next rest)) s (or_else (last_name rest) (Some name)) (or_else (last_contributing rest) own_contribution) (spine_behind name children before.spine ++ spine_names rest))
-        (sym (slurps_behind-append (later ++ own) marks state.is_slurping ∙ slurps_behind-append later own (slurps_behind marks state.is_slurping)))
+    (sym (slurps_behind-append (later ++ own) marks state.is_slurping ∙ slurps_behind-append later own (slurps_behind marks state.is_slurping)))
     ∙ ap (λ o. made (lay given.ending state.page (node ++ printed given around next rest)) (slurps_behind (later ++ own ++ marks) state.is_slurping) o (or_else (last_contributing rest) own_contribution) (spine_behind name children before.spine ++ spine_names rest))
-        (or_else_last (last_name rest) name state.frame.passed.last)
+    (or_else_last (last_name rest) name state.frame.passed.last)
     ∙ ap (λ o. made (lay given.ending state.page (node ++ printed given around next rest)) (slurps_behind (later ++ own ++ marks) state.is_slurping) (or_else (last_name (Node name start end children rest)) state.frame.passed.last) o (spine_behind name children before.spine ++ spine_names rest))
-        (or_else_assoc (last_contributing rest) (contributes name) name state.frame.passed.contributing)
+    (or_else_assoc (last_contributing rest) (contributes name) name state.frame.passed.contributing)
     ∙ ap (λ names. made (lay given.ending state.page (node ++ printed given around next rest)) (slurps_behind (later ++ own ++ marks) state.is_slurping) (or_else (last_name (Node name start end children rest)) state.frame.passed.last) (or_else (last_contributing (Node name start end children rest)) state.frame.passed.contributing) names)
-        (append_assoc before.spine (if is_transparent name then spine_names children else name ∷ []) (spine_names rest))
+    (append_assoc before.spine (if is_transparent name then spine_names children else name ∷ []) (spine_names rest))
     ∙ ap (λ ds. called ((after_node given before (around.is_outermost && is_empty rest) (is_captured name) name start end children state).log.calls ++ calls_of given.bytes rest) (ds ++ later_definitions))
-        (definition_page name identifier inner (state.log.definitions ++ inner_definitions))
+    (definition_page name identifier inner (state.log.definitions ++ inner_definitions))
     ∙ ap (λ ds. called ((after_node given before (around.is_outermost && is_empty rest) (is_captured name) name start end children state).log.calls ++ calls_of given.bytes rest) ds)
-        (log-step (is_link_definition name) state.log.definitions inner_definitions later_definitions (defined inner))
+    (log-step (is_link_definition name) state.log.definitions inner_definitions later_definitions (defined inner))
     ∙ ap (λ cs. called cs (state.log.definitions ++ definitions_of given around before (Node name start end children rest)))
-        (log-step (is_call name) state.log.calls (calls_of given.bytes children) (calls_of given.bytes rest) label)
+    (log-step (is_call name) state.log.calls (calls_of given.bytes children) (calls_of given.bytes rest) label)
 
 -- running the events of some nodes, and what follows them
 pub run-flatten : (given : Given) (forest : Forest) (before : Before) (tail : List Event) (aheads : List Ahead) (state : State) →
@@ -345,10 +347,10 @@ run-flatten given (Node name start end children rest) before tail aheads state k
     ap (λ es. run given es (aheads_of children ++ no_ahead ∷ aheads_of rest ++ aheads) inner) (append_assoc (flatten children) (exiting name end ∷ flatten rest) tail)
     ∙ ap (λ as'. run given (flatten children ++ exiting name end ∷ (flatten rest ++ tail)) as' inner) (append_assoc (aheads_of children) (no_ahead ∷ aheads_of rest) aheads)
     ∙ run-flatten given children (before_children name before) (exiting name end ∷ (flatten rest ++ tail)) (no_ahead ∷ (aheads_of rest ++ aheads)) inner
-        (children_know given before name start children captured state knows)
-        (inside_outermost given.options (is_loose children) name state.frame.around)
+    (children_know given before name start children captured state knows)
+    (inside_outermost given.options (is_loose children) name state.frame.around)
     ∙ ap (λ l. run given (flatten rest ++ tail) (aheads_of rest ++ aheads) (exited given l captured name end (after given (before_children name before) children inner)))
-        (last-event rest tail ∙ ap (λ o. o && is_empty rest) (sym outer))
+    (last-event rest tail ∙ ap (λ o. o && is_empty rest) (sym outer))
     ∙ ap (λ s. run given (flatten rest ++ tail) (aheads_of rest ++ aheads) s) (node_step given before last captured name start end children state knows)
     ∙ run-flatten given rest next tail aheads left (next_knows given before last captured name start end children state knows) outer
     ∙ ap (λ s. run given tail aheads s) (after-node given before name start end children rest state)

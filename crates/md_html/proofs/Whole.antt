@@ -40,12 +40,12 @@ run-events given events aheads document flat seen =
 pub text-run : (options : CompileOptions) (names : List (List ℕ × List ℕ)) (bytes : List ℕ) (events : List Event) (aheads : List Ahead) (place : Option Position) (document : Forest) →
     flatten document ≡ events → aheads ≡ (looked_over events no_outlook).aheads → place ≡ (looked_over events no_outlook).here.ending →
     (run (given_with options names bytes (ending_at options bytes place)
-        (run (given_with options names bytes (ending_at options bytes place) []) events aheads beginning).log.definitions) events aheads beginning).page.text
+    (run (given_with options names bytes (ending_at options bytes place) []) events aheads beginning).log.definitions) events aheads beginning).page.text
     ≡ meaning options names bytes document
 text-run options names bytes events aheads place document flat seen found =
     let ending : List ℕ = ending_at options bytes (first_ending document) in
     let given : List Defined → Given = λ ds. given_with options names bytes ending ds in
     ap (λ p. (run (given_with options names bytes (ending_at options bytes p) (run (given_with options names bytes (ending_at options bytes p) []) events aheads beginning).log.definitions) events aheads beginning).page.text)
-        (found ∙ ending-looked_over document events flat)
+    (found ∙ ending-looked_over document events flat)
     ∙ ap (λ s. (run (given s.log.definitions) events aheads beginning).page.text) (run-events (given []) events aheads document flat seen)
     ∙ ap (λ s. s.page.text) (run-events (given (after (given []) nothing_before document beginning).log.definitions) events aheads document flat seen)

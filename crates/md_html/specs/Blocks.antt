@@ -55,7 +55,7 @@ start_pieces bytes (Some place) = number_pieces (without_zeros (text_of bytes pl
 abbrev pub item_closing : Surroundings → Passed → List Piece
 item_closing around passed =
     when (not (option_map_or is_item_prefix passed.contributing false || option_map_or is_paragraph passed.contributing false && is_tight around.container))
-        (Needed ∷ [])
+    (Needed ∷ [])
     ++ said (codes "</li>")
 
 -- a heading's rank: the length of its first mark

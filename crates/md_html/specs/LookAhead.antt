@@ -40,7 +40,7 @@ gathered end nodes = record {
   reference = first_on_spine is_reference position nodes;
   defined = first_on_spine is_definition_label position nodes;
   footnote_label = first_on_spine is_footnote_label position nodes;
-  footnote = first_on_spine is_footnote_prefix (λ start end inner. label_in_prefix inner) nodes
+  footnote = first_on_spine is_footnote_prefix (λ start end inner. label_in_prefix inner) nodes;
 }
 
 -- the first place on the spine of a node and what follows it: the node's own, that within a transparent node, or a later one
@@ -75,7 +75,7 @@ joined name start own later = record {
   reference = first_found (is_reference name) (is_transparent name) (record { start = start; end = own.end }) own.reference later.reference;
   defined = first_found (is_definition_label name) (is_transparent name) (record { start = start; end = own.end }) own.defined later.defined;
   footnote_label = first_found (is_footnote_label name) (is_transparent name) (record { start = start; end = own.end }) own.footnote_label later.footnote_label;
-  footnote = first_found (is_footnote_prefix name) (is_transparent name) own.footnote_label own.footnote later.footnote
+  footnote = first_found (is_footnote_prefix name) (is_transparent name) own.footnote_label own.footnote later.footnote;
 }
 
 -- what is told ahead of a node by what its children tell
@@ -87,7 +87,7 @@ told_ahead own = record {
   label = unwrap_or own.label None;
   reference = own.reference;
   defined = own.defined;
-  footnote = unwrap_or own.footnote None
+  footnote = unwrap_or own.footnote None;
 }
 
 -- what is told ahead at the events so far, what the nodes behind the present place tell, and what those
@@ -106,12 +106,12 @@ abbrev pub looked_at : Kind → Name → Point → Outlook → Outlook
 looked_at Exit name point outlook = record {
   aheads = no_ahead ∷ outlook.aheads;
   here = nothing_gathered point;
-  round = outlook.here ∷ outlook.round
+  round = outlook.here ∷ outlook.round;
 }
 looked_at Enter name point outlook = record {
   aheads = told_ahead outlook.here ∷ outlook.aheads;
   here = joined name point outlook.here (first_or (nothing_gathered point) outlook.round);
-  round = others_of outlook.round
+  round = others_of outlook.round;
 }
 
 -- behind the last event

@@ -64,7 +64,7 @@ document_frame = record {
   start = record { line = 0; column = 0; index = 0; vs = 0 };
   is_slurping = false;
   ahead = no_ahead;
-  passed = nothing_passed no_spine
+  passed = nothing_passed no_spine;
 }
 
 -- before the first event
@@ -79,14 +79,14 @@ printing ending pieces state = record state { page = lay ending state.page piece
 abbrev pub capturing : Bool → State → State
 capturing captured state = record state {
   page = if captured then blank else state.page;
-  below = if captured then state.page ∷ state.below else state.below
+  below = if captured then state.page ∷ state.below else state.below;
 }
 
 -- the page below comes back
 abbrev pub releasing : Bool → State → State
 releasing captured state = record state {
   page = if captured then first_or blank state.below else state.page;
-  below = if captured then others_of state.below else state.below
+  below = if captured then others_of state.below else state.below;
 }
 
 -- the frame of a node that is entered
@@ -96,20 +96,20 @@ frame_inside options ahead name start slurping parent = record {
   start = start;
   is_slurping = slurping;
   ahead = ahead;
-  passed = nothing_passed (if is_transparent name then parent.passed.spine else no_spine)
+  passed = nothing_passed (if is_transparent name then parent.passed.spine else no_spine);
 }
 
 abbrev pub opening_frame : CompileOptions → Ahead → Name → Point → State → State
 opening_frame options ahead name start state = record state {
   frame = frame_inside options ahead name start state.is_slurping state.frame;
-  frames = state.frame ∷ state.frames
+  frames = state.frame ∷ state.frames;
 }
 
 -- a node is entered, whose children's text is captured or not
 abbrev pub entered : Given → Ahead → Bool → Name → Point → State → State
 entered given ahead captured name start state =
     opening_frame given.options ahead name start
-        (capturing captured (printing given.ending (opening given state.frame.around ahead name) state))
+    (capturing captured (printing given.ending (opening given state.frame.around ahead name) state))
 
 -- a spine with one more name
 abbrev pub with_name : Name → Spine → Spine
@@ -117,7 +117,7 @@ with_name name spine = record {
   has_fence = spine.has_fence || is_fence name;
   has_second_fence = spine.has_second_fence || spine.has_fence && is_fence name;
   has_chunk = spine.has_chunk || is_chunk name;
-  last = Some name
+  last = Some name;
 }
 
 -- a child is passed, which has passed its own children
@@ -125,7 +125,7 @@ abbrev pub passing : Name → Spine → Passed → Passed
 passing name inner passed = record {
   last = Some name;
   contributing = if contributes name then Some name else passed.contributing;
-  spine = if is_transparent name then inner else with_name name passed.spine
+  spine = if is_transparent name then inner else with_name name passed.spine;
 }
 
 -- the last mark, behind these, the latest first
@@ -141,7 +141,7 @@ leaving name state =
     record state {
       is_slurping = slurps_behind (own_marks parent.around parent.passed.spine name) state.is_slurping;
       frame = record parent { passed = passing name state.frame.passed.spine parent.passed };
-      frames = others_of state.frames
+      frames = others_of state.frames;
     }
 
 -- what the innermost node learns from what stands before it
@@ -157,20 +157,22 @@ closing_in given last name end inner state =
 
 -- what a node that is exited is seen for, with its children's page
 abbrev pub logging : List ℕ → Name → Page → State → State
-logging bytes name inner state = record state { log = record {
-  calls = if is_call name then state.log.calls ++ identifier_at bytes state.frame.ahead.label ∷ [] else state.log.calls;
-  definitions =
-    if is_link_definition name
-    then state.log.definitions ++ record { identifier = identifier_at bytes state.frame.ahead.defined; target = inner.notes.target } ∷ []
-    else state.log.definitions
-} }
+logging bytes name inner state = record state {
+  log = record {
+    calls = if is_call name then state.log.calls ++ identifier_at bytes state.frame.ahead.label ∷ [] else state.log.calls;
+    definitions =
+        if is_link_definition name
+        then state.log.definitions ++ record { identifier = identifier_at bytes state.frame.ahead.defined; target = inner.notes.target } ∷ []
+        else state.log.definitions;
+  };
+}
 
 -- a node is exited, whose children's text was captured or not
 abbrev pub exited : Given → Bool → Bool → Name → Point → State → State
 exited given last captured name end state =
     leaving name
-        (printing given.ending (closing_in given last name end (if captured then state.page else blank) state)
-            (logging given.bytes name (if captured then state.page else blank) (releasing captured state)))
+    (printing given.ending (closing_in given last name end (if captured then state.page else blank) state)
+    (logging given.bytes name (if captured then state.page else blank) (releasing captured state)))
 
 -- there is no event
 abbrev pub is_nil : List Event → Bool

@@ -48,7 +48,7 @@ abbrev pub first_ending : Forest → Option Position
 first_ending Empty = None
 first_ending (Node name start end children rest) =
     or_else (first_ending children)
-        (or_else (if is_line_ending name then Some (record { start = start; end = end }) else None) (first_ending rest))
+    (or_else (if is_line_ending name then Some (record { start = start; end = end }) else None) (first_ending rest))
 
 -- the place of the text in a label
 abbrev pub text_in_label : Forest → Option Position
@@ -68,7 +68,7 @@ ahead_of children = record {
   label = unwrap_or (first_on_spine is_label (λ start end inner. text_in_label inner) children) None;
   reference = first_on_spine is_reference position children;
   defined = first_on_spine is_definition_label position children;
-  footnote = unwrap_or (first_on_spine is_footnote_prefix (λ start end inner. label_in_prefix inner) children) None
+  footnote = unwrap_or (first_on_spine is_footnote_prefix (λ start end inner. label_in_prefix inner) children) None;
 }
 
 -- the identifier at a place
@@ -106,11 +106,11 @@ abbrev pub before_next : Given → Surroundings → Name → Point → Point →
 before_next given around name start end children before = record {
   calls = before.calls ++ calls_of given.bytes (Node name start end children Empty);
   marks =
-    own_marks around (told_by before.spine) name
-    ++ marks_of given.options (inside given.options (is_loose children) name around) (spine_inside name before.spine) children
-    ++ before.marks;
+      own_marks around (told_by before.spine) name
+      ++ marks_of given.options (inside given.options (is_loose children) name around) (spine_inside name before.spine) children
+      ++ before.marks;
   previous = Some name;
-  spine = spine_behind name children before.spine
+  spine = spine_behind name children before.spine;
 }
 
 -- what children tell at their end: the last one's name, the last contributing one's, and their spine, which

@@ -142,8 +142,8 @@ abbrev pub printed : Given → Surroundings → Before → Forest → List Piece
 printed given around before Empty = []
 printed given around before (Node name start end children rest) =
     printed_node given around (left_of given.bytes before children) (ahead_of children) (passed_over (spine_inside name before.spine) children)
-        (around.is_outermost && is_empty rest) start end name
-        (printed given (inside given.options (is_loose children) name around) (before_children name before) children)
+    (around.is_outermost && is_empty rest) start end name
+    (printed given (inside given.options (is_loose children) name around) (before_children name before) children)
     ++ printed given around (before_next given around name start end children before) rest
 
 -- the definitions among some nodes, in the order of their exits, each with what its children note
@@ -152,9 +152,9 @@ definitions_of given around before Empty = []
 definitions_of given around before (Node name start end children rest) =
     definitions_of given (inside given.options (is_loose children) name around) (before_children name before) children
     ++ ((if is_link_definition name
-         then record {
-           identifier = identifier_at given.bytes (ahead_of children).defined;
-           target = (lay given.ending blank (printed given (inside given.options (is_loose children) name around) (before_children name before) children)).notes.target
-         } ∷ []
-         else [])
+    then record {
+      identifier = identifier_at given.bytes (ahead_of children).defined;
+      target = (lay given.ending blank (printed given (inside given.options (is_loose children) name around) (before_children name before) children)).notes.target;
+    } ∷ []
+    else [])
     ++ definitions_of given around (before_next given around name start end children before) rest)

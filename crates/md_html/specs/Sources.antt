@@ -15,7 +15,7 @@ given_of source = record {
   names = name_table source.names.now;
   options = source.options.now;
   ending = source.ending.now;
-  definitions = source.definitions.now
+  definitions = source.definitions.now;
 }
 
 -- what a node learns from what stands before it

@@ -67,7 +67,7 @@ told_by names = record {
   has_fence = list_any is_fence names;
   has_second_fence = two_pass is_fence names;
   has_chunk = list_any is_chunk names;
-  last = last_of names
+  last = last_of names;
 }
 
 -- the first fence of a raw flow sets

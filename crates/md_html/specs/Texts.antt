@@ -31,9 +31,9 @@ data_pieces given around start end = said (encoded around.is_escaping (text_of g
 abbrev pub html_pieces : Given → Surroundings → Point → Point → List Piece
 html_pieces given around start end =
     said (encoded around.is_escaping
-        (if given.options.gfm_tagfilter && given.options.allow_dangerous_html
-         then tag_filtered (text_of given.bytes start end)
-         else text_of given.bytes start end))
+    (if given.options.gfm_tagfilter && given.options.allow_dangerous_html
+    then tag_filtered (text_of given.bytes start end)
+    else text_of given.bytes start end))
 
 -- the marker of a reference, by the name before its value: `x`, `#` or `&`
 abbrev pub marker_of : Option Name → ℕ
@@ -45,7 +45,7 @@ marker_of _ = 38
 abbrev pub reference_pieces : Given → Surroundings → Left → Point → Point → List Piece
 reference_pieces given around left start end =
     said (encoded around.is_escaping
-        (unwrap_or (decoded given.names (marker_of left.spine.last) (text_of given.bytes start end)) []))
+    (unwrap_or (decoded given.names (marker_of left.spine.last) (text_of given.bytes start end)) []))
 
 -- a line ending that the last mark slurps; none in a definition is
 abbrev pub is_slurped : Surroundings → Left → Bool
@@ -111,4 +111,4 @@ code_pieces around tag text =
 abbrev pub task_pieces : Given → Surroundings → List Piece
 task_pieces given around =
     outside_images around
-        (Text (codes "<input type=\"checkbox\" ") ∷ (if given.options.gfm_task_list_item_checkable then [] else said (codes "disabled=\"\" ")))
+    (Text (codes "<input type=\"checkbox\" ") ∷ (if given.options.gfm_task_list_item_checkable then [] else said (codes "disabled=\"\" ")))

@@ -11,9 +11,9 @@ ghost use Rattle.md_html.specs.Sources.{given_of, closing_at, left_at};
 
 use crate::code::code_text;
 use crate::facts::{Container, Exit, Passed, Surroundings};
+use crate::media::{autolink, image, is_plain, link};
 use crate::names::{is_fence, is_item_prefix, is_paragraph};
 use crate::open::{is_tight, on_own_line, outside_images, rank_of};
-use crate::media::{autolink, image, is_plain, link};
 use crate::printer::Printer;
 use crate::sheet::Sheet;
 use crate::source::{Source, serialized_of};
@@ -23,7 +23,14 @@ use md_text::encode;
 use std::alloc::{AllocError, Global};
 
 /// Prints what a node prints after its children; `inner` is their page, where it was captured.
-pub fn close(alloc: Global, printer: &mut Printer, source: &Source, exit: &Exit, inner: Sheet, name: Name) -> Result<(), AllocError>
+pub fn close(
+    alloc: Global,
+    printer: &mut Printer,
+    source: &Source,
+    exit: &Exit,
+    inner: Sheet,
+    name: Name,
+) -> Result<(), AllocError>
     ensures { OnOk result (printer.new ≡ printing source.now.ending.now (closing_at (given_of source.now) exit.now printer.old.log.calls inner name) printer.old) }
 {
     close_text(alloc, printer, source, exit, &inner, name)?;
@@ -32,7 +39,14 @@ pub fn close(alloc: Global, printer: &mut Printer, source: &Source, exit: &Exit,
 }
 
 /// Prints what a text, a span or a break prints after its children.
-fn close_text(alloc: Global, printer: &mut Printer, source: &Source, exit: &Exit, inner: &Sheet, name: Name) -> Result<(), AllocError>
+fn close_text(
+    alloc: Global,
+    printer: &mut Printer,
+    source: &Source,
+    exit: &Exit,
+    inner: &Sheet,
+    name: Name,
+) -> Result<(), AllocError>
     ensures { OnOk result (printer.new ≡ printing source.now.ending.now
         (printed.text_closing (given_of source.now) exit.now.around (left_at exit.now printer.old.log.calls) exit.now.is_last exit.now.frame.start exit.now.end inner.now name) printer.old) }
 {
@@ -65,7 +79,13 @@ fn close_text(alloc: Global, printer: &mut Printer, source: &Source, exit: &Exit
 }
 
 /// Prints what a block prints after its children.
-fn close_block(alloc: Global, printer: &mut Printer, source: &Source, exit: &Exit, name: Name) -> Result<(), AllocError>
+fn close_block(
+    alloc: Global,
+    printer: &mut Printer,
+    source: &Source,
+    exit: &Exit,
+    name: Name,
+) -> Result<(), AllocError>
     ensures { OnOk result (printer.new ≡ printing source.now.ending.now
         (printed.block_closing (given_of source.now) exit.now.around (left_at exit.now printer.old.log.calls) exit.now.frame.ahead exit.now.frame.passed exit.now.frame.start exit.now.end name) printer.old) }
 {
@@ -94,7 +114,14 @@ fn close_block(alloc: Global, printer: &mut Printer, source: &Source, exit: &Exi
 
 /// Prints or notes what links and what they refer to print or note after their children, and notes a heading
 /// whose underline comes later.
-fn close_media(alloc: Global, printer: &mut Printer, source: &Source, exit: &Exit, inner: Sheet, name: Name) -> Result<(), AllocError>
+fn close_media(
+    alloc: Global,
+    printer: &mut Printer,
+    source: &Source,
+    exit: &Exit,
+    inner: Sheet,
+    name: Name,
+) -> Result<(), AllocError>
     ensures { OnOk result (printer.new ≡ printing source.now.ending.now
         (printed.media_closing (given_of source.now) exit.now.around exit.now.frame.ahead exit.now.frame.start exit.now.end inner name) printer.old) }
 {
@@ -126,13 +153,27 @@ fn close_media(alloc: Global, printer: &mut Printer, source: &Source, exit: &Exi
         Name::Link => link(alloc, printer, source, exit, &inner),
         Name::Image => image(alloc, printer, source, exit, &inner),
         Name::AutolinkEmail => {
-            autolink(alloc, printer, source, exit, "mailto:", exit.around.in_image)
+            autolink(
+                alloc,
+                printer,
+                source,
+                exit,
+                "mailto:",
+                exit.around.in_image,
+            )
         }
         Name::AutolinkProtocol => {
             autolink(alloc, printer, source, exit, "", exit.around.in_image)
         }
         Name::GfmAutolinkLiteralEmail => {
-            autolink(alloc, printer, source, exit, "mailto:", is_plain(exit.around))
+            autolink(
+                alloc,
+                printer,
+                source,
+                exit,
+                "mailto:",
+                is_plain(exit.around),
+            )
         }
         Name::GfmAutolinkLiteralMailto => {
             autolink(alloc, printer, source, exit, "", is_plain(exit.around))
@@ -141,7 +182,14 @@ fn close_media(alloc: Global, printer: &mut Printer, source: &Source, exit: &Exi
             autolink(alloc, printer, source, exit, "", is_plain(exit.around))
         }
         Name::GfmAutolinkLiteralWww => {
-            autolink(alloc, printer, source, exit, "http://", is_plain(exit.around))
+            autolink(
+                alloc,
+                printer,
+                source,
+                exit,
+                "http://",
+                is_plain(exit.around),
+            )
         }
         Name::GfmAutolinkLiteralXmpp => {
             autolink(alloc, printer, source, exit, "", is_plain(exit.around))
@@ -154,7 +202,11 @@ fn close_media(alloc: Global, printer: &mut Printer, source: &Source, exit: &Exi
 fn blank_line_ending(printer: &mut Printer, ending: &str, is_last: bool) -> Result<(), AllocError>
     ensures { OnOk result (printer.new ≡ printing ending.now (texts.blank_line_pieces is_last) printer.old) }
 {
-    if is_last { printer.need(ending) } else { Ok(()) }
+    if is_last {
+        printer.need(ending)
+    } else {
+        Ok(())
+    }
 }
 
 fn list(printer: &mut Printer, ending: &str, tag: &str) -> Result<(), AllocError>
@@ -269,7 +321,11 @@ fn unless(a: bool, b: bool) -> bool
 fn force_if(printer: &mut Printer, ending: &str, forced: bool) -> Result<(), AllocError>
     ensures { OnOk result (printer.new ≡ printing ending.now (blocks.when forced (Forced ∷ [])) printer.old) }
 {
-    if forced { printer.force(ending) } else { Ok(()) }
+    if forced {
+        printer.force(ending)
+    } else {
+        Ok(())
+    }
 }
 
 fn need_if(printer: &mut Printer, ending: &str, needed: bool) -> Result<(), AllocError>
@@ -300,14 +356,25 @@ fn fenced(printer: &mut Printer, ending: &str, exit: &Exit) -> Result<(), AllocE
     need_if(printer, ending, unclosed)
 }
 
-fn chunk(alloc: Global, printer: &mut Printer, source: &Source, exit: &Exit) -> Result<(), AllocError>
+fn chunk(
+    alloc: Global,
+    printer: &mut Printer,
+    source: &Source,
+    exit: &Exit,
+) -> Result<(), AllocError>
     ensures { OnOk result (printer.new ≡ printing [] (blocks.chunk_pieces (given_of source.now) exit.now.frame.start exit.now.end) printer.old) }
 {
     let text = serialized_of(alloc, source.bytes, exit.frame.start, exit.end)?;
     printer.put(encode(alloc, text.as_str(), true)?.as_str())
 }
 
-fn code(alloc: Global, printer: &mut Printer, around: Surroundings, tag: &str, inner: &str) -> Result<(), AllocError>
+fn code(
+    alloc: Global,
+    printer: &mut Printer,
+    around: Surroundings,
+    tag: &str,
+    inner: &str,
+) -> Result<(), AllocError>
     ensures { OnOk result (printer.new ≡ printing [] (texts.code_pieces around tag.now inner.now) printer.old) }
 {
     let text = code_text(alloc, around, inner)?;

@@ -7,7 +7,7 @@ ghost use Rattle.md_tree.specs.Grammar.{IsChecked, handed};
 ghost use Rattle.md_tree.specs.Refusal.{IsOutside, IsOrder, IsMdx, IsOfNode, IsLost};
 ghost use Rattle.md_html.specs.Machine as machine;
 ghost use Rattle.md_html.specs.LookAhead as look;
-ghost use Rattle.md_html.specs.Meaning.{meaning, ending_at};
+ghost use Rattle.md_html.specs.Meaning.{meaning, ending_at, IsServed};
 ghost use Rattle.md_html.specs.Sources.{given_of};
 ghost use Rattle.md_html.specs.Printed.{is_captured};
 
@@ -15,10 +15,10 @@ use crate::close::close;
 use crate::facts::{Ahead, Exit};
 use crate::look_ahead::look_ahead;
 use crate::names::is_captured;
+use crate::notes::Defined;
 use crate::open::open;
 use crate::options::CompileOptions;
 use crate::printer::Printer;
-use crate::notes::Defined;
 use crate::source::{Source, identifier_at, text_of};
 use md_base::{Event, Kind, Name, Point, Position};
 use md_tree::{Checked, CompileError, check};
@@ -32,9 +32,15 @@ use std::alloc::{AllocError, Global};
 ///
 /// An event where the list is no flattening of a document of the event grammar over these bytes and names, as
 /// [`check`] names it; or want of memory.
-pub fn compile(alloc: Global, events: &[Event], bytes: &[u8], options: &CompileOptions, names: &[(&str, &str)]) -> Result<String, CompileError>
+pub fn compile(
+    alloc: Global,
+    events: &[Event],
+    bytes: &[u8],
+    options: &CompileOptions,
+    names: &[(&str, &str)],
+) -> Result<String, CompileError>
     ensures grammatical { OnOk result (IsChecked (handed events.now bytes.now names.now)) }
-    ensures meaning { IfOk result (λ text. (document : Forest) → flatten document ≡ events.now →
+    ensures meaning { IfOk result (λ text. (document : Forest) → flatten document ≡ events.now → IsServed document →
         string_bytes text ≡ meaning options.now (name_table names.now) bytes.now document) }
 
     ensures outside { IfErr result (IsOutside (handed events.now bytes.now names.now)) }
@@ -52,8 +58,12 @@ pub fn compile(alloc: Global, events: &[Event], bytes: &[u8], options: &CompileO
 /// # Errors
 ///
 /// Only where memory runs out.
-pub fn compile_checked(alloc: Global, checked: &Checked, options: &CompileOptions) -> Result<String, AllocError>
-    ensures meaning { IfOk result (λ text. (document : Forest) → flatten document ≡ checked.now.events →
+pub fn compile_checked(
+    alloc: Global,
+    checked: &Checked,
+    options: &CompileOptions,
+) -> Result<String, AllocError>
+    ensures meaning { IfOk result (λ text. (document : Forest) → flatten document ≡ checked.now.events → IsServed document →
         string_bytes text ≡ meaning options.now checked.now.names checked.now.bytes document) }
 {
     let events = checked.events();
@@ -87,7 +97,14 @@ fn ending_at<'a>(options: &'a CompileOptions, bytes: &'a [u8], place: Option<Pos
 }
 
 /// Enters a node.
-fn enter(alloc: Global, printer: &mut Printer, source: &Source, ahead: Ahead, name: Name, start: Point) -> Result<(), AllocError>
+fn enter(
+    alloc: Global,
+    printer: &mut Printer,
+    source: &Source,
+    ahead: Ahead,
+    name: Name,
+    start: Point,
+) -> Result<(), AllocError>
     ensures { OnOk result (printer.new ≡ machine.entered (given_of source.now) ahead (is_captured name) name start printer.old) }
 {
     let around = printer.frame().around;
@@ -97,7 +114,14 @@ fn enter(alloc: Global, printer: &mut Printer, source: &Source, ahead: Ahead, na
 }
 
 /// Exits a node; `is_last` says that nothing follows in the document.
-fn exit(alloc: Global, printer: &mut Printer, source: &Source, is_last: bool, name: Name, end: Point) -> Result<(), AllocError>
+fn exit(
+    alloc: Global,
+    printer: &mut Printer,
+    source: &Source,
+    is_last: bool,
+    name: Name,
+    end: Point,
+) -> Result<(), AllocError>
     ensures { OnOk result (printer.new ≡ machine.exited (given_of source.now) is_last (is_captured name) name end printer.old) }
 {
     let parent = printer.parent();
@@ -126,7 +150,14 @@ fn exit(alloc: Global, printer: &mut Printer, source: &Source, is_last: bool, na
 }
 
 /// Goes one event further.
-fn step(alloc: Global, printer: &mut Printer, source: &Source, event: &Event, ahead: Ahead, is_last: bool) -> Result<(), AllocError>
+fn step(
+    alloc: Global,
+    printer: &mut Printer,
+    source: &Source,
+    event: &Event,
+    ahead: Ahead,
+    is_last: bool,
+) -> Result<(), AllocError>
     ensures { OnOk result (printer.new ≡ machine.stepped (given_of source.now) event.now.kind event.now.name event.now.point ahead is_last printer.old) }
 {
     match event.kind {
@@ -136,7 +167,12 @@ fn step(alloc: Global, printer: &mut Printer, source: &Source, event: &Event, ah
 }
 
 /// Prints the events, one after another, each with what is told ahead there.
-fn run(alloc: Global, source: &Source, events: &[Event], aheads: &[Ahead]) -> Result<Printer, AllocError>
+fn run(
+    alloc: Global,
+    source: &Source,
+    events: &[Event],
+    aheads: &[Ahead],
+) -> Result<Printer, AllocError>
     ensures { IfOk result (λ printer. printer ≡ machine.run (given_of source.now) events.now aheads.now machine.beginning) }
 {
     let mut printer = Printer::new(alloc);

@@ -18,7 +18,6 @@ mod surroundings;
 mod texts;
 
 pub use compiler::{compile, compile_checked};
-pub use options::CompileOptions;
 pub use md_base::{
     AlignKind, Event, GFM_HTML_TAGFILTER_NAMES, Kind, Name, Point, Position, SAFE_PROTOCOL_HREF,
     SAFE_PROTOCOL_SRC, Slice, decode_character_reference, is_same_name, normalize_identifier,
@@ -27,3 +26,4 @@ pub use md_text::{
     LineEnding, LineEndingError, encode, gfm_tagfilter, sanitize, sanitize_with_protocols,
 };
 pub use md_tree::{Checked, CompileError, Rule, check};
+pub use options::CompileOptions;

@@ -8,16 +8,22 @@ ghost use Rattle.md_tree.specs.Tree.{Forest, flatten};
 
 use crate::facts::{Ahead, Gathered};
 use crate::names::{
-    is_definition_label, is_footnote_label, is_footnote_prefix, is_label, is_label_text, is_reference,
-    is_blank_line_ending, is_block_quote, is_block_quote_prefix, is_heading_mark, is_item,
-    is_item_prefix, is_item_value, is_line_ending, is_space, is_transparent,
+    is_blank_line_ending, is_block_quote, is_block_quote_prefix, is_definition_label,
+    is_footnote_label, is_footnote_prefix, is_heading_mark, is_item, is_item_prefix, is_item_value,
+    is_label, is_label_text, is_line_ending, is_reference, is_space, is_transparent,
 };
 use md_base::{Event, Kind, Name, Point, Position};
 use std::alloc::{AllocError, Global};
 use std::marker::Model;
 
 /// The first of a node's own, of what is in a transparent node, and of what comes later.
-fn first_found<T: Copy>(found: bool, transparent: bool, own: T, inner: Option<T>, later: Option<T>) -> Option<T>
+fn first_found<T: Copy>(
+    found: bool,
+    transparent: bool,
+    own: T,
+    inner: Option<T>,
+    later: Option<T>,
+) -> Option<T>
     ensures { result ≡ spec.first_found found transparent own inner later }
 {
     if found {
@@ -58,7 +64,12 @@ fn nothing_gathered(end: Point) -> Gathered
 }
 
 /// The place of the first line ending: one in a node's children, the node itself, or a later one.
-fn first_ending(is_ending: bool, place: Position, inner: Option<Position>, later: Option<Position>) -> Option<Position>
+fn first_ending(
+    is_ending: bool,
+    place: Position,
+    inner: Option<Position>,
+    later: Option<Position>,
+) -> Option<Position>
     ensures { result ≡ or_else inner (or_else (if is_ending then Some place else None) later) }
 {
     match inner {
@@ -86,7 +97,13 @@ fn parts(blank_next: bool, item: bool, ends_bare: bool, later: bool) -> bool
 }
 
 /// The node is no prefix, and a blank line ending comes behind it; or one does so later.
-fn is_inner(prefix: bool, blank_next: bool, space: bool, space_blank_next: bool, later: bool) -> bool
+fn is_inner(
+    prefix: bool,
+    blank_next: bool,
+    space: bool,
+    space_blank_next: bool,
+    later: bool,
+) -> bool
     ensures { result ≡ (not prefix && (blank_next && not space || space_blank_next) || later) }
 {
     !prefix && (blank_next && !space || space_blank_next) || later
@@ -124,16 +141,45 @@ fn joined(name: Name, start: Point, own: Gathered, later: Gathered) -> Gathered
     let space = is_space(name);
     Gathered {
         end: later.end,
-        mark: first_found(is_heading_mark(name), transparent, place, own.mark, later.mark),
-        value: first_found(is_item_value(name), transparent, place, own.value, later.value),
-        prefix: first_found(is_item_prefix(name), transparent, own.value, own.prefix, later.prefix),
-        item: first_found(item, transparent, own.prefix.unwrap_or(None), own.item, later.item),
+        mark: first_found(
+            is_heading_mark(name),
+            transparent,
+            place,
+            own.mark,
+            later.mark,
+        ),
+        value: first_found(
+            is_item_value(name),
+            transparent,
+            place,
+            own.value,
+            later.value,
+        ),
+        prefix: first_found(
+            is_item_prefix(name),
+            transparent,
+            own.value,
+            own.prefix,
+            later.prefix,
+        ),
+        item: first_found(
+            item,
+            transparent,
+            own.prefix.unwrap_or(None),
+            own.item,
+            later.item,
+        ),
         is_empty: false,
         begins_blank: is_blank_line_ending(name),
         begins_space_blank: both(space, later.begins_blank),
         is_end: both(space, later.is_empty),
         ends_bare: choose(later.is_end, is_bare_node(name, own.last), later.ends_bare),
-        has_parting_blank: parts(later.begins_blank, item, own.ends_bare, later.has_parting_blank),
+        has_parting_blank: parts(
+            later.begins_blank,
+            item,
+            own.ends_bare,
+            later.has_parting_blank,
+        ),
         has_inner_blank: is_inner(
             is_item_prefix(name),
             later.begins_blank,
@@ -144,10 +190,34 @@ fn joined(name: Name, start: Point, own: Gathered, later: Gathered) -> Gathered
         has_loose_item: is_loose_here(item, own, later.has_loose_item),
         last: Some(later.last.unwrap_or(name)),
         ending: first_ending(is_line_ending(name), place, own.ending, later.ending),
-        label_text: first_found(is_label_text(name), transparent, place, own.label_text, later.label_text),
-        label: first_found(is_label(name), transparent, own.label_text, own.label, later.label),
-        reference: first_found(is_reference(name), transparent, place, own.reference, later.reference),
-        defined: first_found(is_definition_label(name), transparent, place, own.defined, later.defined),
+        label_text: first_found(
+            is_label_text(name),
+            transparent,
+            place,
+            own.label_text,
+            later.label_text,
+        ),
+        label: first_found(
+            is_label(name),
+            transparent,
+            own.label_text,
+            own.label,
+            later.label,
+        ),
+        reference: first_found(
+            is_reference(name),
+            transparent,
+            place,
+            own.reference,
+            later.reference,
+        ),
+        defined: first_found(
+            is_definition_label(name),
+            transparent,
+            place,
+            own.defined,
+            later.defined,
+        ),
         footnote_label: first_found(
             is_footnote_label(name),
             transparent,
@@ -264,7 +334,10 @@ impl Outlook {
 }
 
 /// What is told ahead at each event, and the place of the first line ending.
-pub fn look_ahead(alloc: Global, events: &[Event]) -> Result<(Vec<Ahead>, Option<Position>), AllocError>
+pub fn look_ahead(
+    alloc: Global,
+    events: &[Event],
+) -> Result<(Vec<Ahead>, Option<Position>), AllocError>
     ensures aheads { IfOk result (λ seen. seen.0.items ≡ (spec.looked_over events.now spec.no_outlook).aheads) }
     ensures ending { IfOk result (λ seen. seen.1 ≡ (spec.looked_over events.now spec.no_outlook).here.ending) }
 {

@@ -17,7 +17,11 @@ use md_text::{encode, sanitize, sanitize_with_protocols};
 use std::alloc::{AllocError, Global};
 
 /// A link's destination as it is written.
-pub fn href_of(alloc: Global, options: &CompileOptions, destination: &str) -> Result<String, AllocError>
+pub fn href_of(
+    alloc: Global,
+    options: &CompileOptions,
+    destination: &str,
+) -> Result<String, AllocError>
     ensures { IfOk result (λ url. string_bytes url ≡ media.href_of options.now destination.now) }
 {
     if options.allow_dangerous_protocol {
@@ -68,7 +72,12 @@ pub fn is_plain(around: Surroundings) -> bool
 }
 
 /// Where a link or an image leads: as its resource says, else as the definition with its identifier does, else nowhere.
-fn target_of<'a>(alloc: Global, source: &Source<'a>, ahead: Ahead, inner: &'a Sheet) -> Result<Option<&'a Target>, AllocError>
+fn target_of<'a>(
+    alloc: Global,
+    source: &Source<'a>,
+    ahead: Ahead,
+    inner: &'a Sheet,
+) -> Result<Option<&'a Target>, AllocError>
     ensures { IfOk result (λ target. unwrap_or (option_copied target) nowhere ≡ media.target_of (given_of source.now) ahead inner.now) }
 {
     if let Some(target) = inner.resource() {
@@ -113,7 +122,12 @@ fn title(printer: &mut Printer, title: Option<&str>) -> Result<(), AllocError>
 }
 
 /// Prints the beginning of a link, up to its title.
-fn link_start(alloc: Global, printer: &mut Printer, options: &CompileOptions, destination: &str) -> Result<(), AllocError>
+fn link_start(
+    alloc: Global,
+    printer: &mut Printer,
+    options: &CompileOptions,
+    destination: &str,
+) -> Result<(), AllocError>
     ensures { OnOk result (printer.new ≡ printing [] (media.link_start options.now destination.now) printer.old) }
 {
     let url = href_of(alloc, options, destination)?;
@@ -132,7 +146,13 @@ fn link_end(printer: &mut Printer, label: &str) -> Result<(), AllocError>
 }
 
 /// Prints a link: in an image its label alone.
-pub fn link(alloc: Global, printer: &mut Printer, source: &Source, exit: &Exit, inner: &Sheet) -> Result<(), AllocError>
+pub fn link(
+    alloc: Global,
+    printer: &mut Printer,
+    source: &Source,
+    exit: &Exit,
+    inner: &Sheet,
+) -> Result<(), AllocError>
     ensures { OnOk result (printer.new ≡ printing [] (media.link_pieces (given_of source.now) exit.now.around exit.now.frame.ahead inner.now) printer.old) }
 {
     if exit.around.in_image {
@@ -145,7 +165,13 @@ pub fn link(alloc: Global, printer: &mut Printer, source: &Source, exit: &Exit, 
 }
 
 /// Prints the beginning of an image, up to its title.
-fn image_start(alloc: Global, printer: &mut Printer, options: &CompileOptions, destination: &str, label: &str) -> Result<(), AllocError>
+fn image_start(
+    alloc: Global,
+    printer: &mut Printer,
+    options: &CompileOptions,
+    destination: &str,
+    label: &str,
+) -> Result<(), AllocError>
     ensures { OnOk result (printer.new ≡ printing [] (media.image_start options.now destination.now label.now) printer.old) }
 {
     let url = src_of(alloc, options, destination)?;
@@ -157,14 +183,26 @@ fn image_start(alloc: Global, printer: &mut Printer, options: &CompileOptions, d
 }
 
 /// Prints an image: in another its label alone.
-pub fn image(alloc: Global, printer: &mut Printer, source: &Source, exit: &Exit, inner: &Sheet) -> Result<(), AllocError>
+pub fn image(
+    alloc: Global,
+    printer: &mut Printer,
+    source: &Source,
+    exit: &Exit,
+    inner: &Sheet,
+) -> Result<(), AllocError>
     ensures { OnOk result (printer.new ≡ printing [] (media.image_pieces (given_of source.now) exit.now.around exit.now.frame.ahead inner.now) printer.old) }
 {
     if exit.around.in_image {
         return printer.put(inner.text());
     }
     let target = target_of(alloc, source, exit.frame.ahead, inner)?;
-    image_start(alloc, printer, source.options, destination_of(target), inner.text())?;
+    image_start(
+        alloc,
+        printer,
+        source.options,
+        destination_of(target),
+        inner.text(),
+    )?;
     title(printer, title_of(target))?;
     printer.put(" />")
 }
@@ -179,7 +217,14 @@ fn joined(alloc: Global, prefix: &str, text: &str) -> Result<String, AllocError>
 }
 
 /// Prints an autolink: its text, in a link to a prefix and its text unless it is plain.
-pub fn autolink(alloc: Global, printer: &mut Printer, source: &Source, exit: &Exit, prefix: &str, plain: bool) -> Result<(), AllocError>
+pub fn autolink(
+    alloc: Global,
+    printer: &mut Printer,
+    source: &Source,
+    exit: &Exit,
+    prefix: &str,
+    plain: bool,
+) -> Result<(), AllocError>
     ensures { OnOk result (printer.new ≡ printing [] (media.autolink_pieces (given_of source.now) prefix.now plain exit.now.frame.start exit.now.end) printer.old) }
 {
     let text = text_of(source.bytes, exit.frame.start, exit.end);

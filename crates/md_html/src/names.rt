@@ -10,7 +10,10 @@ use md_base::Name;
 pub fn is_transparent(name: Name) -> bool
     ensures { result ≡ tests.is_transparent name }
 {
-    matches!(name, Name::Other(_) | Name::BlockQuotePrefix | Name::SpaceOrTab)
+    matches!(
+        name,
+        Name::Other(_) | Name::BlockQuotePrefix | Name::SpaceOrTab
+    )
 }
 
 pub fn is_blank_line_ending(name: Name) -> bool

@@ -16,7 +16,13 @@ use md_base::{Name, Position};
 use std::alloc::AllocError;
 
 /// Prints what a node prints before its children.
-pub fn open(printer: &mut Printer, source: &Source, around: Surroundings, ahead: Ahead, name: Name) -> Result<(), AllocError>
+pub fn open(
+    printer: &mut Printer,
+    source: &Source,
+    around: Surroundings,
+    ahead: Ahead,
+    name: Name,
+) -> Result<(), AllocError>
     ensures { OnOk result (printer.new ≡ printing source.now.ending.now (printed.opening (given_of source.now) around ahead name) printer.old) }
 {
     match name {
@@ -26,12 +32,20 @@ pub fn open(printer: &mut Printer, source: &Source, around: Surroundings, ahead:
         Name::ListItem => on_own_line(printer, source.ending, "<li>"),
         Name::Paragraph => paragraph(printer, source.ending, around),
         Name::HeadingAtx => {
-            on_own_line(printer, source.ending, heading_opening(rank_of(source.bytes, ahead.mark)))
+            on_own_line(
+                printer,
+                source.ending,
+                heading_opening(rank_of(source.bytes, ahead.mark)),
+            )
         }
         Name::CodeIndented => on_own_line(printer, source.ending, "<pre><code>"),
         Name::CodeFenced => on_own_line(printer, source.ending, "<pre><code"),
         Name::MathFlow => {
-            on_own_line(printer, source.ending, "<pre><code class=\"language-math math-display\"")
+            on_own_line(
+                printer,
+                source.ending,
+                "<pre><code class=\"language-math math-display\"",
+            )
         }
         Name::CodeFencedFenceInfo => printer.put(" class=\"language-"),
         Name::HtmlFlow => printer.need(source.ending),
@@ -52,7 +66,11 @@ pub fn on_own_line(printer: &mut Printer, ending: &str, tag: &str) -> Result<(),
 }
 
 /// Prints a tag, but in an image.
-pub fn outside_images(printer: &mut Printer, around: Surroundings, tag: &str) -> Result<(), AllocError>
+pub fn outside_images(
+    printer: &mut Printer,
+    around: Surroundings,
+    tag: &str,
+) -> Result<(), AllocError>
     ensures { OnOk result (printer.new ≡ printing [] (outside_images around (said tag.now)) printer.old) }
 {
     if around.in_image {
@@ -79,7 +97,11 @@ fn paragraph(printer: &mut Printer, ending: &str, around: Surroundings) -> Resul
     }
 }
 
-fn ordered_list(printer: &mut Printer, source: &Source, number: Option<Position>) -> Result<(), AllocError>
+fn ordered_list(
+    printer: &mut Printer,
+    source: &Source,
+    number: Option<Position>,
+) -> Result<(), AllocError>
     ensures { OnOk result (printer.new ≡ printing source.now.ending.now (blocks.on_own_line (codes "<ol") ++ (blocks.start_pieces source.now.bytes.now number ++ said (codes ">"))) printer.old) }
 {
     on_own_line(printer, source.ending, "<ol")?;

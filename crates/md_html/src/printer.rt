@@ -7,8 +7,8 @@ ghost use Rattle.md_html.specs.Piece.{Text, Needed, Forced, Noted, Recalled, bla
 ghost use Rattle.md_html.specs.Texts.{said};
 
 use crate::facts::{Ahead, Container, Frame, Passed, Surroundings};
-use crate::options::CompileOptions;
 use crate::notes::{Defined, Target};
+use crate::options::CompileOptions;
 use crate::sheet::Sheet;
 use crate::surroundings::{NO_SPINE, inside, passing, slurps_behind, spine_inside};
 use md_base::{Name, Point};
@@ -155,7 +155,11 @@ impl Printer {
     pub fn capture_if(&mut self, alloc: Global, captured: bool) -> Result<(), AllocError>
         ensures { OnOk result (self.new ≡ machine.capturing captured self.old) }
     {
-        if captured { self.capture(alloc) } else { Ok(()) }
+        if captured {
+            self.capture(alloc)
+        } else {
+            Ok(())
+        }
     }
 
     /// Releases what was captured, if it was.
@@ -171,7 +175,13 @@ impl Printer {
     }
 
     /// Opens a node's frame.
-    pub fn open_frame(&mut self, options: &CompileOptions, ahead: Ahead, name: Name, start: Point) -> Result<(), AllocError>
+    pub fn open_frame(
+        &mut self,
+        options: &CompileOptions,
+        ahead: Ahead,
+        name: Name,
+        start: Point,
+    ) -> Result<(), AllocError>
         ensures { OnOk result (self.new ≡ machine.opening_frame options.now ahead name start self.old) }
     {
         let parent = self.frame;
@@ -196,7 +206,12 @@ impl Printer {
     {
         let parent = self.frames.pop().unwrap_or(DOCUMENT_FRAME);
         let inner = self.frame.passed.spine;
-        self.is_slurping = slurps_behind(parent.around, parent.passed.spine, name, self.is_slurping);
+        self.is_slurping = slurps_behind(
+            parent.around,
+            parent.passed.spine,
+            name,
+            self.is_slurping,
+        );
         self.frame = Frame {
             passed: passing(name, inner, parent.passed),
             ..parent

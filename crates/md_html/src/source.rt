@@ -44,7 +44,11 @@ pub fn label_of<'a>(bytes: &'a [u8], start: Point, end: Point) -> &'a str
 }
 
 /// The identifier at a place, if there is one.
-pub fn identifier_at(alloc: Global, bytes: &[u8], place: Option<Position>) -> Result<String, AllocError>
+pub fn identifier_at(
+    alloc: Global,
+    bytes: &[u8],
+    place: Option<Position>,
+) -> Result<String, AllocError>
     ensures { IfOk result (λ text. string_bytes text ≡ identifier_at bytes.now place) }
 {
     match place {
@@ -54,7 +58,12 @@ pub fn identifier_at(alloc: Global, bytes: &[u8], place: Option<Position>) -> Re
 }
 
 /// The text of a line of code with the spaces of tabs that are cut at its ends, else nothing.
-pub fn serialized_of(alloc: Global, bytes: &[u8], start: Point, end: Point) -> Result<String, AllocError>
+pub fn serialized_of(
+    alloc: Global,
+    bytes: &[u8],
+    start: Point,
+    end: Point,
+) -> Result<String, AllocError>
     ensures { IfOk result (λ text. string_bytes text ≡ given.serialized_of bytes.now start end) }
 {
     match Slice::from_position(bytes, &Position { start, end }) {

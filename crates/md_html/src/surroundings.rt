@@ -22,7 +22,12 @@ fn list_container(loose: bool) -> Container
 }
 
 /// The surroundings of a node's children; `loose` says whether the node, as a list, is loose.
-pub fn inside(options: &CompileOptions, loose: bool, name: Name, around: Surroundings) -> Surroundings
+pub fn inside(
+    options: &CompileOptions,
+    loose: bool,
+    name: Name,
+    around: Surroundings,
+) -> Surroundings
     ensures { result ≡ spec.inside options.now loose name around }
 {
     let inner = Surroundings {

@@ -14,7 +14,12 @@ use md_text::{encode, gfm_tagfilter};
 use std::alloc::{AllocError, Global};
 
 /// Prints a node's text, escaped where its surroundings say so.
-pub fn data(alloc: Global, printer: &mut Printer, source: &Source, exit: &Exit) -> Result<(), AllocError>
+pub fn data(
+    alloc: Global,
+    printer: &mut Printer,
+    source: &Source,
+    exit: &Exit,
+) -> Result<(), AllocError>
     ensures { OnOk result (printer.new ≡ printing [] (texts.data_pieces (given_of source.now) exit.now.around exit.now.frame.start exit.now.end) printer.old) }
 {
     let text = text_of(source.bytes, exit.frame.start, exit.end);
@@ -22,7 +27,12 @@ pub fn data(alloc: Global, printer: &mut Printer, source: &Source, exit: &Exit) 
 }
 
 /// Prints HTML, disarmed by the tag filter where HTML may stand.
-pub fn html(alloc: Global, printer: &mut Printer, source: &Source, exit: &Exit) -> Result<(), AllocError>
+pub fn html(
+    alloc: Global,
+    printer: &mut Printer,
+    source: &Source,
+    exit: &Exit,
+) -> Result<(), AllocError>
     ensures { OnOk result (printer.new ≡ printing [] (texts.html_pieces (given_of source.now) exit.now.around exit.now.frame.start exit.now.end) printer.old) }
 {
     let text = text_of(source.bytes, exit.frame.start, exit.end);
@@ -46,7 +56,12 @@ fn marker_of(name: Option<Name>) -> u8
 }
 
 /// Prints what a reference stands for, escaped where its surroundings say so.
-pub fn reference(alloc: Global, printer: &mut Printer, source: &Source, exit: &Exit) -> Result<(), AllocError>
+pub fn reference(
+    alloc: Global,
+    printer: &mut Printer,
+    source: &Source,
+    exit: &Exit,
+) -> Result<(), AllocError>
     ensures { OnOk result (printer.new ≡ printing [] (texts.reference_pieces (given_of source.now) exit.now.around (left_at exit.now []) exit.now.frame.start exit.now.end) printer.old) }
 {
     let value = text_of(source.bytes, exit.frame.start, exit.end);
@@ -70,7 +85,11 @@ fn is_dropped(exit: &Exit) -> bool
         Some(name) => is_definition(name),
         None => false,
     };
-    is_dropped_when(exit.around.in_definition, exit.frame.is_slurping, behind_definition)
+    is_dropped_when(
+        exit.around.in_definition,
+        exit.frame.is_slurping,
+        behind_definition,
+    )
 }
 
 /// Prints a line ending: a space in code, else its own text unless it is dropped.

@@ -22,6 +22,6 @@ returns c =
     let P : State → Type 0 = λ s. OnOk c.close_media.result (c.close_media.new.printer ≡ s) in
     let B : State → State = λ s. printing ending (block_closing given exit.around (left_at exit s.log.calls) exit.frame.ahead exit.frame.passed exit.frame.start exit.end name) s in
     subst P
-        (ap (λ s. printing ending media s) (c.in_ok-close_block.ensures ∙ ap B c.in_ok-close_text.ensures)
-        ∙ sym (printing-append ending texts (blocks ++ media) start ∙ printing-append ending blocks media (printing ending texts start)))
-        c.close_media.ensures
+    (ap (λ s. printing ending media s) (c.in_ok-close_block.ensures ∙ ap B c.in_ok-close_text.ensures)
+    ∙ sym (printing-append ending texts (blocks ++ media) start ∙ printing-append ending blocks media (printing ending texts start)))
+    c.close_media.ensures

@@ -34,13 +34,13 @@ link_ending : (ending : List ℕ) (given : Given) (around : Surroundings) (ahead
     printing [] (link_pieces given around ahead inner) state ≡ printing ending (link_pieces given around ahead inner) state
 link_ending ending given around ahead inner state =
     chosen ending around.in_image inner.text (link_to given.options (target_of given ahead inner) inner.text) state
-        (link_titled ending given.options (target_of given ahead inner).destination inner.text (target_of given ahead inner).title state)
+    (link_titled ending given.options (target_of given ahead inner).destination inner.text (target_of given ahead inner).title state)
 
 image_ending : (ending : List ℕ) (given : Given) (around : Surroundings) (ahead : Ahead) (inner : Page) (state : State) →
     printing [] (image_pieces given around ahead inner) state ≡ printing ending (image_pieces given around ahead inner) state
 image_ending ending given around ahead inner state =
     chosen ending around.in_image inner.text (image_of given.options (target_of given ahead inner) inner.text) state
-        (image_titled ending given.options (target_of given ahead inner).destination inner.text (target_of given ahead inner).title state)
+    (image_titled ending given.options (target_of given ahead inner).destination inner.text (target_of given ahead inner).title state)
 
 pub returns-in-Link : goal.returns-in-Link
 returns-in-Link c =

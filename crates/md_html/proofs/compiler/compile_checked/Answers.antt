@@ -20,13 +20,13 @@ returns c =
     let seen : List ℕ → List Defined = λ e. (run (given_with options names bytes e []) events aheads beginning).log.definitions in
     let ending : List ℕ = c.ending_at.result.now in
     record {
-      meaning = λ document flat.
-        c.into_text.ensures
-        ∙ ap (λ s. s.page.text) c.in_ok-second.ensures
-        ∙ ap (λ as'. text ending c.as_slice-2.result.now as') (c.as_slice-3.ensures.value ∙ sym c.as_slice.ensures.value)
-        ∙ ap (λ ds. text ending ds aheads) (c.as_slice-2.ensures.value ∙ c.into_definitions-definitions.ensures ∙ ap (λ s. s.log.definitions) c.in_ok-first.ensures)
-        ∙ ap (λ e. text e (seen e) aheads) c.ending_at.ensures
-        ∙ text-run options names bytes events aheads c.in_ok-aheads.ending document (flat ∙ sym c.events-events.ensures.events) (c.as_slice.ensures.value ∙ c.in_ok-aheads.ensures.aheads) c.in_ok-aheads.ensures.ending
-        ∙ ap (λ n. meaning options n bytes document) c.names.ensures
-        ∙ ap (λ b. meaning options c.args.checked.now.names b document) c.bytes-bytes.ensures
+      meaning = λ document flat served.
+          c.into_text.ensures
+          ∙ ap (λ s. s.page.text) c.in_ok-second.ensures
+          ∙ ap (λ as'. text ending c.as_slice-2.result.now as') (c.as_slice-3.ensures.value ∙ sym c.as_slice.ensures.value)
+          ∙ ap (λ ds. text ending ds aheads) (c.as_slice-2.ensures.value ∙ c.into_definitions-definitions.ensures ∙ ap (λ s. s.log.definitions) c.in_ok-first.ensures)
+          ∙ ap (λ e. text e (seen e) aheads) c.ending_at.ensures
+          ∙ text-run options names bytes events aheads c.in_ok-aheads.ending document (flat ∙ sym c.events-events.ensures.events) (c.as_slice.ensures.value ∙ c.in_ok-aheads.ensures.aheads) c.in_ok-aheads.ensures.ending
+          ∙ ap (λ n. meaning options n bytes document) c.names.ensures
+          ∙ ap (λ b. meaning options c.args.checked.now.names b document) c.bytes-bytes.ensures;
     }
