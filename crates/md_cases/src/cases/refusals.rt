@@ -1,0 +1,195 @@
+//! Cases of refusals, from scripts to the exact answer.
+
+use super::{answers, refuses};
+use std::test::Fail;
+
+#[test]
+fn list_number_too_great(rt: HostRuntime) -> Result<(), Fail> {
+    refuses(
+        &rt,
+        b"+ListOrdered 0\n+ListItem 0\n+ListItemPrefix 0\n+ListItemValue 0\n-ListItemValue 10\n+ListItemMarker 10\n-ListItemMarker 11\n+SpaceOrTab 11\n-SpaceOrTab 12\n-ListItemPrefix 12\n+Paragraph 12\n+Data 12\n-Data 13\n-Paragraph 13\n-ListItem 13\n-ListOrdered 13\n--\n4294967296. a",
+        &["event 4: ListNumber"],
+    )
+}
+
+#[test]
+fn lone_exit(rt: HostRuntime) -> Result<(), Fail> {
+    refuses(
+        &rt,
+        b"-Paragraph 0\n--\n",
+        &["event 0: Order"],
+    )
+}
+
+#[test]
+fn lone_entry(rt: HostRuntime) -> Result<(), Fail> {
+    refuses(
+        &rt,
+        b"+Paragraph 0\n--\n",
+        &["event 1: Order"],
+    )
+}
+
+#[test]
+fn place_past_the_end(rt: HostRuntime) -> Result<(), Fail> {
+    refuses(
+        &rt,
+        b"+Data 0\n-Data 2\n--\na",
+        &["event 1: Place"],
+    )
+}
+
+#[test]
+fn place_in_a_character(rt: HostRuntime) -> Result<(), Fail> {
+    refuses(
+        &rt,
+        b"+Data 0\n-Data 1\n--\n\xc3\xa9",
+        &["event 1: Place"],
+    )
+}
+
+#[test]
+fn line_ending_of_another_text(rt: HostRuntime) -> Result<(), Fail> {
+    refuses(
+        &rt,
+        b"+LineEnding 0\n-LineEnding 1\n--\nx",
+        &["event 1: LineEnding"],
+    )
+}
+
+#[test]
+fn heading_mark_of_seven(rt: HostRuntime) -> Result<(), Fail> {
+    refuses(
+        &rt,
+        b"+HeadingAtx 0\n+HeadingAtxSequence 0\n-HeadingAtxSequence 7\n-HeadingAtx 7\n--\n#######",
+        &["event 2: HeadingMark"],
+    )
+}
+
+#[test]
+fn unknown_reference(rt: HostRuntime) -> Result<(), Fail> {
+    refuses(
+        &rt,
+        b"+CharacterReferenceMarker 0\n-CharacterReferenceMarker 1\n+CharacterReferenceValue 1\n-CharacterReferenceValue 2\n--\n&x;",
+        &["event 3: CharacterReference"],
+    )
+}
+
+#[test]
+fn link_without_definition(rt: HostRuntime) -> Result<(), Fail> {
+    refuses(
+        &rt,
+        b"+Link 0\n+Label 0\n+LabelText 1\n+Data 1\n-Data 2\n-LabelText 2\n-Label 3\n-Link 3\n--\n[a]",
+        &["event 7: Definition"],
+    )
+}
+
+#[test]
+fn link_without_target(rt: HostRuntime) -> Result<(), Fail> {
+    refuses(
+        &rt,
+        b"+Link 0\n+Label 0\n-Label 2\n-Link 2\n--\n[]",
+        &["event 3: Target"],
+    )
+}
+
+#[test]
+fn call_without_footnote(rt: HostRuntime) -> Result<(), Fail> {
+    refuses(
+        &rt,
+        b"+GfmFootnoteCall 0\n+Label 0\n+LabelText 2\n+Data 2\n-Data 3\n-LabelText 3\n-Label 4\n-GfmFootnoteCall 4\n--\n[^b]",
+        &["event 7: Footnote"],
+    )
+}
+
+#[test]
+fn mdx(rt: HostRuntime) -> Result<(), Fail> {
+    refuses(
+        &rt,
+        b"+MdxEsm 0\n-MdxEsm 0\n--\n",
+        &["event 0: Mdx", "event 0: Order", "event 1: Order"],
+    )
+}
+
+#[test]
+fn data_in_a_break(rt: HostRuntime) -> Result<(), Fail> {
+    refuses(
+        &rt,
+        b"+ThematicBreak 0\n+Data 0\n-Data 3\n-ThematicBreak 3\n--\n***",
+        &["event 1: Order", "event 2: Order", "event 3: Order"],
+    )
+}
+
+#[test]
+fn second_fence_with_an_info(rt: HostRuntime) -> Result<(), Fail> {
+    refuses(
+        &rt,
+        b"+CodeFenced 0\n+CodeFencedFence 0\n-CodeFencedFence 3\n+CodeFencedFence 3\n+CodeFencedFenceInfo 4\n-CodeFencedFenceInfo 5\n-CodeFencedFence 6\n-CodeFenced 6\n--\nabcdef",
+        &["event 4: Order", "event 5: Order", "event 6: Order", "event 7: Order"],
+    )
+}
+
+#[test]
+fn list_begins_with_a_line_ending(rt: HostRuntime) -> Result<(), Fail> {
+    refuses(
+        &rt,
+        b"+ListUnordered 0\n+LineEnding 0\n-LineEnding 1\n-ListUnordered 1\n--\n\n",
+        &["event 1: Order", "event 2: Order", "event 3: Order"],
+    )
+}
+
+#[test]
+fn open_reference(rt: HostRuntime) -> Result<(), Fail> {
+    refuses(
+        &rt,
+        b"+CharacterReferenceMarker 0\n-CharacterReferenceMarker 1\n--\n&",
+        &["event 2: Order"],
+    )
+}
+
+#[test]
+fn script_of_a_break(rt: HostRuntime) -> Result<(), Fail> {
+    answers(
+        &rt,
+        b"+ThematicBreak 0\n-ThematicBreak 3\n--\n***",
+        "<hr />",
+    )
+}
+
+#[test]
+fn script_refused(rt: HostRuntime) -> Result<(), Fail> {
+    refuses(
+        &rt,
+        b"+Paragraph 0\n--",
+        &["event 1: Order"],
+    )
+}
+
+#[test]
+fn no_script(rt: HostRuntime) -> Result<(), Fail> {
+    refuses(&rt, b"", &["line 1: unreadable"])
+}
+
+#[test]
+fn script_without_end(rt: HostRuntime) -> Result<(), Fail> {
+    refuses(&rt, b"+ThematicBreak 0\n", &["line 2: unreadable"])
+}
+
+#[test]
+fn option_given_twice(rt: HostRuntime) -> Result<(), Fail> {
+    refuses(&rt, b"!gfm_tagfilter\n!gfm_tagfilter\n--", &["line 2: unreadable"])
+}
+
+#[test]
+fn empty_text_option(rt: HostRuntime) -> Result<(), Fail> {
+    answers(
+        &rt,
+        b"!gfm_footnote_label=\n--",
+        "",
+    )
+}
+
+#[test]
+fn text_option_without_a_value(rt: HostRuntime) -> Result<(), Fail> {
+    refuses(&rt, b"!gfm_footnote_label\n--", &["line 1: unreadable"])
+}
