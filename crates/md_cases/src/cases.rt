@@ -1,7 +1,9 @@
 //! What the cases ask.
 
 mod blocks;
+mod compiled;
 mod media;
+mod own;
 mod refusals;
 mod texts;
 

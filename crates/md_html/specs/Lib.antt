@@ -1,3 +1,4 @@
+pub mod Defaults
 pub mod Piece
 pub mod Surroundings
 pub mod Given
@@ -10,4 +11,3 @@ pub mod Meaning
 pub mod Machine
 pub mod LookAhead
 pub mod Sources
-pub mod Try

@@ -1,7 +1,7 @@
 use md_text::LineEnding;
 
 /// How events are compiled to HTML.
-#[derive(Debug, Default, Drop)]
+#[derive(Debug, Drop)]
 pub struct CompileOptions {
     /// Let images have any source.
     pub allow_any_img_src: bool,
@@ -25,4 +25,43 @@ pub struct CompileOptions {
     pub gfm_footnote_label_attributes: Option<String>,
     /// The tag name of that heading; unset: `h2`.
     pub gfm_footnote_label_tag_name: Option<String>,
+}
+
+impl Default for CompileOptions {
+    ghost use Rattle.std.specs.Prelude.{◌≡◌};
+    ghost use Rattle.md_html.specs.Defaults.{default_options};
+
+    ghost is_default = { λ options. options ≡ default_options };
+
+    /// All off, all unset, and lines end in LF.
+    fn default() -> CompileOptions {
+        CompileOptions {
+            allow_any_img_src: false,
+            allow_dangerous_html: false,
+            allow_dangerous_protocol: false,
+            gfm_task_list_item_checkable: false,
+            gfm_tagfilter: false,
+            default_line_ending: LineEnding::LineFeed,
+            gfm_footnote_back_label: None,
+            gfm_footnote_clobber_prefix: None,
+            gfm_footnote_label: None,
+            gfm_footnote_label_attributes: None,
+            gfm_footnote_label_tag_name: None,
+        }
+    }
+}
+
+impl CompileOptions {
+    ghost use Rattle.std.specs.Prelude.{◌≡◌};
+    ghost use Rattle.md_html.specs.Defaults.{gfm_options};
+
+    /// The default with the tag filter of GitHub flavored Markdown on.
+    pub fn gfm() -> CompileOptions
+        ensures { result ≡ gfm_options }
+    {
+        CompileOptions {
+            gfm_tagfilter: true,
+            ..CompileOptions::default()
+        }
+    }
 }
