@@ -1,6 +1,8 @@
 -- Why a script gives no text, and what is said of it.
 use Rattle.std.specs.Prelude.{ℕ, List, ◌++◌, codes}
 use Rattle.std.specs.Fmt.{decimal}
+use Rattle.md_tree.specs.declared.rule.CompileError.{CompileError}
+use Rattle.md_tree.specs.declared.rule.CompileError.TheVariants as refusal
 use Rattle.md_tree.specs.Names.{name_of}
 use Rattle.md_script.specs.declared.error.RunError.{RunError}
 use Rattle.md_script.specs.declared.error.RunError.TheVariants.{Memory, Line, Event}
@@ -16,3 +18,8 @@ abbrev pub status_of : RunError → ℕ
 status_of Memory = 3
 status_of (Line number) = 2
 status_of (Event index rule) = 1
+
+-- the refusal of a compiler as one of a script
+abbrev pub run_error_of : CompileError → RunError
+run_error_of refusal.Memory = Memory
+run_error_of (refusal.Event index rule) = Event index rule

@@ -1,4 +1,4 @@
-use md_tree::Rule;
+use md_tree::{CompileError, Rule};
 use std::alloc::AllocError;
 use std::error::Error;
 use std::fmt;
@@ -56,5 +56,19 @@ impl From<AllocError> for RunError {
 
     fn from(_error: AllocError) -> RunError {
         RunError::Memory
+    }
+}
+
+impl From<CompileError> for RunError {
+    ghost use Rattle.std.specs.Prelude.{◌≡◌};
+    ghost use Rattle.md_script.specs.Error.{run_error_of};
+
+    ghost from_gives = { λ error made. made ≡ run_error_of error };
+
+    fn from(error: CompileError) -> RunError {
+        match error {
+            CompileError::Memory => RunError::Memory,
+            CompileError::Event { index, rule } => RunError::Event { index, rule },
+        }
     }
 }

@@ -6,6 +6,7 @@ mod event_names;
 mod line;
 mod name;
 mod number;
+mod running;
 mod script;
 mod setting;
 mod split;
@@ -14,3 +15,4 @@ mod table;
 mod tests;
 
 pub use error::RunError;
+pub use running::run;

@@ -1,5 +1,5 @@
-use crate::RunError;
 use crate::script::read_script;
+use crate::{RunError, run};
 use md_base::{Kind, Name};
 use md_text::LineEnding;
 use md_tree::Rule;
@@ -140,4 +140,42 @@ fn errors_are_told(rt: HostRuntime) -> Result<(), Fail> {
         assert_eq!(rt; error.to_string(rt.alloc())?.as_str(), message);
     }
     Ok(())
+}
+
+#[test]
+fn scripts_are_compiled(rt: HostRuntime) -> Result<(), Fail> {
+    let cases: [(&[u8], &str); 4] = [
+        (THEMATIC_BREAK, "<hr />"),
+        (b"--", ""),
+        (b"!gfm_footnote_label=\n--", ""),
+        (
+            b"!allow_dangerous_html\n+HtmlFlow 0\n+HtmlFlowData 0\n-HtmlFlowData 3\n-HtmlFlow 3\n--\n<i>",
+            "<i>",
+        ),
+    ];
+    for (input, wanted) in cases {
+        let text = run(rt.alloc(), input)?;
+        assert_eq!(rt; text.as_str(), wanted, "at {input:?}");
+    }
+    Ok(())
+}
+
+#[test]
+fn refusals_are_named(rt: HostRuntime) {
+    let open_at_end = RunError::Event {
+        index: 1,
+        rule: Rule::Order,
+    };
+    let cases: [(&[u8], RunError); 4] = [
+        (b"+Paragraph 0\n--", open_at_end),
+        (b"", RunError::Line(1)),
+        (b"+ThematicBreak 0\n", RunError::Line(2)),
+        (b"!gfm_tagfilter\n!gfm_tagfilter\n--", RunError::Line(2)),
+    ];
+    for (input, wanted) in cases {
+        match run(rt.alloc(), input) {
+            Ok(_) => assert!(rt; false, "at {input:?}"),
+            Err(error) => assert_eq!(rt; error, wanted, "at {input:?}"),
+        }
+    }
 }

@@ -1,0 +1,56 @@
+-- What `run` answers: what the compiler answers of what a script stands for.
+use Rattle.std.specs.Prelude.{◌≡◌, ℕ, List, [], ◌∷◌, codes}
+use Rattle.md_base.specs.declared.event.Event.{Event}
+use Rattle.md_tree.specs.declared.rule.Rule.{Rule}
+use Rattle.md_tree.specs.declared.rule.CompileError.TheVariants as refusal
+use Rattle.md_tree.specs.Tree.{Forest, flatten}
+use Rattle.md_tree.specs.Grammar.{Document, IsChecked}
+use Rattle.md_tree.specs.Refusal.{IsRefusal}
+use Rattle.md_html.specs.declared.options.CompileOptions.{CompileOptions}
+use Rattle.md_html.specs.Meaning.{meaning}
+use Rattle.md_script.specs.Script.{IsReadable, IsFirstUnreadable, StandsFor}
+use Rattle.md_script.specs.declared.error.RunError.{RunError}
+use Rattle.md_script.specs.declared.error.RunError.TheVariants as error
+
+-- the names of character references, each with its text
+abbrev pub reference_names : List (List ℕ × List ℕ)
+reference_names =
+    (codes "amp", codes "&") ∷ (codes "lt", codes "<") ∷ (codes "gt", codes ">") ∷ (codes "quot", 34 ∷ []) ∷ (codes "apos", codes "'")
+    ∷ (codes "colon", codes ":") ∷ (codes "sol", codes "/") ∷ (codes "num", codes "#") ∷ (codes "quest", codes "?") ∷ []
+
+-- events over bytes, as a check is handed them
+abbrev pub document_of : List Event → List ℕ → Document
+document_of events bytes = record { events = events; bytes = bytes; names = reference_names }
+
+-- the events are of the grammar over the bytes, and the text is their document's meaning
+pub record IsCompiled (events : List Event) (bytes : List ℕ) (options : CompileOptions) (text : List ℕ) : Type 0 where
+  pub grammatical : IsChecked (document_of events bytes)
+  pub means : (document : Forest) → flatten document ≡ events → text ≡ meaning options reference_names bytes document
+
+-- why events give no text
+abbrev pub ExplainsEvents : List Event → List ℕ → RunError → Type 0
+ExplainsEvents events bytes error.Memory = Unit {0}
+ExplainsEvents events bytes (error.Line number) = ⊥
+ExplainsEvents events bytes (error.Event index rule) = IsRefusal (document_of events bytes) (refusal.Event index rule)
+
+-- the text is that of what the input stands for
+pub record IsTextOf (input text : List ℕ) : Type 0 where
+  pub events : List Event
+  pub bytes : List ℕ
+  pub options : CompileOptions
+  pub stands : StandsFor input events bytes options
+  pub compiled : IsCompiled events bytes options text
+
+-- an event of what the input stands for is refused
+pub record IsRefusedAt (input : List ℕ) (index : ℕ) (rule : Rule) : Type 0 where
+  pub events : List Event
+  pub bytes : List ℕ
+  pub options : CompileOptions
+  pub stands : StandsFor input events bytes options
+  pub refused : IsRefusal (document_of events bytes) (refusal.Event index rule)
+
+-- why a script gives no text: a line only where the input isn't readable, an event only where it is
+abbrev pub ExplainsRun : List ℕ → RunError → Type 0
+ExplainsRun input error.Memory = Unit {0}
+ExplainsRun input (error.Line number) = (¬ IsReadable input) × IsFirstUnreadable input number
+ExplainsRun input (error.Event index rule) = IsRefusedAt input index rule

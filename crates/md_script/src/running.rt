@@ -1,0 +1,49 @@
+ghost use Rattle.std.specs.Prelude.{string_bytes, IfOk, IfErr};
+ghost use Rattle.md_script.specs.Run.{IsCompiled, ExplainsEvents, IsTextOf, ExplainsRun};
+
+use crate::error::RunError;
+use crate::script::{Script, read_script};
+use md_html::compile;
+use std::alloc::Global;
+
+/// The names of character references in a script's document, each with its text.
+const REFERENCE_NAMES: [(&str, &str); 9] = [
+    ("amp", "&"),
+    ("lt", "<"),
+    ("gt", ">"),
+    ("quot", "\""),
+    ("apos", "'"),
+    ("colon", ":"),
+    ("sol", "/"),
+    ("num", "#"),
+    ("quest", "?"),
+];
+
+/// Reads a script and compiles what it stands for.
+///
+/// # Errors
+///
+/// `RunError::Line` where a line can't be read, `RunError::Event` where an event is refused, and
+/// `RunError::Memory` where memory runs out.
+pub fn run(alloc: Global, input: &[u8]) -> Result<String, RunError>
+    ensures text { IfOk result (λ text. IsTextOf input.now (string_bytes text)) }
+    ensures err { IfErr result (λ error. ExplainsRun input.now error) }
+{
+    let script = read_script(alloc, input)?;
+    compile_script(alloc, &script)
+}
+
+fn compile_script(alloc: Global, script: &Script) -> Result<String, RunError>
+    ensures text { IfOk result (λ text.
+        IsCompiled script.now.events.items script.now.document.now script.now.options (string_bytes text)) }
+    ensures err { IfErr result (λ error.
+        ExplainsEvents script.now.events.items script.now.document.now error) }
+{
+    Ok(compile(
+        alloc,
+        script.events.as_slice(),
+        script.document,
+        &script.options,
+        &REFERENCE_NAMES,
+    )?)
+}
