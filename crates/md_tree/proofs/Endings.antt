@@ -1,11 +1,9 @@
 -- What follows of a list of events from a node that breaks a rule, and from how a walk ends.
-use Rattle.std.proofs.Common.{◌≡◌, ◌≢◌, ◌⊎◌, inl, inr, ℕ, zero, suc, Bool, true, false, ◌&&◌, Option, Some, None, List, [], ◌∷◌, ◌++◌, drop, refl, sym, ap, ◌∙◌, subst, append_assoc, append-nil}
-use Rattle.std.specs.Prelude.{IsTrue}
+use Rattle.std.proofs.Common.{◌≡◌, ◌≢◌, inl, inr, ℕ, zero, suc, Bool, true, false, Option, Some, None, List, [], ◌∷◌, ◌++◌, drop, refl, sym, ap, ◌∙◌, subst, append_assoc}
 use Rattle.std.specs.List.{list_all}
 use Rattle.md_base.specs.declared.event.Point.{Point}
 use Rattle.md_base.specs.declared.event.Name.{Name}
 use Rattle.md_base.specs.declared.event.Event.{Event}
-use Rattle.md_tree.specs.declared.kinds.Role.{Role}
 use Rattle.md_tree.specs.declared.kinds.Role.TheVariants.{Flow, Childless}
 use Rattle.md_tree.specs.declared.kinds.Reading.TheVariants.{Free}
 use Rattle.md_tree.specs.declared.kinds.Standing.{Standing}
@@ -22,10 +20,10 @@ use Rattle.md_tree.specs.Standing.{standing_of}
 use Rattle.md_tree.specs.Spine.{spine}
 use Rattle.md_tree.specs.Pattern.{pattern_of}
 use Rattle.md_tree.specs.Shape.{EachNode, IsShaped, AreShaped, inner_role, inner_before}
-use Rattle.md_tree.specs.Rules.{broken_where, broken_rule, MeetRules, target_of}
+use Rattle.md_tree.specs.Rules.{broken_where, MeetRules, target_of}
 use Rattle.md_tree.specs.Mentions.{notes_of}
 use Rattle.md_tree.specs.Grammar.{Document, IsGrammatical, IsReadAs, IsChecked}
-use Rattle.md_tree.specs.Refusal.{Level, opening, role_in, before_in, symbol_after, Begins, EndsInGroup, LeaveOpen, EndsBroken}
+use Rattle.md_tree.specs.Refusal.{Level, opening, role_in, before_in, symbol_after, Begins, LeaveOpen, EndsBroken}
 use Rattle.md_tree.specs.Machine.{Reads, Course, Runs, Exits, ExitsWhere, after_exit, entered_on, is_complete, is_whole, is_optional, items_of, start_of, beginning}
 use Rattle.md_tree.specs.Walk.{Unbroken, Broken, BreaksWhere, BreaksAtExit}
 use Rattle.md_tree.proofs.Greedy.{and_both}

@@ -1,5 +1,5 @@
 -- Reading a spine symbol by symbol matches it against its pattern.
-use Rattle.std.proofs.Common.{◌≡◌, ◌⊎◌, inl, inr, ℕ, zero, suc, ◌+◌, ◌≤◌, Bool, true, false, ◌&&◌, cond, Option, Some, None, List, [], ◌∷◌, ◌++◌, length, drop, replicate, refl, sym, ap, ◌∙◌, subst, arith, add-one, append_assoc, append-nil}
+use Rattle.std.proofs.Common.{◌≡◌, ◌⊎◌, inl, inr, ℕ, zero, suc, ◌+◌, Bool, true, false, cond, Option, Some, None, List, [], ◌∷◌, ◌++◌, drop, replicate, refl, sym, ap, ◌∙◌, subst, add-one, append_assoc, append-nil}
 use Rattle.std.specs.List.{list_all}
 use Rattle.std.specs.Prelude.{option_map}
 use Rattle.md_tree.specs.declared.kinds.Symbol.{Symbol}
@@ -15,7 +15,7 @@ use Rattle.md_tree.specs.Pattern.{takes, pattern_of, Fits}
 use Rattle.md_tree.specs.Spine.{IsTail, IsGrouped, Matches, IsBegunGroup}
 use Rattle.md_tree.specs.Refusal.{EndsInGroup}
 use Rattle.md_tree.specs.Machine.{begun_by, continued, is_optional, after_item, seek, moved, items_of, advance, is_whole, is_complete, start_of}
-use Rattle.md_tree.proofs.Greedy.{and_left, and_right, and_both, settled, pattern_settled, kept, left_after, fits_nothing, fits_back, GoesOn, fits_on, nothing_fits}
+use Rattle.md_tree.proofs.Greedy.{and_left, and_right, and_both, settled, pattern_settled, kept, left_after, fits_nothing, fits_back, fits_on, nothing_fits}
 
 -- the items that are left and the stage of a group
 pub data Spot : Type 0 where

@@ -1,11 +1,8 @@
 -- What has been read is whole nodes and open ones.
-use Rattle.std.proofs.Common.{◌≡◌, ◌≢◌, ℕ, Bool, true, false, ◌&&◌, cond, Option, Some, None, MatchOption, List, [], ◌∷◌, ◌++◌, refl, sym, ap, ◌∙◌, subst, append_assoc, append-nil}
-use Rattle.std.specs.Prelude.{option_map, IsTrue}
+use Rattle.std.proofs.Common.{◌≡◌, ◌≢◌, Bool, true, false, cond, Option, Some, None, List, [], ◌∷◌, ◌++◌, refl, sym, ap, ◌∙◌, subst, append_assoc, append-nil}
 use Rattle.md_base.specs.declared.event.Point.{Point}
 use Rattle.md_base.specs.declared.event.Name.{Name}
-use Rattle.md_base.specs.declared.event.Kind.{Kind}
 use Rattle.md_base.specs.declared.event.Event.{Event}
-use Rattle.md_base.specs.declared.event.Kind.TheVariants.{Enter, Exit}
 use Rattle.md_tree.specs.declared.kinds.Symbol.{Symbol}
 use Rattle.md_tree.specs.declared.kinds.Role.{Role}
 use Rattle.md_tree.specs.declared.kinds.Role.TheVariants.{Flow, Childless}
@@ -15,20 +12,18 @@ use Rattle.md_tree.specs.declared.kinds.Standing.{Standing}
 use Rattle.md_tree.specs.declared.kinds.Standing.TheVariants.{Through, Space, Solid, Mdx}
 use Rattle.md_tree.specs.declared.kinds.Target.{Target}
 use Rattle.md_tree.specs.declared.kinds.Target.TheVariants.{Missing}
-use Rattle.md_tree.specs.declared.kinds.Mention.TheVariants.{Nothing}
-use Rattle.md_tree.specs.declared.kinds.Note.{Note}
 use Rattle.md_tree.specs.declared.state.State.{State}
 use Rattle.md_tree.specs.declared.state.Entry.{Entry}
 use Rattle.md_tree.specs.declared.state.Open.{Open}
 use Rattle.md_tree.specs.declared.state.Outer.{Outer}
 use Rattle.md_tree.specs.Tree.{Forest, Empty, Node, flatten, entering, exiting}
 use Rattle.md_tree.specs.Standing.{standing_of}
-use Rattle.md_tree.specs.Spine.{spine, shown, Matches}
-use Rattle.md_tree.specs.Shape.{Claim, EachNode, IsShapedNode, IsStanding, IsShaped, AreShaped, inner_role, inner_before, last_symbol, role_for}
+use Rattle.md_tree.specs.Spine.{spine, shown}
+use Rattle.md_tree.specs.Shape.{Claim, EachNode, IsStanding, inner_role, inner_before, last_symbol, role_for}
 use Rattle.md_tree.specs.Rules.{place, target_at, target_after, target_of}
 use Rattle.md_tree.specs.Refusal.{Level, opening, role_in, before_in, symbol_after}
-use Rattle.md_tree.specs.Machine.{Reads, Course, Runs, Steps, StepsBy, Exits, ExitsWhere, after_entry, after_through, after_exit, entered, entered_on, may_hold, start_of, advance, is_complete, beginning}
-use Rattle.md_tree.proofs.Groups.{Feeds, Feeds-append, Feeds-split, matches_feeds, advance_role, option_map-some}
+use Rattle.md_tree.specs.Machine.{Reads, Course, Exits, ExitsWhere, after_entry, entered, entered_on, may_hold, start_of, advance, beginning}
+use Rattle.md_tree.proofs.Groups.{Feeds, Feeds-append, matches_feeds, advance_role, option_map-some}
 use Rattle.md_tree.proofs.Trees.{IsReadWhere, IsFine, Feeds-context}
 
 -- nodes, and nodes after them

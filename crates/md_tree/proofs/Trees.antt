@@ -1,10 +1,9 @@
 -- A tree with the shape of the grammar is read from its first event to its last.
-use Rattle.std.proofs.Common.{◌≡◌, ◌≢◌, ℕ, Bool, true, false, ◌&&◌, cond, Option, Some, None, MatchOption, List, [], ◌∷◌, ◌++◌, refl, sym, ap, ◌∙◌, subst, append_assoc, append-nil}
-use Rattle.std.specs.Prelude.{option_map, IsTrue}
+use Rattle.std.proofs.Common.{◌≡◌, ◌≢◌, true, cond, Option, Some, None, MatchOption, List, [], ◌∷◌, ◌++◌, refl, sym, ap, ◌∙◌, subst, append_assoc, append-nil}
+use Rattle.std.specs.Prelude.{option_map}
 use Rattle.md_base.specs.declared.event.Point.{Point}
 use Rattle.md_base.specs.declared.event.Name.{Name}
 use Rattle.md_base.specs.declared.event.Event.{Event}
-use Rattle.md_base.specs.declared.event.Kind.TheVariants.{Enter, Exit}
 use Rattle.md_tree.specs.declared.kinds.Symbol.{Symbol}
 use Rattle.md_tree.specs.declared.kinds.Role.{Role}
 use Rattle.md_tree.specs.declared.kinds.Role.TheVariants.{Flow, Childless}
@@ -18,14 +17,14 @@ use Rattle.md_tree.specs.declared.kinds.Mention.TheVariants.{Nothing}
 use Rattle.md_tree.specs.declared.kinds.Note.{Note}
 use Rattle.md_tree.specs.declared.state.State.{State}
 use Rattle.md_tree.specs.declared.state.Entry.{Entry}
-use Rattle.md_tree.specs.Tree.{Forest, Empty, Node, flatten, entering, exiting}
+use Rattle.md_tree.specs.Tree.{Forest, Empty, Node, flatten, exiting}
 use Rattle.md_tree.specs.Standing.{standing_of}
 use Rattle.md_tree.specs.Spine.{spine, shown, Matches}
-use Rattle.md_tree.specs.Shape.{Claim, EachNode, IsShapedNode, IsStanding, IsShaped, AreShaped, inner_role, inner_before, last_symbol, role_for}
-use Rattle.md_tree.specs.Rules.{place, target_at, target_after, target_of}
-use Rattle.md_tree.specs.Mentions.{mention_of, mention_where, note, notes_of}
-use Rattle.md_tree.specs.Machine.{Reads, Course, Runs, Steps, StepsBy, Exits, ExitsWhere, after_entry, after_through, after_exit, entered, entered_on, may_hold, start_of, advance, is_complete, beginning}
-use Rattle.md_tree.proofs.Groups.{Feeds, Feeds-append, Feeds-split, Feeds-matches, advance_role}
+use Rattle.md_tree.specs.Shape.{Claim, EachNode, IsShapedNode, IsStanding, inner_role, inner_before, last_symbol, role_for}
+use Rattle.md_tree.specs.Rules.{place, target_after, target_of}
+use Rattle.md_tree.specs.Mentions.{mention_where, note, notes_of}
+use Rattle.md_tree.specs.Machine.{Reads, Course, Runs, Exits, after_entry, entered, entered_on, may_hold, start_of, advance, is_complete, beginning}
+use Rattle.md_tree.proofs.Groups.{Feeds, Feeds-split, Feeds-matches, advance_role}
 
 -- a claim about nodes that stand on a spine, of a node that stands so
 abbrev pub IsReadWhere : Reads → Standing → Role → Option Symbol → Point → Point → Target → Type 0

@@ -1,7 +1,5 @@
 -- What follows of a list of events from how a walk over it goes on, stops or ends.
-use Rattle.std.proofs.Common.{◌≡◌, ◌≢◌, ◌⊎◌, inl, inr, ℕ, suc, ◌<◌, ◌≤◌, Bool, true, false, ◌&&◌, cond, Option, Some, None, MatchOption, List, [], ◌∷◌, ◌++◌, length, take, get_or, refl, sym, ap, ◌∙◌, subst, append_assoc, append-nil, arith}
-use Rattle.std.specs.Prelude.{IsTrue, slice_get}
-use Rattle.std.specs.List.{list_all}
+use Rattle.std.proofs.Common.{◌≡◌, ℕ, Bool, true, false, cond, Option, Some, None, MatchOption, List, [], ◌∷◌, ◌++◌, refl, sym, ◌∙◌, subst, append_assoc, append-nil}
 use Rattle.md_base.specs.declared.event.Point.{Point}
 use Rattle.md_base.specs.declared.event.Name.{Name}
 use Rattle.md_base.specs.declared.event.Kind.{Kind}
@@ -10,8 +8,6 @@ use Rattle.md_base.specs.declared.event.Event.{Event}
 use Rattle.md_tree.specs.declared.kinds.Symbol.{Symbol}
 use Rattle.md_tree.specs.declared.kinds.Role.{Role}
 use Rattle.md_tree.specs.declared.kinds.Role.TheVariants.{Flow}
-use Rattle.md_tree.specs.declared.kinds.Reading.{Reading}
-use Rattle.md_tree.specs.declared.kinds.Reading.TheVariants.{Free}
 use Rattle.md_tree.specs.declared.kinds.Standing.{Standing}
 use Rattle.md_tree.specs.declared.kinds.Standing.TheVariants.{Through, Space, Solid, Mdx}
 use Rattle.md_tree.specs.declared.kinds.Target.{Target}
@@ -19,24 +15,20 @@ use Rattle.md_tree.specs.declared.kinds.Target.TheVariants.{Missing}
 use Rattle.md_tree.specs.declared.rule.Rule.{Rule}
 use Rattle.md_tree.specs.declared.rule.Rule.TheVariants as rule
 use Rattle.md_tree.specs.declared.state.State.{State}
-use Rattle.md_tree.specs.declared.state.Stage.{Stage}
 use Rattle.md_tree.specs.declared.state.Entry.{Entry}
 use Rattle.md_tree.specs.declared.state.Open.{Open}
 use Rattle.md_tree.specs.declared.state.Outer.{Outer}
-use Rattle.md_tree.specs.Tree.{Forest, Empty, Node, flatten, entering, exiting}
+use Rattle.md_tree.specs.Tree.{Forest, Empty, Node, flatten, entering}
 use Rattle.md_tree.specs.Standing.{standing_of}
-use Rattle.md_tree.specs.Spine.{spine, shown, Matches}
+use Rattle.md_tree.specs.Spine.{spine, shown}
 use Rattle.md_tree.specs.Shape.{Claim, EachNode, IsShapedNode, IsShaped, AreShaped, inner_role, inner_before, last_symbol}
-use Rattle.md_tree.specs.Rules.{broken_where, broken_at, broken_rule, MeetsRules, MeetRules, target_of}
-use Rattle.md_tree.specs.Mentions.{notes_of}
+use Rattle.md_tree.specs.Rules.{broken_where, broken_rule, MeetsRules, MeetRules, target_of}
 use Rattle.md_tree.specs.Grammar.{Document, IsGrammatical, IsReadAs, IsChecked}
-use Rattle.md_tree.specs.Refusal.{Level, opening, role_in, before_in, symbol_after, IsShapedPath, Begins, BeginNoTree, EndsInGroup, LeaveOpen, EndsBroken}
-use Rattle.md_tree.specs.Machine.{Reads, Course, Runs, Steps, StepsBy, Enters, Exits, ExitsWhere, after_entry, after_through, after_exit, entered, entered_on, may_hold, is_complete, is_whole, is_optional, items_of, start_of, beginning}
-use Rattle.md_tree.specs.Walk.{Anything, Unbroken, Broken, BreaksWhere, BreaksAtExit, StopsAtEntry, StopsAtExit, StopsBy}
-use Rattle.md_tree.proofs.Greedy.{and_both, and_left, and_right}
-use Rattle.md_tree.proofs.Groups.{Feeds, matches_feeds, EndsInGroup-feeds, option_map-some}
-use Rattle.md_tree.proofs.Trees.{IsReadWhere, IsFine, AllowsFree, Runs-append, Runs-split, Runs-document, after_nodes, EachNode-map, Feeds-context}
-use Rattle.md_tree.proofs.Paths.{Stands, Stands-context, IsFinePath, Reached, Reached-beginning, Reached-enter, Reached-exit, Left, Reached-left, Left-closed, Left-inner, Closed, may_hold_true, entry_is}
+use Rattle.md_tree.specs.Refusal.{Level, role_in, before_in, IsShapedPath, BeginNoTree}
+use Rattle.md_tree.specs.Machine.{Reads, Course, Runs, Steps, StepsBy, Enters, Exits, ExitsWhere, after_entry, entered, entered_on, may_hold, is_complete, beginning}
+use Rattle.md_tree.specs.Walk.{Anything, Unbroken, BreaksWhere, BreaksAtExit, StopsAtEntry, StopsAtExit, StopsBy}
+use Rattle.md_tree.proofs.Trees.{IsReadWhere, IsFine, AllowsFree, Runs-split, Runs-document, after_nodes, EachNode-map}
+use Rattle.md_tree.proofs.Paths.{IsFinePath, Reached, Reached-beginning, Reached-enter, Reached-exit}
 
 -- ---- one course
 

@@ -1,5 +1,5 @@
 -- The event grammar over a document's bytes and a table of names.
-use Rattle.std.specs.Prelude.{◌≡◌, ℕ, Option, None, List}
+use Rattle.std.specs.Prelude.{◌≡◌, ℕ, None, List}
 use Rattle.std.specs.List.{All}
 use Rattle.std.specs.Borrow.{Bor}
 use Rattle.md_base.specs.Reference.{name_table}

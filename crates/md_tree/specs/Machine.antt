@@ -1,5 +1,5 @@
 -- How a check reads events: one small state for each open node.
-use Rattle.std.specs.Prelude.{◌≡◌, ℕ, ◌+◌, Bool, true, false, ◌&&◌, if◌then◌else◌, Option, Some, None, option_map, List, [], ◌∷◌, ◌++◌, drop, reverse, IsTrue, MatchOption}
+use Rattle.std.specs.Prelude.{◌≡◌, ℕ, ◌+◌, Bool, true, false, ◌&&◌, if◌then◌else◌, Option, Some, None, option_map, List, [], ◌∷◌, ◌++◌, drop, IsTrue, MatchOption}
 use Rattle.std.specs.List.{list_all}
 use Rattle.md_base.specs.declared.event.Point.{Point}
 use Rattle.md_base.specs.declared.event.Name.{Name}
@@ -15,7 +15,7 @@ use Rattle.md_tree.specs.declared.kinds.Standing.TheVariants.{Through, Space, So
 use Rattle.md_tree.specs.declared.kinds.Reading.{Reading}
 use Rattle.md_tree.specs.declared.kinds.Reading.TheVariants.{Free}
 use Rattle.md_tree.specs.declared.kinds.Times.{Times}
-use Rattle.md_tree.specs.declared.kinds.Times.TheVariants.{Once, Maybe, Many}
+use Rattle.md_tree.specs.declared.kinds.Times.TheVariants.{Once, Many}
 use Rattle.md_tree.specs.declared.kinds.Item.{Item}
 use Rattle.md_tree.specs.declared.kinds.Target.{Target}
 use Rattle.md_tree.specs.declared.kinds.Target.TheVariants.{Missing}

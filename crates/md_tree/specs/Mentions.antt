@@ -8,9 +8,9 @@ use Rattle.md_base.specs.Identifier.{normalized}
 use Rattle.md_tree.specs.declared.kinds.Reading.{Reading}
 use Rattle.md_tree.specs.declared.kinds.Reading.TheVariants as reading
 use Rattle.md_tree.specs.declared.kinds.Standing.{Standing}
-use Rattle.md_tree.specs.declared.kinds.Standing.TheVariants.{Through, Space, Solid, Mdx}
+use Rattle.md_tree.specs.declared.kinds.Standing.TheVariants.{Solid}
 use Rattle.md_tree.specs.declared.kinds.Target.{Target}
-use Rattle.md_tree.specs.declared.kinds.Target.TheVariants.{Missing, Resource, Label}
+use Rattle.md_tree.specs.declared.kinds.Target.TheVariants.{Missing, Label}
 use Rattle.md_tree.specs.declared.kinds.Mention.{Mention}
 use Rattle.md_tree.specs.declared.kinds.Mention.TheVariants.{Nothing, Reference, Call, Definition, FootnoteDefinition}
 use Rattle.md_tree.specs.declared.kinds.Note.{Note}

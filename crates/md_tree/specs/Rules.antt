@@ -13,7 +13,7 @@ use Rattle.md_tree.specs.declared.kinds.Role.TheVariants as role
 use Rattle.md_tree.specs.declared.kinds.Reading.{Reading}
 use Rattle.md_tree.specs.declared.kinds.Reading.TheVariants as reading
 use Rattle.md_tree.specs.declared.kinds.Standing.{Standing}
-use Rattle.md_tree.specs.declared.kinds.Standing.TheVariants.{Through, Space, Solid, Mdx}
+use Rattle.md_tree.specs.declared.kinds.Standing.TheVariants.{Through, Solid}
 use Rattle.md_tree.specs.declared.kinds.Target.{Target}
 use Rattle.md_tree.specs.declared.kinds.Target.TheVariants.{Missing, Resource, Label}
 use Rattle.md_tree.specs.declared.rule.Rule.{Rule}

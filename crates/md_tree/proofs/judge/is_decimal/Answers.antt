@@ -1,9 +1,9 @@
-use Rattle.std.proofs.Common.{◌≡◌, ◌≢◌, ℕ, ◌<◌, Bool, true, false, not, ◌&&◌, ◌^◌, eqb, nat_lt, cond, List, [], ◌∷◌, length, get_or, Option, Some, None, Result, Ok, Err, is_ok, sym, ap, ◌∙◌, subst, refl, lit<, arith}
+use Rattle.std.proofs.Common.{◌≡◌, ◌≢◌, ℕ, Bool, true, false, not, ◌&&◌, ◌^◌, eqb, nat_lt, cond, List, [], ◌∷◌, length, get_or, Some, None, Result, Ok, Err, is_ok, sym, ◌∙◌, subst, refl, lit<, arith}
 use Rattle.std.specs.Char.{digit_value}
 use Rattle.std.specs.List.{list_all}
 use Rattle.std.specs.Str.Parse.{ParsesUnsigned, digits_value}
 use Rattle.std.proofs.lemmas.Bool.{eqb-false, eqb-true}
-use Rattle.md_base.specs.Reference.{is_number, numbered, character_of}
+use Rattle.md_base.specs.Reference.{is_number, character_of}
 use Rattle.md_base.proofs.ReferenceLemmas.{numbered_ok, numbered_none}
 use Rattle.md_tree.proofs.judge.is_decimal.Goals as goal
 

@@ -1,4 +1,4 @@
-use Rattle.std.proofs.Common.{◌≡◌, ℕ, ◌<◌, Bool, true, false, List, Option, length, get_or, below_more, sym, ap, ◌∙◌, subst}
+use Rattle.std.proofs.Common.{◌≡◌, ℕ, ◌<◌, Bool, true, false, List, length, get_or, below_more, sym, ap, ◌∙◌}
 use Rattle.std.specs.Prelude.{map, option_map, string_bytes}
 use Rattle.std.proofs.lemmas.List.{get_or-map}
 use Rattle.md_tree.proofs.resolve.is_among.Goals as goal

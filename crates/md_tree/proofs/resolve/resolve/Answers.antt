@@ -1,8 +1,6 @@
-use Rattle.std.proofs.Common.{ℕ, ap, ◌∙◌, below_more, get_or}
-use Rattle.std.specs.Prelude.{IfSome}
-use Rattle.md_tree.specs.declared.kinds.Mention.{Mention}
+use Rattle.std.proofs.Common.{ap, ◌∙◌, below_more, get_or}
 use Rattle.md_tree.specs.Mentions.{mentions_in, IsResolved}
-use Rattle.md_tree.specs.Resolve.{identifiers_of, IsLost}
+use Rattle.md_tree.specs.Resolve.{identifiers_of}
 use Rattle.md_tree.proofs.Resolving.{IsResolved-at, IsUnresolvedBy-at}
 use Rattle.md_tree.proofs.resolve.resolve.Goals as goal
 
