@@ -21,9 +21,9 @@ abbrev pub first_on_spine : {A : Type 0} → (Name → Bool) → (Point → Poin
 first_on_spine test tell Empty = None
 first_on_spine test tell (Node name start end children rest) =
     or_else
-        (if test name then Some (tell start end children)
-         else (if is_transparent name then first_on_spine test tell children else None))
-        (first_on_spine test tell rest)
+    (if test name then Some (tell start end children)
+    else (if is_transparent name then first_on_spine test tell children else None))
+    (first_on_spine test tell rest)
 
 -- there is no node
 abbrev pub is_empty : Forest → Bool

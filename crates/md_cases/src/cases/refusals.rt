@@ -14,38 +14,22 @@ fn list_number_too_great(rt: HostRuntime) -> Result<(), Fail> {
 
 #[test]
 fn lone_exit(rt: HostRuntime) -> Result<(), Fail> {
-    refuses(
-        &rt,
-        b"-Paragraph 0\n--\n",
-        &["event 0: Order"],
-    )
+    refuses(&rt, b"-Paragraph 0\n--\n", &["event 0: Order"])
 }
 
 #[test]
 fn lone_entry(rt: HostRuntime) -> Result<(), Fail> {
-    refuses(
-        &rt,
-        b"+Paragraph 0\n--\n",
-        &["event 1: Order"],
-    )
+    refuses(&rt, b"+Paragraph 0\n--\n", &["event 1: Order"])
 }
 
 #[test]
 fn place_past_the_end(rt: HostRuntime) -> Result<(), Fail> {
-    refuses(
-        &rt,
-        b"+Data 0\n-Data 2\n--\na",
-        &["event 1: Place"],
-    )
+    refuses(&rt, b"+Data 0\n-Data 2\n--\na", &["event 1: Place"])
 }
 
 #[test]
 fn place_in_a_character(rt: HostRuntime) -> Result<(), Fail> {
-    refuses(
-        &rt,
-        b"+Data 0\n-Data 1\n--\n\xc3\xa9",
-        &["event 1: Place"],
-    )
+    refuses(&rt, b"+Data 0\n-Data 1\n--\n\xc3\xa9", &["event 1: Place"])
 }
 
 #[test]
@@ -125,7 +109,12 @@ fn second_fence_with_an_info(rt: HostRuntime) -> Result<(), Fail> {
     refuses(
         &rt,
         b"+CodeFenced 0\n+CodeFencedFence 0\n-CodeFencedFence 3\n+CodeFencedFence 3\n+CodeFencedFenceInfo 4\n-CodeFencedFenceInfo 5\n-CodeFencedFence 6\n-CodeFenced 6\n--\nabcdef",
-        &["event 4: Order", "event 5: Order", "event 6: Order", "event 7: Order"],
+        &[
+            "event 4: Order",
+            "event 5: Order",
+            "event 6: Order",
+            "event 7: Order",
+        ],
     )
 }
 
@@ -158,11 +147,7 @@ fn script_of_a_break(rt: HostRuntime) -> Result<(), Fail> {
 
 #[test]
 fn script_refused(rt: HostRuntime) -> Result<(), Fail> {
-    refuses(
-        &rt,
-        b"+Paragraph 0\n--",
-        &["event 1: Order"],
-    )
+    refuses(&rt, b"+Paragraph 0\n--", &["event 1: Order"])
 }
 
 #[test]
@@ -177,16 +162,16 @@ fn script_without_end(rt: HostRuntime) -> Result<(), Fail> {
 
 #[test]
 fn option_given_twice(rt: HostRuntime) -> Result<(), Fail> {
-    refuses(&rt, b"!gfm_tagfilter\n!gfm_tagfilter\n--", &["line 2: unreadable"])
+    refuses(
+        &rt,
+        b"!gfm_tagfilter\n!gfm_tagfilter\n--",
+        &["line 2: unreadable"],
+    )
 }
 
 #[test]
 fn empty_text_option(rt: HostRuntime) -> Result<(), Fail> {
-    answers(
-        &rt,
-        b"!gfm_footnote_label=\n--",
-        "",
-    )
+    answers(&rt, b"!gfm_footnote_label=\n--", "")
 }
 
 #[test]

@@ -5,11 +5,7 @@ use std::test::Fail;
 
 #[test]
 fn no_events(rt: HostRuntime) -> Result<(), Fail> {
-    answers(
-        &rt,
-        b"--\n",
-        "",
-    )
+    answers(&rt, b"--\n", "")
 }
 
 #[test]
