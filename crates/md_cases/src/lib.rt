@@ -5,3 +5,4 @@
 
 #[cfg(test)]
 mod cases;
+pub mod laws;

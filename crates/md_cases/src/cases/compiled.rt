@@ -57,6 +57,33 @@ fn reference_that_begins_in_a_transparent_node(rt: HostRuntime) -> Result<(), Fa
     )
 }
 
+/// A call that always answers want of memory fails here: no events are the empty text.
+#[test]
+fn always_out_of_memory(rt: HostRuntime) -> Result<(), Fail> {
+    let options = CompileOptions::default();
+    let text = compile(rt.alloc(), &[], b"", &options, &[])?;
+    assert_eq!(rt; text.as_str(), "");
+    let checked = check(rt.alloc(), &[], b"", &[])?;
+    let text = compile_checked(rt.alloc(), &checked, &options)?;
+    assert_eq!(rt; text.as_str(), "");
+    Ok(())
+}
+
+/// A call that answers want of memory in place of a refusal fails here.
+#[test]
+fn memory_in_place_of_refusal(rt: HostRuntime) -> Result<(), Fail> {
+    let events = [event(Kind::Exit, Name::Paragraph, 0)];
+    let options = CompileOptions::default();
+    match compile(rt.alloc(), &events, b"", &options, &[]) {
+        Ok(text) => assert_eq!(rt; text.as_str(), "a refusal"),
+        Err(error) => {
+            let said = error.to_string(rt.alloc())?;
+            assert_eq!(rt; said.as_str(), "event 0: Order");
+        }
+    }
+    Ok(())
+}
+
 #[test]
 fn default_and_gfm_options(rt: HostRuntime) {
     assert!(rt; !CompileOptions::default().gfm_tagfilter);
