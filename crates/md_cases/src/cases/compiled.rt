@@ -1,6 +1,9 @@
 //! Cases over a table of names that no script has, and of each call that answers alone.
 
-use md_html::{CompileOptions, Event, Kind, Name, Point, check, compile, compile_checked};
+use md_html::{
+    CompileError, CompileOptions, Event, Kind, Name, Point, check, compile, compile_checked,
+};
+use std::alloc::Global;
 use std::process::Abort;
 use std::test::Fail;
 
@@ -17,15 +20,27 @@ fn event(kind: Kind, name: Name, index: usize) -> Event {
     }
 }
 
+/// A name of a reference, with its text.
+const NAMES: [(&str, &str); 1] = [("x", "<")];
+
+/// What both calls answer under the default options.
+fn both<'a>(
+    alloc: Global,
+    events: &'a [Event],
+    bytes: &'a [u8],
+    names: &'a [(&'a str, &'a str)],
+) -> Result<(String, String), CompileError> {
+    let options = CompileOptions::default();
+    let text = compile(alloc, events, bytes, &options, names)?;
+    let checked = check(alloc, events, bytes, names)?;
+    Ok((text, compile_checked(alloc, &checked, &options)?))
+}
+
 /// Both calls answer this text over `&x;`, where `x` names `<`.
 fn answers_angle(rt: &(impl Abort + AllocGlobal), events: &[Event]) -> Result<(), Fail> {
-    let options = CompileOptions::default();
-    let names = [("x", "<")];
-    let text = compile(rt.alloc(), events, b"&x;", &options, &names)?;
+    let (text, again) = both(rt.alloc(), events, b"&x;", &NAMES)?;
     assert_eq!(rt; text.as_str(), "&lt;");
-    let checked = check(rt.alloc(), events, b"&x;", &names)?;
-    let text = compile_checked(rt.alloc(), &checked, &options)?;
-    assert_eq!(rt; text.as_str(), "&lt;");
+    assert_eq!(rt; again.as_str(), "&lt;");
     Ok(())
 }
 
@@ -60,27 +75,9 @@ fn reference_that_begins_in_a_transparent_node(rt: HostRuntime) -> Result<(), Fa
 /// A call that always answers want of memory fails here: no events are the empty text.
 #[test]
 fn always_out_of_memory(rt: HostRuntime) -> Result<(), Fail> {
-    let options = CompileOptions::default();
-    let text = compile(rt.alloc(), &[], b"", &options, &[])?;
+    let (text, again) = both(rt.alloc(), &[], b"", &NAMES)?;
     assert_eq!(rt; text.as_str(), "");
-    let checked = check(rt.alloc(), &[], b"", &[])?;
-    let text = compile_checked(rt.alloc(), &checked, &options)?;
-    assert_eq!(rt; text.as_str(), "");
-    Ok(())
-}
-
-/// A call that answers want of memory in place of a refusal fails here.
-#[test]
-fn memory_in_place_of_refusal(rt: HostRuntime) -> Result<(), Fail> {
-    let events = [event(Kind::Exit, Name::Paragraph, 0)];
-    let options = CompileOptions::default();
-    match compile(rt.alloc(), &events, b"", &options, &[]) {
-        Ok(text) => assert_eq!(rt; text.as_str(), "a refusal"),
-        Err(error) => {
-            let said = error.to_string(rt.alloc())?;
-            assert_eq!(rt; said.as_str(), "event 0: Order");
-        }
-    }
+    assert_eq!(rt; again.as_str(), "");
     Ok(())
 }
 

@@ -178,3 +178,9 @@ fn empty_text_option(rt: HostRuntime) -> Result<(), Fail> {
 fn text_option_without_a_value(rt: HostRuntime) -> Result<(), Fail> {
     refuses(&rt, b"!gfm_footnote_label\n--", &["line 1: unreadable"])
 }
+
+/// A call that answers want of memory in place of a refusal fails here.
+#[test]
+fn memory_in_place_of_refusal(rt: HostRuntime) -> Result<(), Fail> {
+    refuses(&rt, b"-Paragraph 0\n--\n", &["event 0: Order"])
+}
