@@ -1,10 +1,14 @@
 //! What the cases ask.
 
+mod attacks;
 mod blocks;
 mod compiled;
+mod footnotes;
 mod media;
+mod options;
 mod own;
 mod refusals;
+mod tables;
 mod texts;
 
 use md_script::run;

@@ -5,4 +5,3 @@
 
 #[cfg(test)]
 mod cases;
-pub mod laws;

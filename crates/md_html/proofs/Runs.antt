@@ -1,32 +1,35 @@
 -- Running the events of some nodes prints what the nodes print.
-use Rattle.std.proofs.Common.{◌≡◌, ℕ, ◌+◌, Bool, true, false, ◌&&◌, ◌||◌, cond, List, [], ◌∷◌, ◌++◌, Option, Some, None, refl, ap, sym, ◌∙◌, subst, append_assoc, append-nil}
-use Rattle.std.specs.Prelude.{if◌then◌else◌, unwrap_or}
+use Rattle.std.proofs.Common.{◌≡◌, ℕ, ◌+◌, Bool, true, false, ◌&&◌, ◌||◌, cond, List, [], ◌∷◌, ◌++◌, Option, Some, None, refl, ap, sym, ◌∙◌, append_assoc, append-nil, arith}
+use Rattle.std.specs.Prelude.{if◌then◌else◌, unwrap_or, count_by, fold}
+use Rattle.std.proofs.lemmas.List.Sums.{sum_by-append, fold-append}
+use Rattle.md_base.specs.declared.event.AlignKind.{AlignKind}
+use Rattle.md_tree.specs.Alignments.{alignments}
+use Rattle.md_tree.specs.Entered.{children_of}
 use Rattle.std.specs.List.{list_any}
 use Rattle.md_base.specs.declared.event.Name.{Name}
-use Rattle.md_base.specs.declared.event.Name.TheVariants.{LineEnding, BlankLineEnding, BlockQuote, ListOrdered, ListUnordered, ListItem, GfmFootnoteDefinition, CodeIndented, CodeFenced, CodeFencedFence, MathFlow, MathFlowFence, CodeText, MathText, HtmlFlow, HtmlText, Definition, DefinitionDestinationString, Link, Image, ResourceDestinationString, HeadingSetextText, GfmTable, GfmTableHead, Paragraph, Frontmatter}
+use Rattle.md_base.specs.declared.event.Name.TheVariants.{BlockQuote, GfmFootnoteDefinition, Definition}
 use Rattle.md_base.specs.declared.event.Point.{Point}
 use Rattle.md_base.specs.declared.event.Event.{Event}
-use Rattle.md_tree.specs.Tree.{Forest, Empty, Node, flatten, entering, exiting}
-use Rattle.md_tree.specs.NameTests.{is_call, is_link_definition, is_transparent, contributes, is_fence, is_chunk}
+use Rattle.md_tree.specs.Tree.{Forest, Empty, Node, flatten, exiting}
+use Rattle.md_tree.specs.NameTests.{is_call, is_table, is_cell, is_link_definition, is_footnote_definition, is_transparent, contributes, is_fence, is_chunk}
 use Rattle.md_tree.specs.Children.{spine_names, is_empty, last_name, last_contributing, or_else}
 use Rattle.md_tree.specs.Looseness.{is_loose}
-use Rattle.md_html.specs.declared.options.CompileOptions.{CompileOptions}
-use Rattle.md_html.specs.declared.facts.Surroundings.{Surroundings}
-use Rattle.md_html.specs.declared.facts.Spine.{Spine}
-use Rattle.md_html.specs.declared.facts.Ahead.{Ahead}
-use Rattle.md_html.specs.declared.facts.Passed.{Passed}
-use Rattle.md_html.specs.declared.facts.Frame.{Frame}
-use Rattle.md_html.specs.Piece.{Piece, Page, blank, lay, lay_piece, layout}
-use Rattle.md_html.specs.Surroundings.{Mark, Sets, Clears, is_slurping, own_marks, marks_of, inside, outermost, two_pass, last_of, told_by, spine_inside, spine_behind}
-use Rattle.md_html.specs.Given.{Given, Defined}
-use Rattle.md_html.specs.Places.{Before, Left, calls_of, identifier_at, before_children, before_next, left_of, ahead_of, passed_over}
-use Rattle.md_html.specs.Printed.{opening, closing, is_captured, printed, printed_node, definitions_of}
-use Rattle.md_html.specs.Machine.{State, first_or, others_of, no_spine, no_ahead, entered, exited, with_name, passing, is_nil, run, beginning, closing_in, aheads_of, stepped, slurps_behind}
-
--- pieces are laid one list after another
-pub lay-append : (ending : List ℕ) (page : Page) (xs ys : List Piece) → lay ending page (xs ++ ys) ≡ lay ending (lay ending page xs) ys
-lay-append ending page [] ys = refl
-lay-append ending page (x ∷ xs) ys = lay-append ending (lay_piece ending page x) xs ys
+use Rattle.md_meaning.specs.declared.options.CompileOptions.{CompileOptions}
+use Rattle.md_meaning.specs.declared.facts.Surroundings.{Surroundings}
+use Rattle.md_meaning.specs.declared.facts.Spine.{Spine}
+use Rattle.md_meaning.specs.declared.facts.Ahead.{Ahead}
+use Rattle.md_meaning.specs.Piece.{Piece, Page, blank, lay}
+use Rattle.md_meaning.specs.Surroundings.{Mark, Sets, Clears, is_slurping, own_marks, marks_of, inside, two_pass, last_of, told_by, spine_inside, spine_behind}
+use Rattle.md_meaning.specs.Given.{Given, Defined}
+use Rattle.md_meaning.specs.Places.{Before, Left, calls_of, identifier_at, before_children, before_next, left_of, ahead_of, passed_over}
+use Rattle.md_meaning.specs.Printed.{opening, closing, is_captured, printed, printed_node, definitions_of, footnotes_of}
+use Rattle.md_sheet.specs.Seen.{counted, noted}
+use Rattle.md_sheet.proofs.Lists.{lay-append}
+use Rattle.md_sheet.proofs.Tally.{fold-tally}
+use Rattle.md_meaning.specs.Calls.{Called, tally}
+use Rattle.md_meaning.specs.Footnotes.{Footnote}
+use Rattle.md_print.specs.Machine.{State, Log, columns_told, entering_table, leaving_table, entered, exited, is_nil, run, beginning}
+use Rattle.md_facts.specs.Steps.{first_or, others_of, no_spine, no_ahead, with_name, passing, aheads_of, slurps_behind}
 
 -- marks before marks
 pub is_slurping-append : (marks before : List Mark) → is_slurping (marks ++ before) ≡ slurps_behind marks (is_slurping before)
@@ -75,16 +78,21 @@ last_of-push : (xs : List Name) (x : Name) → last_of (xs ++ x ∷ []) ≡ Some
 last_of-push [] x = refl
 last_of-push (y ∷ ys) x = ap (λ o. Some (unwrap_or o y)) (last_of-push ys x)
 
+count-push : (p : Name → Bool) (xs : List Name) (x : Name) → count_by p (xs ++ x ∷ []) ≡ count_by p xs + (if p x then 1 else 0)
+count-push p xs x = sum_by-append (λ y. cond (p y) 1 0) xs (x ∷ []) ∙ ap (λ n. count_by p xs + n) (zero_plus (if p x then 1 else 0))
+  where
+    zero_plus : (n : ℕ) → 0 + n ≡ n
+    zero_plus n = omega arith
+
 pub told_by-push : (xs : List Name) (x : Name) → told_by (xs ++ x ∷ []) ≡ with_name x (told_by xs)
 told_by-push xs x =
-    let e1 = list_any-push is_fence xs x in
-    let e2 = two_pass-push is_fence xs x in
-    let e3 = list_any-push is_chunk xs x in
-    let e4 = last_of-push xs x in
-    ap (λ b. record { has_fence = b; has_second_fence = two_pass is_fence (xs ++ x ∷ []); has_chunk = list_any is_chunk (xs ++ x ∷ []); last = last_of (xs ++ x ∷ []) }) e1
-    ∙ ap (λ b. record { has_fence = list_any is_fence xs || is_fence x; has_second_fence = b; has_chunk = list_any is_chunk (xs ++ x ∷ []); last = last_of (xs ++ x ∷ []) }) e2
-    ∙ ap (λ b. record { has_fence = list_any is_fence xs || is_fence x; has_second_fence = two_pass is_fence xs || list_any is_fence xs && is_fence x; has_chunk = b; last = last_of (xs ++ x ∷ []) }) e3
-    ∙ ap (λ b. record { has_fence = list_any is_fence xs || is_fence x; has_second_fence = two_pass is_fence xs || list_any is_fence xs && is_fence x; has_chunk = list_any is_chunk xs || is_chunk x; last = b }) e4
+    let spine : Bool → Bool → Bool → ℕ → Option Name → Spine = λ a b c n o. record { has_fence = a; has_second_fence = b; has_chunk = c; cells = n; last = o } in
+    let ys = xs ++ x ∷ [] in
+    ap (λ a. spine a (two_pass is_fence ys) (list_any is_chunk ys) (count_by is_cell ys) (last_of ys)) (list_any-push is_fence xs x)
+    ∙ ap (λ b. spine (list_any is_fence xs || is_fence x) b (list_any is_chunk ys) (count_by is_cell ys) (last_of ys)) (two_pass-push is_fence xs x)
+    ∙ ap (λ c. spine (list_any is_fence xs || is_fence x) (two_pass is_fence xs || list_any is_fence xs && is_fence x) c (count_by is_cell ys) (last_of ys)) (list_any-push is_chunk xs x)
+    ∙ ap (λ n. spine (list_any is_fence xs || is_fence x) (two_pass is_fence xs || list_any is_fence xs && is_fence x) (list_any is_chunk xs || is_chunk x) n (last_of ys)) (count-push is_cell xs x)
+    ∙ ap (λ o. spine (list_any is_fence xs || is_fence x) (two_pass is_fence xs || list_any is_fence xs && is_fence x) (list_any is_chunk xs || is_chunk x) (count_by is_cell xs + (if is_cell x then 1 else 0)) o) (last_of-push xs x)
 
 -- small facts on options and tests
 or_else-none : {A : Type 0} (o : Option A) → or_else o None ≡ o
@@ -117,8 +125,9 @@ last-event (Node name start end children rest) (e ∷ es) = refl
 abbrev pub after : Given → Before → Forest → State → State
 after given before forest state = record state {
   log = record {
-    calls = state.log.calls ++ calls_of given.bytes forest;
+    called = fold counted state.log.called (calls_of given.bytes forest);
     definitions = state.log.definitions ++ definitions_of given state.frame.around before forest;
+    footnotes = fold noted state.log.footnotes (footnotes_of given state.frame.around before forest);
   };
   page = lay given.ending state.page (printed given state.frame.around before forest);
   is_slurping = slurps_behind (marks_of given.options state.frame.around before.spine forest) state.is_slurping;
@@ -133,21 +142,21 @@ after given before forest state = record state {
 
 -- the state knows what stands before
 pub record Knows (state : State) (before : Before) : Type 0 where
-  pub calls : state.log.calls ≡ before.calls
+  pub calls : state.log.called ≡ tally before.calls
   pub slurping : state.is_slurping ≡ is_slurping before.marks
   pub previous : state.frame.passed.last ≡ before.previous
   pub spine : state.frame.passed.spine ≡ told_by before.spine
+  pub columns : first_or [] state.tables ≡ before.columns
 
 after-nothing : (given : Given) (before : Before) (state : State) → Knows state before → after given before Empty state ≡ state
 after-nothing given before state knows =
-    ap (λ cs. record (after given before Empty state) { log = record { calls = cs; definitions = state.log.definitions ++ [] } }) (append-nil state.log.calls)
-    ∙ ap (λ ds. record (after given before Empty state) { log = record { calls = state.log.calls; definitions = ds } }) (append-nil state.log.definitions)
+    ap (λ ds. record (after given before Empty state) { log = record state.log { definitions = ds } }) (append-nil state.log.definitions)
     ∙ ap (λ names. record state { frame = record state.frame { passed = record state.frame.passed { spine = told_by names } } }) (append-nil before.spine)
     ∙ ap (λ s. record state { frame = record state.frame { passed = record state.frame.passed { spine = s } } }) (sym knows.spine)
 
 -- the children's state, from the node's
 children_know : (given : Given) (before : Before) (name : Name) (start : Point) (children : Forest) (captured : Bool) (state : State) → Knows state before →
-    Knows (entered given (ahead_of children) captured name start state) (before_children name before)
+    Knows (entered given (ahead_of children) (columns_told name (Some children)) captured name start state) (before_children name children before)
 children_know given before name start children captured state knows = record {
   calls = knows.calls;
   slurping = knows.slurping;
@@ -155,29 +164,59 @@ children_know given before name start children captured state knows = record {
   spine =
       ap (λ s. if is_transparent name then s else no_spine) knows.spine
       ∙ elim (is_transparent name) as (λ b. (if b then told_by before.spine else no_spine) ≡ told_by (if b then before.spine else [])) [ true ↦ refl | false ↦ refl ];
+  columns =
+      elim (is_table name) as (λ b. first_or [] (if b then (if b then alignments children else []) ∷ state.tables else state.tables) ≡ (if b then alignments children else before.columns)) [
+        | true ↦ refl
+        | false ↦ knows.columns
+      ];
 }
+
+-- a table that is left is the one that was entered
+abbrev left_tables : Name → Forest → List (List AlignKind) → List (List AlignKind)
+left_tables name children tables =
+    (leaving_table (is_table name) (entering_table (is_table name) (columns_told name (Some children)) (record beginning { tables = tables }))).tables
+
+tables-restored : (name : Name) (children : Forest) (tables : List (List AlignKind)) → left_tables name children tables ≡ tables
+tables-restored name children tables =
+    elim (is_table name) as (λ b. (if b then others_of (if b then columns_told name (Some children) ∷ tables else tables) else (if b then columns_told name (Some children) ∷ tables else tables)) ≡ tables) [
+      | true ↦ refl
+      | false ↦ refl
+    ]
+
+-- the page that a node's children print by themselves
+abbrev inner_page : Given → Surroundings → Before → Bool → Name → Forest → Page
+inner_page given around before captured name children =
+    if captured then lay given.ending blank (printed given (inside given.options (is_loose children) name around) (before_children name children before) children) else blank
 
 -- what stands before a node's next sibling, as the state knows it when the node is left
 abbrev pub after_node : Given → Before → Bool → Bool → Name → Point → Point → Forest → State → State
 after_node given before last captured name start end children state = record state {
   log = record {
-    calls =
-        if is_call name then (state.log.calls ++ calls_of given.bytes children) ++ identifier_at given.bytes (ahead_of children).label ∷ []
-        else state.log.calls ++ calls_of given.bytes children;
+    called =
+        if is_call name then counted (fold counted state.log.called (calls_of given.bytes children)) (identifier_at given.bytes (ahead_of children).label)
+        else fold counted state.log.called (calls_of given.bytes children);
     definitions =
         if is_link_definition name
-        then (state.log.definitions ++ definitions_of given (inside given.options (is_loose children) name state.frame.around) (before_children name before) children)
+        then (state.log.definitions ++ definitions_of given (inside given.options (is_loose children) name state.frame.around) (before_children name children before) children)
         ++ record {
           identifier = identifier_at given.bytes (ahead_of children).defined;
-          target = (if captured then lay given.ending blank (printed given (inside given.options (is_loose children) name state.frame.around) (before_children name before) children) else blank).notes.target;
+          target = (inner_page given state.frame.around before captured name children).notes.target;
         } ∷ []
-        else state.log.definitions ++ definitions_of given (inside given.options (is_loose children) name state.frame.around) (before_children name before) children;
+        else state.log.definitions ++ definitions_of given (inside given.options (is_loose children) name state.frame.around) (before_children name children before) children;
+    footnotes =
+        if is_footnote_definition name
+        then noted (fold noted state.log.footnotes (footnotes_of given (inside given.options (is_loose children) name state.frame.around) (before_children name children before) children))
+        (record {
+          identifier = identifier_at given.bytes (ahead_of children).footnote;
+          text = (inner_page given state.frame.around before captured name children).text;
+        })
+        else fold noted state.log.footnotes (footnotes_of given (inside given.options (is_loose children) name state.frame.around) (before_children name children before) children);
   };
   page = lay given.ending state.page
       (opening given state.frame.around (ahead_of children) name
-      ++ ((if captured then [] else printed given (inside given.options (is_loose children) name state.frame.around) (before_children name before) children)
+      ++ ((if captured then [] else printed given (inside given.options (is_loose children) name state.frame.around) (before_children name children before) children)
       ++ closing given state.frame.around (left_of given.bytes before children) (ahead_of children) (passed_over (spine_inside name before.spine) children) last start end
-      (if captured then lay given.ending blank (printed given (inside given.options (is_loose children) name state.frame.around) (before_children name before) children) else blank) name));
+      (if captured then lay given.ending blank (printed given (inside given.options (is_loose children) name state.frame.around) (before_children name children before) children) else blank) name));
   is_slurping = slurps_behind (own_marks state.frame.around (told_by before.spine) name) (slurps_behind (marks_of given.options (inside given.options (is_loose children) name state.frame.around) (spine_inside name before.spine) children) state.is_slurping);
   frame = record state.frame { passed = passing name (told_by (spine_inside name before.spine ++ spine_names children)) state.frame.passed };
 }
@@ -191,67 +230,79 @@ lay_two ending page xs zs = sym (lay-append ending page xs zs)
 
 -- what is known of the node when it is left
 left-known : (given : Given) (before : Before) (name : Name) (start : Point) (children : Forest) (captured : Bool) (state : State) → Knows state before →
-    (record { calls = state.log.calls ++ calls_of given.bytes children; is_slurping = state.is_slurping; previous = state.frame.passed.last; spine = state.frame.passed.spine }) ≡ left_of given.bytes before children
+    (record {
+      called = fold counted state.log.called (calls_of given.bytes children);
+      is_slurping = state.is_slurping;
+      previous = state.frame.passed.last;
+      spine = state.frame.passed.spine;
+      columns = first_or [] state.tables;
+    }) ≡ left_of given.bytes before children
 left-known given before name start children captured state knows =
     let calls : List (List ℕ) = before.calls ++ calls_of given.bytes children in
-    let O : List (List ℕ) → Left = λ cs. record { calls = cs ++ calls_of given.bytes children; is_slurping = state.is_slurping; previous = state.frame.passed.last; spine = state.frame.passed.spine } in
-    let P : Bool → Left = λ s. record { calls = calls; is_slurping = s; previous = state.frame.passed.last; spine = state.frame.passed.spine } in
-    let Q : Option Name → Left = λ o. record { calls = calls; is_slurping = is_slurping before.marks; previous = o; spine = state.frame.passed.spine } in
-    let R : Spine → Left = λ s. record { calls = calls; is_slurping = is_slurping before.marks; previous = before.previous; spine = s } in
-    ap O knows.calls ∙ ap P knows.slurping ∙ ap Q knows.previous ∙ ap R knows.spine
+    let L : List Called → Bool → Option Name → Spine → List AlignKind → Left = λ cs b o s k. record { called = cs; is_slurping = b; previous = o; spine = s; columns = k } in
+    ap (λ cs. L cs state.is_slurping state.frame.passed.last state.frame.passed.spine (first_or [] state.tables))
+    (ap (λ called. fold counted called (calls_of given.bytes children)) knows.calls ∙ fold-tally before.calls (calls_of given.bytes children))
+    ∙ ap (λ b. L (tally calls) b state.frame.passed.last state.frame.passed.spine (first_or [] state.tables)) knows.slurping
+    ∙ ap (λ o. L (tally calls) (is_slurping before.marks) o state.frame.passed.spine (first_or [] state.tables)) knows.previous
+    ∙ ap (λ s. L (tally calls) (is_slurping before.marks) before.previous s (first_or [] state.tables)) knows.spine
+    ∙ ap (λ k. L (tally calls) (is_slurping before.marks) before.previous (told_by before.spine) k) knows.columns
 
 -- a node is left behind its children, whose text is not captured
 node_step-streamed : (given : Given) (before : Before) (last : Bool) (name : Name) (start end : Point) (children : Forest) (state : State) → Knows state before →
-    exited given last false name end (after given (before_children name before) children (entered given (ahead_of children) false name start state))
+    exited given last false name end (after given (before_children name children before) children (entered given (ahead_of children) (columns_told name (Some children)) false name start state))
     ≡ after_node given before last false name start end children state
 node_step-streamed given before last name start end children state knows =
     let around = state.frame.around in
     let opened : List Piece = opening given around (ahead_of children) name in
-    let inner : List Piece = printed given (inside given.options (is_loose children) name around) (before_children name before) children in
+    let inner : List Piece = printed given (inside given.options (is_loose children) name around) (before_children name children before) children in
     let spine : Spine = told_by (spine_inside name before.spine ++ spine_names children) in
     let marks : List Mark = marks_of given.options (inside given.options (is_loose children) name around) (spine_inside name before.spine) children in
     let close : Left → Option Name → Option Name → List Piece = λ left o p. closing given around left (ahead_of children) (record { last = o; contributing = p; spine = spine }) last start end blank name in
-    let at : Page → Spine → State = λ page told. record state {
+    let at : List (List AlignKind) → Page → Spine → State = λ tables page told. record state {
+      tables = tables;
       log = (after_node given before last false name start end children state).log;
       page = page;
       is_slurping = slurps_behind (own_marks around told name) (slurps_behind marks state.is_slurping);
       frame = record state.frame { passed = passing name spine state.frame.passed };
     } in
-    let left : Left = record { calls = state.log.calls ++ calls_of given.bytes children; is_slurping = state.is_slurping; previous = state.frame.passed.last; spine = state.frame.passed.spine } in
-    let laid : Left → Option Name → Option Name → Spine → State = λ l o p told. at (lay given.ending (lay given.ending (lay given.ending state.page opened) inner) (close l o p)) told in
-    ap (λ l. laid l (or_else (last_name children) None) (or_else (last_contributing children) None) state.frame.passed.spine) (left-known given before name start children false state knows)
-    ∙ ap (λ o. laid (left_of given.bytes before children) o (or_else (last_contributing children) None) state.frame.passed.spine) (or_else-none (last_name children))
-    ∙ ap (λ o. laid (left_of given.bytes before children) (last_name children) o state.frame.passed.spine) (or_else-none (last_contributing children))
-    ∙ ap (λ told. laid (left_of given.bytes before children) (last_name children) (last_contributing children) told) knows.spine
-    ∙ ap (λ page. at page (told_by before.spine)) (lay_parts given.ending state.page opened inner (close (left_of given.bytes before children) (last_name children) (last_contributing children)))
+    let left : List (List AlignKind) → Left = λ tables. record { called = fold counted state.log.called (calls_of given.bytes children); is_slurping = state.is_slurping; previous = state.frame.passed.last; spine = state.frame.passed.spine; columns = first_or [] tables } in
+    let laid : List (List AlignKind) → Left → Option Name → Option Name → Spine → State = λ tables l o p told. at tables (lay given.ending (lay given.ending (lay given.ending state.page opened) inner) (close l o p)) told in
+    ap (λ tables. laid tables (left tables) (or_else (last_name children) None) (or_else (last_contributing children) None) state.frame.passed.spine) (tables-restored name children state.tables)
+    ∙ ap (λ l. laid state.tables l (or_else (last_name children) None) (or_else (last_contributing children) None) state.frame.passed.spine) (left-known given before name start children false state knows)
+    ∙ ap (λ o. laid state.tables (left_of given.bytes before children) o (or_else (last_contributing children) None) state.frame.passed.spine) (or_else-none (last_name children))
+    ∙ ap (λ o. laid state.tables (left_of given.bytes before children) (last_name children) o state.frame.passed.spine) (or_else-none (last_contributing children))
+    ∙ ap (λ told. laid state.tables (left_of given.bytes before children) (last_name children) (last_contributing children) told) knows.spine
+    ∙ ap (λ page. at state.tables page (told_by before.spine)) (lay_parts given.ending state.page opened inner (close (left_of given.bytes before children) (last_name children) (last_contributing children)))
 
 -- a node is left behind its children, whose text is captured
 node_step-captured : (given : Given) (before : Before) (last : Bool) (name : Name) (start end : Point) (children : Forest) (state : State) → Knows state before →
-    exited given last true name end (after given (before_children name before) children (entered given (ahead_of children) true name start state))
+    exited given last true name end (after given (before_children name children before) children (entered given (ahead_of children) (columns_told name (Some children)) true name start state))
     ≡ after_node given before last true name start end children state
 node_step-captured given before last name start end children state knows =
     let around = state.frame.around in
     let opened : List Piece = opening given around (ahead_of children) name in
-    let inner : List Piece = printed given (inside given.options (is_loose children) name around) (before_children name before) children in
+    let inner : List Piece = printed given (inside given.options (is_loose children) name around) (before_children name children before) children in
     let spine : Spine = told_by (spine_inside name before.spine ++ spine_names children) in
     let marks : List Mark = marks_of given.options (inside given.options (is_loose children) name around) (spine_inside name before.spine) children in
     let close : Left → Option Name → Option Name → List Piece = λ left o p. closing given around left (ahead_of children) (record { last = o; contributing = p; spine = spine }) last start end (lay given.ending blank inner) name in
-    let at : Page → Spine → State = λ page told. record state {
+    let at : List (List AlignKind) → Page → Spine → State = λ tables page told. record state {
+      tables = tables;
       log = (after_node given before last true name start end children state).log;
       page = page;
       is_slurping = slurps_behind (own_marks around told name) (slurps_behind marks state.is_slurping);
       frame = record state.frame { passed = passing name spine state.frame.passed };
     } in
-    let left : Left = record { calls = state.log.calls ++ calls_of given.bytes children; is_slurping = state.is_slurping; previous = state.frame.passed.last; spine = state.frame.passed.spine } in
-    let laid : Left → Option Name → Option Name → Spine → State = λ l o p told. at (lay given.ending (lay given.ending state.page opened) (close l o p)) told in
-    ap (λ l. laid l (or_else (last_name children) None) (or_else (last_contributing children) None) state.frame.passed.spine) (left-known given before name start children true state knows)
-    ∙ ap (λ o. laid (left_of given.bytes before children) o (or_else (last_contributing children) None) state.frame.passed.spine) (or_else-none (last_name children))
-    ∙ ap (λ o. laid (left_of given.bytes before children) (last_name children) o state.frame.passed.spine) (or_else-none (last_contributing children))
-    ∙ ap (λ told. laid (left_of given.bytes before children) (last_name children) (last_contributing children) told) knows.spine
-    ∙ ap (λ page. at page (told_by before.spine)) (lay_two given.ending state.page opened (close (left_of given.bytes before children) (last_name children) (last_contributing children)))
+    let left : List (List AlignKind) → Left = λ tables. record { called = fold counted state.log.called (calls_of given.bytes children); is_slurping = state.is_slurping; previous = state.frame.passed.last; spine = state.frame.passed.spine; columns = first_or [] tables } in
+    let laid : List (List AlignKind) → Left → Option Name → Option Name → Spine → State = λ tables l o p told. at tables (lay given.ending (lay given.ending state.page opened) (close l o p)) told in
+    ap (λ tables. laid tables (left tables) (or_else (last_name children) None) (or_else (last_contributing children) None) state.frame.passed.spine) (tables-restored name children state.tables)
+    ∙ ap (λ l. laid state.tables l (or_else (last_name children) None) (or_else (last_contributing children) None) state.frame.passed.spine) (left-known given before name start children true state knows)
+    ∙ ap (λ o. laid state.tables (left_of given.bytes before children) o (or_else (last_contributing children) None) state.frame.passed.spine) (or_else-none (last_name children))
+    ∙ ap (λ o. laid state.tables (left_of given.bytes before children) (last_name children) o state.frame.passed.spine) (or_else-none (last_contributing children))
+    ∙ ap (λ told. laid state.tables (left_of given.bytes before children) (last_name children) (last_contributing children) told) knows.spine
+    ∙ ap (λ page. at state.tables page (told_by before.spine)) (lay_two given.ending state.page opened (close (left_of given.bytes before children) (last_name children) (last_contributing children)))
 
 node_step : (given : Given) (before : Before) (last captured : Bool) (name : Name) (start end : Point) (children : Forest) (state : State) → Knows state before →
-    exited given last captured name end (after given (before_children name before) children (entered given (ahead_of children) captured name start state))
+    exited given last captured name end (after given (before_children name children before) children (entered given (ahead_of children) (columns_told name (Some children)) captured name start state))
     ≡ after_node given before last captured name start end children state
 node_step given before last true name start end children state knows = node_step-captured given before last name start end children state knows
 node_step given before last false name start end children state knows = node_step-streamed given before last name start end children state knows
@@ -268,6 +319,18 @@ definition_page : (name : Name) (identifier : List ℕ) (page : Page) (definitio
 definition_page Definition identifier page definitions = refl
 definition_page _ identifier page definitions = refl
 
+footnote_page : (name : Name) (identifier : List ℕ) (page : Page) (footnotes : List Footnote) →
+    (if is_footnote_definition name then noted footnotes (record { identifier = identifier; text = (if is_captured name then page else blank).text }) else footnotes)
+    ≡ (if is_footnote_definition name then noted footnotes (record { identifier = identifier; text = page.text }) else footnotes)
+footnote_page GfmFootnoteDefinition identifier page footnotes = refl
+footnote_page _ identifier page footnotes = refl
+
+-- one more that is seen, and those after it
+fold-step : {A B : Type 0} (f : B → A → B) (b : Bool) (seen : B) (xs ys : List A) (x : A) →
+    fold f (if b then f (fold f seen xs) x else fold f seen xs) ys ≡ fold f seen (xs ++ ((if b then x ∷ [] else []) ++ ys))
+fold-step f true seen xs ys x = sym (fold-append f seen xs (x ∷ ys))
+fold-step f false seen xs ys x = sym (fold-append f seen xs ys)
+
 -- the next sibling's state knows what stands before it
 next_knows : (given : Given) (before : Before) (last captured : Bool) (name : Name) (start end : Point) (children : Forest) (state : State) → Knows state before →
     Knows (after_node given before last captured name start end children state) (before_next given state.frame.around name start end children before)
@@ -276,9 +339,9 @@ next_knows given before last captured name start end children state knows =
     let marks : List Mark = marks_of given.options (inside given.options (is_loose children) name state.frame.around) (spine_inside name before.spine) children in
     record {
       calls =
-          sym (append-nil (after_node given before last captured name start end children state).log.calls)
-          ∙ log-step (is_call name) state.log.calls (calls_of given.bytes children) [] (identifier_at given.bytes (ahead_of children).label)
-          ∙ ap (λ cs. cs ++ calls_of given.bytes (Node name start end children Empty)) knows.calls;
+          fold-step counted (is_call name) state.log.called (calls_of given.bytes children) [] (identifier_at given.bytes (ahead_of children).label)
+          ∙ ap (λ called. fold counted called (calls_of given.bytes (Node name start end children Empty))) knows.calls
+          ∙ fold-tally before.calls (calls_of given.bytes (Node name start end children Empty));
       slurping =
           ap (λ s. slurps_behind own (slurps_behind marks s)) knows.slurping
           ∙ sym (is_slurping-append (own ++ marks) before.marks ∙ slurps_behind-append own marks (is_slurping before.marks));
@@ -287,6 +350,7 @@ next_knows given before last captured name start end children state knows =
         | true ↦ refl
         | false ↦ ap (λ s. with_name name s) knows.spine ∙ sym (told_by-push before.spine name)
       ];
+      columns = knows.columns;
     }
 
 -- a node and then its siblings
@@ -297,17 +361,21 @@ after-node : (given : Given) (before : Before) (name : Name) (start end : Point)
 after-node given before name start end children rest state =
     let around = state.frame.around in
     let next : Before = before_next given around name start end children before in
-    let node : List Piece = printed_node given around (left_of given.bytes before children) (ahead_of children) (passed_over (spine_inside name before.spine) children) (around.is_outermost && is_empty rest) start end name (printed given (inside given.options (is_loose children) name around) (before_children name before) children) in
+    let node : List Piece = printed_node given around (left_of given.bytes before children) (ahead_of children) (passed_over (spine_inside name before.spine) children) (around.is_outermost && is_empty rest) start end name (printed given (inside given.options (is_loose children) name around) (before_children name children before) children) in
     let own : List Mark = own_marks around (told_by before.spine) name in
     let marks : List Mark = marks_of given.options (inside given.options (is_loose children) name around) (spine_inside name before.spine) children in
     let later : List Mark = marks_of given.options around (spine_behind name children before.spine) rest in
-    let inner : Page = lay given.ending blank (printed given (inside given.options (is_loose children) name around) (before_children name before) children) in
+    let inner : Page = lay given.ending blank (printed given (inside given.options (is_loose children) name around) (before_children name children before) children) in
     let identifier : List ℕ = identifier_at given.bytes (ahead_of children).defined in
     let defined : Page → Defined = λ page. record { identifier = identifier; target = page.notes.target } in
-    let inner_definitions : List Defined = definitions_of given (inside given.options (is_loose children) name around) (before_children name before) children in
+    let inner_definitions : List Defined = definitions_of given (inside given.options (is_loose children) name around) (before_children name children before) children in
     let later_definitions : List Defined = definitions_of given around next rest in
     let label : List ℕ = identifier_at given.bytes (ahead_of children).label in
-    let called : List (List ℕ) → List Defined → State = λ cs ds. record (after given before (Node name start end children rest) state) { log = record { calls = cs; definitions = ds } } in
+    let inner_footnotes : List Footnote = footnotes_of given (inside given.options (is_loose children) name around) (before_children name children before) children in
+    let later_footnotes : List Footnote = footnotes_of given around next rest in
+    let footnote : Footnote = record { identifier = identifier_at given.bytes (ahead_of children).footnote; text = inner.text } in
+    let left : Log = (after_node given before (around.is_outermost && is_empty rest) (is_captured name) name start end children state).log in
+    let logged : List Called → List Defined → List Footnote → State = λ cs ds fs. record (after given before (Node name start end children rest) state) { log = record { called = cs; definitions = ds; footnotes = fs } } in
     let made : Page → Bool → Option Name → Option Name → List Name → State = λ page slurping o p names. record state {
       log = (after given next rest (after_node given before (around.is_outermost && is_empty rest) (is_captured name) name start end children state)).log;
       page = page;
@@ -325,32 +393,36 @@ after-node given before name start end children rest state =
     (or_else_assoc (last_contributing rest) (contributes name) name state.frame.passed.contributing)
     ∙ ap (λ names. made (lay given.ending state.page (node ++ printed given around next rest)) (slurps_behind (later ++ own ++ marks) state.is_slurping) (or_else (last_name (Node name start end children rest)) state.frame.passed.last) (or_else (last_contributing (Node name start end children rest)) state.frame.passed.contributing) names)
     (append_assoc before.spine (if is_transparent name then spine_names children else name ∷ []) (spine_names rest))
-    ∙ ap (λ ds. called ((after_node given before (around.is_outermost && is_empty rest) (is_captured name) name start end children state).log.calls ++ calls_of given.bytes rest) (ds ++ later_definitions))
+    ∙ ap (λ ds. logged (fold counted left.called (calls_of given.bytes rest)) (ds ++ later_definitions) (fold noted left.footnotes later_footnotes))
     (definition_page name identifier inner (state.log.definitions ++ inner_definitions))
-    ∙ ap (λ ds. called ((after_node given before (around.is_outermost && is_empty rest) (is_captured name) name start end children state).log.calls ++ calls_of given.bytes rest) ds)
+    ∙ ap (λ ds. logged (fold counted left.called (calls_of given.bytes rest)) ds (fold noted left.footnotes later_footnotes))
     (log-step (is_link_definition name) state.log.definitions inner_definitions later_definitions (defined inner))
-    ∙ ap (λ cs. called cs (state.log.definitions ++ definitions_of given around before (Node name start end children rest)))
-    (log-step (is_call name) state.log.calls (calls_of given.bytes children) (calls_of given.bytes rest) label)
+    ∙ ap (λ fs. logged (fold counted left.called (calls_of given.bytes rest)) (state.log.definitions ++ definitions_of given around before (Node name start end children rest)) fs)
+    (ap (λ fs. fold noted fs later_footnotes) (footnote_page name (identifier_at given.bytes (ahead_of children).footnote) inner (fold noted state.log.footnotes inner_footnotes))
+    ∙ fold-step noted (is_footnote_definition name) state.log.footnotes inner_footnotes later_footnotes footnote)
+    ∙ ap (λ cs. logged cs (state.log.definitions ++ definitions_of given around before (Node name start end children rest)) (fold noted state.log.footnotes (footnotes_of given around before (Node name start end children rest))))
+    (fold-step counted (is_call name) state.log.called (calls_of given.bytes children) (calls_of given.bytes rest) label)
 
 -- running the events of some nodes, and what follows them
-pub run-flatten : (given : Given) (forest : Forest) (before : Before) (tail : List Event) (aheads : List Ahead) (state : State) →
+pub run-flatten : (given : Given) (forest : Forest) (before : Before) (tail : List Event) (aheads : List Ahead) (nodes : List (Option Forest)) (state : State) →
     Knows state before → state.frame.around.is_outermost ≡ is_nil tail →
-    run given (flatten forest ++ tail) (aheads_of forest ++ aheads) state ≡ run given tail aheads (after given before forest state)
-run-flatten given Empty before tail aheads state knows outer =
-    ap (λ s. run given tail aheads s) (sym (after-nothing given before state knows))
-run-flatten given (Node name start end children rest) before tail aheads state knows outer =
+    run given (flatten forest ++ tail) (aheads_of forest ++ aheads) (children_of forest ++ nodes) state ≡ run given tail aheads nodes (after given before forest state)
+run-flatten given Empty before tail aheads nodes state knows outer =
+    ap (λ s. run given tail aheads nodes s) (sym (after-nothing given before state knows))
+run-flatten given (Node name start end children rest) before tail aheads nodes state knows outer =
     let captured : Bool = is_captured name in
-    let inner : State = entered given (ahead_of children) captured name start state in
+    let inner : State = entered given (ahead_of children) (columns_told name (Some children)) captured name start state in
     let last : Bool = state.frame.around.is_outermost && is_empty rest in
     let left : State = after_node given before last captured name start end children state in
     let next : Before = before_next given state.frame.around name start end children before in
-    ap (λ es. run given es (aheads_of children ++ no_ahead ∷ aheads_of rest ++ aheads) inner) (append_assoc (flatten children) (exiting name end ∷ flatten rest) tail)
-    ∙ ap (λ as'. run given (flatten children ++ exiting name end ∷ (flatten rest ++ tail)) as' inner) (append_assoc (aheads_of children) (no_ahead ∷ aheads_of rest) aheads)
-    ∙ run-flatten given children (before_children name before) (exiting name end ∷ (flatten rest ++ tail)) (no_ahead ∷ (aheads_of rest ++ aheads)) inner
+    ap (λ es. run given es (aheads_of children ++ no_ahead ∷ aheads_of rest ++ aheads) (children_of children ++ None ∷ children_of rest ++ nodes) inner) (append_assoc (flatten children) (exiting name end ∷ flatten rest) tail)
+    ∙ ap (λ as'. run given (flatten children ++ exiting name end ∷ (flatten rest ++ tail)) as' (children_of children ++ None ∷ children_of rest ++ nodes) inner) (append_assoc (aheads_of children) (no_ahead ∷ aheads_of rest) aheads)
+    ∙ ap (λ cs. run given (flatten children ++ exiting name end ∷ (flatten rest ++ tail)) (aheads_of children ++ no_ahead ∷ (aheads_of rest ++ aheads)) cs inner) (append_assoc (children_of children) (None ∷ children_of rest) nodes)
+    ∙ run-flatten given children (before_children name children before) (exiting name end ∷ (flatten rest ++ tail)) (no_ahead ∷ (aheads_of rest ++ aheads)) (None ∷ (children_of rest ++ nodes)) inner
     (children_know given before name start children captured state knows)
     (inside_outermost given.options (is_loose children) name state.frame.around)
-    ∙ ap (λ l. run given (flatten rest ++ tail) (aheads_of rest ++ aheads) (exited given l captured name end (after given (before_children name before) children inner)))
+    ∙ ap (λ l. run given (flatten rest ++ tail) (aheads_of rest ++ aheads) (children_of rest ++ nodes) (exited given l captured name end (after given (before_children name children before) children inner)))
     (last-event rest tail ∙ ap (λ o. o && is_empty rest) (sym outer))
-    ∙ ap (λ s. run given (flatten rest ++ tail) (aheads_of rest ++ aheads) s) (node_step given before last captured name start end children state knows)
-    ∙ run-flatten given rest next tail aheads left (next_knows given before last captured name start end children state knows) outer
-    ∙ ap (λ s. run given tail aheads s) (after-node given before name start end children rest state)
+    ∙ ap (λ s. run given (flatten rest ++ tail) (aheads_of rest ++ aheads) (children_of rest ++ nodes) s) (node_step given before last captured name start end children state knows)
+    ∙ run-flatten given rest next tail aheads nodes left (next_knows given before last captured name start end children state knows) outer
+    ∙ ap (λ s. run given tail aheads nodes s) (after-node given before name start end children rest state)

@@ -1,17 +1,30 @@
 -- The run over a whole document gives its meaning.
-use Rattle.std.proofs.Common.{◌≡◌, ℕ, List, [], ◌∷◌, ◌++◌, Option, refl, ap, sym, ◌∙◌, append-nil}
+use Rattle.std.proofs.Common.{◌≡◌, ℕ, true, false, List, [], ◌∷◌, ◌++◌, Option, Some, refl, ap, sym, ◌∙◌, append_assoc, append-nil, bytes_eq, fold}
+use Rattle.std.specs.Prelude.{if◌then◌else◌, find}
+use Rattle.std.specs.Option.{option_map_or}
+use Rattle.std.proofs.lemmas.Slice.Eq.{bytes_eq-Decides}
 use Rattle.md_base.specs.declared.event.Event.{Event}
 use Rattle.md_base.specs.declared.event.Position.{Position}
 use Rattle.md_tree.specs.Tree.{Forest, flatten}
-use Rattle.md_html.specs.declared.options.CompileOptions.{CompileOptions}
-use Rattle.md_html.specs.declared.facts.Ahead.{Ahead}
-use Rattle.md_html.specs.Given.{Given, Defined}
-use Rattle.md_html.specs.Places.{nothing_before, first_ending}
-use Rattle.md_html.specs.Meaning.{meaning, ending_at}
-use Rattle.md_html.specs.Machine.{State, run, beginning, aheads_of}
-use Rattle.md_html.specs.LookAhead.{looked_over, no_outlook}
+use Rattle.md_meaning.specs.declared.options.CompileOptions.{CompileOptions}
+use Rattle.md_meaning.specs.declared.facts.Ahead.{Ahead}
+use Rattle.md_meaning.specs.Given.{Given, Defined}
+use Rattle.md_meaning.specs.Places.{nothing_before, first_ending, calls_of}
+use Rattle.md_meaning.specs.Meaning.{meaning, ending_at}
+use Rattle.md_print.specs.Machine.{run, beginning, finished}
+use Rattle.md_facts.specs.Steps.{aheads_of}
+use Rattle.md_tree.specs.Entered.{children_of}
+use Rattle.md_meaning.specs.Piece.{Piece, Page, blank, lay, layout}
+use Rattle.md_meaning.specs.Surroundings.{outermost}
+use Rattle.md_meaning.specs.Calls.{Called, tally}
+use Rattle.md_meaning.specs.Footnotes.{Footnote, footnote_text, item_pieces, items_pieces, section_opening, section_closing, section_pieces}
+use Rattle.md_meaning.specs.Printed.{printed, footnotes_of}
+use Rattle.md_sheet.specs.Seen.{noted}
+use Rattle.md_sheet.proofs.Lists.{lay-append}
+use Rattle.md_sheet.proofs.Tally.{fold-tally}
+use Rattle.md_facts.specs.LookAhead.{looked_over, no_outlook}
 use Rattle.md_html.proofs.Runs.{run-flatten, Knows, after}
-use Rattle.md_html.proofs.LookAheadLemmas.{aheads-looked_over, ending-looked_over}
+use Rattle.md_facts.proofs.LookAheadLemmas.{aheads-looked_over, ending-looked_over}
 
 -- what the nodes are given, where lines end so
 abbrev pub given_with : CompileOptions → List (List ℕ × List ℕ) → List ℕ → List ℕ → List Defined → Given
@@ -19,33 +32,101 @@ given_with options names bytes ending definitions = record { bytes = bytes; name
 
 -- nothing stands before the first event
 begins : Knows beginning nothing_before
-begins = record { calls = refl; slurping = refl; previous = refl; spine = refl }
+begins = record { calls = refl; slurping = refl; previous = refl; spine = refl; columns = refl }
 
-run-document : (given : Given) (document : Forest) → run given (flatten document) (aheads_of document) beginning ≡ after given nothing_before document beginning
+run-document : (given : Given) (document : Forest) → run given (flatten document) (aheads_of document) (children_of document) beginning ≡ after given nothing_before document beginning
 run-document given document =
-    ap (λ es. run given es (aheads_of document) beginning) (sym (append-nil (flatten document)))
-    ∙ ap (λ as'. run given (flatten document ++ []) as' beginning) (sym (append-nil (aheads_of document)))
-    ∙ run-flatten given document nothing_before [] [] beginning begins refl
+    ap (λ es. run given es (aheads_of document) (children_of document) beginning) (sym (append-nil (flatten document)))
+    ∙ ap (λ as'. run given (flatten document ++ []) as' (children_of document) beginning) (sym (append-nil (aheads_of document)))
+    ∙ ap (λ cs. run given (flatten document ++ []) (aheads_of document ++ []) cs beginning) (sym (append-nil (children_of document)))
+    ∙ run-flatten given document nothing_before [] [] [] beginning begins refl
 
 -- one run over the events of a document
 run-events : (given : Given) (events : List Event) (aheads : List Ahead) (document : Forest) →
     flatten document ≡ events → aheads ≡ (looked_over events no_outlook).aheads →
-    run given events aheads beginning ≡ after given nothing_before document beginning
+    run given events aheads (children_of document) beginning ≡ after given nothing_before document beginning
 run-events given events aheads document flat seen =
-    ap (λ as'. run given events as' beginning) (seen ∙ aheads-looked_over document events flat)
-    ∙ ap (λ es. run given es (aheads_of document) beginning) (sym flat)
+    ap (λ as'. run given events as' (children_of document) beginning) (seen ∙ aheads-looked_over document events flat)
+    ∙ ap (λ es. run given es (aheads_of document) (children_of document) beginning) (sym flat)
     ∙ run-document given document
+
+-- what is found behind one footnote
+found_behind : (first : Footnote) (xs ys : List Footnote) (identifier : List ℕ) → footnote_text xs identifier ≡ footnote_text ys identifier → footnote_text (first ∷ xs) identifier ≡ footnote_text (first ∷ ys) identifier
+found_behind first xs ys identifier h =
+    elim (bytes_eq first.identifier identifier) as (λ b. option_map_or (λ footnote. footnote.text) (if b then Some first else find (λ footnote. bytes_eq footnote.identifier identifier) xs) [] ≡ option_map_or (λ footnote. footnote.text) (if b then Some first else find (λ footnote. bytes_eq footnote.identifier identifier) ys) []) [
+      | true ↦ refl
+      | false ↦ h
+    ]
+
+-- a footnote with another identifier is passed over
+passed_by : (others : List Footnote) (footnote : Footnote) (more : List Footnote) (identifier : List ℕ) → bytes_eq footnote.identifier identifier ≡ false →
+    footnote_text (others ++ more) identifier ≡ footnote_text ((others ++ footnote ∷ []) ++ more) identifier
+passed_by [] footnote more identifier h = ap (λ b. option_map_or (λ f. f.text) (if b then Some footnote else find (λ f. bytes_eq f.identifier identifier) more) []) (sym h)
+passed_by (other ∷ others) footnote more identifier h =
+    found_behind other (others ++ more) ((others ++ footnote ∷ []) ++ more) identifier (passed_by others footnote more identifier h)
+
+-- behind one with the same identifier another makes no difference
+same_behind : (first : Footnote) (others : List Footnote) (footnote : Footnote) (more : List Footnote) (identifier : List ℕ) → first.identifier ≡ footnote.identifier →
+    footnote_text (first ∷ others ++ more) identifier ≡ footnote_text (first ∷ (others ++ footnote ∷ []) ++ more) identifier
+same_behind first others footnote more identifier h =
+    elim (bytes_eq first.identifier identifier) as (λ b. bytes_eq first.identifier identifier ≡ b → option_map_or (λ f. f.text) (if b then Some first else find (λ f. bytes_eq f.identifier identifier) (others ++ more)) [] ≡ option_map_or (λ f. f.text) (if b then Some first else find (λ f. bytes_eq f.identifier identifier) ((others ++ footnote ∷ []) ++ more)) []) [
+      | true ↦ λ e. refl
+      | false ↦ λ e. passed_by others footnote more identifier (ap (λ i. bytes_eq i identifier) (sym h) ∙ e)
+    ] refl
+
+-- a footnote behind others, noted or added: the first with an identifier stays the first
+one_noted : (kept : List Footnote) (footnote : Footnote) (more : List Footnote) (identifier : List ℕ) → footnote_text (noted kept footnote ++ more) identifier ≡ footnote_text ((kept ++ footnote ∷ []) ++ more) identifier
+one_noted [] footnote more identifier = refl
+one_noted (first ∷ others) footnote more identifier =
+    elim (bytes_eq first.identifier footnote.identifier) as (λ b. bytes_eq first.identifier footnote.identifier ≡ b → footnote_text (first ∷ (if b then others else noted others footnote) ++ more) identifier ≡ footnote_text (first ∷ (others ++ footnote ∷ []) ++ more) identifier) [
+      | true ↦ λ e. same_behind first others footnote more identifier ((bytes_eq-Decides first.identifier footnote.identifier).0 e)
+      | false ↦ λ e. found_behind first (noted others footnote ++ more) ((others ++ footnote ∷ []) ++ more) identifier (one_noted others footnote more identifier)
+    ] refl
+
+-- the first of the footnotes that are noted with an identifier is the first of all
+noted-found : (kept more : List Footnote) (identifier : List ℕ) → footnote_text (fold noted kept more) identifier ≡ footnote_text (kept ++ more) identifier
+noted-found kept [] identifier = ap (λ fs. footnote_text fs identifier) (sym (append-nil kept))
+noted-found kept (footnote ∷ more) identifier =
+    noted-found (noted kept footnote) more identifier
+    ∙ one_noted kept footnote more identifier
+    ∙ ap (λ fs. footnote_text fs identifier) (append_assoc kept (footnote ∷ []) more)
+
+section-noted : (options : CompileOptions) (kept footnotes : List Footnote) (called : List Called) → ((identifier : List ℕ) → footnote_text kept identifier ≡ footnote_text footnotes identifier) →
+    section_pieces options kept called ≡ section_pieces options footnotes called
+section-noted options kept footnotes [] same = refl
+section-noted options kept footnotes (called ∷ others) same = ap (λ items. section_opening options ++ (items ++ section_closing)) (items-noted (called ∷ others))
+  where
+    items-noted : (calls : List Called) → items_pieces options kept calls ≡ items_pieces options footnotes calls
+    items-noted [] = refl
+    items-noted (call ∷ calls) =
+        ap (λ text. item_pieces options text call.identifier call.count ++ items_pieces options kept calls) (same call.identifier)
+        ∙ ap (λ items. item_pieces options (footnote_text footnotes call.identifier) call.identifier call.count ++ items) (items-noted calls)
+
+-- the last page, with the section, is the document's
+finished-document : (given : Given) (document : Forest) →
+    (finished given (after given nothing_before document beginning)).text
+    ≡ layout given.ending (printed given outermost nothing_before document ++ section_pieces given.options (footnotes_of given outermost nothing_before document) (tally (calls_of given.bytes document)))
+finished-document given document =
+    let pieces : List Piece = printed given outermost nothing_before document in
+    let footnotes : List Footnote = footnotes_of given outermost nothing_before document in
+    let page : Page = lay given.ending blank pieces in
+    ap (λ called. (lay given.ending page (section_pieces given.options (fold noted [] footnotes) called)).text) (fold-tally [] (calls_of given.bytes document))
+    ∙ ap (λ section. (lay given.ending page section).text) (section-noted given.options (fold noted [] footnotes) footnotes (tally (calls_of given.bytes document)) (noted-found [] footnotes))
+    ∙ ap (λ p. p.text) (sym (lay-append given.ending blank pieces (section_pieces given.options footnotes (tally (calls_of given.bytes document)))))
 
 -- two runs: the second has the definitions that the first saw
 pub text-run : (options : CompileOptions) (names : List (List ℕ × List ℕ)) (bytes : List ℕ) (events : List Event) (aheads : List Ahead) (place : Option Position) (document : Forest) →
     flatten document ≡ events → aheads ≡ (looked_over events no_outlook).aheads → place ≡ (looked_over events no_outlook).here.ending →
+    (finished (given_with options names bytes (ending_at options bytes place) (run (given_with options names bytes (ending_at options bytes place) []) events aheads (children_of document) beginning).log.definitions)
     (run (given_with options names bytes (ending_at options bytes place)
-    (run (given_with options names bytes (ending_at options bytes place) []) events aheads beginning).log.definitions) events aheads beginning).page.text
+    (run (given_with options names bytes (ending_at options bytes place) []) events aheads (children_of document) beginning).log.definitions) events aheads (children_of document) beginning)).text
     ≡ meaning options names bytes document
 text-run options names bytes events aheads place document flat seen found =
     let ending : List ℕ = ending_at options bytes (first_ending document) in
     let given : List Defined → Given = λ ds. given_with options names bytes ending ds in
-    ap (λ p. (run (given_with options names bytes (ending_at options bytes p) (run (given_with options names bytes (ending_at options bytes p) []) events aheads beginning).log.definitions) events aheads beginning).page.text)
+    let nodes : List (Option Forest) = children_of document in
+    ap (λ p. (finished (given_with options names bytes (ending_at options bytes p) (run (given_with options names bytes (ending_at options bytes p) []) events aheads nodes beginning).log.definitions) (run (given_with options names bytes (ending_at options bytes p) (run (given_with options names bytes (ending_at options bytes p) []) events aheads nodes beginning).log.definitions) events aheads nodes beginning)).text)
     (found ∙ ending-looked_over document events flat)
-    ∙ ap (λ s. (run (given s.log.definitions) events aheads beginning).page.text) (run-events (given []) events aheads document flat seen)
-    ∙ ap (λ s. s.page.text) (run-events (given (after (given []) nothing_before document beginning).log.definitions) events aheads document flat seen)
+    ∙ ap (λ s. (finished (given s.log.definitions) (run (given s.log.definitions) events aheads nodes beginning)).text) (run-events (given []) events aheads document flat seen)
+    ∙ ap (λ s. (finished (given (after (given []) nothing_before document beginning).log.definitions) s).text) (run-events (given (after (given []) nothing_before document beginning).log.definitions) events aheads document flat seen)
+    ∙ finished-document (given (after (given []) nothing_before document beginning).log.definitions) document

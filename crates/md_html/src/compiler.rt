@@ -1,32 +1,42 @@
 //! Events to HTML.
 
-ghost use Rattle.std.specs.Prelude.{◌≡◌, ◌∷◌, [], OnOk, IfOk, IfErr, List, string_bytes, length, unwrap_or, option_copied};
+ghost use Rattle.std.specs.Prelude.{◌≡◌, ◌∷◌, [], OnOk, IfOk, IfErr, List, string_bytes, length, unwrap_or, option_copied, slice_get, Option, Some};
 ghost use Rattle.md_base.specs.Reference.{name_table};
 ghost use Rattle.md_tree.specs.Tree.{Forest, flatten};
 ghost use Rattle.md_tree.specs.Grammar.{IsChecked, handed};
+ghost use Rattle.md_tree.specs.Texts.{EntersAt};
+ghost use Rattle.md_tree.specs.Entered.{children_of};
+ghost use Rattle.md_print.specs.Sources.{IsToldAt, closing_at};
 ghost use Rattle.md_tree.specs.Refusal.{IsOutside, IsOrder, IsMdx, IsOfNode, IsLost};
-ghost use Rattle.md_html.specs.Machine as machine;
-ghost use Rattle.md_html.specs.LookAhead as look;
-ghost use Rattle.md_html.specs.Meaning.{meaning, ending_at, IsServed};
-ghost use Rattle.md_html.specs.Sources.{given_of};
-ghost use Rattle.md_html.specs.Printed.{is_captured};
+ghost use Rattle.md_print.specs.Machine as machine;
+ghost use Rattle.md_facts.specs.Steps as steps;
+ghost use Rattle.md_facts.specs.LookAhead as look;
+ghost use Rattle.md_meaning.specs.Meaning.{meaning, ending_at};
+ghost use Rattle.md_text.specs.Html.{any_attribute, HasOneReadingWith};
+ghost use Rattle.md_text.specs.Safe.{is_safe_link, is_safe_image};
+ghost use Rattle.md_safe.specs.Options.{KeepsGrammar, KeepsLinks, KeepsImages};
+ghost use Rattle.md_print.specs.Sources.{given_of};
+ghost use Rattle.md_meaning.specs.Printed.{is_captured};
 
-use crate::close::close;
-use crate::facts::{Ahead, Exit};
-use crate::look_ahead::look_ahead;
-use crate::names::is_captured;
-use crate::notes::Defined;
-use crate::open::open;
-use crate::options::CompileOptions;
-use crate::printer::Printer;
-use crate::source::{Source, identifier_at, text_of};
-use md_base::{Event, Kind, Name, Point, Position};
-use md_tree::{Checked, CompileError, check};
+use md_base::{AlignKind, Event, Kind, Name, Point, Position};
+use md_facts::look_ahead;
+use md_facts::names::{is_captured, is_table};
+use md_meaning::{Ahead, CompileOptions};
+use md_print::close::close;
+use md_print::facts::Exit;
+use md_print::open::open;
+use md_print::printer::Printer;
+use md_print::source::{Source, identifier_at, text_of};
+use md_sheet::{Defined, Sheet};
+use md_tree::{Checked, CompileError, check, gfm_table_align};
 use std::alloc::{AllocError, Global};
 
 /// The HTML of a list of Markdown events over a document's bytes: the meaning of the document that the list is.
 ///
-/// `names` is the table of named character references.
+/// `names` is the table of named character references. Nothing is assumed of events, bytes, options or names. Where HTML isn't
+/// allowed and the heading of the footnotes is the usual one, the text has exactly one reading in the HTML grammar; where
+/// dangerous protocols, or any image source, aren't allowed either, each link, or image, in it has no protocol or a permitted one.
+/// The default options are such.
 ///
 /// # Errors
 ///
@@ -40,8 +50,11 @@ pub fn compile(
     names: &[(&str, &str)],
 ) -> Result<String, CompileError>
     ensures grammatical { OnOk result (IsChecked (handed events.now bytes.now names.now)) }
-    ensures meaning { IfOk result (λ text. (document : Forest) → flatten document ≡ events.now → IsServed document →
+    ensures meaning { IfOk result (λ text. (document : Forest) → flatten document ≡ events.now →
         string_bytes text ≡ meaning options.now (name_table names.now) bytes.now document) }
+    ensures one_reading { IfOk result (λ text. KeepsGrammar options.now → HasOneReadingWith any_attribute (string_bytes text)) }
+    ensures safe_links { IfOk result (λ text. KeepsLinks options.now → HasOneReadingWith is_safe_link (string_bytes text)) }
+    ensures safe_images { IfOk result (λ text. KeepsImages options.now → HasOneReadingWith is_safe_image (string_bytes text)) }
 
     ensures outside { IfErr result (IsOutside (handed events.now bytes.now names.now)) }
     ensures order { IfErr result (IsOrder (handed events.now bytes.now names.now)) }
@@ -63,8 +76,11 @@ pub fn compile_checked(
     checked: &Checked,
     options: &CompileOptions,
 ) -> Result<String, AllocError>
-    ensures meaning { IfOk result (λ text. (document : Forest) → flatten document ≡ checked.now.events → IsServed document →
+    ensures meaning { IfOk result (λ text. (document : Forest) → flatten document ≡ checked.now.events →
         string_bytes text ≡ meaning options.now checked.now.names checked.now.bytes document) }
+    ensures one_reading { IfOk result (λ text. KeepsGrammar options.now → HasOneReadingWith any_attribute (string_bytes text)) }
+    ensures safe_links { IfOk result (λ text. KeepsLinks options.now → HasOneReadingWith is_safe_link (string_bytes text)) }
+    ensures safe_images { IfOk result (λ text. KeepsImages options.now → HasOneReadingWith is_safe_image (string_bytes text)) }
 {
     let events = checked.events();
     let bytes = checked.bytes();
@@ -76,14 +92,14 @@ pub fn compile_checked(
         ending: ending_at(options, bytes, ending),
         definitions: &[],
     };
-    let first = run(alloc, &alone, events, aheads.as_slice())?;
+    let first = run(alloc, &alone, checked, aheads.as_slice())?;
     let definitions = first.into_definitions();
     let source = Source {
         definitions: definitions.as_slice(),
         ..alone
     };
-    let second = run(alloc, &source, events, aheads.as_slice())?;
-    Ok(second.into_text())
+    let second = run(alloc, &source, checked, aheads.as_slice())?;
+    second.into_text(alloc, options, source.ending)
 }
 
 /// The line ending that is used: the text of the document's first, else that of the options.
@@ -102,15 +118,66 @@ fn enter(
     printer: &mut Printer,
     source: &Source,
     ahead: Ahead,
+    columns: Vec<AlignKind>,
     name: Name,
     start: Point,
 ) -> Result<(), AllocError>
-    ensures { OnOk result (printer.new ≡ machine.entered (given_of source.now) ahead (is_captured name) name start printer.old) }
+    ensures { OnOk result (printer.new ≡ machine.entered (given_of source.now) ahead columns.items (is_captured name) name start printer.old) }
 {
     let around = printer.frame().around;
     open(printer, source, around, ahead, name)?;
     printer.capture_if(alloc, is_captured(name))?;
-    printer.open_frame(source.options, ahead, name, start)
+    printer.open_frame(source.options, ahead, name, start)?;
+    printer.enter_table_if(is_table(name), columns)
+}
+
+/// The alignments of the columns of a table that is entered; none of another node.
+fn columns_of(
+    alloc: Global,
+    checked: &Checked,
+    index: usize,
+    name: Name,
+) -> Result<Vec<AlignKind>, AllocError>
+    requires { EntersAt checked.now.events index name }
+    ensures { IfOk result (λ columns. (told : Option Forest) → IsToldAt checked.now index told
+        → columns.items ≡ machine.columns_told name told) }
+{
+    match name {
+        Name::GfmTable => gfm_table_align(alloc, checked, index),
+        _ => Ok(Vec::new(alloc)),
+    }
+}
+
+/// Prints what a node prints after its children, and logs what it is seen for; `inner` is their page, where it was
+/// captured.
+fn close_and_log(
+    alloc: Global,
+    printer: &mut Printer,
+    source: &Source,
+    exit: &Exit,
+    inner: Sheet,
+    name: Name,
+) -> Result<(), AllocError>
+    ensures { OnOk result (printer.new ≡ machine.printing source.now.ending.now
+        (closing_at (given_of source.now) exit.now printer.old.log.called (steps.first_or [] printer.old.tables) inner name)
+        (machine.logging source.now.bytes.now exit.now.frame.ahead name inner printer.old)) }
+{
+    match name {
+        Name::GfmFootnoteCall => {
+            close(alloc, printer, source, exit, inner, name)?;
+            printer.log_call(identifier_at(alloc, source.bytes, exit.frame.ahead.label)?)
+        }
+        Name::GfmFootnoteDefinition => {
+            let identifier = identifier_at(alloc, source.bytes, exit.frame.ahead.footnote)?;
+            printer.log_footnote(identifier, inner.into_text())
+        }
+        Name::Definition => {
+            let identifier = identifier_at(alloc, source.bytes, exit.frame.ahead.defined)?;
+            let target = inner.into_target();
+            printer.log_definition(Defined { identifier, target })
+        }
+        _ => close(alloc, printer, source, exit, inner, name),
+    }
 }
 
 /// Exits a node; `is_last` says that nothing follows in the document.
@@ -134,19 +201,9 @@ fn exit(
         end,
     };
     let inner = printer.release_if(alloc, is_captured(name));
-    match name {
-        Name::GfmFootnoteCall => {
-            printer.log_call(identifier_at(alloc, source.bytes, exit.frame.ahead.label)?)?;
-        }
-        Name::Definition => {
-            let identifier = identifier_at(alloc, source.bytes, exit.frame.ahead.defined)?;
-            let target = inner.into_target();
-            printer.log_definition(Defined { identifier, target })?;
-        }
-        _ => close(alloc, printer, source, &exit, inner, name)?,
-    }
-    printer.leave(name);
-    Ok(())
+    printer.leave_table_if(is_table(name));
+    close_and_log(alloc, printer, source, &exit, inner, name)?;
+    printer.leave(name)
 }
 
 /// Goes one event further.
@@ -154,14 +211,29 @@ fn step(
     alloc: Global,
     printer: &mut Printer,
     source: &Source,
-    event: &Event,
+    checked: &Checked,
+    index: usize,
+    event: Event,
     ahead: Ahead,
     is_last: bool,
 ) -> Result<(), AllocError>
-    ensures { OnOk result (printer.new ≡ machine.stepped (given_of source.now) event.now.kind event.now.name event.now.point ahead is_last printer.old) }
+    requires { slice_get checked.now.events index ≡ Some event }
+    ensures { OnOk result ((told : Option Forest) → IsToldAt checked.now index told
+        → printer.new ≡ machine.stepped (given_of source.now) event.kind event.name event.point ahead told is_last printer.old) }
 {
     match event.kind {
-        Kind::Enter => enter(alloc, printer, source, ahead, event.name, event.point),
+        Kind::Enter => {
+            let columns = columns_of(alloc, checked, index, event.name)?;
+            enter(
+                alloc,
+                printer,
+                source,
+                ahead,
+                columns,
+                event.name,
+                event.point,
+            )
+        }
         Kind::Exit => exit(alloc, printer, source, is_last, event.name, event.point),
     }
 }
@@ -170,21 +242,34 @@ fn step(
 fn run(
     alloc: Global,
     source: &Source,
-    events: &[Event],
+    checked: &Checked,
     aheads: &[Ahead],
 ) -> Result<Printer, AllocError>
-    ensures { IfOk result (λ printer. printer ≡ machine.run (given_of source.now) events.now aheads.now machine.beginning) }
+    ensures { IfOk result (λ printer. (document : Forest) → flatten document ≡ checked.now.events
+        → printer ≡ machine.run (given_of source.now) checked.now.events aheads.now (children_of document) machine.beginning) }
 {
     let mut printer = Printer::new(alloc);
-    let mut rest = events;
+    let mut rest = checked.events();
     let mut aheads = aheads;
+    let mut index = 0;
     while let Some((event, later)) = rest.split_first() {
         let Some((ahead, aheads_later)) = aheads.split_first() else {
             break;
         };
-        step(alloc, &mut printer, source, event, *ahead, later.is_empty())?;
+        let is_last = later.is_empty();
+        step(
+            alloc,
+            &mut printer,
+            source,
+            checked,
+            index,
+            *event,
+            *ahead,
+            is_last,
+        )?;
         rest = later;
         aheads = aheads_later;
+        index += 1;
     }
     Ok(printer)
 }

@@ -1,29 +1,18 @@
 //! Compiles Markdown events to HTML.
 #![tactic(auto)]
 
-mod close;
-mod code;
 mod compiler;
-mod facts;
-mod look_ahead;
-mod media;
-mod names;
-mod notes;
-mod open;
-mod options;
-mod printer;
-mod sheet;
-mod source;
-mod surroundings;
-mod texts;
+pub mod laws;
 
 pub use compiler::{compile, compile_checked};
 pub use md_base::{
     AlignKind, Event, GFM_HTML_TAGFILTER_NAMES, Kind, Name, Point, Position, SAFE_PROTOCOL_HREF,
     SAFE_PROTOCOL_SRC, Slice, decode_character_reference, is_same_name, normalize_identifier,
 };
+pub use md_meaning::CompileOptions;
 pub use md_text::{
     LineEnding, LineEndingError, encode, gfm_tagfilter, sanitize, sanitize_with_protocols,
 };
-pub use md_tree::{Checked, CompileError, Rule, check};
-pub use options::CompileOptions;
+pub use md_tree::{
+    Checked, CompileError, Rule, check, gfm_table_align, list_item_loose, list_loose,
+};

@@ -5,7 +5,7 @@ use Rattle.md_base.specs.declared.event.Event.{Event}
 use Rattle.md_tree.specs.declared.rule.CompileError.{CompileError}
 use Rattle.md_tree.specs.declared.rule.CompileError.TheVariants as refusal
 use Rattle.md_tree.specs.Refusal.{IsRefusal}
-use Rattle.md_html.specs.declared.options.CompileOptions.{CompileOptions}
+use Rattle.md_meaning.specs.declared.options.CompileOptions.{CompileOptions}
 use Rattle.md_script.specs.declared.error.RunError.{RunError}
 use Rattle.md_script.specs.declared.error.RunError.TheVariants as error
 use Rattle.md_script.specs.Error.{run_error_of}

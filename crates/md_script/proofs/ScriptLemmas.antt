@@ -12,7 +12,7 @@ use Rattle.md_script.specs.Line.{event_of}
 use Rattle.md_script.specs.Script.{lines_of, end_line, is_readable_after, ReadsAfter, StandsFor, StopsAfter, IsFirstUnreadable}
 use Rattle.md_script.specs.Script.{Explains}
 use Rattle.md_script.specs.declared.error.RunError.TheVariants.{Line}
-use Rattle.md_html.specs.declared.options.CompileOptions.{CompileOptions}
+use Rattle.md_meaning.specs.declared.options.CompileOptions.{CompileOptions}
 use Rattle.md_script.specs.Setting.{is_setting, option_name, is_new, HasOptions}
 use Rattle.md_script.proofs.SettingLemmas.{is_marked, setting_is_marked, event_is_unmarked, new_by_marked, options_by_marked}
 

@@ -6,8 +6,8 @@ use Rattle.md_tree.specs.declared.rule.CompileError.TheVariants as refusal
 use Rattle.md_tree.specs.Tree.{Forest, flatten}
 use Rattle.md_tree.specs.Grammar.{Document, IsChecked}
 use Rattle.md_tree.specs.Refusal.{IsRefusal}
-use Rattle.md_html.specs.declared.options.CompileOptions.{CompileOptions}
-use Rattle.md_html.specs.Meaning.{meaning, IsServed}
+use Rattle.md_meaning.specs.declared.options.CompileOptions.{CompileOptions}
+use Rattle.md_meaning.specs.Meaning.{meaning}
 use Rattle.md_script.specs.Script.{IsReadable, IsFirstUnreadable, StandsFor}
 use Rattle.md_script.specs.declared.error.RunError.{RunError}
 use Rattle.md_script.specs.declared.error.RunError.TheVariants as error
@@ -25,7 +25,7 @@ document_of events bytes = record { events = events; bytes = bytes; names = refe
 -- the events are of the grammar over the bytes, and the text is the meaning of their document, where that is served
 pub record IsCompiled (events : List Event) (bytes : List ℕ) (options : CompileOptions) (text : List ℕ) : Type 0 where
   pub grammatical : IsChecked (document_of events bytes)
-  pub means : (document : Forest) → flatten document ≡ events → IsServed document → text ≡ meaning options reference_names bytes document
+  pub means : (document : Forest) → flatten document ≡ events → text ≡ meaning options reference_names bytes document
 
 -- why events give no text
 abbrev pub ExplainsEvents : List Event → List ℕ → RunError → Type 0

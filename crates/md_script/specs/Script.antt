@@ -6,7 +6,7 @@ use Rattle.md_script.specs.declared.error.RunError.{RunError}
 use Rattle.md_script.specs.declared.error.RunError.TheVariants.{Memory, Line, Event}
 use Rattle.md_script.specs.Line.{event_of}
 use Rattle.md_script.specs.Setting.{is_setting, option_name, is_new, HasOptions}
-use Rattle.md_html.specs.declared.options.CompileOptions.{CompileOptions}
+use Rattle.md_meaning.specs.declared.options.CompileOptions.{CompileOptions}
 
 abbrev pub is_line_feed : ℕ → Bool
 is_line_feed byte = byte == 10

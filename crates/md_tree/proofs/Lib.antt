@@ -1,10 +1,14 @@
 pub mod Breaks
 pub mod Checking
 pub mod Endings
+pub mod EnteredTables
+pub mod Entering
+pub mod Gathering
 pub mod Greedy
 pub mod Indexed
 pub mod Groups
 pub mod Paths
 pub mod Resolving
+pub mod Tables
 pub mod Trees
 pub mod Verdicts

@@ -1,9 +1,9 @@
 -- What a node's children tell of it, by their names.
-use Rattle.std.specs.Prelude.{ℕ, Bool, true, false, not, ◌&&◌, ◌||◌, if◌then◌else◌, List, [], ◌∷◌, ◌++◌, Option, Some, None, unwrap_or}
+use Rattle.std.specs.Prelude.{Bool, true, false, if◌then◌else◌, List, [], ◌∷◌, ◌++◌, Option, Some, None, unwrap_or}
 use Rattle.md_base.specs.declared.event.Name.{Name}
 use Rattle.md_base.specs.declared.event.Point.{Point}
 use Rattle.md_tree.specs.Tree.{Forest, Empty, Node}
-use Rattle.md_tree.specs.NameTests.{is_transparent, is_blank_line_ending, is_space, is_item, is_item_prefix, is_block_quote, is_block_quote_prefix, contributes}
+use Rattle.md_tree.specs.NameTests.{is_transparent, contributes}
 
 -- the names on the spine: of the nodes that aren't transparent and are reached through transparent ones alone
 abbrev pub spine_names : Forest → List Name

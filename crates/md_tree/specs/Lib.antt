@@ -16,4 +16,10 @@ pub mod Tree
 pub mod NameTests
 pub mod Children
 pub mod Looseness
+pub mod Alignments
 pub mod Walk
+pub mod Gather
+pub mod Entered
+pub mod Inferred
+pub mod Laws
+pub mod Tables

@@ -1,5 +1,5 @@
 -- Which lists and items are loose, by their direct children.
-use Rattle.std.specs.Prelude.{Bool, true, false, not, ◌&&◌, ◌||◌, if◌then◌else◌, Option, Some, None}
+use Rattle.std.specs.Prelude.{Bool, true, false, not, ◌&&◌, ◌||◌, if◌then◌else◌}
 use Rattle.std.specs.Option.{option_map_or}
 use Rattle.md_base.specs.declared.event.Name.{Name}
 use Rattle.md_tree.specs.Tree.{Forest, Empty, Node}

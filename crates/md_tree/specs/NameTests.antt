@@ -1,7 +1,7 @@
 -- Tests on names, each true for the names that it lists.
 use Rattle.std.specs.Prelude.{Bool, true, false}
 use Rattle.md_base.specs.declared.event.Name.{Name}
-use Rattle.md_base.specs.declared.event.Name.TheVariants.{LineEnding, BlankLineEnding, BlockQuote, BlockQuotePrefix, ListOrdered, ListUnordered, ListItem, ListItemPrefix, ListItemValue, GfmFootnoteDefinition, GfmFootnoteDefinitionPrefix, GfmFootnoteDefinitionLabelString, GfmFootnoteCall, Definition, DefinitionLabelString, CodeFencedFence, MathFlowFence, CodeFlowChunk, MathFlowChunk, HeadingAtxSequence, GfmTableCell, GfmTableDelimiterMarker, GfmTableDelimiterCellValue, GfmTableDelimiterRow, GfmTableHead, Resource, ResourceDestinationString, ResourceTitleString, ReferenceString, Label, LabelText, SpaceOrTab, Other, Paragraph}
+use Rattle.md_base.specs.declared.event.Name.TheVariants.{LineEnding, BlankLineEnding, BlockQuote, BlockQuotePrefix, ListItem, ListItemPrefix, ListItemValue, GfmFootnoteDefinition, GfmFootnoteDefinitionPrefix, GfmFootnoteDefinitionLabelString, GfmFootnoteCall, Definition, DefinitionLabelString, CodeFencedFence, MathFlowFence, CodeFlowChunk, MathFlowChunk, HeadingAtxSequence, GfmTable, GfmTableCell, GfmTableDelimiterMarker, GfmTableDelimiterCellValue, GfmTableDelimiterRow, GfmTableHead, ReferenceString, Label, LabelText, SpaceOrTab, Other, Paragraph}
 
 -- a node that its parent's pattern looks through
 abbrev pub is_transparent : Name → Bool
@@ -117,3 +117,32 @@ is_call _ = false
 abbrev pub is_cell : Name → Bool
 is_cell GfmTableCell = true
 is_cell _ = false
+
+abbrev pub is_table : Name → Bool
+is_table GfmTable = true
+is_table _ = false
+
+abbrev pub is_delimiter_value : Name → Bool
+is_delimiter_value GfmTableDelimiterCellValue = true
+is_delimiter_value _ = false
+
+abbrev pub is_delimiter_marker : Name → Bool
+is_delimiter_marker GfmTableDelimiterMarker = true
+is_delimiter_marker _ = false
+
+abbrev pub is_table_head : Name → Bool
+is_table_head GfmTableHead = true
+is_table_head _ = false
+
+abbrev pub is_delimiter_row : Name → Bool
+is_delimiter_row GfmTableDelimiterRow = true
+is_delimiter_row _ = false
+
+-- the nodes by which a table reaches its delimiter row's values
+abbrev pub leads_to_values : Name → Bool
+leads_to_values GfmTableHead = true
+leads_to_values GfmTableDelimiterRow = true
+leads_to_values (Other number) = true
+leads_to_values BlockQuotePrefix = true
+leads_to_values SpaceOrTab = true
+leads_to_values _ = false

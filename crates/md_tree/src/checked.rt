@@ -1,8 +1,9 @@
-ghost use Rattle.std.specs.Prelude.{◌≡◌, ◌↔◌, ◌<◌, length, slice_index_or, IsTrue};
+ghost use Rattle.std.specs.Prelude.{◌≡◌, ◌↔◌, ◌<◌, length, slice_get, slice_index_or, IsTrue};
 ghost use Rattle.md_base.specs.declared.event.Event.{Event};
 ghost use Rattle.md_tree.specs.declared.kinds.Note.{Note};
 ghost use Rattle.md_tree.specs.Texts.{IsEventAt};
 
+use crate::gather::Inferred;
 use crate::judge::{label_at, text_at};
 use crate::kinds::Note;
 use md_base::{Event, Kind, Name, Position, is_same_name};
@@ -16,6 +17,7 @@ pub struct Checked<'a> {
     bytes: &'a [u8],
     names: &'a [(&'a str, &'a str)],
     notes: Vec<Note>,
+    inferred: Vec<Inferred>,
 }
 
 impl<'a> Model for Checked<'a> {
@@ -36,15 +38,20 @@ impl<'a> Checked<'a> {
     ghost use Rattle.md_base.specs.Reference.{name_table};
     ghost use Rattle.md_tree.specs.Grammar.{IsChecked, handed};
     ghost use Rattle.md_tree.specs.Noted.{IsNoted};
+    ghost use Rattle.md_tree.specs.Gather.{inferred_at};
+    ghost use Rattle.md_tree.specs.Entered.{EntersNode};
+    ghost use Rattle.md_tree.specs.Inferred.{EntersSome, IsInferredAt};
 
-    /// What has passed a check, with the notes of its events.
+    /// What has passed a check, with the notes of its events and what is inferred at them.
     pub(crate) fn new(
         events: &'a [Event],
         bytes: &'a [u8],
         names: &'a [(&'a str, &'a str)],
         notes: Vec<Note>,
+        inferred: Vec<Inferred>,
     ) -> Checked<'a>
-        requires { IsNoted (handed events.now bytes.now names.now) notes.items }
+        requires noted { IsNoted (handed events.now bytes.now names.now) notes.items }
+        requires inferred { inferred.items ≡ inferred_at events.now }
         ensures { result ≡ handed events.entry.now bytes.entry.now names.entry.now }
     {
         Checked {
@@ -52,6 +59,7 @@ impl<'a> Checked<'a> {
             bytes,
             names,
             notes,
+            inferred,
         }
     }
 
@@ -91,6 +99,16 @@ impl<'a> Checked<'a> {
         is_event(self.events, index, Kind::Exit, name)
     }
 
+    /// What is inferred of the node that the event at the index enters.
+    pub(crate) fn inferred(&self, index: usize) -> &Inferred
+        requires { EntersSome self.now.events index }
+        ensures grammatical { IsChecked self.now }
+        ensures entered { EntersNode self.now index }
+        ensures inferred { IsInferredAt self.now index result.now }
+    {
+        inference_at(&self.inferred, index)
+    }
+
     /// The text of the node that ends with the event at the index: its bytes alone.
     pub fn text(&self, index: usize) -> &'a str
         requires { ExitsText self.now.events index }
@@ -121,6 +139,14 @@ fn position_at(events: &[Event], notes: &[Note], index: usize) -> Position
         start: notes[index].start,
         end: events[index].point,
     }
+}
+
+/// What is inferred at the index.
+fn inference_at(inferred: &[Inferred], index: usize) -> &Inferred
+    requires { index < length inferred.now }
+    ensures { slice_get inferred.now index ≡ Some result.now }
+{
+    &inferred[index]
 }
 
 /// Whether the event at the index is there, of this kind and name.

@@ -6,6 +6,7 @@ ghost use Rattle.md_tree.specs.Machine.{Runs, beginning, is_complete};
 ghost use Rattle.md_tree.specs.Walk.{course_of, Unbroken};
 
 use crate::checked::Checked;
+use crate::gather::gather;
 use crate::judge::Source;
 use crate::resolve::resolve;
 use crate::rule::{CompileError, Rule};
@@ -50,7 +51,8 @@ pub fn check<'a>(
         notes,
     } = walk;
     resolve(alloc, bytes, &notes)?;
-    Ok(Checked::new(events, bytes, names, notes))
+    let inferred = gather(alloc, events)?;
+    Ok(Checked::new(events, bytes, names, notes, inferred))
 }
 
 /// Walks over all events.

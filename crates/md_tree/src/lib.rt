@@ -2,9 +2,14 @@
 #![tactic(auto)]
 
 mod checked;
+mod columns;
+mod gather;
 mod grammar;
+mod infer;
 mod judge;
 mod kinds;
+pub mod laws;
+mod names;
 mod pattern;
 mod resolve;
 mod rule;
@@ -18,4 +23,5 @@ mod walk;
 
 pub use checked::Checked;
 pub use grammar::check;
+pub use infer::{gfm_table_align, list_item_loose, list_loose};
 pub use rule::{CompileError, Rule};

@@ -1,4 +1,5 @@
 mod conditions;
+mod infer;
 mod order;
 
 use super::*;

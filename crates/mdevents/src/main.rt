@@ -5,10 +5,12 @@
 //! writing failed.
 #![tactic(auto)]
 
-use md_script::{RunError, run};
-use std::alloc::{AllocError, Global};
-use std::fmt;
-use std::io::{self, Read};
+mod failure;
+
+use failure::Failure;
+use md_script::run;
+use std::alloc::Global;
+use std::io::Read;
 use std::process::ExitCode;
 
 /// How often standard input is read at most.
@@ -16,49 +18,6 @@ const MOST_READS: u32 = 16_777_216;
 
 /// How many bytes are read at once at most.
 const READ_SIZE: usize = 65_536;
-
-/// Why nothing was written.
-#[derive(Debug, Drop)]
-enum Failure {
-    Run(RunError),
-    InputOutput,
-}
-
-impl Failure {
-    fn status(&self) -> u8 {
-        match self {
-            Failure::Run(error) => error.status(),
-            Failure::InputOutput => 4,
-        }
-    }
-}
-
-impl fmt::Display for Failure {
-    fn fmt<W: fmt::Write>(&self, f: &mut fmt::Formatter<W>) -> fmt::Result {
-        match self {
-            Failure::Run(error) => write!(f, "{error}"),
-            Failure::InputOutput => write!(f, "input or output failed"),
-        }
-    }
-}
-
-impl From<RunError> for Failure {
-    fn from(error: RunError) -> Failure {
-        Failure::Run(error)
-    }
-}
-
-impl From<AllocError> for Failure {
-    fn from(_error: AllocError) -> Failure {
-        Failure::Run(RunError::Memory)
-    }
-}
-
-impl From<io::Error> for Failure {
-    fn from(_error: io::Error) -> Failure {
-        Failure::InputOutput
-    }
-}
 
 fn main(rt: HostRuntime) -> ExitCode {
     match compile_input(&rt) {

@@ -184,3 +184,77 @@ fn text_option_without_a_value(rt: HostRuntime) -> Result<(), Fail> {
 fn memory_in_place_of_refusal(rt: HostRuntime) -> Result<(), Fail> {
     refuses(&rt, b"-Paragraph 0\n--\n", &["event 0: Order"])
 }
+
+#[test]
+fn place_that_ends_before_it_starts(rt: HostRuntime) -> Result<(), Fail> {
+    refuses(&rt, b"+Data 2\n-Data 1\n--\nabc", &["event 1: Place"])
+}
+
+#[test]
+fn place_past_the_bytes(rt: HostRuntime) -> Result<(), Fail> {
+    refuses(&rt, b"+Data 3\n-Data 4\n--\nabc", &["event 1: Place"])
+}
+
+#[test]
+fn place_with_five_columns(rt: HostRuntime) -> Result<(), Fail> {
+    refuses(&rt, b"+Data 0.5\n-Data 1\n--\nabc", &["event 1: Place"])
+}
+
+#[test]
+fn underline_of_no_bytes(rt: HostRuntime) -> Result<(), Fail> {
+    refuses(
+        &rt,
+        b"+HeadingSetextText 0\n-HeadingSetextText 0\n+HeadingSetextUnderlineSequence 0\n-HeadingSetextUnderlineSequence 0\n--\n",
+        &["event 3: Place"],
+    )
+}
+
+#[test]
+fn data_in_a_space(rt: HostRuntime) -> Result<(), Fail> {
+    refuses(
+        &rt,
+        b"+SpaceOrTab 0\n+Data 0\n-Data 1\n-SpaceOrTab 1\n--\na",
+        &["event 1: Order", "event 2: Order", "event 3: Order"],
+    )
+}
+
+#[test]
+fn mdx_flow_expression(rt: HostRuntime) -> Result<(), Fail> {
+    refuses(
+        &rt,
+        b"+MdxFlowExpression 0\n-MdxFlowExpression 0\n--\n",
+        &["event 0: Mdx", "event 0: Order", "event 1: Order"],
+    )
+}
+
+#[test]
+fn mdx_flow_tag(rt: HostRuntime) -> Result<(), Fail> {
+    refuses(
+        &rt,
+        b"+MdxJsxFlowTag 0\n-MdxJsxFlowTag 0\n--\n",
+        &["event 0: Mdx", "event 0: Order", "event 1: Order"],
+    )
+}
+
+#[test]
+fn mdx_text_tag(rt: HostRuntime) -> Result<(), Fail> {
+    refuses(
+        &rt,
+        b"+MdxJsxTextTag 0\n-MdxJsxTextTag 0\n--\n",
+        &["event 0: Mdx", "event 0: Order", "event 1: Order"],
+    )
+}
+
+#[test]
+fn mdx_text_expression(rt: HostRuntime) -> Result<(), Fail> {
+    refuses(
+        &rt,
+        b"+MdxTextExpression 0\n-MdxTextExpression 0\n--\n",
+        &["event 0: Mdx", "event 0: Order", "event 1: Order"],
+    )
+}
+
+#[test]
+fn places_that_are_not_read(rt: HostRuntime) -> Result<(), Fail> {
+    answers(&rt, b"+Paragraph 9\n-Paragraph 3\n--\n", "<p></p>")
+}

@@ -1,32 +1,68 @@
 -- The second run over the events is the meaning of each document that they flatten.
-use Rattle.std.proofs.Common.{◌≡◌, List, [], ℕ, ap, sym, ◌∙◌, string_bytes}
+use Rattle.std.proofs.Common.{◌≡◌, List, [], ℕ, ap, sym, ◌∙◌, subst, string_bytes, String, Global, IfOk}
+use Rattle.md_text.specs.Html.{any_attribute, HasOneReadingWith}
+use Rattle.md_text.specs.Safe.{is_safe_link, is_safe_image}
+use Rattle.md_shape.specs.Built.{IsBuilt, Blocks}
+use Rattle.md_shape.proofs.Grammatical.{grammatical-built}
+use Rattle.md_safe.specs.Options.{KeepsGrammar, KeepsLinks, KeepsImages}
+use Rattle.md_safe.proofs.Whole.{one-reading, safe-links, safe-images}
 use Rattle.md_base.specs.Reference.{name_table}
 use Rattle.md_tree.specs.Tree.{Forest, flatten}
-use Rattle.md_html.specs.declared.facts.Ahead.{Ahead}
-use Rattle.md_html.specs.Given.{Defined}
-use Rattle.md_html.specs.Machine.{run, beginning}
-use Rattle.md_html.specs.Meaning.{meaning}
+use Rattle.md_meaning.specs.declared.facts.Ahead.{Ahead}
+use Rattle.md_meaning.specs.Given.{Given, Defined}
+use Rattle.md_base.specs.declared.event.Event.{Event}
+use Rattle.md_tree.specs.Entered.{children_of}
+use Rattle.md_print.specs.Machine.{State, run, beginning, finished}
+use Rattle.md_facts.specs.LookAhead.{looked_over, no_outlook}
+use Rattle.md_html.proofs.Walks.{on_answer}
+use Rattle.md_meaning.specs.Meaning.{meaning}
 use Rattle.md_html.proofs.Whole.{given_with, text-run}
 use Rattle.md_html.proofs.compiler.compile_checked.Goals as goal
 
 pub returns : goal.returns
 returns c =
+    let checked = c.args.checked.now in
     let options = c.args.options.now in
     let names : List (List ℕ × List ℕ) = name_table c.names.result.now in
     let bytes : List ℕ = c.bytes-bytes.result.now in
-    let events = c.events-events.result.now in
-    let aheads = c.as_slice.result.now in
-    let text : List ℕ → List Defined → List Ahead → List ℕ = λ e ds as'. (run (given_with options names bytes e ds) events as' beginning).page.text in
-    let seen : List ℕ → List Defined = λ e. (run (given_with options names bytes e []) events aheads beginning).log.definitions in
+    let given_events : List Event = c.args.checked.now.events in
+    let events : List Event = c.events-events.result.now in
+    let aheads : List Ahead = c.as_slice.result.now in
+    let given : List ℕ → List Defined → Given = λ e ds. given_with options names bytes e ds in
+    let ran : Forest → List ℕ → List Defined → List Ahead → State = λ document e ds as'. run (given e ds) given_events as' (children_of document) beginning in
+    let ended : Forest → List ℕ → List Defined → List Ahead → List ℕ = λ document e ds as'. (finished (given e ds) (ran document e ds as')).text in
+    let seen : Forest → List ℕ → List Defined = λ document e. (ran document e [] aheads).log.definitions in
     let ending : List ℕ = c.ending_at.result.now in
+    let read = c.events-events.ensures.grammatical in
+    let built : IsBuilt checked.bytes Blocks read.0 = grammatical-built checked.bytes checked.names read.0 read.1.grammatical in
+    let Meant : String Global → Type 0 = λ text. (document : Forest) → flatten document ≡ checked.events → string_bytes text ≡ meaning options checked.names checked.bytes document in
+    let meant : IfOk c.into_text.result Meant =
+    on_answer (λ text. string_bytes text ≡ _) (λ text. (document : Forest) → flatten document ≡ given_events → string_bytes text ≡ meaning options c.args.checked.now.names c.args.checked.now.bytes document)
+    (λ text laid document flat.
+    laid
+    ∙ ap (λ s. (finished (given ending c.as_slice-2.result.now) s).text) (c.in_ok-second.ensures document flat)
+    ∙ ap (λ as'. ended document ending c.as_slice-2.result.now as') (c.as_slice-3.ensures.value ∙ sym c.as_slice.ensures.value)
+    ∙ ap (λ ds. ended document ending ds aheads) (c.as_slice-2.ensures.value ∙ c.into_definitions-definitions.ensures ∙ ap (λ s. s.log.definitions) (c.in_ok-first.ensures document flat))
+    ∙ ap (λ e. ended document e (seen document e) aheads) c.ending_at.ensures
+    ∙ text-run options names bytes given_events aheads c.in_ok-aheads.ending document flat
+    (c.as_slice.ensures.value ∙ c.in_ok-aheads.ensures.aheads ∙ ap (λ es. (looked_over es no_outlook).aheads) c.events-events.ensures.events)
+    (c.in_ok-aheads.ensures.ending ∙ ap (λ es. (looked_over es no_outlook).here.ending) c.events-events.ensures.events)
+    ∙ ap (λ n. meaning options n bytes document) c.names.ensures
+    ∙ ap (λ b. meaning options c.args.checked.now.names b document) c.bytes-bytes.ensures)
+    c.into_text.result c.into_text.ensures
+    in
     record {
-      meaning = λ document flat served.
-          c.into_text.ensures
-          ∙ ap (λ s. s.page.text) c.in_ok-second.ensures
-          ∙ ap (λ as'. text ending c.as_slice-2.result.now as') (c.as_slice-3.ensures.value ∙ sym c.as_slice.ensures.value)
-          ∙ ap (λ ds. text ending ds aheads) (c.as_slice-2.ensures.value ∙ c.into_definitions-definitions.ensures ∙ ap (λ s. s.log.definitions) c.in_ok-first.ensures)
-          ∙ ap (λ e. text e (seen e) aheads) c.ending_at.ensures
-          ∙ text-run options names bytes events aheads c.in_ok-aheads.ending document (flat ∙ sym c.events-events.ensures.events) (c.as_slice.ensures.value ∙ c.in_ok-aheads.ensures.aheads) c.in_ok-aheads.ensures.ending
-          ∙ ap (λ n. meaning options n bytes document) c.names.ensures
-          ∙ ap (λ b. meaning options c.args.checked.now.names b document) c.bytes-bytes.ensures;
+      meaning = meant;
+      one_reading =
+          on_answer Meant (λ text. KeepsGrammar options → HasOneReadingWith any_attribute (string_bytes text))
+          (λ text is keeps. subst (λ t. HasOneReadingWith any_attribute t) (sym (is read.0 read.1.flattened)) (one-reading checked.bytes checked.names options read.0 built keeps))
+          c.into_text.result meant;
+      safe_links =
+          on_answer Meant (λ text. KeepsLinks options → HasOneReadingWith is_safe_link (string_bytes text))
+          (λ text is keeps. subst (λ t. HasOneReadingWith is_safe_link t) (sym (is read.0 read.1.flattened)) (safe-links checked.bytes checked.names options read.0 built keeps))
+          c.into_text.result meant;
+      safe_images =
+          on_answer Meant (λ text. KeepsImages options → HasOneReadingWith is_safe_image (string_bytes text))
+          (λ text is keeps. subst (λ t. HasOneReadingWith is_safe_image t) (sym (is read.0 read.1.flattened)) (safe-images checked.bytes checked.names options read.0 built keeps))
+          c.into_text.result meant;
     }

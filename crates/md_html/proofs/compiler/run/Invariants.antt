@@ -1,12 +1,17 @@
 -- Running what is left from the present state is as running the whole.
-use Rattle.std.proofs.Common.{◌≡◌, length}
-use Rattle.md_html.specs.Machine.{run, beginning}
-use Rattle.md_html.specs.Sources.{given_of}
+use Rattle.std.proofs.Common.{◌≡◌, ◌≤◌, length, drop}
+use Rattle.md_tree.specs.Tree.{Forest, flatten}
+use Rattle.md_tree.specs.Entered.{children_of}
+use Rattle.md_print.specs.Machine.{run, beginning}
+use Rattle.md_print.specs.Sources.{given_of}
 use Rattle.md_html.proofs.compiler.run.Given as goal
 
 abbrev pub invariant-loop-event : goal.invariant-loop-event
 invariant-loop-event l =
-    run (given_of l.source) l.rest l.aheads l.printer ≡ run (given_of l.source) l.events l.fn.aheads beginning
+    (l.rest ≡ drop l.index l.checked.events)
+    × (l.index ≤ length l.checked.events)
+    × ((document : Forest) → flatten document ≡ l.checked.events
+    → run (given_of l.source) l.rest l.aheads (drop l.index (children_of document)) l.printer ≡ run (given_of l.source) l.checked.events l.fn.aheads (children_of document) beginning)
 
 abbrev pub decreases-loop-event : goal.decreases-loop-event
 decreases-loop-event l = length l.rest

@@ -45,8 +45,8 @@ returns-in_err-resolve-clause-lost c =
     rw (p.1, p.2)
     (IsRefusal.lost (IsRefusal-lost given notes c.in_err-resolve.field-0.0 walked (subst (λ ns. IsUnresolved c.args.bytes.now (mentions_in ns) c.in_err-resolve.field-0.0) c.deref.ensures.value c.in_err-resolve.ensures.refused)))
 
-pub new-requires : goal.new-requires
-new-requires c =
+pub new-requires-clause-noted : goal.new-requires-clause-noted
+new-requires-clause-noted c =
     let given = handed c.args.events.now c.args.bytes.now c.args.names.now in
     let notes = c.in_ok-walk.walk.notes.items in
     let done = c.is_done.ensures.done c.if-not-is_done.false in

@@ -21,7 +21,7 @@ past event = note event.point Nothing
 kept : (inside : Inside) (given : Document) (index : ℕ) → IsKept inside → given_of inside ≡ given → (exits : ExitsIdentifier given.events index) → KeptAt (label_between inside.bytes.now) (given_of inside) inside.notes.items index exits.1.0 (past exits.1.0)
 kept inside given index noted same exits =
     let event = exits.1.0 in
-    KeptAt-noted is_identifier (label_between inside.bytes.now) (given_of inside) inside.notes.items index event (past event) (identifier_names inside.bytes.now (Document.names (given_of inside))) noted (ap (λ (g : Document). slice_get g.events index) same ∙ exits.1.1) exits.1.2 (ap (λ name. has_reading is_identifier (standing_of name)) exits.1.3 ∙ exits.2)
+    KeptAt-noted is_identifier (label_between inside.bytes.now) (given_of inside) inside.notes.items index event (past event) (identifier_names inside.bytes.now (Document.names (given_of inside))) noted.0 (ap (λ (g : Document). slice_get g.events index) same ∙ exits.1.1) exits.1.2 (ap (λ name. has_reading is_identifier (standing_of name)) exits.1.3 ∙ exits.2)
 
 pub position_at-position-requires-clause-note : goal.position_at-position-requires-clause-note
 position_at-position-requires-clause-note c =

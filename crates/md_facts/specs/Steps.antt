@@ -1,0 +1,62 @@
+-- What is known behind an event, step by step. Only contracts of private functions speak of it.
+use Rattle.std.specs.Prelude.{◌+◌, Bool, true, false, ◌&&◌, ◌||◌, if◌then◌else◌, List, [], ◌∷◌, ◌++◌, Some, None}
+use Rattle.md_base.specs.declared.event.Name.{Name}
+use Rattle.md_tree.specs.Tree.{Forest, Empty, Node}
+use Rattle.md_tree.specs.NameTests.{is_cell, is_transparent, contributes, is_fence, is_chunk}
+use Rattle.md_meaning.specs.declared.facts.Spine.{Spine}
+use Rattle.md_meaning.specs.declared.facts.Ahead.{Ahead}
+use Rattle.md_meaning.specs.declared.facts.Passed.{Passed}
+use Rattle.md_meaning.specs.Surroundings.{Mark, Sets, Clears}
+use Rattle.md_meaning.specs.Places.{ahead_of}
+
+-- the first, or a default
+abbrev pub first_or : {A : Type 0} → A → List A → A
+first_or default [] = default
+first_or default (first ∷ others) = first
+
+-- all but the first
+abbrev pub others_of : {A : Type 0} → List A → List A
+others_of [] = []
+others_of (first ∷ others) = others
+
+-- nothing is on the spine
+abbrev pub no_spine : Spine
+no_spine = record { has_fence = false; has_second_fence = false; has_chunk = false; cells = 0; last = None }
+
+-- nothing is told ahead
+abbrev pub no_ahead : Ahead
+no_ahead = record { mark = None; number = None; is_loose = false; label = None; reference = None; defined = None; footnote = None }
+
+-- no child is passed, behind a spine
+abbrev pub nothing_passed : Spine → Passed
+nothing_passed spine = record { last = None; contributing = None; spine = spine }
+
+-- a spine with one more name
+abbrev pub with_name : Name → Spine → Spine
+with_name name spine = record {
+  has_fence = spine.has_fence || is_fence name;
+  has_second_fence = spine.has_second_fence || spine.has_fence && is_fence name;
+  has_chunk = spine.has_chunk || is_chunk name;
+  cells = spine.cells + (if is_cell name then 1 else 0);
+  last = Some name;
+}
+
+-- a child is passed, which has passed its own children
+abbrev pub passing : Name → Spine → Passed → Passed
+passing name inner passed = record {
+  last = Some name;
+  contributing = if contributes name then Some name else passed.contributing;
+  spine = if is_transparent name then inner else with_name name passed.spine;
+}
+
+-- the last mark, behind these, the latest first
+abbrev pub slurps_behind : List Mark → Bool → Bool
+slurps_behind [] slurping = slurping
+slurps_behind (Sets ∷ marks) slurping = true
+slurps_behind (Clears ∷ marks) slurping = false
+
+-- what is told ahead at each event of some nodes
+abbrev pub aheads_of : Forest → List Ahead
+aheads_of Empty = []
+aheads_of (Node name start end children rest) =
+    ahead_of children ∷ aheads_of children ++ no_ahead ∷ aheads_of rest

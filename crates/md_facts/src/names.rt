@@ -1,0 +1,190 @@
+//! Tests on names.
+
+ghost use Rattle.std.specs.Prelude.{◌≡◌};
+ghost use Rattle.md_tree.specs.NameTests as tests;
+ghost use Rattle.md_meaning.specs.Printed as printed;
+
+use md_base::Name;
+
+/// A node that its parent's pattern looks through.
+pub fn is_transparent(name: Name) -> bool
+    ensures { result ≡ tests.is_transparent name }
+{
+    matches!(
+        name,
+        Name::Other(_) | Name::BlockQuotePrefix | Name::SpaceOrTab
+    )
+}
+
+pub fn is_blank_line_ending(name: Name) -> bool
+    ensures { result ≡ tests.is_blank_line_ending name }
+{
+    matches!(name, Name::BlankLineEnding)
+}
+
+/// A line ending, blank or not.
+pub fn is_line_ending(name: Name) -> bool
+    ensures { result ≡ tests.is_line_ending name }
+{
+    matches!(name, Name::LineEnding | Name::BlankLineEnding)
+}
+
+pub fn is_space(name: Name) -> bool
+    ensures { result ≡ tests.is_space name }
+{
+    matches!(name, Name::SpaceOrTab)
+}
+
+pub fn is_item(name: Name) -> bool
+    ensures { result ≡ tests.is_item name }
+{
+    matches!(name, Name::ListItem)
+}
+
+pub fn is_item_prefix(name: Name) -> bool
+    ensures { result ≡ tests.is_item_prefix name }
+{
+    matches!(name, Name::ListItemPrefix)
+}
+
+pub fn is_item_value(name: Name) -> bool
+    ensures { result ≡ tests.is_item_value name }
+{
+    matches!(name, Name::ListItemValue)
+}
+
+pub fn is_block_quote(name: Name) -> bool
+    ensures { result ≡ tests.is_block_quote name }
+{
+    matches!(name, Name::BlockQuote)
+}
+
+pub fn is_block_quote_prefix(name: Name) -> bool
+    ensures { result ≡ tests.is_block_quote_prefix name }
+{
+    matches!(name, Name::BlockQuotePrefix)
+}
+
+pub fn is_paragraph(name: Name) -> bool
+    ensures { result ≡ tests.is_paragraph name }
+{
+    matches!(name, Name::Paragraph)
+}
+
+/// A node behind which a line ending is dropped.
+pub fn is_definition(name: Name) -> bool
+    ensures { result ≡ tests.is_definition name }
+{
+    matches!(name, Name::Definition | Name::GfmFootnoteDefinition)
+}
+
+/// A child that an item's end looks at.
+pub fn contributes(name: Name) -> bool
+    ensures { result ≡ tests.contributes name }
+{
+    !matches!(
+        name,
+        Name::BlankLineEnding
+            | Name::BlockQuotePrefix
+            | Name::LineEnding
+            | Name::SpaceOrTab
+            | Name::Definition
+            | Name::GfmFootnoteDefinition
+    )
+}
+
+pub fn is_fence(name: Name) -> bool
+    ensures { result ≡ tests.is_fence name }
+{
+    matches!(name, Name::CodeFencedFence | Name::MathFlowFence)
+}
+
+pub fn is_chunk(name: Name) -> bool
+    ensures { result ≡ tests.is_chunk name }
+{
+    matches!(name, Name::CodeFlowChunk | Name::MathFlowChunk)
+}
+
+pub fn is_heading_mark(name: Name) -> bool
+    ensures { result ≡ tests.is_heading_mark name }
+{
+    matches!(name, Name::HeadingAtxSequence)
+}
+
+pub fn is_label(name: Name) -> bool
+    ensures { result ≡ tests.is_label name }
+{
+    matches!(name, Name::Label)
+}
+
+pub fn is_label_text(name: Name) -> bool
+    ensures { result ≡ tests.is_label_text name }
+{
+    matches!(name, Name::LabelText)
+}
+
+pub fn is_reference(name: Name) -> bool
+    ensures { result ≡ tests.is_reference name }
+{
+    matches!(name, Name::ReferenceString)
+}
+
+pub fn is_definition_label(name: Name) -> bool
+    ensures { result ≡ tests.is_definition_label name }
+{
+    matches!(name, Name::DefinitionLabelString)
+}
+
+pub fn is_footnote_prefix(name: Name) -> bool
+    ensures { result ≡ tests.is_footnote_prefix name }
+{
+    matches!(name, Name::GfmFootnoteDefinitionPrefix)
+}
+
+pub fn is_footnote_label(name: Name) -> bool
+    ensures { result ≡ tests.is_footnote_label name }
+{
+    matches!(name, Name::GfmFootnoteDefinitionLabelString)
+}
+
+/// A node whose children are laid out on a page of their own.
+pub fn is_captured(name: Name) -> bool
+    ensures { result ≡ printed.is_captured name }
+{
+    matches!(
+        name,
+        Name::CodeText
+            | Name::MathText
+            | Name::HeadingSetextText
+            | Name::CodeFencedFenceMeta
+            | Name::MathFlowFenceMeta
+            | Name::Frontmatter
+            | Name::Definition
+            | Name::DefinitionLabelString
+            | Name::DefinitionDestinationString
+            | Name::DefinitionTitleString
+            | Name::GfmFootnoteDefinition
+            | Name::GfmFootnoteDefinitionLabelString
+            | Name::Link
+            | Name::Image
+            | Name::Resource
+            | Name::ResourceDestinationString
+            | Name::ResourceTitleString
+            | Name::ReferenceString
+            | Name::GfmFootnoteCall
+            | Name::GfmTableCell
+            | Name::GfmTableDelimiterRow
+    )
+}
+
+pub fn is_cell(name: Name) -> bool
+    ensures { result ≡ tests.is_cell name }
+{
+    matches!(name, Name::GfmTableCell)
+}
+
+pub fn is_table(name: Name) -> bool
+    ensures { result ≡ tests.is_table name }
+{
+    matches!(name, Name::GfmTable)
+}

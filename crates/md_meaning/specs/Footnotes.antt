@@ -1,0 +1,154 @@
+-- What footnote calls print, and the section of footnotes at a document's end.
+use Rattle.std.specs.Prelude.{ℕ, ◌-◌, zero, suc, Bool, true, ◌==◌, if◌then◌else◌, List, [], ◌∷◌, ◌++◌, length, take, drop, find, Option, option_map, bytes_eq, codes, string_bytes}
+use Rattle.std.specs.Option.{option_map_or}
+use Rattle.std.specs.Fmt.{decimal}
+use Rattle.md_text.specs.Encode.{encoded}
+use Rattle.md_text.specs.Url.{sanitized}
+use Rattle.md_text.specs.Laws.{is_line_ends}
+use Rattle.md_meaning.specs.declared.options.CompileOptions.{CompileOptions}
+use Rattle.md_meaning.specs.declared.facts.Surroundings.{Surroundings}
+use Rattle.md_meaning.specs.declared.facts.Ahead.{Ahead}
+use Rattle.md_meaning.specs.Piece.{Piece, Text, Needed, Forced}
+use Rattle.md_meaning.specs.Given.{Given}
+use Rattle.md_meaning.specs.Calls.{Called, number_among, count_among}
+use Rattle.md_meaning.specs.Places.{Left, identifier_at}
+use Rattle.md_meaning.specs.Texts.{outside_images}
+
+-- a footnote: its identifier and the text of its definition
+pub record Footnote : Type 0 where
+  pub identifier : List ℕ
+  pub text : List ℕ
+
+-- a text that an option gives, escaped, or what stands where it gives none
+abbrev pub escaped_option : Option (List ℕ) → List ℕ → List ℕ
+escaped_option given default = option_map_or (encoded true) given default
+
+abbrev pub prefix_of : CompileOptions → List ℕ
+prefix_of options = escaped_option (option_map string_bytes options.gfm_footnote_clobber_prefix) (codes "user-content-")
+
+abbrev pub back_label_of : CompileOptions → List ℕ
+back_label_of options = escaped_option (option_map string_bytes options.gfm_footnote_back_label) (codes "Back to content")
+
+abbrev pub heading_label_of : CompileOptions → List ℕ
+heading_label_of options = escaped_option (option_map string_bytes options.gfm_footnote_label) (codes "Footnotes")
+
+abbrev pub tag_of : CompileOptions → List ℕ
+tag_of options = escaped_option (option_map string_bytes options.gfm_footnote_label_tag_name) (codes "h2")
+
+-- the attributes stand as they are given
+abbrev pub attributes_of : CompileOptions → List ℕ
+attributes_of options = option_map_or string_bytes options.gfm_footnote_label_attributes (codes "class=\"sr-only\"")
+
+-- `-` and the occurrence, from the second one on
+abbrev pub occurrence_suffix : ℕ → List ℕ
+occurrence_suffix occurrence = if occurrence == 1 then [] else 45 ∷ decimal occurrence
+
+-- `fn-` or `fnref-` behind the prefix, and the identifier as a URL
+abbrev pub id_of : CompileOptions → List ℕ → List ℕ → List ℕ
+id_of options kind identifier = prefix_of options ++ (kind ++ sanitized identifier)
+
+-- the id of a footnote, and that of one of its calls
+abbrev pub footnote_id : CompileOptions → List ℕ → List ℕ
+footnote_id options identifier = id_of options (codes "fn-") identifier
+
+abbrev pub call_id : CompileOptions → List ℕ → ℕ → List ℕ
+call_id options identifier occurrence = id_of options (codes "fnref-") identifier ++ occurrence_suffix occurrence
+
+-- a call with its number and its occurrence
+abbrev pub call_tags : CompileOptions → List ℕ → ℕ → ℕ → List Piece
+call_tags options identifier number occurrence =
+    Text (codes "<sup><a href=\"#") ∷ Text (footnote_id options identifier)
+    ∷ Text (codes "\" id=\"") ∷ Text (call_id options identifier occurrence)
+    ∷ Text (codes "\" data-footnote-ref=\"\" aria-describedby=\"footnote-label\">") ∷ Text (decimal number)
+    ∷ Text (codes "</a></sup>") ∷ []
+
+-- a call, numbered behind those that ended before it: nothing in an image
+abbrev pub call_pieces : Given → Surroundings → Left → Ahead → List Piece
+call_pieces given around left ahead =
+    let identifier = identifier_at given.bytes ahead.label in
+    outside_images around
+    (call_tags given.options identifier (number_among left.called identifier) (suc (count_among left.called identifier)))
+
+-- `<sup>` occurrence `</sup>`, from the second one on
+abbrev pub occurrence_mark : ℕ → List ℕ
+occurrence_mark occurrence = if occurrence == 1 then [] else codes "<sup>" ++ (decimal occurrence ++ codes "</sup>")
+
+-- the arrow back, U+21A9
+abbrev pub arrow : List ℕ
+arrow = 226 ∷ 134 ∷ 169 ∷ []
+
+-- the way back to a call
+abbrev pub backreference : CompileOptions → List ℕ → ℕ → List ℕ
+backreference options identifier occurrence =
+    codes "<a href=\"#" ++ (call_id options identifier occurrence
+    ++ (codes "\" data-footnote-backref=\"\" aria-label=\"" ++ (back_label_of options
+    ++ (codes "\" class=\"data-footnote-backref\">" ++ (arrow ++ (occurrence_mark occurrence ++ codes "</a>"))))))
+
+-- the ways back to so many calls, with single spaces between
+abbrev pub backreferences : CompileOptions → List ℕ → ℕ → List ℕ
+backreferences options identifier zero = []
+backreferences options identifier (suc count) =
+    backreferences options identifier count
+    ++ ((if count == 0 then [] else 32 ∷ []) ++ backreference options identifier (suc count))
+
+-- a text without the CR and LF at its end
+abbrev pub without_endings : List ℕ → List ℕ
+without_endings [] = []
+without_endings (byte ∷ bytes) = if is_line_ends (byte ∷ bytes) then [] else byte ∷ without_endings bytes
+
+-- where the last `</p>` begins, in a text that ends in it but for CR and LF
+abbrev pub paragraph_end : List ℕ → ℕ
+paragraph_end text = length (without_endings text) - 4
+
+-- a text ends in `</p>`, CR and LF at its end aside
+abbrev pub ends_in_paragraph : List ℕ → Bool
+ends_in_paragraph text = bytes_eq (drop (paragraph_end text) (without_endings text)) (codes "</p>")
+
+-- a footnote's text and the ways back: before a `</p>` at its end, else behind it
+abbrev pub body_pieces : List ℕ → List ℕ → List Piece
+body_pieces text back =
+    if ends_in_paragraph text
+    then Text (take (paragraph_end text) text) ∷ Text (32 ∷ []) ∷ Text back ∷ Text (drop (paragraph_end text) text) ∷ []
+    else Text text ∷ Needed ∷ Text back ∷ []
+
+-- the text of the first footnote with an identifier
+abbrev pub footnote_text : List Footnote → List ℕ → List ℕ
+footnote_text footnotes identifier =
+    option_map_or (λ footnote. footnote.text) (find (λ footnote. bytes_eq footnote.identifier identifier) footnotes) []
+
+-- the beginning of a footnote, up to its text, and its end
+abbrev pub item_opening : CompileOptions → List ℕ → List Piece
+item_opening options identifier =
+    Forced ∷ Text (codes "<li id=\"") ∷ Text (footnote_id options identifier) ∷ Text (codes "\">") ∷ Forced ∷ []
+
+abbrev pub item_closing : List Piece
+item_closing = Needed ∷ Text (codes "</li>") ∷ []
+
+-- a footnote with so many calls
+abbrev pub item_pieces : CompileOptions → List ℕ → List ℕ → ℕ → List Piece
+item_pieces options text identifier count =
+    item_opening options identifier ++ (body_pieces text (backreferences options identifier count) ++ item_closing)
+
+-- the footnotes that are called
+abbrev pub items_pieces : CompileOptions → List Footnote → List Called → List Piece
+items_pieces options footnotes [] = []
+items_pieces options footnotes (called ∷ others) =
+    item_pieces options (footnote_text footnotes called.identifier) called.identifier called.count
+    ++ items_pieces options footnotes others
+
+-- the section's beginning: its heading, and the list's tag
+abbrev pub section_opening : CompileOptions → List Piece
+section_opening options =
+    Needed ∷ Text (codes "<section data-footnotes=\"\" class=\"footnotes\"><") ∷ Text (tag_of options)
+    ∷ Text (codes " id=\"footnote-label\" ") ∷ Text (attributes_of options) ∷ Text (codes ">") ∷ Text (heading_label_of options)
+    ∷ Text (codes "</") ∷ Text (tag_of options) ∷ Text (codes ">") ∷ Forced ∷ Text (codes "<ol>") ∷ []
+
+-- and its end
+abbrev pub section_closing : List Piece
+section_closing = Forced ∷ Text (codes "</ol>") ∷ Forced ∷ Text (codes "</section>") ∷ Forced ∷ []
+
+-- the section, where there is a call: the footnotes in the order of their first calls
+abbrev pub section_pieces : CompileOptions → List Footnote → List Called → List Piece
+section_pieces options footnotes [] = []
+section_pieces options footnotes (called ∷ others) =
+    section_opening options ++ (items_pieces options footnotes (called ∷ others) ++ section_closing)

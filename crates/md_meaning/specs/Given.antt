@@ -1,0 +1,31 @@
+-- What all nodes of a document are given.
+use Rattle.std.specs.Prelude.{ℕ, List, [], unwrap_or}
+use Rattle.md_base.specs.declared.event.Point.{Point}
+use Rattle.md_base.specs.Place.{text_between, serialized_between, label_between}
+use Rattle.md_meaning.specs.Piece.{Target}
+use Rattle.md_meaning.specs.declared.options.CompileOptions.{CompileOptions}
+
+-- a definition: its identifier, and where it leads
+pub record Defined : Type 0 where
+  pub identifier : List ℕ
+  pub target : Target
+
+-- the document's bytes, the names of references, the options, the line ending that is used, the definitions
+pub record Given : Type 0 where
+  pub bytes : List ℕ
+  pub names : List (List ℕ × List ℕ)
+  pub options : CompileOptions
+  pub ending : List ℕ
+  pub definitions : List Defined
+
+-- the text of a node that is one; a grammatical document has no other where it is read
+abbrev pub text_of : List ℕ → Point → Point → List ℕ
+text_of bytes start end = unwrap_or (text_between bytes start end) []
+
+-- the text of a label, by the indices of its points; a grammatical document has no other where it is read
+abbrev pub label_of : List ℕ → Point → Point → List ℕ
+label_of bytes start end = unwrap_or (label_between bytes start end) []
+
+-- the text with the spaces of the tabs that are cut at its ends
+abbrev pub serialized_of : List ℕ → Point → Point → List ℕ
+serialized_of bytes start end = unwrap_or (serialized_between bytes start end) []

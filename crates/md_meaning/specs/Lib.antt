@@ -1,0 +1,14 @@
+pub mod Defaults
+pub mod Piece
+pub mod Surroundings
+pub mod Given
+pub mod Calls
+pub mod Places
+pub mod Texts
+pub mod Blocks
+pub mod Media
+pub mod Tables
+pub mod Footnotes
+pub mod Printed
+pub mod Meaning
+pub mod Trees

@@ -1,0 +1,67 @@
+use md_text::LineEnding;
+
+/// How events are compiled to HTML.
+#[derive(Debug, Drop)]
+pub struct CompileOptions {
+    /// Let images have any source.
+    pub allow_any_img_src: bool,
+    /// Leave HTML in the document as it is.
+    pub allow_dangerous_html: bool,
+    /// Let links have any protocol.
+    pub allow_dangerous_protocol: bool,
+    /// Print tasks without `disabled`.
+    pub gfm_task_list_item_checkable: bool,
+    /// Disarm some tags of HTML that is left as it is.
+    pub gfm_tagfilter: bool,
+    /// How lines end where the document has no line ending.
+    pub default_line_ending: LineEnding,
+    /// What `aria-label` says of a way back from a footnote; unset: `Back to content`.
+    pub gfm_footnote_back_label: Option<String>,
+    /// What footnotes' ids begin with; unset: `user-content-`.
+    pub gfm_footnote_clobber_prefix: Option<String>,
+    /// The heading of the footnotes; unset: `Footnotes`.
+    pub gfm_footnote_label: Option<String>,
+    /// The attributes of that heading; unset: `class="sr-only"`.
+    pub gfm_footnote_label_attributes: Option<String>,
+    /// The tag name of that heading; unset: `h2`.
+    pub gfm_footnote_label_tag_name: Option<String>,
+}
+
+impl Default for CompileOptions {
+    ghost use Rattle.std.specs.Prelude.{◌≡◌};
+    ghost use Rattle.md_meaning.specs.Defaults.{default_options};
+
+    ghost is_default = { λ options. options ≡ default_options };
+
+    /// All off, all unset, and lines end in LF.
+    fn default() -> CompileOptions {
+        CompileOptions {
+            allow_any_img_src: false,
+            allow_dangerous_html: false,
+            allow_dangerous_protocol: false,
+            gfm_task_list_item_checkable: false,
+            gfm_tagfilter: false,
+            default_line_ending: LineEnding::LineFeed,
+            gfm_footnote_back_label: None,
+            gfm_footnote_clobber_prefix: None,
+            gfm_footnote_label: None,
+            gfm_footnote_label_attributes: None,
+            gfm_footnote_label_tag_name: None,
+        }
+    }
+}
+
+impl CompileOptions {
+    ghost use Rattle.std.specs.Prelude.{◌≡◌};
+    ghost use Rattle.md_meaning.specs.Defaults.{gfm_options};
+
+    /// The default with the tag filter of GitHub flavored Markdown on.
+    pub fn gfm() -> CompileOptions
+        ensures { result ≡ gfm_options }
+    {
+        CompileOptions {
+            gfm_tagfilter: true,
+            ..CompileOptions::default()
+        }
+    }
+}

@@ -1,0 +1,34 @@
+-- The four parts of the end, one after another.
+use Rattle.std.proofs.Common.{◌≡◌, ◌∷◌, [], ◌++◌, List, Bool, OnOk, ap, sym, subst, ◌∙◌}
+use Rattle.md_print.specs.Machine.{State, printing}
+use Rattle.md_meaning.specs.Piece.{Piece, Needed, Forced}
+use Rattle.md_meaning.specs.Texts.{said}
+use Rattle.md_meaning.specs.Blocks.{when, is_unclosed, runs_out, code_end}
+use Rattle.md_print.proofs.Printing.{printing-append}
+use Rattle.md_print.proofs.close.fenced.Goals as goal
+
+pub returns : goal.returns
+returns c =
+    let ending = c.args.ending.now in
+    let around = c.args.exit.now.around in
+    let passed = c.args.exit.now.frame.passed in
+    let forced : List Piece = when (runs_out around passed) (Forced ∷ []) in
+    let needed : List Piece = when passed.spine.has_chunk (Needed ∷ []) in
+    let end : List Piece = said code_end in
+    let last : List Piece = when (is_unclosed passed) (Needed ∷ []) in
+    let start : State = c.args.printer.now in
+    let P : State → Type 0 = λ s. OnOk c.need_if-2.result (c.need_if-2.new.printer ≡ s) in
+    let F : Bool → State = λ b. printing ending (when b (Forced ∷ [])) start in
+    let L : Bool → State → State = λ b s. printing ending (when b (Needed ∷ [])) s in
+    subst P
+    (ap (λ b. L b c.put.new.self) c.unless-unclosed.ensures
+    ∙ ap (λ s. printing ending last s)
+    (c.in_ok-put.ensures
+    ∙ ap (λ s. printing ending end s)
+    (c.in_ok-need_if.ensures
+    ∙ ap (λ s. printing ending needed s)
+    (c.in_ok-force_if.ensures ∙ ap F (c.runs_out.ensures c.unless-unclosed.ensures))))
+    ∙ sym (printing-append ending forced (needed ++ (end ++ last)) start
+    ∙ printing-append ending needed (end ++ last) (printing ending forced start)
+    ∙ printing-append ending end last (printing ending needed (printing ending forced start))))
+    c.need_if-2.ensures

@@ -1,0 +1,415 @@
+//! What nodes print after their children.
+
+ghost use Rattle.std.specs.Prelude.{◌≡◌, ◌∷◌, [], ◌++◌, OnOk, codes, string_bytes, ◌||◌, ◌&&◌, not};
+ghost use Rattle.md_print.specs.Machine.{printing};
+ghost use Rattle.md_facts.specs.Steps.{first_or};
+ghost use Rattle.md_meaning.specs.Piece.{Text, Needed, Forced};
+ghost use Rattle.md_meaning.specs.Texts as texts;
+ghost use Rattle.md_meaning.specs.Texts.{said};
+ghost use Rattle.md_meaning.specs.Blocks as blocks;
+ghost use Rattle.md_meaning.specs.Printed as printed;
+ghost use Rattle.md_print.specs.Sources.{given_of, closing_at, left_at};
+
+use crate::calls::call;
+use crate::code::code_text;
+use crate::facts::Exit;
+use crate::media::{autolink, image, is_plain, link};
+use crate::open::{is_tight, on_own_line, outside_images, rank_of};
+use crate::printer::Printer;
+use crate::source::{Source, serialized_of};
+use crate::tables::{close_cell, close_row};
+use crate::texts::{data, html, line_ending, reference};
+use md_base::Name;
+use md_facts::names::{is_fence, is_item_prefix, is_paragraph};
+use md_meaning::{Container, Passed, Surroundings};
+use md_sheet::Sheet;
+use md_text::encode;
+use std::alloc::{AllocError, Global};
+
+/// Prints what a node prints after its children; `inner` is their page, where it was captured.
+pub fn close(
+    alloc: Global,
+    printer: &mut Printer,
+    source: &Source,
+    exit: &Exit,
+    inner: Sheet,
+    name: Name,
+) -> Result<(), AllocError>
+    ensures { OnOk result (printer.new ≡ printing source.now.ending.now (closing_at (given_of source.now) exit.now printer.old.log.called (first_or [] printer.old.tables) inner name) printer.old) }
+{
+    close_text(alloc, printer, source, exit, &inner, name)?;
+    close_block(alloc, printer, source, exit, name)?;
+    close_gfm(alloc, printer, source, exit, &inner, name)?;
+    close_media(alloc, printer, source, exit, inner, name)
+}
+
+/// Prints what a text, a span or a break prints after its children.
+fn close_text(
+    alloc: Global,
+    printer: &mut Printer,
+    source: &Source,
+    exit: &Exit,
+    inner: &Sheet,
+    name: Name,
+) -> Result<(), AllocError>
+    ensures { OnOk result (printer.new ≡ printing source.now.ending.now
+        (printed.text_closing (given_of source.now) exit.now.around (left_at exit.now printer.old.log.called (first_or [] printer.old.tables)) exit.now.is_last exit.now.frame.start exit.now.end inner.now name) printer.old) }
+{
+    match name {
+        Name::LineEnding => line_ending(printer, source, exit),
+        Name::BlankLineEnding => blank_line_ending(printer, source.ending, exit.is_last),
+        Name::Data => data(alloc, printer, source, exit),
+        Name::CharacterEscapeValue => data(alloc, printer, source, exit),
+        Name::CodeTextData => data(alloc, printer, source, exit),
+        Name::MathTextData => data(alloc, printer, source, exit),
+        Name::CharacterReferenceValue => reference(alloc, printer, source, exit),
+        Name::HtmlFlowData => html(alloc, printer, source, exit),
+        Name::HtmlTextData => html(alloc, printer, source, exit),
+        Name::CodeText => code(alloc, printer, exit.around, "<code>", inner.text()),
+        Name::MathText => {
+            let tag = "<code class=\"language-math math-inline\">";
+            code(alloc, printer, exit.around, tag, inner.text())
+        }
+        Name::Emphasis => outside_images(printer, exit.around, "</em>"),
+        Name::Strong => outside_images(printer, exit.around, "</strong>"),
+        Name::GfmStrikethrough => outside_images(printer, exit.around, "</del>"),
+        Name::HardBreakEscape => outside_images(printer, exit.around, "<br />"),
+        Name::HardBreakTrailing => outside_images(printer, exit.around, "<br />"),
+        Name::GfmTaskListItemCheck => outside_images(printer, exit.around, "/>"),
+        Name::GfmTaskListItemValueChecked => {
+            outside_images(printer, exit.around, "checked=\"\" ")
+        }
+        _ => Ok(()),
+    }
+}
+
+/// Prints what a block prints after its children.
+fn close_block(
+    alloc: Global,
+    printer: &mut Printer,
+    source: &Source,
+    exit: &Exit,
+    name: Name,
+) -> Result<(), AllocError>
+    ensures { OnOk result (printer.new ≡ printing source.now.ending.now
+        (printed.block_closing (given_of source.now) exit.now.around (left_at exit.now printer.old.log.called (first_or [] printer.old.tables)) exit.now.frame.ahead exit.now.frame.passed exit.now.frame.start exit.now.end name) printer.old) }
+{
+    match name {
+        Name::BlockQuote => on_own_line(printer, source.ending, "</blockquote>"),
+        Name::ListOrdered => list(printer, source.ending, "</ol>"),
+        Name::ListUnordered => list(printer, source.ending, "</ul>"),
+        Name::ListItem => item(printer, source.ending, exit),
+        Name::Paragraph => paragraph(printer, exit.around),
+        Name::ThematicBreak => on_own_line(printer, source.ending, "<hr />"),
+        Name::HeadingAtx => {
+            printer.put(heading_closing(rank_of(source.bytes, exit.frame.ahead.mark)))
+        }
+        Name::HeadingSetextUnderlineSequence => setext(printer, source, exit),
+        Name::CodeIndented => indented(printer, source.ending, exit),
+        Name::CodeFenced => fenced(printer, source.ending, exit),
+        Name::MathFlow => fenced(printer, source.ending, exit),
+        Name::CodeFencedFence => fence(printer, exit),
+        Name::MathFlowFence => fence(printer, exit),
+        Name::CodeFencedFenceInfo => printer.put("\""),
+        Name::CodeFlowChunk => chunk(alloc, printer, source, exit),
+        Name::MathFlowChunk => chunk(alloc, printer, source, exit),
+        _ => Ok(()),
+    }
+}
+
+/// Prints or notes what links and what they refer to print or note after their children, and notes a heading
+/// whose underline comes later.
+fn close_media(
+    alloc: Global,
+    printer: &mut Printer,
+    source: &Source,
+    exit: &Exit,
+    inner: Sheet,
+    name: Name,
+) -> Result<(), AllocError>
+    ensures { OnOk result (printer.new ≡ printing source.now.ending.now
+        (printed.media_closing (given_of source.now) exit.now.around exit.now.frame.ahead exit.now.frame.start exit.now.end inner name) printer.old) }
+{
+    match name {
+        Name::HeadingSetextText => {
+            printer.note_heading(inner.into_text());
+            Ok(())
+        }
+        Name::DefinitionDestinationString => {
+            printer.note_destination(inner.into_text());
+            Ok(())
+        }
+        Name::DefinitionTitleString => {
+            printer.note_title(inner.into_text());
+            Ok(())
+        }
+        Name::ResourceDestinationString => {
+            printer.note_destination(inner.into_text());
+            Ok(())
+        }
+        Name::ResourceTitleString => {
+            printer.note_title(inner.into_text());
+            Ok(())
+        }
+        Name::Resource => {
+            printer.note_resource(inner.into_target());
+            Ok(())
+        }
+        Name::Link => link(alloc, printer, source, exit, &inner),
+        Name::Image => image(alloc, printer, source, exit, &inner),
+        Name::AutolinkEmail => {
+            autolink(
+                alloc,
+                printer,
+                source,
+                exit,
+                "mailto:",
+                exit.around.in_image,
+            )
+        }
+        Name::AutolinkProtocol => {
+            autolink(alloc, printer, source, exit, "", exit.around.in_image)
+        }
+        Name::GfmAutolinkLiteralEmail => {
+            autolink(
+                alloc,
+                printer,
+                source,
+                exit,
+                "mailto:",
+                is_plain(exit.around),
+            )
+        }
+        Name::GfmAutolinkLiteralMailto => {
+            autolink(alloc, printer, source, exit, "", is_plain(exit.around))
+        }
+        Name::GfmAutolinkLiteralProtocol => {
+            autolink(alloc, printer, source, exit, "", is_plain(exit.around))
+        }
+        Name::GfmAutolinkLiteralWww => {
+            autolink(
+                alloc,
+                printer,
+                source,
+                exit,
+                "http://",
+                is_plain(exit.around),
+            )
+        }
+        Name::GfmAutolinkLiteralXmpp => {
+            autolink(alloc, printer, source, exit, "", is_plain(exit.around))
+        }
+        _ => Ok(()),
+    }
+}
+
+/// Prints what tables and footnote calls print after their children.
+fn close_gfm(
+    alloc: Global,
+    printer: &mut Printer,
+    source: &Source,
+    exit: &Exit,
+    inner: &Sheet,
+    name: Name,
+) -> Result<(), AllocError>
+    ensures { OnOk result (printer.new ≡ printing source.now.ending.now
+        (printed.gfm_closing (given_of source.now) exit.now.around (left_at exit.now printer.old.log.called (first_or [] printer.old.tables)) exit.now.frame.ahead exit.now.frame.passed inner.now name) printer.old) }
+{
+    match name {
+        Name::GfmTable => on_own_line(printer, source.ending, "</table>"),
+        Name::GfmTableHead => on_own_line(printer, source.ending, "</thead>"),
+        Name::GfmTableBody => on_own_line(printer, source.ending, "</tbody>"),
+        Name::GfmTableRow => close_row(printer, source.ending, exit),
+        Name::GfmTableCell => close_cell(printer, source.ending, exit, inner.text()),
+        Name::GfmFootnoteCall => call(alloc, printer, source, exit),
+        _ => Ok(()),
+    }
+}
+
+/// A blank line ending at the document's end needs a line ending.
+fn blank_line_ending(printer: &mut Printer, ending: &str, is_last: bool) -> Result<(), AllocError>
+    ensures { OnOk result (printer.new ≡ printing ending.now (texts.blank_line_pieces is_last) printer.old) }
+{
+    if is_last {
+        printer.need(ending)
+    } else {
+        Ok(())
+    }
+}
+
+fn list(printer: &mut Printer, ending: &str, tag: &str) -> Result<(), AllocError>
+    ensures { OnOk result (printer.new ≡ printing ending.now (Forced ∷ Text tag.now ∷ []) printer.old) }
+{
+    printer.force(ending)?;
+    printer.put(tag)
+}
+
+/// An item's end stands on its own line, unless the item ends in its prefix, or in a paragraph of a tight list.
+fn item(printer: &mut Printer, ending: &str, exit: &Exit) -> Result<(), AllocError>
+    ensures { OnOk result (printer.new ≡ printing ending.now (blocks.item_closing exit.now.around exit.now.frame.passed) printer.old) }
+{
+    let tight = is_tight(exit.around.container);
+    let joins = match exit.frame.passed.contributing {
+        Some(name) => joins_item_end(is_item_prefix(name), is_paragraph(name), tight),
+        None => false,
+    };
+    if !joins {
+        printer.need(ending)?;
+    }
+    printer.put("</li>")
+}
+
+fn joins_item_end(prefix: bool, paragraph: bool, tight: bool) -> bool
+    ensures { result ≡ (prefix || paragraph && tight) }
+{
+    prefix || paragraph && tight
+}
+
+fn paragraph(printer: &mut Printer, around: Surroundings) -> Result<(), AllocError>
+    ensures { OnOk result (printer.new ≡ printing [] (blocks.paragraph_closing around) printer.old) }
+{
+    if is_tight(around.container) {
+        Ok(())
+    } else {
+        printer.put("</p>")
+    }
+}
+
+fn heading_closing(rank: usize) -> &'static str
+    ensures { result.now ≡ blocks.heading_closing rank }
+{
+    match rank {
+        0 => "</h0>",
+        1 => "</h1>",
+        2 => "</h2>",
+        3 => "</h3>",
+        4 => "</h4>",
+        5 => "</h5>",
+        _ => "</h6>",
+    }
+}
+
+/// Prints a setext heading, whose text was put aside, with the rank that its underline tells.
+fn setext(printer: &mut Printer, source: &Source, exit: &Exit) -> Result<(), AllocError>
+    ensures { OnOk result (printer.new ≡ printing source.now.ending.now (blocks.setext_pieces (given_of source.now) exit.now.frame.start) printer.old) }
+{
+    let dashed = is_dash_at(source.bytes, exit.frame.start.index);
+    on_own_line(printer, source.ending, if dashed { "<h2>" } else { "<h1>" })?;
+    printer.recall()?;
+    printer.put(if dashed { "</h2>" } else { "</h1>" })
+}
+
+fn is_dash_at(bytes: &[u8], index: usize) -> bool
+    ensures { result ≡ blocks.is_dash_at bytes.now index }
+{
+    match bytes.get(index) {
+        Some(byte) => *byte == b'-',
+        None => false,
+    }
+}
+
+fn indented(printer: &mut Printer, ending: &str, exit: &Exit) -> Result<(), AllocError>
+    ensures { OnOk result (printer.new ≡ printing ending.now (blocks.indented_closing exit.now.frame.passed) printer.old) }
+{
+    if exit.frame.passed.spine.has_chunk {
+        printer.need(ending)?;
+    }
+    printer.put("</code></pre>")
+}
+
+/// The first fence ends the opening tag of the code.
+fn fence(printer: &mut Printer, exit: &Exit) -> Result<(), AllocError>
+    ensures { OnOk result (printer.new ≡ printing [] (blocks.fence_closing (left_at exit.now [] [])) printer.old) }
+{
+    if exit.spine.has_fence {
+        Ok(())
+    } else {
+        printer.put(">")
+    }
+}
+
+fn is_contained(container: Container) -> bool
+    ensures { result ≡ blocks.is_contained container }
+{
+    !matches!(container, Container::Nothing)
+}
+
+fn all_three(a: bool, b: bool, c: bool) -> bool
+    ensures { result ≡ (a && b && c) }
+{
+    a && b && c
+}
+
+fn unless(a: bool, b: bool) -> bool
+    ensures { result ≡ (a && not b) }
+{
+    a && !b
+}
+
+fn force_if(printer: &mut Printer, ending: &str, forced: bool) -> Result<(), AllocError>
+    ensures { OnOk result (printer.new ≡ printing ending.now (blocks.when forced (Forced ∷ [])) printer.old) }
+{
+    if forced {
+        printer.force(ending)
+    } else {
+        Ok(())
+    }
+}
+
+fn need_if(printer: &mut Printer, ending: &str, needed: bool) -> Result<(), AllocError>
+    ensures { OnOk result (printer.new ≡ printing ending.now (blocks.when needed (Needed ∷ [])) printer.old) }
+{
+    if needed { printer.need(ending) } else { Ok(()) }
+}
+
+/// Code that isn't closed and stands in a container, where more than its fence is in it.
+fn runs_out(around: Surroundings, passed: Passed, unclosed: bool) -> bool
+    ensures { unclosed ≡ blocks.is_unclosed passed → result ≡ blocks.runs_out around passed }
+{
+    let behind_fence = match passed.last {
+        Some(name) => is_fence(name),
+        None => false,
+    };
+    all_three(unclosed, is_contained(around.container), !behind_fence)
+}
+
+fn fenced(printer: &mut Printer, ending: &str, exit: &Exit) -> Result<(), AllocError>
+    ensures { OnOk result (printer.new ≡ printing ending.now (blocks.fenced_closing exit.now.around exit.now.frame.passed) printer.old) }
+{
+    let passed = exit.frame.passed;
+    let unclosed = unless(passed.spine.has_fence, passed.spine.has_second_fence);
+    force_if(printer, ending, runs_out(exit.around, passed, unclosed))?;
+    need_if(printer, ending, passed.spine.has_chunk)?;
+    printer.put("</code></pre>")?;
+    need_if(printer, ending, unclosed)
+}
+
+fn chunk(
+    alloc: Global,
+    printer: &mut Printer,
+    source: &Source,
+    exit: &Exit,
+) -> Result<(), AllocError>
+    ensures { OnOk result (printer.new ≡ printing [] (blocks.chunk_pieces (given_of source.now) exit.now.frame.start exit.now.end) printer.old) }
+{
+    let text = serialized_of(alloc, source.bytes, exit.frame.start, exit.end)?;
+    printer.put(encode(alloc, text.as_str(), true)?.as_str())
+}
+
+fn code(
+    alloc: Global,
+    printer: &mut Printer,
+    around: Surroundings,
+    tag: &str,
+    inner: &str,
+) -> Result<(), AllocError>
+    ensures { OnOk result (printer.new ≡ printing [] (texts.code_pieces around tag.now inner.now) printer.old) }
+{
+    let text = code_text(alloc, around, inner)?;
+    if around.in_image {
+        return printer.put(text.as_str());
+    }
+    printer.put(tag)?;
+    printer.put(text.as_str())?;
+    printer.put("</code>")
+}

@@ -1,0 +1,100 @@
+//! The text of code in a text.
+
+ghost use Rattle.std.specs.Prelude.{◌≡◌, ◌++◌, ◌≤◌, IfOk, OnOk, string_bytes, encode_utf8, length, ◌-◌, option_copied};
+ghost use Rattle.std.specs.Bool.{OnTrue};
+ghost use Rattle.std.specs.Str.{IsCharBoundary};
+ghost use Rattle.md_meaning.specs.Texts as texts;
+
+use md_meaning::Surroundings;
+use std::alloc::{AllocError, Global};
+
+/// The text of code where it stands: in a table each backslash directly before a pipe goes, and then one space
+/// goes at each end of a text that is padded.
+pub fn code_text(alloc: Global, around: Surroundings, text: &str) -> Result<String, AllocError>
+    ensures { IfOk result (λ code. string_bytes code ≡ texts.code_text around text.now) }
+{
+    if around.in_table {
+        let text = unescape_pipes(alloc, text)?;
+        String::from_str(alloc, trim(text.as_str()))
+    } else {
+        String::from_str(alloc, trim(text))
+    }
+}
+
+/// A text without each backslash that stands directly before a pipe.
+fn unescape_pipes(alloc: Global, text: &str) -> Result<String, AllocError>
+    ensures { IfOk result (λ out. string_bytes out ≡ texts.unescaped_pipes text.now) }
+{
+    let mut out = String::with_capacity(alloc, text.len())?;
+    let mut rest = text.chars();
+    while let Some(c) = rest.next() {
+        push_unescaped(&mut out, c, rest.as_str())?;
+    }
+    Ok(out)
+}
+
+/// Writes a character by what follows it.
+fn push_unescaped(out: &mut String, c: char, rest: &str) -> Result<(), AllocError>
+    ensures { OnOk result
+        (string_bytes out.new ++ texts.unescaped_pipes rest.now ≡ string_bytes out.old ++ texts.unescaped_pipes (encode_utf8 c ++ rest.now)) }
+{
+    if escapes_pipe(c, rest.as_bytes()) {
+        Ok(())
+    } else {
+        out.push(c)
+    }
+}
+
+/// Whether a character is a backslash directly before a pipe.
+fn escapes_pipe(c: char, rest: &[u8]) -> bool
+    ensures { result ≡ texts.escapes_pipe c rest.now }
+{
+    c == '\\' && begins_with_pipe(rest)
+}
+
+fn begins_with_pipe(bytes: &[u8]) -> bool
+    ensures { result ≡ texts.begins_with_pipe bytes.now }
+{
+    match bytes.first() {
+        Some(byte) => *byte == b'|',
+        None => false,
+    }
+}
+
+/// A text without one space at each end, where it is padded.
+fn trim(text: &str) -> &str
+    ensures { result.now ≡ texts.trimmed text.now }
+{
+    if is_padded(text) {
+        &text[1..text.len() - 1]
+    } else {
+        text
+    }
+}
+
+/// Whether a text begins and ends with a space, and isn't all spaces.
+fn is_padded(text: &str) -> bool
+    ensures value { result ≡ texts.is_padded text.now }
+    ensures two { OnTrue result (2 ≤ length text.now) }
+    ensures cut_start { OnTrue result (IsCharBoundary text.now 1) }
+    ensures cut_end { OnTrue result (IsCharBoundary text.now (length text.now - 1)) }
+{
+    let bytes = text.as_bytes();
+    is_space(bytes.first()) && is_space(bytes.last()) && !is_blank(bytes)
+}
+
+fn is_space(byte: Option<&u8>) -> bool
+    ensures { result ≡ texts.is_space (option_copied byte.entry) }
+{
+    match byte {
+        Some(byte) => *byte == b' ',
+        None => false,
+    }
+}
+
+/// Whether a text is all spaces.
+fn is_blank(bytes: &[u8]) -> bool
+    ensures { result ≡ texts.is_blank bytes.now }
+{
+    bytes.iter().all(|byte| *byte == b' ')
+}

@@ -1,0 +1,36 @@
+//! What the printer keeps of a node.
+
+use md_base::{Name, Point};
+use md_meaning::{Ahead, Passed, Spine, Surroundings};
+
+/// A node that is open.
+#[derive(Clone, Copy)]
+pub struct Frame {
+    /// The surroundings of its children.
+    pub around: Surroundings,
+    /// Where it starts.
+    pub start: Point,
+    /// A line ending is slurped where it starts.
+    pub is_slurping: bool,
+    /// What its children tell ahead.
+    pub ahead: Ahead,
+    /// What its children tell so far.
+    pub passed: Passed,
+}
+
+/// A node that is exited.
+#[derive(Clone, Copy)]
+pub struct Exit {
+    /// Its surroundings.
+    pub around: Surroundings,
+    /// The name of its previous sibling.
+    pub previous: Option<Name>,
+    /// The spine that it stands behind.
+    pub spine: Spine,
+    /// What was known of it while it was open.
+    pub frame: Frame,
+    /// Nothing follows it in the document.
+    pub is_last: bool,
+    /// Where it ends.
+    pub end: Point,
+}

@@ -1,0 +1,13 @@
+//! Prints nodes: what each prints before its children and after them.
+#![tactic(auto)]
+
+mod calls;
+pub mod close;
+mod code;
+pub mod facts;
+mod media;
+pub mod open;
+pub mod printer;
+pub mod source;
+mod tables;
+mod texts;

@@ -1,0 +1,237 @@
+//! What links, images and autolinks print.
+
+ghost use Rattle.std.specs.Prelude.{◌≡◌, ◌∷◌, [], ◌++◌, ◌||◌, OnOk, IfOk, unwrap_or, string_bytes, bytes_eq, find, option_copied, option_map};
+ghost use Rattle.md_print.specs.Machine.{printing};
+ghost use Rattle.md_meaning.specs.Media as media;
+ghost use Rattle.md_meaning.specs.Piece.{nowhere};
+ghost use Rattle.md_print.specs.Sources.{given_of};
+
+use crate::facts::Exit;
+use crate::printer::Printer;
+use crate::source::{Source, identifier_at, text_of};
+use md_base::{Position, SAFE_PROTOCOL_HREF, SAFE_PROTOCOL_SRC};
+use md_meaning::{Ahead, CompileOptions, Surroundings};
+use md_sheet::{Defined, Sheet, Target};
+use md_text::{encode, sanitize, sanitize_with_protocols};
+use std::alloc::{AllocError, Global};
+
+/// A link's destination as it is written.
+pub fn href_of(
+    alloc: Global,
+    options: &CompileOptions,
+    destination: &str,
+) -> Result<String, AllocError>
+    ensures { IfOk result (λ url. string_bytes url ≡ media.href_of options.now destination.now) }
+{
+    if options.allow_dangerous_protocol {
+        sanitize(alloc, destination)
+    } else {
+        sanitize_with_protocols(alloc, destination, &SAFE_PROTOCOL_HREF)
+    }
+}
+
+/// An image's destination as it is written.
+fn src_of(alloc: Global, options: &CompileOptions, destination: &str) -> Result<String, AllocError>
+    ensures { IfOk result (λ url. string_bytes url ≡ media.src_of options.now destination.now) }
+{
+    if options.allow_any_img_src {
+        sanitize(alloc, destination)
+    } else {
+        sanitize_with_protocols(alloc, destination, &SAFE_PROTOCOL_SRC)
+    }
+}
+
+/// Where the first definition with an identifier leads.
+fn defined_target<'a>(definitions: &'a [Defined], identifier: &str) -> Option<&'a Target>
+    ensures { unwrap_or (option_copied result) nowhere ≡ media.defined_target definitions.now identifier.now }
+{
+    for defined in definitions {
+        if defined.identifier.as_str() == identifier {
+            return Some(&defined.target);
+        }
+    }
+    None
+}
+
+/// The place of the label by which a link or an image refers: its reference, else the text of its label.
+fn referring(ahead: Ahead) -> Option<Position>
+    ensures { result ≡ media.referring ahead }
+{
+    match ahead.reference {
+        Some(place) => Some(place),
+        None => ahead.label,
+    }
+}
+
+/// A GFM literal stands plain in an image or a link.
+pub fn is_plain(around: Surroundings) -> bool
+    ensures { result ≡ (around.in_image || around.in_link) }
+{
+    around.in_image || around.in_link
+}
+
+/// Where a link or an image leads: as its resource says, else as the definition with its identifier does, else nowhere.
+fn target_of<'a>(
+    alloc: Global,
+    source: &Source<'a>,
+    ahead: Ahead,
+    inner: &'a Sheet,
+) -> Result<Option<&'a Target>, AllocError>
+    ensures { IfOk result (λ target. unwrap_or (option_copied target) nowhere ≡ media.target_of (given_of source.now) ahead inner.now) }
+{
+    if let Some(target) = inner.resource() {
+        return Ok(Some(target));
+    }
+    let identifier = identifier_at(alloc, source.bytes, referring(ahead))?;
+    Ok(defined_target(source.definitions, identifier.as_str()))
+}
+
+/// The destination of a target, if there is one.
+fn destination_of(target: Option<&Target>) -> &str
+    ensures { result.now ≡ (unwrap_or (option_copied target.entry) nowhere).destination }
+{
+    match target {
+        Some(target) => target.destination.as_str(),
+        None => "",
+    }
+}
+
+/// The title of a target, if there is one.
+fn title_of(target: Option<&Target>) -> Option<&str>
+    ensures { option_copied result ≡ (unwrap_or (option_copied target.entry) nowhere).title }
+{
+    match target?.title.as_ref() {
+        Some(title) => Some(title.as_str()),
+        None => None,
+    }
+}
+
+/// Prints a title, if there is one.
+fn title(printer: &mut Printer, title: Option<&str>) -> Result<(), AllocError>
+    ensures { OnOk result (printer.new ≡ printing [] (media.title_pieces (option_copied title.entry)) printer.old) }
+{
+    match title {
+        Some(text) => {
+            printer.put(" title=\"")?;
+            printer.put(text)?;
+            printer.put("\"")
+        }
+        None => Ok(()),
+    }
+}
+
+/// Prints the beginning of a link, up to its title.
+fn link_start(
+    alloc: Global,
+    printer: &mut Printer,
+    options: &CompileOptions,
+    destination: &str,
+) -> Result<(), AllocError>
+    ensures { OnOk result (printer.new ≡ printing [] (media.link_start options.now destination.now) printer.old) }
+{
+    let url = href_of(alloc, options, destination)?;
+    printer.put("<a href=\"")?;
+    printer.put(url.as_str())?;
+    printer.put("\"")
+}
+
+/// Prints the rest of a link: its label and its end.
+fn link_end(printer: &mut Printer, label: &str) -> Result<(), AllocError>
+    ensures { OnOk result (printer.new ≡ printing [] (media.link_end label.now) printer.old) }
+{
+    printer.put(">")?;
+    printer.put(label)?;
+    printer.put("</a>")
+}
+
+/// Prints a link: in an image its label alone.
+pub fn link(
+    alloc: Global,
+    printer: &mut Printer,
+    source: &Source,
+    exit: &Exit,
+    inner: &Sheet,
+) -> Result<(), AllocError>
+    ensures { OnOk result (printer.new ≡ printing [] (media.link_pieces (given_of source.now) exit.now.around exit.now.frame.ahead inner.now) printer.old) }
+{
+    if exit.around.in_image {
+        return printer.put(inner.text());
+    }
+    let target = target_of(alloc, source, exit.frame.ahead, inner)?;
+    link_start(alloc, printer, source.options, destination_of(target))?;
+    title(printer, title_of(target))?;
+    link_end(printer, inner.text())
+}
+
+/// Prints the beginning of an image, up to its title.
+fn image_start(
+    alloc: Global,
+    printer: &mut Printer,
+    options: &CompileOptions,
+    destination: &str,
+    label: &str,
+) -> Result<(), AllocError>
+    ensures { OnOk result (printer.new ≡ printing [] (media.image_start options.now destination.now label.now) printer.old) }
+{
+    let url = src_of(alloc, options, destination)?;
+    printer.put("<img src=\"")?;
+    printer.put(url.as_str())?;
+    printer.put("\" alt=\"")?;
+    printer.put(label)?;
+    printer.put("\"")
+}
+
+/// Prints an image: in another its label alone.
+pub fn image(
+    alloc: Global,
+    printer: &mut Printer,
+    source: &Source,
+    exit: &Exit,
+    inner: &Sheet,
+) -> Result<(), AllocError>
+    ensures { OnOk result (printer.new ≡ printing [] (media.image_pieces (given_of source.now) exit.now.around exit.now.frame.ahead inner.now) printer.old) }
+{
+    if exit.around.in_image {
+        return printer.put(inner.text());
+    }
+    let target = target_of(alloc, source, exit.frame.ahead, inner)?;
+    image_start(
+        alloc,
+        printer,
+        source.options,
+        destination_of(target),
+        inner.text(),
+    )?;
+    title(printer, title_of(target))?;
+    printer.put(" />")
+}
+
+/// A prefix and a text, as one.
+fn joined(alloc: Global, prefix: &str, text: &str) -> Result<String, AllocError>
+    ensures { IfOk result (λ all. string_bytes all ≡ prefix.now ++ text.now) }
+{
+    let mut all = String::from_str(alloc, prefix)?;
+    all.push_str(text)?;
+    Ok(all)
+}
+
+/// Prints an autolink: its text, in a link to a prefix and its text unless it is plain.
+pub fn autolink(
+    alloc: Global,
+    printer: &mut Printer,
+    source: &Source,
+    exit: &Exit,
+    prefix: &str,
+    plain: bool,
+) -> Result<(), AllocError>
+    ensures { OnOk result (printer.new ≡ printing [] (media.autolink_pieces (given_of source.now) prefix.now plain exit.now.frame.start exit.now.end) printer.old) }
+{
+    let text = text_of(source.bytes, exit.frame.start, exit.end);
+    let encoded = encode(alloc, text, true)?;
+    if plain {
+        return printer.put(encoded.as_str());
+    }
+    let destination = joined(alloc, prefix, text)?;
+    link_start(alloc, printer, source.options, destination.as_str())?;
+    link_end(printer, encoded.as_str())
+}

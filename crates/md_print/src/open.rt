@@ -1,0 +1,177 @@
+//! What nodes print before their children.
+
+ghost use Rattle.std.specs.Prelude.{◌≡◌, ◌∷◌, [], ◌++◌, OnOk, codes};
+ghost use Rattle.md_print.specs.Machine.{printing};
+ghost use Rattle.md_meaning.specs.Piece.{Text, Needed};
+ghost use Rattle.md_meaning.specs.Texts as texts;
+ghost use Rattle.md_meaning.specs.Texts.{said, outside_images};
+ghost use Rattle.md_meaning.specs.Blocks as blocks;
+ghost use Rattle.md_meaning.specs.Printed as printed;
+ghost use Rattle.md_print.specs.Sources.{given_of};
+
+use crate::printer::Printer;
+use crate::source::{Source, length_of, text_of, without_zeros};
+use md_base::{Name, Position};
+use md_meaning::{Ahead, Container, Surroundings};
+use std::alloc::AllocError;
+
+/// Prints what a node prints before its children.
+pub fn open(
+    printer: &mut Printer,
+    source: &Source,
+    around: Surroundings,
+    ahead: Ahead,
+    name: Name,
+) -> Result<(), AllocError>
+    ensures { OnOk result (printer.new ≡ printing source.now.ending.now (printed.opening (given_of source.now) around ahead name) printer.old) }
+{
+    match name {
+        Name::BlockQuote => on_own_line(printer, source.ending, "<blockquote>"),
+        Name::ListOrdered => ordered_list(printer, source, ahead.number),
+        Name::ListUnordered => on_own_line(printer, source.ending, "<ul>"),
+        Name::ListItem => on_own_line(printer, source.ending, "<li>"),
+        Name::Paragraph => paragraph(printer, source.ending, around),
+        Name::HeadingAtx => {
+            on_own_line(
+                printer,
+                source.ending,
+                heading_opening(rank_of(source.bytes, ahead.mark)),
+            )
+        }
+        Name::CodeIndented => on_own_line(printer, source.ending, "<pre><code>"),
+        Name::CodeFenced => on_own_line(printer, source.ending, "<pre><code"),
+        Name::MathFlow => {
+            on_own_line(
+                printer,
+                source.ending,
+                "<pre><code class=\"language-math math-display\"",
+            )
+        }
+        Name::CodeFencedFenceInfo => printer.put(" class=\"language-"),
+        Name::HtmlFlow => printer.need(source.ending),
+        Name::Emphasis => outside_images(printer, around, "<em>"),
+        Name::Strong => outside_images(printer, around, "<strong>"),
+        Name::GfmStrikethrough => outside_images(printer, around, "<del>"),
+        Name::GfmTaskListItemCheck => task(printer, source, around),
+        Name::GfmTable => on_own_line(printer, source.ending, "<table>"),
+        Name::GfmTableHead => on_own_line(printer, source.ending, "<thead>"),
+        Name::GfmTableBody => printer.put("<tbody>"),
+        Name::GfmTableRow => on_own_line(printer, source.ending, "<tr>"),
+        _ => Ok(()),
+    }
+}
+
+/// Prints a tag on a line of its own.
+pub fn on_own_line(printer: &mut Printer, ending: &str, tag: &str) -> Result<(), AllocError>
+    ensures { OnOk result (printer.new ≡ printing ending.now (blocks.on_own_line tag.now) printer.old) }
+{
+    printer.need(ending)?;
+    printer.put(tag)
+}
+
+/// Prints a tag, but in an image.
+pub fn outside_images(
+    printer: &mut Printer,
+    around: Surroundings,
+    tag: &str,
+) -> Result<(), AllocError>
+    ensures { OnOk result (printer.new ≡ printing [] (outside_images around (said tag.now)) printer.old) }
+{
+    if around.in_image {
+        Ok(())
+    } else {
+        printer.put(tag)
+    }
+}
+
+/// Whether paragraphs print no tags.
+pub fn is_tight(container: Container) -> bool
+    ensures { result ≡ blocks.is_tight container }
+{
+    matches!(container, Container::TightList)
+}
+
+fn paragraph(printer: &mut Printer, ending: &str, around: Surroundings) -> Result<(), AllocError>
+    ensures { OnOk result (printer.new ≡ printing ending.now (blocks.paragraph_opening around) printer.old) }
+{
+    if is_tight(around.container) {
+        Ok(())
+    } else {
+        on_own_line(printer, ending, "<p>")
+    }
+}
+
+fn ordered_list(
+    printer: &mut Printer,
+    source: &Source,
+    number: Option<Position>,
+) -> Result<(), AllocError>
+    ensures { OnOk result (printer.new ≡ printing source.now.ending.now (blocks.on_own_line (codes "<ol") ++ (blocks.start_pieces source.now.bytes.now number ++ said (codes ">"))) printer.old) }
+{
+    on_own_line(printer, source.ending, "<ol")?;
+    start(printer, source, number)?;
+    printer.put(">")
+}
+
+/// Prints the number of a list's first item, where there is one.
+fn start(printer: &mut Printer, source: &Source, number: Option<Position>) -> Result<(), AllocError>
+    ensures { OnOk result (printer.new ≡ printing source.now.ending.now (blocks.start_pieces source.now.bytes.now number) printer.old) }
+{
+    match number {
+        Some(place) => {
+            let digits = text_of(source.bytes, place.start, place.end);
+            start_at(printer, source.ending, without_zeros(digits))
+        }
+        None => Ok(()),
+    }
+}
+
+/// Prints the number that a list begins with, unless it is 1.
+fn start_at(printer: &mut Printer, ending: &str, number: &str) -> Result<(), AllocError>
+    ensures { OnOk result (printer.new ≡ printing ending.now (blocks.number_pieces number.now) printer.old) }
+{
+    if number == "1" {
+        return Ok(());
+    }
+    printer.put(" start=\"")?;
+    printer.put(number)?;
+    printer.put("\"")
+}
+
+/// A heading's rank: the length of its first mark.
+pub fn rank_of(bytes: &[u8], mark: Option<Position>) -> usize
+    ensures { result ≡ blocks.rank_of bytes.now mark }
+{
+    match mark {
+        Some(place) => length_of(bytes, place),
+        None => 0,
+    }
+}
+
+fn heading_opening(rank: usize) -> &'static str
+    ensures { result.now ≡ blocks.heading_opening rank }
+{
+    match rank {
+        0 => "<h0>",
+        1 => "<h1>",
+        2 => "<h2>",
+        3 => "<h3>",
+        4 => "<h4>",
+        5 => "<h5>",
+        _ => "<h6>",
+    }
+}
+
+fn task(printer: &mut Printer, source: &Source, around: Surroundings) -> Result<(), AllocError>
+    ensures { OnOk result (printer.new ≡ printing [] (texts.task_pieces (given_of source.now) around) printer.old) }
+{
+    if around.in_image {
+        return Ok(());
+    }
+    printer.put("<input type=\"checkbox\" ")?;
+    if source.options.gfm_task_list_item_checkable {
+        Ok(())
+    } else {
+        printer.put("disabled=\"\" ")
+    }
+}

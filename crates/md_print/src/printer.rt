@@ -1,0 +1,378 @@
+//! The compiler's state: the text so far, and the nodes that are open.
+
+ghost use Rattle.std.specs.Prelude.{◌≡◌, ◌∷◌, ◌++◌, ◌+◌, ◌<◌, ◌^◌, slice_get, IfOk, IfSome, OnOk, string_bytes, [], true, if◌then◌else◌};
+ghost use Rattle.md_print.specs.Machine as machine;
+ghost use Rattle.md_facts.specs.Steps as steps;
+ghost use Rattle.md_meaning.specs.Piece as piece;
+ghost use Rattle.md_meaning.specs.Piece.{Text, Needed, Forced, Noted, Recalled, blank, lay};
+ghost use Rattle.md_meaning.specs.Calls.{number_among, count_among};
+ghost use Rattle.md_meaning.specs.Footnotes.{section_pieces};
+ghost use Rattle.md_sheet.specs.Seen.{counted, noted};
+ghost use Rattle.md_meaning.specs.Texts.{said};
+
+use crate::facts::Frame;
+use md_base::{AlignKind, Name, Point};
+use md_facts::surroundings::{NO_SPINE, inside, passing, slurps_behind, spine_inside};
+use md_meaning::{Ahead, CompileOptions, Container, Passed, Surroundings};
+use md_sheet::{Calls, Defined, Footnotes, Sheet, Target, lay_section};
+use std::alloc::{AllocError, Global};
+use std::marker::Model;
+
+/// The text so far and the nodes that are open.
+#[derive(Drop)]
+pub struct Printer {
+    sheet: Sheet,
+    below: Vec<Sheet>,
+    calls: Calls,
+    definitions: Vec<Defined>,
+    footnotes: Footnotes,
+    is_slurping: bool,
+    frame: Frame,
+    frames: Vec<Frame>,
+    tables: Vec<Vec<AlignKind>>,
+}
+
+impl Model for Printer {
+    ghost use Rattle.std.specs.Prelude.{reverse, map};
+    ghost use Rattle.md_print.specs.Machine.{State};
+
+    ghost Value = { State };
+
+    ghost view = { λ p. record { page = p.sheet; below = reverse p.below.items; log = record { called = p.calls; definitions = p.definitions.items; footnotes = p.footnotes }; is_slurping = p.is_slurping; frame = p.frame; frames = reverse p.frames.items; tables = reverse (map (λ v. v.items) p.tables.items) } };
+}
+
+impl Printer {
+    /// Prints a text.
+    pub fn put(&mut self, text: &str) -> Result<(), AllocError>
+        ensures { OnOk result (self.new ≡ machine.printing [] (said text.now) self.old) }
+    {
+        self.sheet.put(text)
+    }
+
+    /// Prints a line ending, unless a line starts here.
+    pub fn need(&mut self, ending: &str) -> Result<(), AllocError>
+        ensures { OnOk result (self.new ≡ machine.printing ending.now (Needed ∷ []) self.old) }
+    {
+        self.sheet.need(ending)
+    }
+
+    /// Prints a line ending.
+    pub fn force(&mut self, ending: &str) -> Result<(), AllocError>
+        ensures { OnOk result (self.new ≡ machine.printing ending.now (Forced ∷ []) self.old) }
+    {
+        self.sheet.put(ending)
+    }
+
+    /// Notes a heading's text.
+    pub fn note_heading(&mut self, text: String)
+        ensures { self.new ≡ machine.printing [] (Noted (piece.Heading (string_bytes text)) ∷ []) self.old }
+    {
+        self.sheet.note_heading(text);
+    }
+
+    /// Notes a destination.
+    pub fn note_destination(&mut self, text: String)
+        ensures { self.new ≡ machine.printing [] (Noted (piece.Destination (string_bytes text)) ∷ []) self.old }
+    {
+        self.sheet.note_destination(text);
+    }
+
+    /// Notes a title.
+    pub fn note_title(&mut self, text: String)
+        ensures { self.new ≡ machine.printing [] (Noted (piece.Title (string_bytes text)) ∷ []) self.old }
+    {
+        self.sheet.note_title(text);
+    }
+
+    /// Notes a resource.
+    pub fn note_resource(&mut self, target: Target)
+        ensures { self.new ≡ machine.printing [] (Noted (piece.Resource target) ∷ []) self.old }
+    {
+        self.sheet.note_resource(target);
+    }
+
+    /// Adds a footnote call to those that were seen.
+    pub fn log_call(&mut self, identifier: String) -> Result<(), AllocError>
+        ensures { OnOk result (self.new ≡ record self.old { log = record self.old.log { called = counted self.old.log.called (string_bytes identifier) } }) }
+    {
+        self.calls.count(identifier)
+    }
+
+    /// Adds a footnote to those that were seen.
+    pub fn log_footnote(&mut self, identifier: String, text: String) -> Result<(), AllocError>
+        ensures { OnOk result (self.new ≡ record self.old { log = record self.old.log { footnotes = noted self.old.log.footnotes (record { identifier = string_bytes identifier; text = string_bytes text }) } }) }
+    {
+        self.footnotes.note(identifier, text)
+    }
+
+    /// The number of an identifier that is called next.
+    pub fn number(&self, identifier: &str) -> usize
+        ensures { result ≡ number_among self.now.log.called identifier.now }
+    {
+        self.calls.number(identifier)
+    }
+
+    /// How often an identifier was called.
+    pub fn count_of(&self, identifier: &str) -> usize
+        ensures { result ≡ count_among self.now.log.called identifier.now }
+    {
+        self.calls.count_of(identifier)
+    }
+
+    /// The alignments of the innermost table's columns.
+    fn columns(&self) -> &[AlignKind]
+        ensures { result.now ≡ steps.first_or [] self.now.tables }
+    {
+        match self.tables.last() {
+            Some(columns) => columns.as_slice(),
+            None => &[],
+        }
+    }
+
+    /// The alignment of a column of the innermost table, if it has that column.
+    pub fn column(&self, index: usize) -> Option<AlignKind>
+        ensures column { result ≡ slice_get (steps.first_or [] self.now.tables) index }
+        ensures fits { IfSome result (λ kind. index + 1 < 2 ^ 63) }
+    {
+        self.columns().get(index).copied()
+    }
+
+    /// Enters a table whose columns have these alignments, if it is one.
+    pub fn enter_table_if(
+        &mut self,
+        is_table: bool,
+        columns: Vec<AlignKind>,
+    ) -> Result<(), AllocError>
+        ensures { OnOk result (self.new ≡ machine.entering_table is_table columns.items self.old) }
+    {
+        if is_table {
+            self.tables.push(columns)?;
+        }
+        Ok(())
+    }
+
+    /// Leaves a table, if it is one.
+    pub fn leave_table_if(&mut self, is_table: bool)
+        ensures { self.new ≡ machine.leaving_table is_table self.old }
+    {
+        if is_table {
+            self.tables.pop();
+        }
+    }
+
+    /// Adds a definition to those that were seen.
+    pub fn log_definition(&mut self, definition: Defined) -> Result<(), AllocError>
+        ensures { OnOk result (self.new ≡ record self.old { log = record self.old.log { definitions = self.old.log.definitions ++ definition ∷ [] } }) }
+    {
+        self.definitions.push(definition)?;
+        Ok(())
+    }
+
+    /// Prints the heading's text that was noted last.
+    pub fn recall(&mut self) -> Result<(), AllocError>
+        ensures { OnOk result (self.new ≡ machine.printing [] (Recalled ∷ []) self.old) }
+    {
+        self.sheet.recall()
+    }
+
+    /// Begins a text of its own, to be released later.
+    pub fn capture(&mut self, alloc: Global) -> Result<(), AllocError>
+        ensures { OnOk result (self.new ≡ machine.capturing true self.old) }
+    {
+        let outer = std::mem::replace(&mut self.sheet, Sheet::new(alloc));
+        self.below.push(outer)?;
+        Ok(())
+    }
+
+    /// Ends the page that was captured last, and goes on with the one below.
+    pub fn release(&mut self, alloc: Global) -> Sheet
+        ensures page { result ≡ self.old.page }
+        ensures state { self.new ≡ machine.releasing true self.old }
+    {
+        let outer = self.below.pop().unwrap_or(Sheet::new(alloc));
+        std::mem::replace(&mut self.sheet, outer)
+    }
+
+    /// The frame of the innermost node that is open.
+    pub fn frame(&self) -> Frame
+        ensures { result ≡ self.now.frame }
+    {
+        self.frame
+    }
+
+    /// A line ending is slurped here.
+    pub fn is_slurping(&self) -> bool
+        ensures { result ≡ self.now.is_slurping }
+    {
+        self.is_slurping
+    }
+
+    /// What the innermost node that is open learns from what stands before it.
+    pub fn parent(&self) -> Frame
+        ensures { result ≡ steps.first_or machine.document_frame self.now.frames }
+    {
+        match self.frames.last() {
+            Some(frame) => *frame,
+            None => DOCUMENT_FRAME,
+        }
+    }
+
+    /// Captures what follows, if it is to be captured.
+    pub fn capture_if(&mut self, alloc: Global, captured: bool) -> Result<(), AllocError>
+        ensures { OnOk result (self.new ≡ machine.capturing captured self.old) }
+    {
+        if captured {
+            self.capture(alloc)
+        } else {
+            Ok(())
+        }
+    }
+
+    /// Releases what was captured, if it was.
+    pub fn release_if(&mut self, alloc: Global, captured: bool) -> Sheet
+        ensures page { result ≡ (if captured then self.old.page else blank) }
+        ensures state { self.new ≡ machine.releasing captured self.old }
+    {
+        if captured {
+            self.release(alloc)
+        } else {
+            Sheet::new(alloc)
+        }
+    }
+
+    /// Opens a node's frame.
+    pub fn open_frame(
+        &mut self,
+        options: &CompileOptions,
+        ahead: Ahead,
+        name: Name,
+        start: Point,
+    ) -> Result<(), AllocError>
+        ensures { OnOk result (self.new ≡ machine.opening_frame options.now ahead name start self.old) }
+    {
+        let parent = self.frame;
+        self.frames.push(parent)?;
+        self.frame = Frame {
+            around: inside(options, ahead.is_loose, name, parent.around),
+            start,
+            is_slurping: self.is_slurping,
+            ahead,
+            passed: Passed {
+                last: None,
+                contributing: None,
+                spine: spine_inside(name, parent.passed.spine),
+            },
+        };
+        Ok(())
+    }
+
+    /// Leaves the innermost node that is open.
+    pub fn leave(&mut self, name: Name) -> Result<(), AllocError>
+        ensures { OnOk result (self.new ≡ machine.leaving name self.old) }
+    {
+        let parent = self.frames.pop().unwrap_or(DOCUMENT_FRAME);
+        let passed = passing(name, self.frame.passed.spine, parent.passed)?;
+        self.is_slurping = slurps_behind(
+            parent.around,
+            parent.passed.spine,
+            name,
+            self.is_slurping,
+        );
+        self.frame = Frame { passed, ..parent };
+        Ok(())
+    }
+
+    /// The definitions that were seen.
+    pub fn into_definitions(self) -> Vec<Defined>
+        ensures { result.items ≡ self.log.definitions }
+    {
+        let Printer {
+            sheet: _,
+            below: _,
+            calls: _,
+            definitions,
+            footnotes: _,
+            is_slurping: _,
+            frame: _,
+            frames: _,
+            tables: _,
+        } = self;
+        definitions
+    }
+
+    /// The text at the end, with the section of footnotes.
+    pub fn into_text(
+        self,
+        alloc: Global,
+        options: &CompileOptions,
+        ending: &str,
+    ) -> Result<String, AllocError>
+        ensures { IfOk result (λ text. string_bytes text ≡ (lay ending.now self.page (section_pieces options.now self.log.footnotes self.log.called)).text) }
+    {
+        let Printer {
+            mut sheet,
+            below: _,
+            calls,
+            definitions: _,
+            footnotes,
+            is_slurping: _,
+            frame: _,
+            frames: _,
+            tables: _,
+        } = self;
+        lay_section(alloc, &mut sheet, options, ending, &calls, &footnotes)?;
+        Ok(sheet.into_text())
+    }
+
+    pub fn new(alloc: Global) -> Printer
+        ensures { result ≡ machine.beginning }
+    {
+        Printer {
+            sheet: Sheet::new(alloc),
+            below: Vec::new(alloc),
+            calls: Calls::new(alloc),
+            definitions: Vec::new(alloc),
+            footnotes: Footnotes::new(alloc),
+            is_slurping: false,
+            frame: DOCUMENT_FRAME,
+            frames: Vec::new(alloc),
+            tables: Vec::new(alloc),
+        }
+    }
+}
+
+/// The document round all nodes.
+const DOCUMENT_FRAME: Frame = Frame {
+    around: Surroundings {
+        container: Container::Nothing,
+        is_outermost: true,
+        in_image: false,
+        in_link: false,
+        in_table: false,
+        in_head: false,
+        in_code: false,
+        in_definition: false,
+        is_escaping: true,
+    },
+    start: Point {
+        line: 0,
+        column: 0,
+        index: 0,
+        vs: 0,
+    },
+    is_slurping: false,
+    ahead: Ahead {
+        mark: None,
+        number: None,
+        is_loose: false,
+        label: None,
+        reference: None,
+        defined: None,
+        footnote: None,
+    },
+    passed: Passed {
+        last: None,
+        contributing: None,
+        spine: NO_SPINE,
+    },
+};

@@ -1,0 +1,101 @@
+//! What all nodes of a document are given, and the texts of nodes.
+
+ghost use Rattle.std.specs.Prelude.{◌≡◌, ◌^◌, ◌<◌, min, unwrap_or, IfOk, string_bytes};
+ghost use Rattle.std.specs.Bool.{OnTrue};
+ghost use Rattle.std.specs.Str.{IsCharBoundary};
+ghost use Rattle.md_base.specs.Place as place;
+ghost use Rattle.md_base.specs.Reference.{decoded, name_table};
+ghost use Rattle.md_meaning.specs.Given as given;
+ghost use Rattle.md_meaning.specs.Places.{length_of, identifier_at, without_zeros, has_leading_zero};
+
+use md_base::{Point, Position, Slice, normalize_identifier};
+use md_meaning::CompileOptions;
+use md_sheet::Defined;
+use std::alloc::{AllocError, Global};
+
+/// The document's bytes, the names of references, the options and the line ending that is used.
+#[derive(Clone, Copy)]
+pub struct Source<'a> {
+    pub bytes: &'a [u8],
+    pub names: &'a [(&'a str, &'a str)],
+    pub options: &'a CompileOptions,
+    pub ending: &'a str,
+    pub definitions: &'a [Defined],
+}
+
+/// The text of a node that is one, else nothing.
+pub fn text_of<'a>(bytes: &'a [u8], start: Point, end: Point) -> &'a str
+    ensures { result.now ≡ given.text_of bytes.now start end }
+{
+    match Slice::from_position(bytes, &Position { start, end }) {
+        Some(slice) => slice.as_str().unwrap_or(""),
+        None => "",
+    }
+}
+
+/// The text of a label, by the indices of its points, else nothing.
+pub fn label_of<'a>(bytes: &'a [u8], start: Point, end: Point) -> &'a str
+    ensures { result.now ≡ given.label_of bytes.now start end }
+{
+    match Slice::from_indices(bytes, start.index, end.index) {
+        Some(slice) => slice.as_str().unwrap_or(""),
+        None => "",
+    }
+}
+
+/// The identifier at a place, if there is one.
+pub fn identifier_at(
+    alloc: Global,
+    bytes: &[u8],
+    place: Option<Position>,
+) -> Result<String, AllocError>
+    ensures { IfOk result (λ text. string_bytes text ≡ identifier_at bytes.now place) }
+{
+    match place {
+        Some(place) => normalize_identifier(alloc, label_of(bytes, place.start, place.end)),
+        None => Ok(String::new(alloc)),
+    }
+}
+
+/// The text of a line of code with the spaces of tabs that are cut at its ends, else nothing.
+pub fn serialized_of(
+    alloc: Global,
+    bytes: &[u8],
+    start: Point,
+    end: Point,
+) -> Result<String, AllocError>
+    ensures { IfOk result (λ text. string_bytes text ≡ given.serialized_of bytes.now start end) }
+{
+    match Slice::from_position(bytes, &Position { start, end }) {
+        Some(slice) => Ok(slice.serialize(alloc)?.unwrap_or(String::new(alloc))),
+        None => Ok(String::new(alloc)),
+    }
+}
+
+/// How long a mark is, the columns of tabs that are cut at its ends counted.
+pub fn length_of(bytes: &[u8], position: Position) -> usize
+    ensures { result ≡ length_of bytes.now position }
+{
+    match Slice::from_position(bytes, &position) {
+        Some(slice) => slice.len(),
+        None => 0,
+    }
+}
+
+/// Digits without the zeros before the number that they write.
+pub fn without_zeros(mut digits: &str) -> &str
+    ensures { result.now ≡ without_zeros digits.entry.now }
+{
+    while has_leading_zero(digits) {
+        digits = &digits[1..];
+    }
+    digits
+}
+
+/// A zero before other digits.
+fn has_leading_zero(digits: &str) -> bool
+    ensures value { result ≡ has_leading_zero digits.now }
+    ensures cut { OnTrue result (IsCharBoundary digits.now 1) }
+{
+    digits.len() > 1 && digits.as_bytes()[0] == b'0'
+}

@@ -1,0 +1,100 @@
+//! What tables print.
+
+ghost use Rattle.std.specs.Prelude.{◌≡◌, [], OnOk, drop, slice_get};
+ghost use Rattle.md_print.specs.Machine.{printing};
+ghost use Rattle.md_facts.specs.Steps.{first_or};
+ghost use Rattle.md_print.specs.Sources.{left_at};
+ghost use Rattle.md_meaning.specs.Tables as tables;
+
+use crate::facts::Exit;
+use crate::open::on_own_line;
+use crate::printer::Printer;
+use md_base::AlignKind;
+use std::alloc::AllocError;
+
+/// How the cells of a column are aligned.
+fn align_attribute(kind: AlignKind) -> &'static str
+    ensures { result.now ≡ tables.align_attribute kind }
+{
+    match kind {
+        AlignKind::Left => " align=\"left\"",
+        AlignKind::Right => " align=\"right\"",
+        AlignKind::Center => " align=\"center\"",
+        AlignKind::None => "",
+    }
+}
+
+fn cell_start(in_head: bool) -> &'static str
+    ensures { result.now ≡ tables.cell_start in_head }
+{
+    if in_head { "<th" } else { "<td" }
+}
+
+fn cell_end(in_head: bool) -> &'static str
+    ensures { result.now ≡ tables.cell_end in_head }
+{
+    if in_head { "</th>" } else { "</td>" }
+}
+
+/// Prints a cell with its text.
+fn cell(
+    printer: &mut Printer,
+    ending: &str,
+    in_head: bool,
+    kind: AlignKind,
+    text: &str,
+) -> Result<(), AllocError>
+    ensures { OnOk result (printer.new ≡ printing ending.now (tables.cell_pieces in_head kind text.now) printer.old) }
+{
+    printer.need(ending)?;
+    printer.put(cell_start(in_head))?;
+    printer.put(align_attribute(kind))?;
+    printer.put(">")?;
+    printer.put(text)?;
+    printer.put(cell_end(in_head))
+}
+
+/// Prints a cell behind its children, whose text it is, if the table has its column.
+pub fn close_cell(
+    printer: &mut Printer,
+    ending: &str,
+    exit: &Exit,
+    text: &str,
+) -> Result<(), AllocError>
+    ensures { OnOk result (printer.new ≡ printing ending.now (tables.cell_in exit.now.around.in_head (slice_get (first_or [] printer.old.tables) exit.now.spine.cells) text.now) printer.old) }
+{
+    match printer.column(exit.spine.cells) {
+        Some(kind) => cell(printer, ending, exit.around.in_head, kind, text),
+        None => Ok(()),
+    }
+}
+
+/// Prints an empty cell for each column from an index on.
+fn empty_cells(
+    printer: &mut Printer,
+    ending: &str,
+    in_head: bool,
+    first: usize,
+) -> Result<(), AllocError>
+    ensures { OnOk result (printer.new ≡ printing ending.now (tables.empty_cells in_head (drop first (first_or [] printer.old.tables))) printer.old) }
+{
+    let mut index = first;
+    while let Some(kind) = printer.column(index) {
+        cell(printer, ending, in_head, kind, "")?;
+        index += 1;
+    }
+    Ok(())
+}
+
+/// Prints the end of a row: empty cells for the columns that it has no cells for, and its tag.
+pub fn close_row(printer: &mut Printer, ending: &str, exit: &Exit) -> Result<(), AllocError>
+    ensures { OnOk result (printer.new ≡ printing ending.now (tables.row_closing exit.now.around (left_at exit.now [] (first_or [] printer.old.tables)) exit.now.frame.passed) printer.old) }
+{
+    empty_cells(
+        printer,
+        ending,
+        exit.around.in_head,
+        exit.frame.passed.spine.cells,
+    )?;
+    on_own_line(printer, ending, "</tr>")
+}

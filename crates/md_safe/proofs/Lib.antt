@@ -1,0 +1,14 @@
+pub mod Texts
+pub mod Laid
+pub mod Tags
+pub mod Media
+pub mod Elements
+pub mod Contents
+pub mod Spot
+pub mod StringNodes
+pub mod SpanNodes
+pub mod BlockNodes
+pub mod Nodes
+pub mod Forests
+pub mod Section
+pub mod Whole

@@ -1,0 +1,129 @@
+-- A node where it stands: what is known of the document and what the node prints.
+use Rattle.std.proofs.Common.{◌≡◌, ℕ, Bool, true, false, cond, List, [], ◌∷◌, ◌++◌, sym, subst, append-nil}
+use Rattle.std.specs.Prelude.{Option, Some, None, find, bytes_eq, unwrap_or}
+use Rattle.std.specs.Option.{option_map_or}
+use Rattle.md_base.specs.declared.event.Name.{Name}
+use Rattle.md_base.specs.declared.event.Point.{Point}
+use Rattle.md_text.specs.Html.{Attribute, HasReadingWith}
+use Rattle.md_text.specs.Encode.{encoded}
+use Rattle.md_text.proofs.EncodeLaws.{is_escaped-encoded}
+use Rattle.md_text.proofs.EscapedLemmas.{escaped-append}
+use Rattle.md_text.proofs.HtmlJoin.{text, join}
+use Rattle.md_tree.specs.Tree.{Forest}
+use Rattle.md_tree.specs.Looseness.{is_loose}
+use Rattle.md_meaning.specs.declared.facts.Surroundings.{Surroundings}
+use Rattle.md_meaning.specs.declared.facts.Passed.{Passed}
+use Rattle.md_meaning.specs.declared.facts.Ahead.{Ahead}
+use Rattle.md_meaning.specs.Piece.{Piece, Target, Page, nowhere}
+use Rattle.md_meaning.specs.Given.{Given, Defined}
+use Rattle.md_meaning.specs.Places.{Left, ahead_of, identifier_at}
+use Rattle.md_meaning.specs.Surroundings.{inside}
+use Rattle.md_meaning.specs.Media.{defined_target, target_of, referring}
+use Rattle.md_meaning.specs.Printed.{printed_node}
+use Rattle.md_shape.specs.Built.{Content, IsFit, content_of}
+use Rattle.md_safe.proofs.Texts.{Escaped}
+use Rattle.md_safe.proofs.Laid.{Adds, IsEscapedTitle, IsGoodTarget, adds-append}
+use Rattle.md_safe.proofs.Tags.{IsTest}
+use Rattle.md_safe.proofs.Contents.{Holds}
+
+-- the titles of some definitions are escaped
+abbrev pub AreTitles : List Defined → Type 0
+AreTitles [] = Unit {0}
+AreTitles (defined ∷ others) = IsEscapedTitle defined.target.title × AreTitles others
+
+-- a document, and a test on attributes
+pub record Setting : Type 0 where
+  pub p : Attribute → Bool
+  pub given : Given
+  pub test : IsTest p given.options
+  pub ending : Escaped given.ending
+  pub titles : AreTitles given.definitions
+
+-- where a node stands, and its children
+pub record Spot : Type 0 where
+  pub around : Surroundings
+  pub left : Left
+  pub passed : Passed
+  pub last : Bool
+  pub start : Point
+  pub end : Point
+  pub children : Forest
+
+-- what a node prints
+abbrev pub node_pieces : Setting → Spot → Name → List Piece → List Piece
+node_pieces s t name inner = printed_node s.given t.around t.left (ahead_of t.children) t.passed t.last t.start t.end name inner
+
+-- what is asked of a node
+abbrev pub IsFitAt : Setting → Spot → Name → Type 0
+IsFitAt s t name = IsFit s.given.bytes name t.start t.end t.children
+
+-- what holds of the text of a content where the node stands
+abbrev pub Here : Setting → Spot → Content → List ℕ → Type 0
+Here s t content x = Holds s.p t.around.is_escaping t.around.in_image content x
+
+-- pieces add a text of which something holds
+abbrev pub Prints : Setting → (List ℕ → Type 0) → List Piece → Type 0
+Prints s holds pieces = Adds s.p s.given.ending holds pieces
+
+-- the children print what may stand in the node
+abbrev pub Inside : Setting → Spot → Content → Name → List Piece → Type 0
+Inside s t content name inner =
+    Adds s.p s.given.ending (Holds s.p (inside s.given.options (is_loose t.children) name t.around).is_escaping (inside s.given.options (is_loose t.children) name t.around).in_image (content_of name content)) inner
+
+-- holds of a text that is escaped where that is asked for, and of two such texts
+pub record IsNarrow (escaping : Bool) (holds : List ℕ → Type 0) : Type 0 where
+  pub own : (x : List ℕ) → (escaping ≡ true → Escaped x) → holds x
+  pub both : (x y : List ℕ) → holds x → holds y → holds (x ++ y)
+
+-- holds of escaped texts, of two texts, and outside images of what has a reading
+pub record IsWide (p : Attribute → Bool) (in_image : Bool) (holds : List ℕ → Type 0) : Type 0 where
+  pub own : (x : List ℕ) → Escaped x → holds x
+  pub both : (x y : List ℕ) → holds x → holds y → holds (x ++ y)
+  pub outside : in_image ≡ false → (x : List ℕ) → HasReadingWith p x → holds x
+  pub read : (x : List ℕ) → holds x → HasReadingWith p x
+
+pub wide-reading : (p : Attribute → Bool) (in_image : Bool) → IsWide p in_image (HasReadingWith p)
+wide-reading p in_image = record { own = text p; both = join p; outside = λ _ x h. h; read = λ x h. h }
+
+pub wide-escaped : (p : Attribute → Bool) (in_image : Bool) → in_image ≡ true → IsWide p in_image Escaped
+wide-escaped p in_image is = record { own = λ x h. h; both = escaped-append; outside = λ no x h. absurd (cc (is, no)); read = text p }
+
+pub narrow-wide : (p : Attribute → Bool) (escaping in_image : Bool) (holds : List ℕ → Type 0) → escaping ≡ true → IsWide p in_image holds → IsNarrow escaping holds
+narrow-wide p escaping in_image holds e w = record { own = λ x h. w.own x (h e); both = w.both }
+
+pub narrow-escaping : (escaping : Bool) → IsNarrow escaping (λ x. escaping ≡ true → Escaped x)
+narrow-escaping escaping = record { own = λ x h. h; both = λ x y f g e. escaped-append x y (f e) (g e) }
+
+-- an encoded text is escaped where that is asked for
+pub encoded-escaped : (escaping : Bool) (x : List ℕ) → escaping ≡ true → Escaped (encoded escaping x)
+encoded-escaped escaping x e = subst (λ b. Escaped (encoded b x)) (sym e) (is_escaped-encoded x)
+
+-- with nothing behind it
+pub prints-alone : (s : Setting) (holds : List ℕ → Type 0) (xs : List Piece) → Prints s holds xs → Prints s holds (xs ++ [])
+prints-alone s holds xs a = subst (Prints s holds) (sym (append-nil xs)) a
+
+-- what stands in a node, and what it prints behind that
+pub prints-both : (s : Setting) (holds : List ℕ → Type 0) → ((x y : List ℕ) → holds x → holds y → holds (x ++ y)) → (xs ys : List Piece) → Prints s holds xs → Prints s holds ys → Prints s holds (xs ++ (ys ++ []))
+prints-both s holds both xs ys a b = adds-append s.p s.given.ending holds holds holds xs (ys ++ []) both a (prints-alone s holds ys b)
+
+-- nothing in the node, and what it prints
+pub prints-own : (s : Setting) (holds : List ℕ → Type 0) (xs ys : List Piece) → Prints s (λ x. x ≡ []) xs → Prints s holds ys → Prints s holds (xs ++ (ys ++ []))
+prints-own s holds xs ys a b =
+    adds-append s.p s.given.ending (λ x. x ≡ []) holds holds xs (ys ++ []) (λ x y e h. subst (λ x. holds (x ++ y)) (sym e) h) a (prints-alone s holds ys b)
+
+-- the title of a definition is escaped
+defined-title : (definitions : List Defined) (identifier : List ℕ) → AreTitles definitions → IsEscapedTitle (defined_target definitions identifier).title
+defined-title [] identifier h = tt
+defined-title (defined ∷ others) identifier h = by (bytes_eq defined.identifier identifier) (defined-title others identifier h.1)
+  where
+    by : (is : Bool) → IsEscapedTitle (defined_target others identifier).title
+        → IsEscapedTitle (option_map_or (λ defined. defined.target) (cond is (Some defined) (find (λ defined. bytes_eq defined.identifier identifier) others)) nowhere).title
+    by true later = h.0
+    by false later = later
+
+pub target-title : (s : Setting) (ahead : Ahead) (page : Page) → IsGoodTarget page.notes.resource → IsEscapedTitle (target_of s.given ahead page).title
+target-title s ahead page good = by page.notes.resource good
+  where
+    by : (resource : Option Target) → IsGoodTarget resource → IsEscapedTitle (unwrap_or resource (defined_target s.given.definitions (identifier_at s.given.bytes (referring ahead)))).title
+    by None h = defined-title s.given.definitions (identifier_at s.given.bytes (referring ahead)) s.titles
+    by (Some target) h = h

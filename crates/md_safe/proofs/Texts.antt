@@ -1,0 +1,139 @@
+-- Texts that are escaped: line endings, digits, numbers and the text of code.
+use Rattle.std.proofs.Common.{◌≡◌, ℕ, ◌-◌, ◌<◌, ◌≤◌, ◌/◌, ◌%◌, ◌==◌, zero, suc, Bool, true, false, not, ◌&&◌, ◌||◌, cond, List, [], ◌∷◌, ◌++◌, length, take, refl, sym, ap, subst, inl, inr, arith, append_assoc, append-nil, eqb-true}
+use Rattle.std.specs.Prelude.{slice_get, slice_range, nat_le}
+use Rattle.std.specs.Fmt.{decimal, digits, digits_onto, digit_glyph}
+use Rattle.std.specs.List.{list_all}
+use Rattle.std.proofs.lemmas.Bool.{and_parts, or_cases, cond_both, agree_below_at, leb-true}
+use Rattle.md_text.specs.References.{is_escaped, completes_reference}
+use Rattle.md_text.specs.Laws.{is_line_ends}
+use Rattle.md_text.proofs.EscapedLemmas.{escaped-tail, escaped-without}
+use Rattle.md_meaning.specs.Texts.{is_space, is_padded, is_blank, trimmed, unescaped_pipes, escapes_pipe, begins_with_pipe}
+use Rattle.md_meaning.specs.Places.{without_zeros, has_leading_zero}
+use Rattle.md_shape.specs.Built.{is_digit}
+
+-- a text is escaped
+abbrev pub Escaped : List ℕ → Type 0
+Escaped text = is_escaped text ≡ true
+
+-- a byte that is no special character
+abbrev pub is_plain : ℕ → Bool
+is_plain b = not ((b == 0) || (b == 60) || (b == 62) || (b == 34)) && not (b == 38)
+
+plain_first : (b : ℕ) (rest : List ℕ) → is_plain b ≡ true → Escaped rest → Escaped (b ∷ rest)
+plain_first b rest plain h =
+    by ((b == 0) || (b == 60) || (b == 62) || (b == 34)) (b == 38) (and_parts (not ((b == 0) || (b == 60) || (b == 62) || (b == 34))) (not (b == 38)) plain)
+  where
+    by : (special and : Bool) → (not special ≡ true) × (not and ≡ true) → ((cond special false (cond and (completes_reference rest) true)) && is_escaped rest) ≡ true
+    by true and e = absurd (cc (e.0))
+    by false true e = absurd (cc (e.1))
+    by false false e = h
+
+-- bytes that are no special characters are escaped
+pub plain-escaped : (text : List ℕ) → list_all is_plain text ≡ true → Escaped text
+plain-escaped [] h = refl
+plain-escaped (b ∷ text) h =
+    let parts = and_parts (is_plain b) (list_all is_plain text) h in
+    plain_first b text parts.0 (plain-escaped text parts.1)
+
+pub line_ends-escaped : (text : List ℕ) → is_line_ends text ≡ true → Escaped text
+line_ends-escaped [] h = refl
+line_ends-escaped (b ∷ text) h =
+    let parts = and_parts ((b == 13) || (b == 10)) (is_line_ends text) h in
+    plain_first b text
+    (elim (or_cases (b == 13) (b == 10) parts.0) [
+      | inl is ↦ subst (λ b. is_plain b ≡ true) (sym (eqb-true b 13 is)) refl
+      | inr is ↦ subst (λ b. is_plain b ≡ true) (sym (eqb-true b 10 is)) refl
+    ])
+    (line_ends-escaped text parts.1)
+
+digit-plain : (b : ℕ) → is_digit b ≡ true → is_plain b ≡ true
+digit-plain b h =
+    let parts = and_parts (nat_le 48 b) (nat_le b 57) h in
+    let low : 48 ≤ b = leb-true 48 b parts.0 in
+    let high : b ≤ 57 = leb-true b 57 parts.1 in
+    let below : b < 58 = omega arith in
+    by (is_digit b) (is_plain b) h (agree_below_at (λ b. is_digit b && not (is_plain b)) (λ b. false) 58 b refl below)
+  where
+    by : (x y : Bool) → x ≡ true → (x && not y) ≡ false → y ≡ true
+    by true true e f = refl
+    by true false e f = sym f
+    by false y e f = absurd (cc e)
+
+pub digits-escaped : (text : List ℕ) → list_all is_digit text ≡ true → Escaped text
+digits-escaped [] h = refl
+digits-escaped (b ∷ text) h =
+    let parts = and_parts (is_digit b) (list_all is_digit text) h in
+    plain_first b text (digit-plain b parts.0) (digits-escaped text parts.1)
+
+-- digits without the zeros before them are digits
+pub zeros-escaped : (text : List ℕ) → list_all is_digit text ≡ true → Escaped (without_zeros text)
+zeros-escaped [] h = refl
+zeros-escaped (b ∷ text) h =
+    cond_both (has_leading_zero (b ∷ text)) (without_zeros text) (b ∷ text) Escaped
+    (λ _. zeros-escaped text (and_parts (is_digit b) (list_all is_digit text) h).1)
+    (λ _. digits-escaped (b ∷ text) h)
+
+glyph-plain : (d : ℕ) → d < 10 → is_plain (digit_glyph false d) ≡ true
+glyph-plain d l = agree_below_at (λ d. is_plain (digit_glyph false d)) (λ d. true) 10 d refl l
+
+onto-escaped : (k n : ℕ) (acc : List ℕ) → Escaped acc → Escaped (digits_onto k 10 false n acc)
+onto-escaped zero n acc h = h
+onto-escaped (suc k) n acc h =
+    let l : n % 10 < 10 = omega arith in
+    let first : Escaped (digit_glyph false (n % 10) ∷ acc) = plain_first (digit_glyph false (n % 10)) acc (glyph-plain (n % 10) l) h in
+    cond_both (n / 10 == 0) (digit_glyph false (n % 10) ∷ acc) (digits_onto k 10 false (n / 10) (digit_glyph false (n % 10) ∷ acc)) Escaped
+    (λ _. first) (λ _. onto-escaped k (n / 10) (digit_glyph false (n % 10) ∷ acc) first)
+
+pub decimal-escaped : (n : ℕ) → Escaped (decimal n)
+unfolding digits
+decimal-escaped n = onto-escaped 64 n [] refl
+
+-- the pipes' backslashes go
+pipes : (text front : List ℕ) → Escaped (front ++ text) → Escaped (front ++ unescaped_pipes text)
+pipes [] front h = h
+pipes (b ∷ text) front h =
+    cond_both (escapes_pipe b text) (unescaped_pipes text) (b ∷ unescaped_pipes text) (λ x. Escaped (front ++ x))
+    (λ escapes.
+    let is : b ≡ 92 = eqb-true b 92 (and_parts (b == 92) (begins_with_pipe text) escapes).0 in
+    pipes text front (escaped-without 92 front text refl (subst (λ b. Escaped (front ++ (b ∷ text))) is h)))
+    (λ _.
+    subst Escaped (append_assoc front (b ∷ []) (unescaped_pipes text))
+    (pipes text (front ++ (b ∷ [])) (subst Escaped (sym (append_assoc front (b ∷ []) text)) h)))
+
+pub pipes-escaped : (text : List ℕ) → Escaped text → Escaped (unescaped_pipes text)
+pipes-escaped text h = pipes text [] h
+
+-- a text that ends in a space, without it
+record Trim (b : ℕ) (text : List ℕ) : Type 0 where
+  front : List ℕ
+  whole : b ∷ text ≡ front ++ (32 ∷ [])
+  cut : take (length text) (b ∷ text) ≡ front
+
+trim_last : (b : ℕ) (text : List ℕ) → is_space (slice_get (b ∷ text) (length text)) ≡ true → Trim b text
+trim_last b [] h = record { front = []; whole = ap (λ b. b ∷ []) (eqb-true b 32 h); cut = refl }
+trim_last b (c ∷ text) h =
+    let r = trim_last c text h in
+    record { front = b ∷ r.front; whole = ap (λ x. b ∷ x) r.whole; cut = ap (λ x. b ∷ x) r.cut }
+
+cut_last : (c n : ℕ) (text : List ℕ) → n ≡ length text → is_space (slice_get (c ∷ text) n) ≡ true → Escaped (c ∷ text) → Escaped (take n (c ∷ text))
+cut_last c n text size last h =
+    let r = trim_last c text (subst (λ n. is_space (slice_get (c ∷ text) n) ≡ true) size last) in
+    let front : Escaped (r.front ++ []) = escaped-without 32 r.front [] refl (subst Escaped r.whole h) in
+    subst (λ n. Escaped (take n (c ∷ text))) (sym size) (subst Escaped (sym r.cut) (subst Escaped (append-nil r.front) front))
+
+later : (b c n : ℕ) (text : List ℕ) → n ≡ suc (length text) → is_space (slice_get (b ∷ c ∷ text) n) ≡ true → is_space (slice_get (c ∷ text) (length text)) ≡ true
+later b c n text size h = subst (λ n. is_space (slice_get (b ∷ c ∷ text) n) ≡ true) size h
+
+trim_both : (text : List ℕ) → Escaped text → is_padded text ≡ true → Escaped (slice_range text 1 (length text - 1))
+trim_both [] h padded = refl
+trim_both (b ∷ []) h padded = refl
+trim_both (b ∷ c ∷ text) h padded =
+    let all = and_parts (is_space (slice_get (b ∷ c ∷ text) 0) && is_space (slice_get (b ∷ c ∷ text) (length (b ∷ c ∷ text) - 1))) (not (is_blank (b ∷ c ∷ text))) padded in
+    let ends = and_parts (is_space (slice_get (b ∷ c ∷ text) 0)) (is_space (slice_get (b ∷ c ∷ text) (length (b ∷ c ∷ text) - 1))) all.0 in
+    let size : length (b ∷ c ∷ text) - 1 ≡ suc (length text) = omega arith in
+    let cut : length (b ∷ c ∷ text) - 1 - 1 ≡ length text = omega arith in
+    let last : is_space (slice_get (c ∷ text) (length text)) ≡ true = later b c _ text size ends.1 in
+    cut_last c _ text cut (subst (λ n. is_space (slice_get (c ∷ text) n) ≡ true) (sym cut) last) (escaped-tail b (c ∷ text) h)
+
+pub trimmed-escaped : (text : List ℕ) → Escaped text → Escaped (trimmed text)
+trimmed-escaped text h = cond_both (is_padded text) (slice_range text 1 (length text - 1)) text Escaped (trim_both text h) (λ _. h)

@@ -1,0 +1,19 @@
+-- The options under which output is safe.
+use Rattle.std.specs.Prelude.{◌≡◌, false, None}
+use Rattle.md_meaning.specs.declared.options.CompileOptions.{CompileOptions}
+
+-- nothing is written as it is given: HTML is escaped, and the heading of the footnotes is the usual one
+pub record KeepsGrammar (options : CompileOptions) : Type 0 where
+  pub escapes_html : options.allow_dangerous_html ≡ false
+  pub usual_tag : options.gfm_footnote_label_tag_name ≡ None
+  pub usual_attributes : options.gfm_footnote_label_attributes ≡ None
+
+-- besides, links keep to the permitted protocols
+pub record KeepsLinks (options : CompileOptions) : Type 0 where
+  pub grammar : KeepsGrammar options
+  pub permitted_links : options.allow_dangerous_protocol ≡ false
+
+-- besides, images keep to the permitted protocols
+pub record KeepsImages (options : CompileOptions) : Type 0 where
+  pub grammar : KeepsGrammar options
+  pub permitted_images : options.allow_any_img_src ≡ false

@@ -1,0 +1,25 @@
+//! What holds of the meaning of every document, as the contracts of functions that do nothing.
+
+ghost use Rattle.std.specs.Prelude.{ℕ, List};
+ghost use Rattle.md_text.specs.Html.{any_attribute, HasOneReadingWith};
+ghost use Rattle.md_text.specs.Safe.{is_safe_link, is_safe_image};
+ghost use Rattle.md_tree.specs.Tree.{Forest};
+ghost use Rattle.md_meaning.specs.declared.options.CompileOptions.{CompileOptions};
+ghost use Rattle.md_meaning.specs.Meaning.{meaning};
+ghost use Rattle.md_shape.specs.Built.{Blocks, IsBuilt};
+ghost use Rattle.md_safe.specs.Options.{KeepsGrammar, KeepsLinks, KeepsImages};
+
+/// A document that is built of what may stand where it is means a text of the HTML grammar with exactly one
+/// reading, where the options write nothing as it is given; and in that reading each link, and each image, has
+/// no protocol or a permitted one, where the options keep to those.
+pub fn safe_options_make_safe_output()
+    ensures one_reading { (bytes : List ℕ) (names : List (List ℕ × List ℕ)) (options : CompileOptions) (document : Forest)
+        → IsBuilt bytes Blocks document → KeepsGrammar options
+        → HasOneReadingWith any_attribute (meaning options names bytes document) }
+    ensures safe_links { (bytes : List ℕ) (names : List (List ℕ × List ℕ)) (options : CompileOptions) (document : Forest)
+        → IsBuilt bytes Blocks document → KeepsLinks options
+        → HasOneReadingWith is_safe_link (meaning options names bytes document) }
+    ensures safe_images { (bytes : List ℕ) (names : List (List ℕ × List ℕ)) (options : CompileOptions) (document : Forest)
+        → IsBuilt bytes Blocks document → KeepsImages options
+        → HasOneReadingWith is_safe_image (meaning options names bytes document) }
+{}

@@ -1,0 +1,278 @@
+-- What may stand where, said by the symbols of the grammar in place of names, and that both say the same.
+use Rattle.std.proofs.Common.{◌≡◌, Bool, true, false, ◌&&◌, ◌||◌, if◌then◌else◌, List, [], ◌∷◌, refl}
+use Rattle.std.specs.List.{list_all}
+use Rattle.std.proofs.lemmas.Bool.{and_parts}
+use Rattle.md_base.specs.declared.event.Name.{Name}
+use Rattle.md_base.specs.declared.event.Name.TheVariants.{BlockQuotePrefix, SpaceOrTab, Other, MdxEsm, MdxFlowExpression, MdxTextExpression, MdxJsxFlowTag, MdxJsxTextTag}
+use Rattle.md_tree.specs.declared.kinds.Symbol.{Symbol}
+use Rattle.md_tree.specs.declared.kinds.Symbol.TheVariants as symbol
+use Rattle.md_tree.specs.declared.kinds.Role.{Role}
+use Rattle.md_tree.specs.declared.kinds.Role.TheVariants as role
+use Rattle.md_tree.specs.declared.kinds.Times.{Times}
+use Rattle.md_tree.specs.declared.kinds.Times.TheVariants.{Once, Maybe, Many}
+use Rattle.md_tree.specs.declared.kinds.Item.{Item}
+use Rattle.md_tree.specs.declared.kinds.Standing.{Standing}
+use Rattle.md_tree.specs.declared.kinds.Standing.TheVariants.{Through, Space, Solid, Mdx}
+use Rattle.md_tree.specs.Standing.{standing_of}
+use Rattle.md_tree.specs.Pattern.{members, pattern_of}
+use Rattle.md_tree.specs.NameTests.{is_transparent}
+use Rattle.md_shape.specs.Built.{Content, Blocks, Spans, Strings, FirstFence, FirstMathFence, Chunks, InfoAndMeta, MetaAlone, Done, Nothing, is_string, is_span, is_in_media, is_autolink, is_fence, is_code_fence, is_math_fence, is_meta, is_info, is_done, is_line, is_part, may_stand, content_of, content_past}
+
+-- what is asked of a name, or of a symbol
+pub record Tests : Type 0 where
+  pub part : Bool
+  pub string : Bool
+  pub spanning : Bool
+  pub fence : Bool
+  pub code_fence : Bool
+  pub math_fence : Bool
+  pub line : Bool
+  pub info : Bool
+  pub meta : Bool
+  pub done : Bool
+
+abbrev pub tests_of : Name → Tests
+tests_of name = record {
+  part = is_part name;
+  string = is_string name;
+  spanning = is_span name || (is_in_media name || is_autolink name);
+  fence = is_fence name;
+  code_fence = is_code_fence name;
+  math_fence = is_math_fence name;
+  line = is_line name;
+  info = is_info name;
+  meta = is_meta name;
+  done = is_done name;
+}
+
+abbrev pub is_part_symbol : Symbol → Bool
+is_part_symbol symbol.CodeFence = true
+is_part_symbol symbol.MathFence = true
+is_part_symbol symbol.CodeInfo = true
+is_part_symbol symbol.TaskChecked = true
+is_part_symbol _ = false
+
+abbrev pub is_string_symbol : Symbol → Bool
+is_string_symbol symbol.Text = true
+is_string_symbol symbol.LineEnding = true
+is_string_symbol symbol.ReferenceMarker = true
+is_string_symbol symbol.ReferenceNumeric = true
+is_string_symbol symbol.ReferenceHexadecimal = true
+is_string_symbol symbol.ReferenceValue = true
+is_string_symbol symbol.CodeTextData = true
+is_string_symbol symbol.MathTextData = true
+is_string_symbol _ = false
+
+abbrev pub is_spanning_symbol : Symbol → Bool
+is_spanning_symbol symbol.Span = true
+is_spanning_symbol symbol.HtmlTextData = true
+is_spanning_symbol symbol.Label = true
+is_spanning_symbol symbol.LabelText = true
+is_spanning_symbol symbol.Resource = true
+is_spanning_symbol symbol.ResourceDestination = true
+is_spanning_symbol symbol.ResourceTitle = true
+is_spanning_symbol symbol.ReferenceString = true
+is_spanning_symbol _ = false
+
+abbrev pub is_fence_symbol : Symbol → Bool
+is_fence_symbol symbol.CodeFence = true
+is_fence_symbol symbol.MathFence = true
+is_fence_symbol _ = false
+
+abbrev pub is_code_fence_symbol : Symbol → Bool
+is_code_fence_symbol symbol.CodeFence = true
+is_code_fence_symbol _ = false
+
+abbrev pub is_math_fence_symbol : Symbol → Bool
+is_math_fence_symbol symbol.MathFence = true
+is_math_fence_symbol _ = false
+
+abbrev pub is_line_symbol : Symbol → Bool
+is_line_symbol symbol.LineEnding = true
+is_line_symbol symbol.BlankLineEnding = true
+is_line_symbol symbol.CodeFlowChunk = true
+is_line_symbol symbol.MathFlowChunk = true
+is_line_symbol _ = false
+
+abbrev pub is_info_symbol : Symbol → Bool
+is_info_symbol symbol.CodeInfo = true
+is_info_symbol _ = false
+
+abbrev pub is_meta_symbol : Symbol → Bool
+is_meta_symbol symbol.CodeMeta = true
+is_meta_symbol symbol.MathMeta = true
+is_meta_symbol _ = false
+
+abbrev pub is_done_symbol : Symbol → Bool
+is_done_symbol symbol.TaskChecked = true
+is_done_symbol _ = false
+
+abbrev pub tests_for : Symbol → Tests
+tests_for symbol = record {
+  part = is_part_symbol symbol;
+  string = is_string_symbol symbol;
+  spanning = is_spanning_symbol symbol;
+  fence = is_fence_symbol symbol;
+  code_fence = is_code_fence_symbol symbol;
+  math_fence = is_math_fence_symbol symbol;
+  line = is_line_symbol symbol;
+  info = is_info_symbol symbol;
+  meta = is_meta_symbol symbol;
+  done = is_done_symbol symbol;
+}
+
+-- what passes these tests may stand there
+abbrev pub may_by : Content → Tests → Bool
+may_by Blocks tests = if tests.part then false else true
+may_by Spans tests = tests.string || tests.spanning
+may_by Strings tests = tests.string
+may_by FirstFence tests = tests.code_fence
+may_by FirstMathFence tests = tests.math_fence
+may_by Chunks tests = tests.line || tests.fence
+may_by InfoAndMeta tests = tests.info || tests.meta
+may_by MetaAlone tests = tests.meta
+may_by Done tests = tests.done
+may_by Nothing tests = false
+
+-- what may stand behind what passes these tests
+abbrev pub past_by : Content → Tests → Content
+past_by FirstFence tests = Chunks
+past_by FirstMathFence tests = Chunks
+past_by InfoAndMeta tests = if tests.info then MetaAlone else Nothing
+past_by MetaAlone tests = Nothing
+past_by Done tests = Nothing
+past_by content tests = content
+
+pub may_by-names : (content : Content) (name : Name) → may_by content (tests_of name) ≡ may_stand content name
+may_by-names Blocks name = refl
+may_by-names Spans name = refl
+may_by-names Strings name = refl
+may_by-names FirstFence name = refl
+may_by-names FirstMathFence name = refl
+may_by-names Chunks name = refl
+may_by-names InfoAndMeta name = refl
+may_by-names MetaAlone name = refl
+may_by-names Done name = refl
+may_by-names Nothing name = refl
+
+pub past_by-names : (content : Content) (name : Name) → past_by content (tests_of name) ≡ content_past content name
+past_by-names Blocks name = refl
+past_by-names Spans name = refl
+past_by-names Strings name = refl
+past_by-names FirstFence name = refl
+past_by-names FirstMathFence name = refl
+past_by-names Chunks name = refl
+past_by-names InfoAndMeta name = refl
+past_by-names MetaAlone name = refl
+past_by-names Done name = refl
+past_by-names Nothing name = refl
+
+-- a symbol may stand there, behind others or at the beginning: lines begin with no fence
+abbrev pub may_show : Bool → Content → Symbol → Bool
+may_show false Chunks symbol = false
+may_show behind content symbol = may_by content (tests_for symbol)
+
+abbrev pub past : Content → Symbol → Content
+past content symbol = past_by content (tests_for symbol)
+
+-- the symbols may stand there, one after another
+abbrev pub admits : Bool → Content → List Symbol → Bool
+admits behind content [] = true
+admits behind content (symbol ∷ symbols) = may_show behind content symbol && admits true (past content symbol) symbols
+
+abbrev pub same_content : Content → Content → Bool
+same_content Blocks Blocks = true
+same_content Spans Spans = true
+same_content Strings Strings = true
+same_content FirstFence FirstFence = true
+same_content FirstMathFence FirstMathFence = true
+same_content Chunks Chunks = true
+same_content InfoAndMeta InfoAndMeta = true
+same_content MetaAlone MetaAlone = true
+same_content Done Done = true
+same_content Nothing Nothing = true
+same_content _ _ = false
+
+-- symbols of an item may stand there, so many as it has, and what is left behind them
+abbrev pub item_admits : Times → List Symbol → (Bool → Content → Bool) → Bool → Content → Bool
+item_admits Once members left behind content = list_all (λ member. may_show behind content member && left true (past content member)) members
+item_admits Maybe members left behind content =
+    left behind content && list_all (λ member. may_show behind content member && left true (past content member)) members
+item_admits Many members left behind content =
+    left behind content && list_all (λ member. may_show behind content member && same_content (past content member) content) members
+
+-- what fits a pattern may stand there
+abbrev pub pattern_admits : List Item → Bool → Content → Bool
+pattern_admits [] behind content = true
+pattern_admits (item ∷ items) behind content = item_admits item.times (members item.class) (λ b c. pattern_admits items b c) behind content
+
+abbrev pub every_content : (Content → Bool) → Bool
+every_content test =
+    test Blocks && (test Spans && (test Strings && (test FirstFence && (test FirstMathFence && (test Chunks && (test InfoAndMeta && (test MetaAlone && (test Done && test Nothing))))))))
+
+pub each_content : (test : Content → Bool) → every_content test ≡ true → (content : Content) → test content ≡ true
+each_content test h content =
+    let spans = and_parts (test Blocks) _ h in
+    let strings = and_parts (test Spans) _ spans.1 in
+    let fence = and_parts (test Strings) _ strings.1 in
+    let math = and_parts (test FirstFence) _ fence.1 in
+    let chunks = and_parts (test FirstMathFence) _ math.1 in
+    let info = and_parts (test Chunks) _ chunks.1 in
+    let meta = and_parts (test InfoAndMeta) _ info.1 in
+    let done = and_parts (test MetaAlone) _ meta.1 in
+    let nothing = and_parts (test Done) _ done.1 in
+    elim content as (λ c. test c ≡ true) [
+      | Blocks ↦ spans.0
+      | Spans ↦ strings.0
+      | Strings ↦ fence.0
+      | FirstFence ↦ math.0
+      | FirstMathFence ↦ chunks.0
+      | Chunks ↦ info.0
+      | InfoAndMeta ↦ meta.0
+      | MetaAlone ↦ done.0
+      | Done ↦ nothing.0
+      | Nothing ↦ nothing.1
+    ]
+
+-- the roles that a name with this usual one may have, behind others or at the beginning
+abbrev pub roles_for : Bool → Role → List Role
+roles_for behind role.Item = role.Item ∷ role.OrderedItem ∷ role.FirstOrderedItem ∷ []
+roles_for behind role.Prefix = role.Prefix ∷ role.OrderedPrefix ∷ role.FirstOrderedPrefix ∷ []
+roles_for behind role.Label = role.Label ∷ role.CallLabel ∷ []
+roles_for true role.CodeFence = role.CodeFence ∷ []
+roles_for false role.CodeFence = role.FirstCodeFence ∷ []
+roles_for true role.MathFence = role.MathFence ∷ []
+roles_for false role.MathFence = role.FirstMathFence ∷ []
+roles_for behind usual = usual ∷ []
+
+abbrev pub implies : Bool → Bool → Bool
+implies true holds = holds
+implies false holds = true
+
+-- wherever a node may stand, what fits the patterns of its roles may stand in it
+abbrev pub holds_patterns : Bool → Name → Symbol → Role → Content → Bool
+holds_patterns behind name symbol usual content =
+    implies (may_show behind content symbol) (list_all (λ role. pattern_admits (pattern_of role) false (content_of name content)) (roles_for behind usual))
+
+abbrev pub holds_patterns_everywhere : Bool → Name → Symbol → Role → Bool
+holds_patterns_everywhere behind name symbol usual = every_content (holds_patterns behind name symbol usual)
+
+-- what names say, by how they stand
+abbrev pub Told : Standing → Name → Type 0
+Told Through name = is_transparent name ≡ true
+Told Space name = is_transparent name ≡ true
+Told (Solid symbol usual reading) name =
+    (is_transparent name ≡ false) × (tests_of name ≡ tests_for symbol)
+    × (holds_patterns_everywhere true name symbol usual ≡ true) × (holds_patterns_everywhere false name symbol usual ≡ true)
+Told Mdx name = Unit {0}
+
+pub told : (name : Name) → Told (standing_of name) name
+told BlockQuotePrefix = refl
+told (Other number) = refl
+told SpaceOrTab = refl
+told MdxEsm = tt
+told MdxFlowExpression = tt
+told MdxTextExpression = tt
+told MdxJsxFlowTag = tt
+told MdxJsxTextTag = tt
+told _ = (refl, refl, refl, refl)

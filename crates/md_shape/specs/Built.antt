@@ -1,0 +1,212 @@
+-- What may stand where in a document, by names alone. Only proofs speak of it: each document of the grammar
+-- is built so.
+use Rattle.std.specs.Prelude.{ℕ, ◌≤◌, Bool, true, false, ◌&&◌, ◌||◌, nat_le, if◌then◌else◌, IsTrue, List}
+use Rattle.std.specs.Option.{option_map_or}
+use Rattle.std.specs.List.{list_all, list_any}
+use Rattle.md_base.specs.declared.event.Name.{Name}
+use Rattle.md_base.specs.declared.event.Name.TheVariants.{LineEnding, BlankLineEnding, Data, CharacterEscapeValue, CharacterReferenceMarker, CharacterReferenceMarkerNumeric, CharacterReferenceMarkerHexadecimal, CharacterReferenceValue, CodeText, CodeTextData, MathText, MathTextData, HtmlText, HtmlTextData, Emphasis, Strong, GfmStrikethrough, Link, Image, Label, LabelText, Resource, ResourceDestinationString, ResourceTitleString, ReferenceString, GfmFootnoteCall, AutolinkEmail, AutolinkProtocol, GfmAutolinkLiteralEmail, GfmAutolinkLiteralMailto, GfmAutolinkLiteralProtocol, GfmAutolinkLiteralWww, GfmAutolinkLiteralXmpp, HardBreakEscape, HardBreakTrailing, GfmTaskListItemCheck, GfmTaskListItemValueChecked, CodeFenced, CodeFencedFence, CodeFencedFenceInfo, CodeFencedFenceMeta, CodeFlowChunk, MathFlow, MathFlowFence, MathFlowFenceMeta, MathFlowChunk, DefinitionLabelString, DefinitionDestinationString, DefinitionTitleString, GfmFootnoteDefinitionLabelString, HeadingAtx, ListOrdered}
+use Rattle.md_base.specs.declared.event.Point.{Point}
+use Rattle.md_text.specs.Laws.{is_line_ends}
+use Rattle.md_tree.specs.Tree.{Forest, Empty, Node}
+use Rattle.md_tree.specs.NameTests.{is_transparent}
+use Rattle.md_tree.specs.Children.{spine_names}
+use Rattle.md_meaning.specs.Given.{text_of}
+use Rattle.md_meaning.specs.Places.{ahead_of}
+use Rattle.md_meaning.specs.Blocks.{rank_of}
+
+-- what may stand somewhere: blocks and all that prints whole elements; spans; strings; the first fence of code, or
+-- of math, and what follows it; in a first fence what it says of the code, or the rest of that; in a task whether it
+-- is done; nothing
+pub data Content : Type 0 where
+  Blocks : Content
+  Spans : Content
+  Strings : Content
+  FirstFence : Content
+  FirstMathFence : Content
+  Chunks : Content
+  InfoAndMeta : Content
+  MetaAlone : Content
+  Done : Content
+  Nothing : Content
+
+abbrev pub is_string : Name → Bool
+is_string LineEnding = true
+is_string Data = true
+is_string CharacterEscapeValue = true
+is_string CharacterReferenceMarker = true
+is_string CharacterReferenceMarkerNumeric = true
+is_string CharacterReferenceMarkerHexadecimal = true
+is_string CharacterReferenceValue = true
+is_string CodeTextData = true
+is_string MathTextData = true
+is_string _ = false
+
+abbrev pub is_span : Name → Bool
+is_span HtmlText = true
+is_span HtmlTextData = true
+is_span Emphasis = true
+is_span Strong = true
+is_span GfmStrikethrough = true
+is_span CodeText = true
+is_span MathText = true
+is_span Link = true
+is_span Image = true
+is_span HardBreakEscape = true
+is_span HardBreakTrailing = true
+is_span GfmTaskListItemCheck = true
+is_span GfmFootnoteCall = true
+is_span _ = false
+
+-- what stands in links, images and calls
+abbrev pub is_in_media : Name → Bool
+is_in_media Label = true
+is_in_media LabelText = true
+is_in_media Resource = true
+is_in_media ResourceDestinationString = true
+is_in_media ResourceTitleString = true
+is_in_media ReferenceString = true
+is_in_media _ = false
+
+abbrev pub is_autolink : Name → Bool
+is_autolink AutolinkEmail = true
+is_autolink AutolinkProtocol = true
+is_autolink GfmAutolinkLiteralEmail = true
+is_autolink GfmAutolinkLiteralMailto = true
+is_autolink GfmAutolinkLiteralProtocol = true
+is_autolink GfmAutolinkLiteralWww = true
+is_autolink GfmAutolinkLiteralXmpp = true
+is_autolink _ = false
+
+abbrev pub is_fence : Name → Bool
+is_fence CodeFencedFence = true
+is_fence MathFlowFence = true
+is_fence _ = false
+
+abbrev pub is_code_fence : Name → Bool
+is_code_fence CodeFencedFence = true
+is_code_fence _ = false
+
+abbrev pub is_math_fence : Name → Bool
+is_math_fence MathFlowFence = true
+is_math_fence _ = false
+
+abbrev pub is_meta : Name → Bool
+is_meta CodeFencedFenceMeta = true
+is_meta MathFlowFenceMeta = true
+is_meta _ = false
+
+abbrev pub is_info : Name → Bool
+is_info CodeFencedFenceInfo = true
+is_info _ = false
+
+abbrev pub is_done : Name → Bool
+is_done GfmTaskListItemValueChecked = true
+is_done _ = false
+
+abbrev pub is_line : Name → Bool
+is_line LineEnding = true
+is_line BlankLineEnding = true
+is_line CodeFlowChunk = true
+is_line MathFlowChunk = true
+is_line _ = false
+
+-- a name that prints a part of a tag
+abbrev pub is_part : Name → Bool
+is_part CodeFencedFence = true
+is_part MathFlowFence = true
+is_part CodeFencedFenceInfo = true
+is_part GfmTaskListItemValueChecked = true
+is_part _ = false
+
+-- a name that isn't transparent may stand there
+abbrev pub may_stand : Content → Name → Bool
+may_stand Blocks name = if is_part name then false else true
+may_stand Spans name = is_string name || (is_span name || (is_in_media name || is_autolink name))
+may_stand Strings name = is_string name
+may_stand FirstFence name = is_code_fence name
+may_stand FirstMathFence name = is_math_fence name
+may_stand Chunks name = is_line name || is_fence name
+may_stand InfoAndMeta name = is_info name || is_meta name
+may_stand MetaAlone name = is_meta name
+may_stand Done name = is_done name
+may_stand Nothing name = false
+
+-- what may stand in a first fence, and in another
+abbrev pub in_fence : Name → Content → Content
+in_fence CodeFencedFence FirstFence = InfoAndMeta
+in_fence MathFlowFence FirstMathFence = MetaAlone
+in_fence _ _ = Nothing
+
+-- what may stand in a node that isn't transparent
+abbrev pub content_of : Name → Content → Content
+content_of Image content = Spans
+content_of CodeText content = Strings
+content_of MathText content = Strings
+content_of DefinitionLabelString content = Strings
+content_of DefinitionDestinationString content = Strings
+content_of DefinitionTitleString content = Strings
+content_of GfmFootnoteDefinitionLabelString content = Strings
+content_of ResourceDestinationString content = Strings
+content_of ResourceTitleString content = Strings
+content_of ReferenceString content = Strings
+content_of CodeFencedFenceInfo content = Strings
+content_of CodeFencedFenceMeta content = Strings
+content_of MathFlowFenceMeta content = Strings
+content_of CodeFenced content = FirstFence
+content_of MathFlow content = FirstMathFence
+content_of CodeFencedFence content = in_fence CodeFencedFence content
+content_of MathFlowFence content = in_fence MathFlowFence content
+content_of GfmTaskListItemCheck content = Done
+content_of LineEnding content = Nothing
+content_of BlankLineEnding content = Nothing
+content_of CodeFlowChunk content = Nothing
+content_of MathFlowChunk content = Nothing
+content_of GfmTaskListItemValueChecked content = Nothing
+content_of _ content = content
+
+abbrev pub content_inside : Content → Name → Content
+content_inside content name = if is_transparent name then content else content_of name content
+
+-- what may stand behind a name that isn't transparent
+abbrev pub content_past : Content → Name → Content
+content_past FirstFence name = Chunks
+content_past FirstMathFence name = Chunks
+content_past InfoAndMeta name = if is_info name then MetaAlone else Nothing
+content_past MetaAlone name = Nothing
+content_past Done name = Nothing
+content_past content name = content
+
+-- what may stand behind some nodes
+abbrev pub content_after : Content → Forest → Content
+content_after content Empty = content
+content_after content (Node name start end children rest) =
+    content_after (if is_transparent name then content_after content children else content_past content name) rest
+
+abbrev pub content_behind : Content → Name → Forest → Content
+content_behind content name children =
+    if is_transparent name then content_after content children else content_past content name
+
+-- a decimal digit
+abbrev pub is_digit : ℕ → Bool
+is_digit byte = nat_le 48 byte && nat_le byte 57
+
+-- what else is asked of a node: the text of a line ending is one; a heading's rank is 1 to 6; a list's number has
+-- digits alone; a raw flow has a fence
+abbrev pub IsFit : List ℕ → Name → Point → Point → Forest → Type 0
+IsFit bytes LineEnding start end children = IsTrue (is_line_ends (text_of bytes start end))
+IsFit bytes BlankLineEnding start end children = IsTrue (is_line_ends (text_of bytes start end))
+IsFit bytes HeadingAtx start end children = (1 ≤ rank_of bytes (ahead_of children).mark) × (rank_of bytes (ahead_of children).mark ≤ 6)
+IsFit bytes ListOrdered start end children =
+    IsTrue (option_map_or (λ place. list_all is_digit (text_of bytes place.start place.end)) (ahead_of children).number true)
+IsFit bytes CodeFenced start end children = IsTrue (list_any is_fence (spine_names children))
+IsFit bytes MathFlow start end children = IsTrue (list_any is_fence (spine_names children))
+IsFit bytes _ start end children = Unit {0}
+
+-- some nodes are built of what may stand where they are
+abbrev pub IsBuilt : List ℕ → Content → Forest → Type 0
+IsBuilt bytes content Empty = Unit {0}
+IsBuilt bytes content (Node name start end children rest) =
+    IsTrue (is_transparent name || may_stand content name)
+    × IsFit bytes name start end children
+    × IsBuilt bytes (content_inside content name) children
+    × IsBuilt bytes (content_behind content name children) rest

@@ -1,0 +1,4 @@
+pub mod Tally
+pub mod Maps
+pub mod Endings
+pub mod Lists

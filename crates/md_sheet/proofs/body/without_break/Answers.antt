@@ -1,0 +1,20 @@
+use Rattle.md_meaning.specs.Footnotes as notes
+use Rattle.md_sheet.proofs.body.without_break.Goals as goal
+use Rattle.std.proofs.Common.{ap, sym, ◌∙◌, arith}
+use Rattle.md_sheet.proofs.Endings.{without-break, without-other}
+
+pub returns-then-is_break : goal.returns-then-is_break
+returns-then-is_break c =
+    let rest = c.in-Some.rest.now in
+    let last = c.in-Some.last.now in (
+      sym (ap (λ t. notes.without_endings t) c.in-Some.ensures.cases.0 ∙ without-break rest last (sym c.is_break.ensures ∙ c.if-is_break.true)),
+      omega (arith, c.in-Some.ensures.cases.1),
+    )
+
+pub returns-else-is_break : goal.returns-else-is_break
+returns-else-is_break c =
+    let rest = c.in-Some.rest.now in
+    let last = c.in-Some.last.now in
+    ap (λ t. notes.without_endings t) c.in-Some.ensures.cases.0
+    ∙ without-other rest last (sym c.is_break.ensures ∙ c.if-is_break.false)
+    ∙ sym c.in-Some.ensures.cases.0

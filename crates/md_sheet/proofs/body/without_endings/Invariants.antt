@@ -1,0 +1,9 @@
+use Rattle.std.proofs.Common.{◌≡◌, length}
+use Rattle.md_meaning.specs.Footnotes as notes
+use Rattle.md_sheet.proofs.body.without_endings.Given as goal
+
+abbrev pub invariant-loop-rest : goal.invariant-loop-rest
+invariant-loop-rest l = notes.without_endings l.kept ≡ notes.without_endings l.text
+
+abbrev pub decreases-loop-rest : goal.decreases-loop-rest
+decreases-loop-rest l = length l.kept

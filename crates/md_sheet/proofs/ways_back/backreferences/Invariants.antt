@@ -1,0 +1,11 @@
+use Rattle.std.proofs.Common.{◌-◌, ◌≡◌, string_bytes, ◌≤◌}
+use Rattle.md_meaning.specs.Footnotes as notes
+use Rattle.md_sheet.proofs.ways_back.backreferences.Given as goal
+
+abbrev pub invariant-loop-done : goal.invariant-loop-done
+invariant-loop-done l =
+    (string_bytes l.text ≡ notes.backreferences l.options l.identifier l.done) × (l.done ≤ l.count)
+
+-- proposed from the loop's first test
+abbrev pub decreases-loop-done : goal.decreases-loop-done
+decreases-loop-done l = l.count - l.done

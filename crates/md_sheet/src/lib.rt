@@ -1,0 +1,20 @@
+//! Pages that are laid out piece by piece, and what is seen of footnotes while they are.
+#![tactic(auto)]
+
+mod body;
+mod calls;
+mod footnotes;
+mod ids;
+mod notes;
+mod section;
+mod sheet;
+#[cfg(test)]
+mod tests;
+mod ways_back;
+
+pub use calls::Calls;
+pub use footnotes::Footnotes;
+pub use ids::{call_id, footnote_id};
+pub use notes::{Defined, Notes, Target};
+pub use section::lay_section;
+pub use sheet::Sheet;

@@ -1,0 +1,174 @@
+//! The section of footnotes at a document's end.
+
+ghost use Rattle.std.specs.Prelude.{◌≡◌, ◌∷◌, [], codes, OnOk};
+ghost use Rattle.md_meaning.specs.Piece.{lay, Text, Needed, Forced};
+ghost use Rattle.md_meaning.specs.Footnotes as notes;
+
+use crate::body::lay_body;
+use crate::calls::Calls;
+use crate::footnotes::Footnotes;
+use crate::ids::{escaped_option, footnote_id};
+use crate::sheet::Sheet;
+use crate::ways_back::backreferences;
+use md_meaning::CompileOptions;
+use std::alloc::{AllocError, Global};
+
+/// Lays the beginning of a footnote, up to its text.
+fn item_start(
+    alloc: Global,
+    sheet: &mut Sheet,
+    options: &CompileOptions,
+    ending: &str,
+    identifier: &str,
+) -> Result<(), AllocError>
+    ensures { OnOk result (sheet.new ≡ lay ending.now sheet.old (notes.item_opening options.now identifier.now)) }
+{
+    let id = footnote_id(alloc, options, identifier)?;
+    sheet.put(ending)?;
+    sheet.put("<li id=\"")?;
+    sheet.put(id.as_str())?;
+    sheet.put("\">")?;
+    sheet.put(ending)
+}
+
+/// Lays a footnote with so many calls.
+fn item(
+    alloc: Global,
+    sheet: &mut Sheet,
+    options: &CompileOptions,
+    ending: &str,
+    text: &str,
+    identifier: &str,
+    count: usize,
+) -> Result<(), AllocError>
+    ensures { OnOk result (sheet.new ≡ lay ending.now sheet.old (notes.item_pieces options.now text.now identifier.now count)) }
+{
+    let back = backreferences(alloc, options, identifier, count)?;
+    item_start(alloc, sheet, options, ending, identifier)?;
+    lay_body(sheet, ending, text, back.as_str())?;
+    item_end(sheet, ending)
+}
+
+/// Lays the end of a footnote.
+fn item_end(sheet: &mut Sheet, ending: &str) -> Result<(), AllocError>
+    ensures { OnOk result (sheet.new ≡ lay ending.now sheet.old notes.item_closing) }
+{
+    sheet.need(ending)?;
+    sheet.put("</li>")
+}
+
+/// Lays the footnotes that are called, in the order of their first calls.
+fn items(
+    alloc: Global,
+    sheet: &mut Sheet,
+    options: &CompileOptions,
+    ending: &str,
+    calls: &Calls,
+    footnotes: &Footnotes,
+) -> Result<(), AllocError>
+    ensures { OnOk result (sheet.new ≡ lay ending.now sheet.old (notes.items_pieces options.now footnotes.now calls.now)) }
+{
+    let mut index = 0;
+    while let Some((identifier, count)) = calls.at(index) {
+        let text = footnotes.text_of(identifier);
+        item(alloc, sheet, options, ending, text, identifier, count)?;
+        index += 1;
+    }
+    Ok(())
+}
+
+/// Lays the beginning of the section, up to its footnotes.
+fn section_start(
+    alloc: Global,
+    sheet: &mut Sheet,
+    options: &CompileOptions,
+    ending: &str,
+) -> Result<(), AllocError>
+    ensures { OnOk result (sheet.new ≡ lay ending.now sheet.old (notes.section_opening options.now)) }
+{
+    let tag = escaped_option(alloc, &options.gfm_footnote_label_tag_name, "h2")?;
+    heading_start(sheet, ending, tag.as_str(), attributes_of(options))?;
+    label(alloc, sheet, options)?;
+    heading_end(sheet, ending, tag.as_str())
+}
+
+/// Lays the section's tag and the opening tag of its heading.
+fn heading_start(
+    sheet: &mut Sheet,
+    ending: &str,
+    tag: &str,
+    attributes: &str,
+) -> Result<(), AllocError>
+    ensures { OnOk result (sheet.new ≡ lay ending.now sheet.old (Needed ∷ Text (codes "<section data-footnotes=\"\" class=\"footnotes\"><") ∷ Text tag.now
+        ∷ Text (codes " id=\"footnote-label\" ") ∷ Text attributes.now ∷ Text (codes ">") ∷ [])) }
+{
+    sheet.need(ending)?;
+    sheet.put("<section data-footnotes=\"\" class=\"footnotes\"><")?;
+    sheet.put(tag)?;
+    sheet.put(" id=\"footnote-label\" ")?;
+    sheet.put(attributes)?;
+    sheet.put(">")
+}
+
+/// Lays the closing tag of the section's heading and the list's tag.
+fn heading_end(sheet: &mut Sheet, ending: &str, tag: &str) -> Result<(), AllocError>
+    ensures { OnOk result (sheet.new ≡ lay ending.now sheet.old (Text (codes "</") ∷ Text tag.now ∷ Text (codes ">") ∷ Forced ∷ Text (codes "<ol>") ∷ [])) }
+{
+    sheet.put("</")?;
+    sheet.put(tag)?;
+    sheet.put(">")?;
+    sheet.put(ending)?;
+    sheet.put("<ol>")
+}
+
+/// The attributes of the section's heading.
+fn attributes_of(options: &CompileOptions) -> &str
+    ensures { result.now ≡ notes.attributes_of options.now }
+{
+    match &options.gfm_footnote_label_attributes {
+        Some(attributes) => attributes.as_str(),
+        None => "class=\"sr-only\"",
+    }
+}
+
+/// Lays the text of the section's heading.
+fn label(alloc: Global, sheet: &mut Sheet, options: &CompileOptions) -> Result<(), AllocError>
+    ensures { OnOk result (sheet.new ≡ lay [] sheet.old (Text (notes.heading_label_of options.now) ∷ [])) }
+{
+    let label = escaped_option(alloc, &options.gfm_footnote_label, "Footnotes")?;
+    sheet.put(label.as_str())
+}
+
+/// Lays the end of the section.
+fn section_end(sheet: &mut Sheet, ending: &str) -> Result<(), AllocError>
+    ensures { OnOk result (sheet.new ≡ lay ending.now sheet.old notes.section_closing) }
+{
+    sheet.put(ending)?;
+    sheet.put("</ol>")?;
+    sheet.put(ending)?;
+    sheet.put("</section>")?;
+    sheet.put(ending)
+}
+
+/// Lays the section of footnotes, where there is a call: the footnotes that are called, in the order of their first calls.
+///
+/// # Errors
+///
+/// Only where memory runs out.
+pub fn lay_section(
+    alloc: Global,
+    sheet: &mut Sheet,
+    options: &CompileOptions,
+    ending: &str,
+    calls: &Calls,
+    footnotes: &Footnotes,
+) -> Result<(), AllocError>
+    ensures { OnOk result (sheet.new ≡ lay ending.now sheet.old (notes.section_pieces options.now footnotes.now calls.now)) }
+{
+    if calls.is_empty() {
+        return Ok(());
+    }
+    section_start(alloc, sheet, options, ending)?;
+    items(alloc, sheet, options, ending, calls, footnotes)?;
+    section_end(sheet, ending)
+}

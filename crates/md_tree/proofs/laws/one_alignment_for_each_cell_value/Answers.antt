@@ -1,0 +1,5 @@
+use Rattle.md_tree.proofs.Tables.{alignments-values_of_table}
+use Rattle.md_tree.proofs.laws.one_alignment_for_each_cell_value.Goals as goal
+
+pub returns : goal.returns
+returns c = alignments-values_of_table

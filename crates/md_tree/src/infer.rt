@@ -1,0 +1,59 @@
+ghost use Rattle.std.specs.Prelude.{◌≡◌, ◌⊎◌, if◌then◌else◌, map, IfOk};
+ghost use Rattle.md_base.specs.declared.event.Name.TheVariants as name;
+ghost use Rattle.md_tree.specs.Tree.{Forest};
+ghost use Rattle.md_tree.specs.Texts.{EntersAt};
+ghost use Rattle.md_tree.specs.Entered.{IsEnteredAt, EntersNode};
+ghost use Rattle.md_tree.specs.Looseness.{is_loose, is_loose_without_items, is_loose_item};
+ghost use Rattle.md_tree.specs.Alignments.{alignment_of, alignments};
+ghost use Rattle.md_tree.specs.Tables.{values_of_table};
+
+use crate::checked::Checked;
+use md_base::AlignKind;
+use std::alloc::{AllocError, Global};
+
+/// Whether the list that the event at the index enters is loose. Whether its items are loose counts
+/// where they are included.
+pub fn list_loose(checked: &Checked, index: usize, include_items: bool) -> bool
+    requires { EntersAt checked.now.events index name.ListOrdered ⊎ EntersAt checked.now.events index name.ListUnordered }
+    ensures entered { EntersNode checked.now index }
+    ensures loose { (children : Forest) → IsEnteredAt checked.now index children
+        → result ≡ (if include_items then is_loose children else is_loose_without_items children) }
+{
+    let looseness = checked.inferred(index).looseness;
+    if include_items {
+        looseness.with_items
+    } else {
+        looseness.without_items
+    }
+}
+
+/// Whether the item of a list that the event at the index enters is loose.
+pub fn list_item_loose(checked: &Checked, index: usize) -> bool
+    requires { EntersAt checked.now.events index name.ListItem }
+    ensures entered { EntersNode checked.now index }
+    ensures loose { (children : Forest) → IsEnteredAt checked.now index children
+        → result ≡ is_loose_item children }
+{
+    checked.inferred(index).looseness.of_item
+}
+
+/// How the columns of the table that the event at the index enters are aligned: one for each value
+/// of its delimiter row.
+///
+/// # Errors
+///
+/// `AllocError` where memory is lacking.
+pub fn gfm_table_align(
+    alloc: Global,
+    checked: &Checked,
+    index: usize,
+) -> Result<Vec<AlignKind>, AllocError>
+    requires { EntersAt checked.now.events index name.GfmTable }
+    ensures entered { EntersNode checked.now index }
+    ensures aligned { IfOk result (λ columns. (children : Forest) → IsEnteredAt checked.now index children
+        → columns.items ≡ alignments children) }
+    ensures one_for_each_value { IfOk result (λ columns. (children : Forest) → IsEnteredAt checked.now index children
+        → columns.items ≡ map alignment_of (values_of_table children)) }
+{
+    checked.inferred(index).columns.in_order(alloc)
+}
