@@ -301,23 +301,28 @@ def nested_media(name, script, n):
         script.exit(name)
 
 
-def links_to_definitions(script, n):
+def uses_and_definitions(script, n, word, use, define):
+    """Uses of n identifiers in one paragraph, and behind it the definition of each."""
+    identifiers = [f"{word} {number:06}" for number in range(n)]
     with script.node("Paragraph"):
-        for number in range(n):
-            reference(script, f"page {number:06}")
-            line(script)
-    for number in range(n):
+        for identifier in identifiers:
+            use(script, identifier)
+    for identifier in identifiers:
         line(script)
-        definition(script, f"page {number:06}", "u")
+        define(script, identifier)
+
+
+def reference_on_a_line(script, identifier):
+    reference(script, identifier)
+    line(script)
+
+
+def links_to_definitions(script, n):
+    uses_and_definitions(script, n, "page", reference_on_a_line, partial(definition, url="u"))
 
 
 def calls_of_footnotes(script, n):
-    with script.node("Paragraph"):
-        for number in range(n):
-            call(script, f"note {number:06}")
-    for number in range(n):
-        line(script)
-        footnote(script, f"note {number:06}", "a")
+    uses_and_definitions(script, n, "note", call, partial(footnote, text="a"))
 
 
 def calls_of_one_footnote(script, n):

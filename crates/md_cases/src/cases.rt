@@ -8,6 +8,7 @@ mod media;
 mod options;
 mod own;
 mod refusals;
+mod scale;
 mod tables;
 mod texts;
 

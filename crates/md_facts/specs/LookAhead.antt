@@ -1,16 +1,14 @@
 -- The pass over the events from the last to the first, which finds what is told ahead. Only contracts of
 -- private functions speak of it.
-use Rattle.std.specs.Prelude.{Bool, false, not, ◌&&◌, ◌||◌, if◌then◌else◌, List, [], ◌∷◌, Option, Some, None, unwrap_or}
-use Rattle.std.specs.Option.{option_map_or}
+use Rattle.std.specs.Prelude.{Bool, if◌then◌else◌, List, [], ◌∷◌, Option, Some, None, unwrap_or}
 use Rattle.md_base.specs.declared.event.Name.{Name}
 use Rattle.md_base.specs.declared.event.Kind.{Kind}
 use Rattle.md_base.specs.declared.event.Kind.TheVariants.{Enter, Exit}
 use Rattle.md_base.specs.declared.event.Point.{Point}
 use Rattle.md_base.specs.declared.event.Event.{Event}
 use Rattle.md_tree.specs.Tree.{Forest, Empty}
-use Rattle.md_tree.specs.NameTests.{is_transparent, is_line_ending, is_blank_line_ending, is_space, is_item, is_item_prefix, is_item_value, is_label, is_label_text, is_reference, is_definition_label, is_footnote_prefix, is_footnote_label, is_block_quote, is_block_quote_prefix, is_heading_mark}
-use Rattle.md_tree.specs.Children.{or_else, first_on_spine, is_empty, last_name}
-use Rattle.md_tree.specs.Looseness.{begins_blank, begins_space_blank, is_end, ends_bare, has_parting_blank, has_inner_blank, has_loose_item}
+use Rattle.md_tree.specs.NameTests.{is_transparent, is_line_ending, is_item, is_item_prefix, is_item_value, is_label, is_label_text, is_reference, is_definition_label, is_footnote_prefix, is_footnote_label, is_heading_mark}
+use Rattle.md_tree.specs.Children.{or_else, first_on_spine}
 use Rattle.md_meaning.specs.declared.facts.Ahead.{Ahead}
 use Rattle.md_facts.specs.declared.facts.Gathered.{Gathered}
 use Rattle.md_meaning.specs.Places.{first_ending, position, text_in_label, label_in_prefix, number_in_prefix, number_in_item}
@@ -24,15 +22,6 @@ gathered end nodes = record {
   value = first_on_spine is_item_value position nodes;
   prefix = first_on_spine is_item_prefix (λ start end inner. number_in_prefix inner) nodes;
   item = first_on_spine is_item (λ start end inner. number_in_item inner) nodes;
-  is_empty = is_empty nodes;
-  begins_blank = begins_blank nodes;
-  begins_space_blank = begins_space_blank nodes;
-  is_end = is_end nodes;
-  ends_bare = ends_bare nodes;
-  has_parting_blank = has_parting_blank nodes;
-  has_inner_blank = has_inner_blank nodes;
-  has_loose_item = has_loose_item nodes;
-  last = last_name nodes;
   ending = first_ending nodes;
   label_text = first_on_spine is_label_text position nodes;
   label = first_on_spine is_label (λ start end inner. text_in_label inner) nodes;
@@ -47,10 +36,6 @@ abbrev pub first_found : {A : Type 0} → Bool → Bool → A → Option A → O
 first_found found transparent own inner later =
     or_else (if found then Some own else (if transparent then inner else None)) later
 
--- nothing stands behind a marker in a node: an item's prefix, or a block quote that ends in its prefix
-abbrev pub is_bare_node : Name → Option Name → Bool
-is_bare_node name last = is_item_prefix name || is_block_quote name && option_map_or is_block_quote_prefix last false
-
 -- what a node tells with the nodes behind it: `own` is what its children tell
 abbrev pub joined : Name → Point → Gathered → Gathered → Gathered
 joined name start own later = record {
@@ -59,15 +44,6 @@ joined name start own later = record {
   value = first_found (is_item_value name) (is_transparent name) (record { start = start; end = own.end }) own.value later.value;
   prefix = first_found (is_item_prefix name) (is_transparent name) own.value own.prefix later.prefix;
   item = first_found (is_item name) (is_transparent name) (unwrap_or own.prefix None) own.item later.item;
-  is_empty = false;
-  begins_blank = is_blank_line_ending name;
-  begins_space_blank = is_space name && later.begins_blank;
-  is_end = is_space name && later.is_empty;
-  ends_bare = if later.is_end then is_bare_node name own.last else later.ends_bare;
-  has_parting_blank = later.begins_blank && not (is_item name && own.ends_bare) || later.has_parting_blank;
-  has_inner_blank = not (is_item_prefix name) && (later.begins_blank && not (is_space name) || later.begins_space_blank) || later.has_inner_blank;
-  has_loose_item = is_item name && (own.begins_blank || own.begins_space_blank || own.has_inner_blank) || later.has_loose_item;
-  last = Some (unwrap_or later.last name);
   ending = or_else own.ending (or_else (if is_line_ending name then Some (record { start = start; end = own.end }) else None) later.ending);
   label_text = first_found (is_label_text name) (is_transparent name) (record { start = start; end = own.end }) own.label_text later.label_text;
   label = first_found (is_label name) (is_transparent name) own.label_text own.label later.label;
@@ -82,7 +58,6 @@ abbrev pub told_ahead : Gathered → Ahead
 told_ahead own = record {
   mark = own.mark;
   number = unwrap_or own.item None;
-  is_loose = own.begins_blank || own.has_parting_blank || own.has_loose_item;
   label = unwrap_or own.label None;
   reference = own.reference;
   defined = own.defined;
@@ -100,18 +75,26 @@ pub record Outlook : Type 0 where
 abbrev pub nothing_gathered : Point → Gathered
 nothing_gathered end = gathered end Empty
 
--- an event before all that is seen so far
-abbrev pub looked_at : Kind → Name → Point → Outlook → Outlook
-looked_at Exit name point outlook = record {
+-- the exit of a node that ends here, before all that is seen so far
+abbrev pub looked_at_exit : Point → Outlook → Outlook
+looked_at_exit end outlook = record {
   aheads = no_ahead ∷ outlook.aheads;
-  here = nothing_gathered point;
+  here = nothing_gathered end;
   round = outlook.here ∷ outlook.round;
 }
-looked_at Enter name point outlook = record {
+
+-- the entry of a node
+abbrev pub looked_at_entry : Name → Point → Outlook → Outlook
+looked_at_entry name start outlook = record {
   aheads = told_ahead outlook.here ∷ outlook.aheads;
-  here = joined name point outlook.here (first_or (nothing_gathered point) outlook.round);
+  here = joined name start outlook.here (first_or (nothing_gathered start) outlook.round);
   round = others_of outlook.round;
 }
+
+-- an event
+abbrev pub looked_at : Kind → Name → Point → Outlook → Outlook
+looked_at Exit name point outlook = looked_at_exit point outlook
+looked_at Enter name point outlook = looked_at_entry name point outlook
 
 -- behind the last event
 abbrev pub no_outlook : Outlook

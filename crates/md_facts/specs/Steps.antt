@@ -25,7 +25,7 @@ no_spine = record { has_fence = false; has_second_fence = false; has_chunk = fal
 
 -- nothing is told ahead
 abbrev pub no_ahead : Ahead
-no_ahead = record { mark = None; number = None; is_loose = false; label = None; reference = None; defined = None; footnote = None }
+no_ahead = record { mark = None; number = None; label = None; reference = None; defined = None; footnote = None }
 
 -- no child is passed, behind a spine
 abbrev pub nothing_passed : Spine → Passed

@@ -1,16 +1,16 @@
 //! The pass over the events from the last to the first, which finds what nodes tell before they are printed.
 
-ghost use Rattle.std.specs.Prelude.{◌≡◌, List, reverse, IfOk, OnOk, ◌||◌, ◌&&◌, not, if◌then◌else◌};
+ghost use Rattle.std.specs.Prelude.{◌≡◌, List, reverse, IfOk, OnOk, if◌then◌else◌};
 ghost use Rattle.md_tree.specs.Children.{or_else};
 ghost use Rattle.md_facts.specs.LookAhead as spec;
-ghost use Rattle.md_facts.specs.Steps.{aheads_of};
+ghost use Rattle.md_facts.specs.Steps.{aheads_of, first_or, others_of};
 ghost use Rattle.md_tree.specs.Tree.{Forest, flatten};
 
 use crate::facts::Gathered;
 use crate::names::{
-    is_blank_line_ending, is_block_quote, is_block_quote_prefix, is_definition_label,
-    is_footnote_label, is_footnote_prefix, is_heading_mark, is_item, is_item_prefix, is_item_value,
-    is_label, is_label_text, is_line_ending, is_reference, is_space, is_transparent,
+    is_definition_label, is_footnote_label, is_footnote_prefix, is_heading_mark, is_item,
+    is_item_prefix, is_item_value, is_label, is_label_text, is_line_ending, is_reference,
+    is_transparent,
 };
 use md_base::{Event, Kind, Name, Point, Position};
 use md_meaning::Ahead;
@@ -45,15 +45,6 @@ fn nothing_gathered(end: Point) -> Gathered
         value: None,
         prefix: None,
         item: None,
-        is_empty: true,
-        begins_blank: false,
-        begins_space_blank: false,
-        is_end: true,
-        ends_bare: false,
-        has_parting_blank: false,
-        has_inner_blank: false,
-        has_loose_item: false,
-        last: None,
         ending: None,
         label_text: None,
         label: None,
@@ -80,55 +71,6 @@ fn first_ending(
     }
 }
 
-/// Nothing stands behind a marker in a node: an item's prefix, or a block quote that ends in its prefix.
-fn is_bare_node(name: Name, last: Option<Name>) -> bool
-    ensures { result ≡ spec.is_bare_node name last }
-{
-    match last {
-        Some(last) => is_item_prefix(name) || is_block_quote(name) && is_block_quote_prefix(last),
-        None => is_item_prefix(name),
-    }
-}
-
-/// A blank line ending comes next, and the node before it is no item that ends bare; or one does so later.
-fn parts(blank_next: bool, item: bool, ends_bare: bool, later: bool) -> bool
-    ensures { result ≡ (blank_next && not (item && ends_bare) || later) }
-{
-    blank_next && !(item && ends_bare) || later
-}
-
-/// The node is no prefix, and a blank line ending comes behind it; or one does so later.
-fn is_inner(
-    prefix: bool,
-    blank_next: bool,
-    space: bool,
-    space_blank_next: bool,
-    later: bool,
-) -> bool
-    ensures { result ≡ (not prefix && (blank_next && not space || space_blank_next) || later) }
-{
-    !prefix && (blank_next && !space || space_blank_next) || later
-}
-
-fn both(a: bool, b: bool) -> bool
-    ensures { result ≡ (a && b) }
-{
-    a && b
-}
-
-/// The node is an item and loose, or a later one is.
-fn is_loose_here(item: bool, own: Gathered, later: bool) -> bool
-    ensures { result ≡ (item && (own.begins_blank || own.begins_space_blank || own.has_inner_blank) || later) }
-{
-    item && (own.begins_blank || own.begins_space_blank || own.has_inner_blank) || later
-}
-
-fn choose(test: bool, a: bool, b: bool) -> bool
-    ensures { result ≡ (if test then a else b) }
-{
-    if test { a } else { b }
-}
-
 /// What a node tells with the nodes behind it, by what its children tell.
 fn joined(name: Name, start: Point, own: Gathered, later: Gathered) -> Gathered
     ensures { result ≡ spec.joined name start own later }
@@ -138,8 +80,6 @@ fn joined(name: Name, start: Point, own: Gathered, later: Gathered) -> Gathered
         end: own.end,
     };
     let transparent = is_transparent(name);
-    let item = is_item(name);
-    let space = is_space(name);
     Gathered {
         end: later.end,
         mark: first_found(
@@ -164,32 +104,12 @@ fn joined(name: Name, start: Point, own: Gathered, later: Gathered) -> Gathered
             later.prefix,
         ),
         item: first_found(
-            item,
+            is_item(name),
             transparent,
             own.prefix.unwrap_or(None),
             own.item,
             later.item,
         ),
-        is_empty: false,
-        begins_blank: is_blank_line_ending(name),
-        begins_space_blank: both(space, later.begins_blank),
-        is_end: both(space, later.is_empty),
-        ends_bare: choose(later.is_end, is_bare_node(name, own.last), later.ends_bare),
-        has_parting_blank: parts(
-            later.begins_blank,
-            item,
-            own.ends_bare,
-            later.has_parting_blank,
-        ),
-        has_inner_blank: is_inner(
-            is_item_prefix(name),
-            later.begins_blank,
-            space,
-            later.begins_space_blank,
-            later.has_inner_blank,
-        ),
-        has_loose_item: is_loose_here(item, own, later.has_loose_item),
-        last: Some(later.last.unwrap_or(name)),
         ending: first_ending(is_line_ending(name), place, own.ending, later.ending),
         label_text: first_found(
             is_label_text(name),
@@ -242,7 +162,6 @@ fn told_ahead(own: Gathered) -> Ahead
     Ahead {
         mark: own.mark,
         number: own.item.unwrap_or(None),
-        is_loose: own.begins_blank || own.has_parting_blank || own.has_loose_item,
         label: own.label.unwrap_or(None),
         reference: own.reference,
         defined: own.defined,
@@ -271,7 +190,6 @@ impl Model for Outlook {
 const NO_AHEAD: Ahead = Ahead {
     mark: None,
     number: None,
-    is_loose: false,
     label: None,
     reference: None,
     defined: None,
@@ -300,18 +218,38 @@ impl Outlook {
         ensures { OnOk result (self.new ≡ spec.looked_at event.now.kind event.now.name event.now.point self.old) }
     {
         match event.kind {
-            Kind::Exit => {
-                self.aheads.push(NO_AHEAD)?;
-                self.round.push(self.here)?;
-                self.here = nothing_gathered(event.point);
-            }
-            Kind::Enter => {
-                self.aheads.push(told_ahead(self.here))?;
-                let outer = self.round.pop().unwrap_or(nothing_gathered(event.point));
-                self.here = joined(event.name, event.point, self.here, outer);
-            }
+            Kind::Exit => self.look_at_exit(event.point),
+            Kind::Enter => self.look_at_entry(event.name, event.point),
         }
+    }
+
+    /// The exit of a node that ends here.
+    fn look_at_exit(&mut self, end: Point) -> Result<(), AllocError>
+        ensures { OnOk result (self.new ≡ spec.looked_at_exit end self.old) }
+    {
+        self.aheads.push(NO_AHEAD)?;
+        self.round.push(self.here)?;
+        self.here = nothing_gathered(end);
         Ok(())
+    }
+
+    /// The entry of a node of this name that starts here.
+    fn look_at_entry(&mut self, name: Name, start: Point) -> Result<(), AllocError>
+        ensures { OnOk result (self.new ≡ spec.looked_at_entry name start self.old) }
+    {
+        let own = self.here;
+        self.aheads.push(told_ahead(own))?;
+        let behind = self.pop_round(start);
+        self.here = joined(name, start, own, behind);
+        Ok(())
+    }
+
+    /// What the nodes behind the innermost node tell; nothing, where no node is round this place.
+    fn pop_round(&mut self, end: Point) -> Gathered
+        ensures behind { result ≡ first_or (spec.nothing_gathered end) self.old.round }
+        ensures state { self.new ≡ record self.old { round = others_of self.old.round } }
+    {
+        self.round.pop().unwrap_or(nothing_gathered(end))
     }
 
     /// The place of the first line ending.

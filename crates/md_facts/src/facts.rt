@@ -1,6 +1,6 @@
 //! What is gathered behind an event.
 
-use md_base::{Name, Point, Position};
+use md_base::{Point, Position};
 
 /// What the nodes behind an event tell of the node round them, whose children they are.
 #[derive(Clone, Copy)]
@@ -15,24 +15,6 @@ pub struct Gathered {
     pub prefix: Option<Option<Position>>,
     /// The place of the number in the first item on the spine.
     pub item: Option<Option<Position>>,
-    /// There is no node.
-    pub is_empty: bool,
-    /// The first node is a blank line ending.
-    pub begins_blank: bool,
-    /// The first two nodes are a space or tab and a blank line ending.
-    pub begins_space_blank: bool,
-    /// There is at most one node, and that is a space or tab.
-    pub is_end: bool,
-    /// Nothing stands behind a marker in the last of them.
-    pub ends_bare: bool,
-    /// A blank line ending stands behind one of them and parts it from the next.
-    pub has_parting_blank: bool,
-    /// A blank line ending stands behind one that is no prefix.
-    pub has_inner_blank: bool,
-    /// One of them is a loose item.
-    pub has_loose_item: bool,
-    /// The name of the last of them.
-    pub last: Option<Name>,
     /// The place of the first line ending in them, blank or not.
     pub ending: Option<Position>,
     /// The place of the first label's text on the spine.

@@ -16,23 +16,11 @@ pub fn is_transparent(name: Name) -> bool
     )
 }
 
-pub fn is_blank_line_ending(name: Name) -> bool
-    ensures { result ≡ tests.is_blank_line_ending name }
-{
-    matches!(name, Name::BlankLineEnding)
-}
-
 /// A line ending, blank or not.
 pub fn is_line_ending(name: Name) -> bool
     ensures { result ≡ tests.is_line_ending name }
 {
     matches!(name, Name::LineEnding | Name::BlankLineEnding)
-}
-
-pub fn is_space(name: Name) -> bool
-    ensures { result ≡ tests.is_space name }
-{
-    matches!(name, Name::SpaceOrTab)
 }
 
 pub fn is_item(name: Name) -> bool
@@ -51,18 +39,6 @@ pub fn is_item_value(name: Name) -> bool
     ensures { result ≡ tests.is_item_value name }
 {
     matches!(name, Name::ListItemValue)
-}
-
-pub fn is_block_quote(name: Name) -> bool
-    ensures { result ≡ tests.is_block_quote name }
-{
-    matches!(name, Name::BlockQuote)
-}
-
-pub fn is_block_quote_prefix(name: Name) -> bool
-    ensures { result ≡ tests.is_block_quote_prefix name }
-{
-    matches!(name, Name::BlockQuotePrefix)
 }
 
 pub fn is_paragraph(name: Name) -> bool

@@ -7,7 +7,7 @@ use Rattle.md_tree.specs.Alignments.{alignments}
 use Rattle.md_tree.specs.Entered.{children_of}
 use Rattle.std.specs.List.{list_any}
 use Rattle.md_base.specs.declared.event.Name.{Name}
-use Rattle.md_base.specs.declared.event.Name.TheVariants.{BlockQuote, GfmFootnoteDefinition, Definition}
+use Rattle.md_base.specs.declared.event.Name.TheVariants.{BlockQuote, ListOrdered, ListUnordered, GfmFootnoteDefinition, Definition}
 use Rattle.md_base.specs.declared.event.Point.{Point}
 use Rattle.md_base.specs.declared.event.Event.{Event}
 use Rattle.md_tree.specs.Tree.{Forest, Empty, Node, flatten, exiting}
@@ -28,7 +28,7 @@ use Rattle.md_sheet.proofs.Lists.{lay-append}
 use Rattle.md_sheet.proofs.Tally.{fold-tally}
 use Rattle.md_meaning.specs.Calls.{Called, tally}
 use Rattle.md_meaning.specs.Footnotes.{Footnote}
-use Rattle.md_print.specs.Machine.{State, Log, columns_told, entering_table, leaving_table, entered, exited, is_nil, run, beginning}
+use Rattle.md_print.specs.Machine.{State, Log, columns_told, loose_told, entering_table, leaving_table, entered, exited, is_nil, run, beginning}
 use Rattle.md_facts.specs.Steps.{first_or, others_of, no_spine, no_ahead, with_name, passing, aheads_of, slurps_behind}
 
 -- marks before marks
@@ -154,9 +154,15 @@ after-nothing given before state knows =
     ∙ ap (λ names. record state { frame = record state.frame { passed = record state.frame.passed { spine = told_by names } } }) (append-nil before.spine)
     ∙ ap (λ s. record state { frame = record state.frame { passed = record state.frame.passed { spine = s } } }) (sym knows.spine)
 
+-- whether a node is loose counts where it is a list
+inside-told : (options : CompileOptions) (name : Name) (children : Forest) (around : Surroundings) → inside options (loose_told name (Some children)) name around ≡ inside options (is_loose children) name around
+inside-told options ListOrdered children around = refl
+inside-told options ListUnordered children around = refl
+inside-told options _ children around = refl
+
 -- the children's state, from the node's
 children_know : (given : Given) (before : Before) (name : Name) (start : Point) (children : Forest) (captured : Bool) (state : State) → Knows state before →
-    Knows (entered given (ahead_of children) (columns_told name (Some children)) captured name start state) (before_children name children before)
+    Knows (entered given (ahead_of children) (is_loose children) (columns_told name (Some children)) captured name start state) (before_children name children before)
 children_know given before name start children captured state knows = record {
   calls = knows.calls;
   slurping = knows.slurping;
@@ -249,7 +255,7 @@ left-known given before name start children captured state knows =
 
 -- a node is left behind its children, whose text is not captured
 node_step-streamed : (given : Given) (before : Before) (last : Bool) (name : Name) (start end : Point) (children : Forest) (state : State) → Knows state before →
-    exited given last false name end (after given (before_children name children before) children (entered given (ahead_of children) (columns_told name (Some children)) false name start state))
+    exited given last false name end (after given (before_children name children before) children (entered given (ahead_of children) (is_loose children) (columns_told name (Some children)) false name start state))
     ≡ after_node given before last false name start end children state
 node_step-streamed given before last name start end children state knows =
     let around = state.frame.around in
@@ -276,7 +282,7 @@ node_step-streamed given before last name start end children state knows =
 
 -- a node is left behind its children, whose text is captured
 node_step-captured : (given : Given) (before : Before) (last : Bool) (name : Name) (start end : Point) (children : Forest) (state : State) → Knows state before →
-    exited given last true name end (after given (before_children name children before) children (entered given (ahead_of children) (columns_told name (Some children)) true name start state))
+    exited given last true name end (after given (before_children name children before) children (entered given (ahead_of children) (is_loose children) (columns_told name (Some children)) true name start state))
     ≡ after_node given before last true name start end children state
 node_step-captured given before last name start end children state knows =
     let around = state.frame.around in
@@ -302,7 +308,7 @@ node_step-captured given before last name start end children state knows =
     ∙ ap (λ page. at state.tables page (told_by before.spine)) (lay_two given.ending state.page opened (close (left_of given.bytes before children) (last_name children) (last_contributing children)))
 
 node_step : (given : Given) (before : Before) (last captured : Bool) (name : Name) (start end : Point) (children : Forest) (state : State) → Knows state before →
-    exited given last captured name end (after given (before_children name children before) children (entered given (ahead_of children) (columns_told name (Some children)) captured name start state))
+    exited given last captured name end (after given (before_children name children before) children (entered given (ahead_of children) (is_loose children) (columns_told name (Some children)) captured name start state))
     ≡ after_node given before last captured name start end children state
 node_step given before last true name start end children state knows = node_step-captured given before last name start end children state knows
 node_step given before last false name start end children state knows = node_step-streamed given before last name start end children state knows
@@ -411,11 +417,13 @@ run-flatten given Empty before tail aheads nodes state knows outer =
     ap (λ s. run given tail aheads nodes s) (sym (after-nothing given before state knows))
 run-flatten given (Node name start end children rest) before tail aheads nodes state knows outer =
     let captured : Bool = is_captured name in
-    let inner : State = entered given (ahead_of children) (columns_told name (Some children)) captured name start state in
+    let inner : State = entered given (ahead_of children) (is_loose children) (columns_told name (Some children)) captured name start state in
     let last : Bool = state.frame.around.is_outermost && is_empty rest in
     let left : State = after_node given before last captured name start end children state in
     let next : Before = before_next given state.frame.around name start end children before in
-    ap (λ es. run given es (aheads_of children ++ no_ahead ∷ aheads_of rest ++ aheads) (children_of children ++ None ∷ children_of rest ++ nodes) inner) (append_assoc (flatten children) (exiting name end ∷ flatten rest) tail)
+    let entered_in : Surroundings → State = λ around. record inner { frame = record inner.frame { around = around } } in
+    ap (λ around. run given ((flatten children ++ exiting name end ∷ flatten rest) ++ tail) ((aheads_of children ++ no_ahead ∷ aheads_of rest) ++ aheads) ((children_of children ++ None ∷ children_of rest) ++ nodes) (entered_in around)) (inside-told given.options name children state.frame.around)
+    ∙ ap (λ es. run given es (aheads_of children ++ no_ahead ∷ aheads_of rest ++ aheads) (children_of children ++ None ∷ children_of rest ++ nodes) inner) (append_assoc (flatten children) (exiting name end ∷ flatten rest) tail)
     ∙ ap (λ as'. run given (flatten children ++ exiting name end ∷ (flatten rest ++ tail)) as' (children_of children ++ None ∷ children_of rest ++ nodes) inner) (append_assoc (aheads_of children) (no_ahead ∷ aheads_of rest) aheads)
     ∙ ap (λ cs. run given (flatten children ++ exiting name end ∷ (flatten rest ++ tail)) (aheads_of children ++ no_ahead ∷ (aheads_of rest ++ aheads)) cs inner) (append_assoc (children_of children) (None ∷ children_of rest) nodes)
     ∙ run-flatten given children (before_children name children before) (exiting name end ∷ (flatten rest ++ tail)) (no_ahead ∷ (aheads_of rest ++ aheads)) (None ∷ (children_of rest ++ nodes)) inner

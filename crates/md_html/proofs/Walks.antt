@@ -1,13 +1,18 @@
 -- The rest of a document's events, and what is told of them.
 use Rattle.std.proofs.Common.{◌≡◌, ◌<◌, ◌==◌, ℕ, ◌+◌, zero, suc, List, [], ◌∷◌, Some, None, length, drop, get_or, refl, ap, sym, ◌∙◌, arith, ne_eqb}
-use Rattle.std.specs.Prelude.{slice_get, IfOk}
+use Rattle.std.specs.Prelude.{slice_get, IfOk, unwrap_or, Option}
 use Rattle.std.specs.declared.result.Result.{Result}
 use Rattle.std.specs.declared.result.Result.TheVariants.{Ok, Err}
 use Rattle.std.proofs.lemmas.Option.{slice_get_within, slice_get-get_or}
 use Rattle.std.proofs.lemmas.List.{drop-drop, length-append}
 use Rattle.md_base.specs.declared.event.Event.{Event}
+use Rattle.md_base.specs.declared.event.Name.TheVariants.{GfmTable}
+use Rattle.md_base.specs.declared.event.Point.{Point}
+use Rattle.md_tree.specs.Grammar.{Document}
 use Rattle.md_tree.specs.Tree.{Forest, Empty, Node, flatten}
-use Rattle.md_tree.specs.Entered.{children_of}
+use Rattle.md_tree.specs.Entered.{children_of, IsEnteredAt}
+use Rattle.md_tree.proofs.Indexed.{flatten_one}
+use Rattle.md_print.specs.Sources.{IsToldAt}
 use Rattle.md_print.specs.Machine.{is_nil}
 
 -- a fact of an answer from another
@@ -50,3 +55,15 @@ told-at document events index event flat got =
   where
     below : (m n : ℕ) → m ≡ n → index < n → index < m
     below m n e h = omega (arith, e, h)
+
+-- what is told of an event that enters a node is the node's children
+pub told-entered : (given : Document) (index : ℕ) (told : Option Forest) (children : Forest) → IsToldAt given index told → IsEnteredAt given index children → Some children ≡ told
+told-entered given index told children there entered =
+    same there.0 entered.0 (there.1 ∙ sym entered.1) there.2 entered.2
+  where
+    origin : Point
+    origin = record { line = 0; column = 0; index = 0; vs = 0 }
+
+    same : (one other : Forest) → flatten one ≡ flatten other → slice_get (children_of one) index ≡ Some told → slice_get (children_of other) index ≡ Some (Some children) → Some children ≡ told
+    same one other flat got found =
+        ap (λ o. unwrap_or o (Some children)) (sym found ∙ ap (λ f. slice_get (children_of f) index) (sym (flatten_one GfmTable origin one other flat)) ∙ got)

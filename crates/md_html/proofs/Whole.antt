@@ -1,15 +1,14 @@
 -- The run over a whole document gives its meaning.
-use Rattle.std.proofs.Common.{◌≡◌, ℕ, true, false, List, [], ◌∷◌, ◌++◌, Option, Some, refl, ap, sym, ◌∙◌, append_assoc, append-nil, bytes_eq, fold}
+use Rattle.std.proofs.Common.{◌≡◌, ℕ, true, false, List, [], ◌∷◌, ◌++◌, Some, refl, ap, sym, ◌∙◌, append_assoc, append-nil, bytes_eq, fold}
 use Rattle.std.specs.Prelude.{if◌then◌else◌, find}
 use Rattle.std.specs.Option.{option_map_or}
 use Rattle.std.proofs.lemmas.Slice.Eq.{bytes_eq-Decides}
 use Rattle.md_base.specs.declared.event.Event.{Event}
-use Rattle.md_base.specs.declared.event.Position.{Position}
 use Rattle.md_tree.specs.Tree.{Forest, flatten}
 use Rattle.md_meaning.specs.declared.options.CompileOptions.{CompileOptions}
 use Rattle.md_meaning.specs.declared.facts.Ahead.{Ahead}
 use Rattle.md_meaning.specs.Given.{Given, Defined}
-use Rattle.md_meaning.specs.Places.{nothing_before, first_ending, calls_of}
+use Rattle.md_meaning.specs.Places.{nothing_before, calls_of}
 use Rattle.md_meaning.specs.Meaning.{meaning, ending_at}
 use Rattle.md_print.specs.Machine.{run, beginning, finished}
 use Rattle.md_facts.specs.Steps.{aheads_of}
@@ -18,12 +17,14 @@ use Rattle.md_meaning.specs.Piece.{Piece, Page, blank, lay, layout}
 use Rattle.md_meaning.specs.Surroundings.{outermost}
 use Rattle.md_meaning.specs.Calls.{Called, tally}
 use Rattle.md_meaning.specs.Footnotes.{Footnote, footnote_text, item_pieces, items_pieces, section_opening, section_closing, section_pieces}
-use Rattle.md_meaning.specs.Printed.{printed, footnotes_of}
+use Rattle.md_meaning.specs.Media.{defined_target}
+use Rattle.md_meaning.specs.Printed.{printed, definitions_of, footnotes_of}
 use Rattle.md_sheet.specs.Seen.{noted}
 use Rattle.md_sheet.proofs.Lists.{lay-append}
 use Rattle.md_sheet.proofs.Tally.{fold-tally}
 use Rattle.md_facts.specs.LookAhead.{looked_over, no_outlook}
 use Rattle.md_html.proofs.Runs.{run-flatten, Knows, after}
+use Rattle.md_html.proofs.LookUps.{FindAlike, printed-alike, footnotes-alike}
 use Rattle.md_facts.proofs.LookAheadLemmas.{aheads-looked_over, ending-looked_over}
 
 -- what the nodes are given, where lines end so
@@ -114,19 +115,23 @@ finished-document given document =
     ∙ ap (λ section. (lay given.ending page section).text) (section-noted given.options (fold noted [] footnotes) footnotes (tally (calls_of given.bytes document)) (noted-found [] footnotes))
     ∙ ap (λ p. p.text) (sym (lay-append given.ending blank pieces (section_pieces given.options footnotes (tally (calls_of given.bytes document)))))
 
--- two runs: the second has the definitions that the first saw
-pub text-run : (options : CompileOptions) (names : List (List ℕ × List ℕ)) (bytes : List ℕ) (events : List Event) (aheads : List Ahead) (place : Option Position) (document : Forest) →
-    flatten document ≡ events → aheads ≡ (looked_over events no_outlook).aheads → place ≡ (looked_over events no_outlook).here.ending →
-    (finished (given_with options names bytes (ending_at options bytes place) (run (given_with options names bytes (ending_at options bytes place) []) events aheads (children_of document) beginning).log.definitions)
-    (run (given_with options names bytes (ending_at options bytes place)
-    (run (given_with options names bytes (ending_at options bytes place) []) events aheads (children_of document) beginning).log.definitions) events aheads (children_of document) beginning)).text
-    ≡ meaning options names bytes document
-text-run options names bytes events aheads place document flat seen found =
-    let ending : List ℕ = ending_at options bytes (first_ending document) in
-    let given : List Defined → Given = λ ds. given_with options names bytes ending ds in
-    let nodes : List (Option Forest) = children_of document in
-    ap (λ p. (finished (given_with options names bytes (ending_at options bytes p) (run (given_with options names bytes (ending_at options bytes p) []) events aheads nodes beginning).log.definitions) (run (given_with options names bytes (ending_at options bytes p) (run (given_with options names bytes (ending_at options bytes p) []) events aheads nodes beginning).log.definitions) events aheads nodes beginning)).text)
-    (found ∙ ending-looked_over document events flat)
-    ∙ ap (λ s. (finished (given s.log.definitions) (run (given s.log.definitions) events aheads nodes beginning)).text) (run-events (given []) events aheads document flat seen)
-    ∙ ap (λ s. (finished (given (after (given []) nothing_before document beginning).log.definitions) s).text) (run-events (given (after (given []) nothing_before document beginning).log.definitions) events aheads document flat seen)
-    ∙ finished-document (given (after (given []) nothing_before document beginning).log.definitions) document
+-- two runs: in the definitions that the second has the same is found as in those that the first saw
+pub text-run : (options : CompileOptions) (names : List (List ℕ × List ℕ)) (bytes : List ℕ) (events : List Event) (aheads : List Ahead) (ending : List ℕ) (known : List Defined) (document : Forest) →
+    flatten document ≡ events → aheads ≡ (looked_over events no_outlook).aheads → ending ≡ ending_at options bytes (looked_over events no_outlook).here.ending →
+    FindAlike known (run (given_with options names bytes ending []) events aheads (children_of document) beginning).log.definitions →
+    (finished (given_with options names bytes ending known) (run (given_with options names bytes ending known) events aheads (children_of document) beginning)).text ≡ meaning options names bytes document
+text-run options names bytes events aheads ending known document flat seen ends alike =
+    let given : List ℕ → List Defined → Given = λ e ds. given_with options names bytes e ds in
+    let seen_first : List ℕ → List Defined = λ e. definitions_of (given e []) outermost nothing_before document in
+    let section : List Footnote → List Piece = λ fs. section_pieces options fs (tally (calls_of bytes document)) in
+    let whole : List ℕ → List ℕ = λ e.
+    layout e (printed (given e (seen_first e)) outermost nothing_before document ++ section (footnotes_of (given e (seen_first e)) outermost nothing_before document))
+    in
+    let same : FindAlike known (seen_first ending) = λ identifier. alike identifier ∙ ap (λ s. defined_target s.log.definitions identifier) (run-events (given ending []) events aheads document flat seen) in
+    ap (λ s. (finished (given ending known) s).text) (run-events (given ending known) events aheads document flat seen)
+    ∙ finished-document (given ending known) document
+    ∙ ap (λ ps. layout ending (ps ++ section (footnotes_of (given ending known) outermost nothing_before document)))
+    (printed-alike known (given ending (seen_first ending)) same outermost nothing_before document)
+    ∙ ap (λ fs. layout ending (printed (given ending (seen_first ending)) outermost nothing_before document ++ section fs))
+    (footnotes-alike known (given ending (seen_first ending)) same outermost nothing_before document)
+    ∙ ap whole (ends ∙ ap (λ place. ending_at options bytes place) (ending-looked_over document events flat))

@@ -27,8 +27,8 @@ use md_print::facts::Exit;
 use md_print::open::open;
 use md_print::printer::Printer;
 use md_print::source::{Source, identifier_at, text_of};
-use md_sheet::{Defined, Sheet};
-use md_tree::{Checked, CompileError, check, gfm_table_align};
+use md_sheet::{Defined, Definitions, Sheet};
+use md_tree::{Checked, CompileError, check, gfm_table_align, list_loose};
 use std::alloc::{AllocError, Global};
 
 /// The HTML of a list of Markdown events over a document's bytes: the meaning of the document that the list is.
@@ -85,17 +85,18 @@ pub fn compile_checked(
     let events = checked.events();
     let bytes = checked.bytes();
     let (aheads, ending) = look_ahead(alloc, events)?;
+    let none = Definitions::new(alloc);
     let alone = Source {
         bytes,
         names: checked.names(),
         options,
         ending: ending_at(options, bytes, ending),
-        definitions: &[],
+        definitions: &none,
     };
     let first = run(alloc, &alone, checked, aheads.as_slice())?;
-    let definitions = first.into_definitions();
+    let definitions = Definitions::first_of(alloc, first.into_definitions())?;
     let source = Source {
-        definitions: definitions.as_slice(),
+        definitions: &definitions,
         ..alone
     };
     let second = run(alloc, &source, checked, aheads.as_slice())?;
@@ -112,23 +113,35 @@ fn ending_at<'a>(options: &'a CompileOptions, bytes: &'a [u8], place: Option<Pos
     }
 }
 
-/// Enters a node.
+/// Enters a node; `loose` says whether it is a loose list, and `columns` how those of a table are aligned.
 fn enter(
     alloc: Global,
     printer: &mut Printer,
     source: &Source,
     ahead: Ahead,
+    loose: bool,
     columns: Vec<AlignKind>,
     name: Name,
     start: Point,
 ) -> Result<(), AllocError>
-    ensures { OnOk result (printer.new ≡ machine.entered (given_of source.now) ahead columns.items (is_captured name) name start printer.old) }
+    ensures { OnOk result (printer.new ≡ machine.entered (given_of source.now) ahead loose columns.items (is_captured name) name start printer.old) }
 {
     let around = printer.frame().around;
     open(printer, source, around, ahead, name)?;
     printer.capture_if(alloc, is_captured(name))?;
-    printer.open_frame(source.options, ahead, name, start)?;
+    printer.open_frame(source.options, ahead, loose, name, start)?;
     printer.enter_table_if(is_table(name), columns)
+}
+
+/// Whether a list that is entered is loose; another node isn't.
+fn is_loose(checked: &Checked, index: usize, name: Name) -> bool
+    requires { EntersAt checked.now.events index name }
+    ensures { (told : Option Forest) → IsToldAt checked.now index told → result ≡ machine.loose_told name told }
+{
+    match name {
+        Name::ListOrdered | Name::ListUnordered => list_loose(checked, index, true),
+        _ => false,
+    }
 }
 
 /// The alignments of the columns of a table that is entered; none of another node.
@@ -169,7 +182,7 @@ fn close_and_log(
         }
         Name::GfmFootnoteDefinition => {
             let identifier = identifier_at(alloc, source.bytes, exit.frame.ahead.footnote)?;
-            printer.log_footnote(identifier, inner.into_text())
+            printer.log_footnote(identifier, inner.into_text(alloc)?)
         }
         Name::Definition => {
             let identifier = identifier_at(alloc, source.bytes, exit.frame.ahead.defined)?;
@@ -223,12 +236,14 @@ fn step(
 {
     match event.kind {
         Kind::Enter => {
+            let loose = is_loose(checked, index, event.name);
             let columns = columns_of(alloc, checked, index, event.name)?;
             enter(
                 alloc,
                 printer,
                 source,
                 ahead,
+                loose,
                 columns,
                 event.name,
                 event.point,

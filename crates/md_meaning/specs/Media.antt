@@ -9,7 +9,7 @@ use Rattle.md_text.specs.Url.{sanitized, sanitized_with}
 use Rattle.md_meaning.specs.declared.options.CompileOptions.{CompileOptions}
 use Rattle.md_meaning.specs.declared.facts.Surroundings.{Surroundings}
 use Rattle.md_meaning.specs.declared.facts.Ahead.{Ahead}
-use Rattle.md_meaning.specs.Piece.{Piece, Text, Page, Target, nowhere}
+use Rattle.md_meaning.specs.Piece.{Piece, Text, Page, Notes, Target, nowhere}
 use Rattle.md_meaning.specs.Given.{Given, Defined, text_of}
 use Rattle.md_meaning.specs.Places.{identifier_at}
 use Rattle.md_meaning.specs.Texts.{said}
@@ -36,9 +36,9 @@ abbrev pub referring : Ahead → Option Position
 referring ahead = if is_some ahead.reference then ahead.reference else ahead.label
 
 -- where a link or an image leads: as its resource says, else as the definition with its identifier does
-abbrev pub target_of : Given → Ahead → Page → Target
-target_of given ahead inner =
-    unwrap_or inner.notes.resource (defined_target given.definitions (identifier_at given.bytes (referring ahead)))
+abbrev pub target_of : Given → Ahead → Notes → Target
+target_of given ahead notes =
+    unwrap_or notes.resource (defined_target given.definitions (identifier_at given.bytes (referring ahead)))
 
 -- ` title="` title `"`, where there is one
 abbrev pub title_pieces : Option (List ℕ) → List Piece
@@ -69,12 +69,12 @@ image_of options target label = image_start options target.destination label ++ 
 -- a link: in an image its label alone
 abbrev pub link_pieces : Given → Surroundings → Ahead → Page → List Piece
 link_pieces given around ahead inner =
-    if around.in_image then said inner.text else link_to given.options (target_of given ahead inner) inner.text
+    if around.in_image then said inner.text else link_to given.options (target_of given ahead inner.notes) inner.text
 
 -- an image: in another its label alone
 abbrev pub image_pieces : Given → Surroundings → Ahead → Page → List Piece
 image_pieces given around ahead inner =
-    if around.in_image then said inner.text else image_of given.options (target_of given ahead inner) inner.text
+    if around.in_image then said inner.text else image_of given.options (target_of given ahead inner.notes) inner.text
 
 -- an autolink: its text, in a link to a prefix and its text unless it is plain
 abbrev pub autolink_pieces : Given → List ℕ → Bool → Point → Point → List Piece

@@ -61,13 +61,12 @@ text_in_label children = first_on_spine is_label_text position children
 abbrev pub label_in_prefix : Forest → Option Position
 label_in_prefix children = first_on_spine is_footnote_label position children
 
--- what some children tell ahead: the places of a heading's first mark and of the number of a list's first item,
--- whether a list is loose, and the places of the labels by which a node refers to others or is referred to
+-- what some children tell ahead: the places of a heading's first mark, of the number of a list's first item, and of
+-- the labels by which a node refers to others or is referred to
 abbrev pub ahead_of : Forest → Ahead
 ahead_of children = record {
   mark = first_on_spine is_heading_mark position children;
   number = unwrap_or (first_on_spine is_item (λ start end inner. number_in_item inner) children) None;
-  is_loose = is_loose children;
   label = unwrap_or (first_on_spine is_label (λ start end inner. text_in_label inner) children) None;
   reference = first_on_spine is_reference position children;
   defined = first_on_spine is_definition_label position children;

@@ -58,8 +58,6 @@ pub struct Ahead {
     pub mark: Option<Position>,
     /// The place of the number of a list's first item.
     pub number: Option<Position>,
-    /// The node is loose, as a list.
-    pub is_loose: bool,
     /// The place of the text of its label.
     pub label: Option<Position>,
     /// The place of its reference.

@@ -1,23 +1,9 @@
 -- Backslashes before pipes, character by character.
-use Rattle.std.proofs.Common.{◌≡◌, ◌≢◌, ℕ, ◌<◌, ◌≤◌, Bool, true, false, ◌&&◌, cond, eqb, List, [], ◌∷◌, ◌++◌, length, get_or, refl, sym, ap, ◌∙◌, subst, encode_utf8, arith, suc, ne_eqb, append-nil, zero-lt-suc, suc-le-suc, inl, inr}
+use Rattle.std.proofs.Common.{◌≡◌, ◌≢◌, ℕ, Bool, true, false, ◌&&◌, cond, eqb, List, [], ◌∷◌, ◌++◌, refl, sym, ap, ◌∙◌, subst, encode_utf8, arith, ne_eqb, inl, inr}
 use Rattle.std.proofs.lemmas.Bool.{cases_lt, cases_eq}
-use Rattle.std.proofs.lemmas.Str.{inside_one, encode_ascii}
+use Rattle.std.proofs.lemmas.Str.{encode_ascii}
+use Rattle.md_text.proofs.HighBytes.{AllHigh, encode_utf8-high}
 use Rattle.md_meaning.specs.Texts.{unescaped_pipes, escapes_pipe, begins_with_pipe}
-
--- each byte of the text is 128 or more
-abbrev AllHigh : List ℕ → Type 0
-AllHigh [] = Unit {0}
-AllHigh (b ∷ bs) = (128 ≤ b) × AllHigh bs
-
-AllHigh-from_places : (bs : List ℕ) → ((k : ℕ) → k < length bs → 128 ≤ get_or bs k 0) → AllHigh bs
-AllHigh-from_places [] h = tt
-AllHigh-from_places (b ∷ bs) h = (h 0 (zero-lt-suc (length bs)), AllHigh-from_places bs (λ k l. h (suc k) (suc-le-suc l)))
-
-high_at : (c k : ℕ) → 128 ≤ c → k < length (encode_utf8 c) → 128 ≤ get_or (encode_utf8 c) k 0
-high_at c k high l = elim (cases_lt (get_or (encode_utf8 c) k 0) 128) [
-  | inl low ↦ (let same : c ≡ get_or (encode_utf8 c) k 0 = inside_one c [] (encode_utf8 c) k (sym (append-nil (encode_utf8 c))) l low in absurd (omega arith))
-  | inr done ↦ done
-]
 
 -- a byte that is no backslash stays
 other_stays : (b : ℕ) (rest : List ℕ) → b ≢ 92 → unescaped_pipes (b ∷ rest) ≡ b ∷ unescaped_pipes rest
@@ -31,7 +17,7 @@ high_stay (b ∷ bs) rest h = other_stays b (bs ++ rest) (λ e. omega (arith, h.
 character_stays : (c : ℕ) (rest : List ℕ) → c ≢ 92 → unescaped_pipes (encode_utf8 c ++ rest) ≡ encode_utf8 c ++ unescaped_pipes rest
 character_stays c rest ne = elim (cases_lt c 128) [
   | inl low ↦ subst (λ x. unescaped_pipes (x ++ rest) ≡ x ++ unescaped_pipes rest) (sym (encode_ascii c low)) (other_stays c rest ne)
-  | inr high ↦ high_stay (encode_utf8 c) rest (AllHigh-from_places (encode_utf8 c) (λ k l. high_at c k high l))
+  | inr high ↦ high_stay (encode_utf8 c) rest (encode_utf8-high c high)
 ]
 
 -- a character by what follows it: a backslash before a pipe goes

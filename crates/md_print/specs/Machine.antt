@@ -3,12 +3,14 @@
 use Rattle.std.specs.Prelude.{ℕ, Bool, true, false, if◌then◌else◌, List, [], ◌∷◌, ◌++◌, Option}
 use Rattle.std.specs.Option.{option_map_or}
 use Rattle.md_base.specs.declared.event.Name.{Name}
+use Rattle.md_base.specs.declared.event.Name.TheVariants.{ListOrdered, ListUnordered}
 use Rattle.md_base.specs.declared.event.Kind.{Kind}
 use Rattle.md_base.specs.declared.event.Kind.TheVariants.{Enter, Exit}
 use Rattle.md_base.specs.declared.event.Point.{Point}
 use Rattle.md_base.specs.declared.event.Event.{Event}
 use Rattle.md_base.specs.declared.event.AlignKind.{AlignKind}
 use Rattle.md_tree.specs.Tree.{Forest}
+use Rattle.md_tree.specs.Looseness.{is_loose}
 use Rattle.md_tree.specs.Alignments.{alignments}
 use Rattle.md_meaning.specs.Calls.{Called}
 use Rattle.md_meaning.specs.Footnotes.{Footnote, section_pieces}
@@ -74,19 +76,19 @@ releasing captured state = record state {
   below = if captured then others_of state.below else state.below;
 }
 
--- the frame of a node that is entered
-abbrev pub frame_inside : CompileOptions → Ahead → Name → Point → Bool → Frame → Frame
-frame_inside options ahead name start slurping parent = record {
-  around = inside options ahead.is_loose name parent.around;
+-- the frame of a node that is entered; `loose` says whether the node, as a list, is loose
+abbrev pub frame_inside : CompileOptions → Ahead → Bool → Name → Point → Bool → Frame → Frame
+frame_inside options ahead loose name start slurping parent = record {
+  around = inside options loose name parent.around;
   start = start;
   is_slurping = slurping;
   ahead = ahead;
   passed = nothing_passed (if is_transparent name then parent.passed.spine else no_spine);
 }
 
-abbrev pub opening_frame : CompileOptions → Ahead → Name → Point → State → State
-opening_frame options ahead name start state = record state {
-  frame = frame_inside options ahead name start state.is_slurping state.frame;
+abbrev pub opening_frame : CompileOptions → Ahead → Bool → Name → Point → State → State
+opening_frame options ahead loose name start state = record state {
+  frame = frame_inside options ahead loose name start state.is_slurping state.frame;
   frames = state.frame ∷ state.frames;
 }
 
@@ -99,10 +101,10 @@ abbrev pub leaving_table : Bool → State → State
 leaving_table is_table state = record state { tables = if is_table then others_of state.tables else state.tables }
 
 -- a node is entered, whose children's text is captured or not
-abbrev pub entered : Given → Ahead → List AlignKind → Bool → Name → Point → State → State
-entered given ahead columns captured name start state =
+abbrev pub entered : Given → Ahead → Bool → List AlignKind → Bool → Name → Point → State → State
+entered given ahead loose columns captured name start state =
     entering_table (is_table name) columns
-    (opening_frame given.options ahead name start
+    (opening_frame given.options ahead loose name start
     (capturing captured (printing given.ending (opening given state.frame.around ahead name) state)))
 
 -- the innermost node is left
@@ -165,10 +167,16 @@ is_nil _ = false
 abbrev pub columns_told : Name → Option Forest → List AlignKind
 columns_told name children = if is_table name then option_map_or alignments children [] else []
 
+-- whether a list with these children is loose; another node isn't
+abbrev pub loose_told : Name → Option Forest → Bool
+loose_told ListOrdered children = option_map_or is_loose children false
+loose_told ListUnordered children = option_map_or is_loose children false
+loose_told _ children = false
+
 -- an event, with what is told ahead there, before all others
 abbrev pub stepped : Given → Kind → Name → Point → Ahead → Option Forest → Bool → State → State
 stepped given Enter name point ahead children last state =
-    entered given ahead (columns_told name children) (is_captured name) name point state
+    entered given ahead (loose_told name children) (columns_told name children) (is_captured name) name point state
 stepped given Exit name point ahead children last state = exited given last (is_captured name) name point state
 
 -- the events one after another, each with what is told ahead there and the children of the node that it enters

@@ -65,10 +65,10 @@ fn close_text(
         Name::CharacterReferenceValue => reference(alloc, printer, source, exit),
         Name::HtmlFlowData => html(alloc, printer, source, exit),
         Name::HtmlTextData => html(alloc, printer, source, exit),
-        Name::CodeText => code(alloc, printer, exit.around, "<code>", inner.text()),
+        Name::CodeText => code(alloc, printer, exit.around, "<code>", inner),
         Name::MathText => {
             let tag = "<code class=\"language-math math-inline\">";
-            code(alloc, printer, exit.around, tag, inner.text())
+            code(alloc, printer, exit.around, tag, inner)
         }
         Name::Emphasis => outside_images(printer, exit.around, "</em>"),
         Name::Strong => outside_images(printer, exit.around, "</strong>"),
@@ -132,31 +132,31 @@ fn close_media(
 {
     match name {
         Name::HeadingSetextText => {
-            printer.note_heading(inner.into_text());
+            printer.note_heading(inner.into_text(alloc)?);
             Ok(())
         }
         Name::DefinitionDestinationString => {
-            printer.note_destination(inner.into_text());
+            printer.note_destination(inner.into_text(alloc)?);
             Ok(())
         }
         Name::DefinitionTitleString => {
-            printer.note_title(inner.into_text());
+            printer.note_title(inner.into_text(alloc)?);
             Ok(())
         }
         Name::ResourceDestinationString => {
-            printer.note_destination(inner.into_text());
+            printer.note_destination(inner.into_text(alloc)?);
             Ok(())
         }
         Name::ResourceTitleString => {
-            printer.note_title(inner.into_text());
+            printer.note_title(inner.into_text(alloc)?);
             Ok(())
         }
         Name::Resource => {
             printer.note_resource(inner.into_target());
             Ok(())
         }
-        Name::Link => link(alloc, printer, source, exit, &inner),
-        Name::Image => image(alloc, printer, source, exit, &inner),
+        Name::Link => link(alloc, printer, source, exit, inner),
+        Name::Image => image(alloc, printer, source, exit, inner),
         Name::AutolinkEmail => {
             autolink(
                 alloc,
@@ -220,7 +220,7 @@ fn close_gfm(
         Name::GfmTableHead => on_own_line(printer, source.ending, "</thead>"),
         Name::GfmTableBody => on_own_line(printer, source.ending, "</tbody>"),
         Name::GfmTableRow => close_row(printer, source.ending, exit),
-        Name::GfmTableCell => close_cell(printer, source.ending, exit, inner.text()),
+        Name::GfmTableCell => close_cell(alloc, printer, source.ending, exit, inner),
         Name::GfmFootnoteCall => call(alloc, printer, source, exit),
         _ => Ok(()),
     }
@@ -401,11 +401,11 @@ fn code(
     printer: &mut Printer,
     around: Surroundings,
     tag: &str,
-    inner: &str,
+    inner: &Sheet,
 ) -> Result<(), AllocError>
-    ensures { OnOk result (printer.new ≡ printing [] (texts.code_pieces around tag.now inner.now) printer.old) }
+    ensures { OnOk result (printer.new ≡ printing [] (texts.code_pieces around tag.now inner.now.text) printer.old) }
 {
-    let text = code_text(alloc, around, inner)?;
+    let text = code_text(alloc, around, inner.to_text(alloc)?.as_str())?;
     if around.in_image {
         return printer.put(text.as_str());
     }

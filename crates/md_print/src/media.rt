@@ -1,9 +1,10 @@
 //! What links, images and autolinks print.
 
-ghost use Rattle.std.specs.Prelude.{◌≡◌, ◌∷◌, [], ◌++◌, ◌||◌, OnOk, IfOk, unwrap_or, string_bytes, bytes_eq, find, option_copied, option_map};
+ghost use Rattle.std.specs.Prelude.{◌≡◌, ◌∷◌, [], ◌++◌, ◌||◌, OnOk, IfOk, unwrap_or, string_bytes, option_copied, option_map};
 ghost use Rattle.md_print.specs.Machine.{printing};
 ghost use Rattle.md_meaning.specs.Media as media;
 ghost use Rattle.md_meaning.specs.Piece.{nowhere};
+ghost use Rattle.md_meaning.specs.Places.{identifier_at};
 ghost use Rattle.md_print.specs.Sources.{given_of};
 
 use crate::facts::Exit;
@@ -11,7 +12,7 @@ use crate::printer::Printer;
 use crate::source::{Source, identifier_at, text_of};
 use md_base::{Position, SAFE_PROTOCOL_HREF, SAFE_PROTOCOL_SRC};
 use md_meaning::{Ahead, CompileOptions, Surroundings};
-use md_sheet::{Defined, Sheet, Target};
+use md_sheet::{Definitions, Notes, Rope, Sheet, Target};
 use md_text::{encode, sanitize, sanitize_with_protocols};
 use std::alloc::{AllocError, Global};
 
@@ -41,18 +42,6 @@ fn src_of(alloc: Global, options: &CompileOptions, destination: &str) -> Result<
     }
 }
 
-/// Where the first definition with an identifier leads.
-fn defined_target<'a>(definitions: &'a [Defined], identifier: &str) -> Option<&'a Target>
-    ensures { unwrap_or (option_copied result) nowhere ≡ media.defined_target definitions.now identifier.now }
-{
-    for defined in definitions {
-        if defined.identifier.as_str() == identifier {
-            return Some(&defined.target);
-        }
-    }
-    None
-}
-
 /// The place of the label by which a link or an image refers: its reference, else the text of its label.
 fn referring(ahead: Ahead) -> Option<Position>
     ensures { result ≡ media.referring ahead }
@@ -73,17 +62,19 @@ pub fn is_plain(around: Surroundings) -> bool
 /// Where a link or an image leads: as its resource says, else as the definition with its identifier does, else nowhere.
 fn target_of<'a>(
     alloc: Global,
-    source: &Source<'a>,
+    bytes: &[u8],
+    definitions: &'a Definitions,
     ahead: Ahead,
-    inner: &'a Sheet,
+    notes: &'a Notes,
 ) -> Result<Option<&'a Target>, AllocError>
-    ensures { IfOk result (λ target. unwrap_or (option_copied target) nowhere ≡ media.target_of (given_of source.now) ahead inner.now) }
+    ensures { IfOk result (λ target. unwrap_or (option_copied target) nowhere
+        ≡ unwrap_or notes.now.resource (media.defined_target definitions.now (identifier_at bytes.now (media.referring ahead)))) }
 {
-    if let Some(target) = inner.resource() {
+    if let Some(target) = notes.resource() {
         return Ok(Some(target));
     }
-    let identifier = identifier_at(alloc, source.bytes, referring(ahead))?;
-    Ok(defined_target(source.definitions, identifier.as_str()))
+    let identifier = identifier_at(alloc, bytes, referring(ahead))?;
+    Ok(definitions.target(identifier.as_str()))
 }
 
 /// The destination of a target, if there is one.
@@ -136,12 +127,27 @@ fn link_start(
 }
 
 /// Prints the rest of a link: its label and its end.
-fn link_end(printer: &mut Printer, label: &str) -> Result<(), AllocError>
-    ensures { OnOk result (printer.new ≡ printing [] (media.link_end label.now) printer.old) }
+fn link_end(alloc: Global, printer: &mut Printer, label: Rope) -> Result<(), AllocError>
+    ensures { OnOk result (printer.new ≡ printing [] (media.link_end label) printer.old) }
 {
     printer.put(">")?;
-    printer.put(label)?;
+    printer.append(alloc, label)?;
     printer.put("</a>")
+}
+
+/// Prints a link to a target round its label.
+fn link_to(
+    alloc: Global,
+    printer: &mut Printer,
+    options: &CompileOptions,
+    target: Option<&Target>,
+    label: Rope,
+) -> Result<(), AllocError>
+    ensures { OnOk result (printer.new ≡ printing [] (media.link_to options.now (unwrap_or (option_copied target.entry) nowhere) label) printer.old) }
+{
+    link_start(alloc, printer, options, destination_of(target))?;
+    title(printer, title_of(target))?;
+    link_end(alloc, printer, label)
 }
 
 /// Prints a link: in an image its label alone.
@@ -150,17 +156,17 @@ pub fn link(
     printer: &mut Printer,
     source: &Source,
     exit: &Exit,
-    inner: &Sheet,
+    inner: Sheet,
 ) -> Result<(), AllocError>
-    ensures { OnOk result (printer.new ≡ printing [] (media.link_pieces (given_of source.now) exit.now.around exit.now.frame.ahead inner.now) printer.old) }
+    ensures { OnOk result (printer.new ≡ printing [] (media.link_pieces (given_of source.now) exit.now.around exit.now.frame.ahead inner) printer.old) }
 {
+    let (label, notes) = inner.into_parts();
     if exit.around.in_image {
-        return printer.put(inner.text());
+        return printer.append(alloc, label);
     }
-    let target = target_of(alloc, source, exit.frame.ahead, inner)?;
-    link_start(alloc, printer, source.options, destination_of(target))?;
-    title(printer, title_of(target))?;
-    link_end(printer, inner.text())
+    let ahead = exit.frame.ahead;
+    let target = target_of(alloc, source.bytes, source.definitions, ahead, &notes)?;
+    link_to(alloc, printer, source.options, target, label)
 }
 
 /// Prints the beginning of an image, up to its title.
@@ -169,16 +175,31 @@ fn image_start(
     printer: &mut Printer,
     options: &CompileOptions,
     destination: &str,
-    label: &str,
+    label: Rope,
 ) -> Result<(), AllocError>
-    ensures { OnOk result (printer.new ≡ printing [] (media.image_start options.now destination.now label.now) printer.old) }
+    ensures { OnOk result (printer.new ≡ printing [] (media.image_start options.now destination.now label) printer.old) }
 {
     let url = src_of(alloc, options, destination)?;
     printer.put("<img src=\"")?;
     printer.put(url.as_str())?;
     printer.put("\" alt=\"")?;
-    printer.put(label)?;
+    printer.append(alloc, label)?;
     printer.put("\"")
+}
+
+/// Prints an image of a target, whose alternative text is its label.
+fn image_of(
+    alloc: Global,
+    printer: &mut Printer,
+    options: &CompileOptions,
+    target: Option<&Target>,
+    label: Rope,
+) -> Result<(), AllocError>
+    ensures { OnOk result (printer.new ≡ printing [] (media.image_of options.now (unwrap_or (option_copied target.entry) nowhere) label) printer.old) }
+{
+    image_start(alloc, printer, options, destination_of(target), label)?;
+    title(printer, title_of(target))?;
+    printer.put(" />")
 }
 
 /// Prints an image: in another its label alone.
@@ -187,23 +208,17 @@ pub fn image(
     printer: &mut Printer,
     source: &Source,
     exit: &Exit,
-    inner: &Sheet,
+    inner: Sheet,
 ) -> Result<(), AllocError>
-    ensures { OnOk result (printer.new ≡ printing [] (media.image_pieces (given_of source.now) exit.now.around exit.now.frame.ahead inner.now) printer.old) }
+    ensures { OnOk result (printer.new ≡ printing [] (media.image_pieces (given_of source.now) exit.now.around exit.now.frame.ahead inner) printer.old) }
 {
+    let (label, notes) = inner.into_parts();
     if exit.around.in_image {
-        return printer.put(inner.text());
+        return printer.append(alloc, label);
     }
-    let target = target_of(alloc, source, exit.frame.ahead, inner)?;
-    image_start(
-        alloc,
-        printer,
-        source.options,
-        destination_of(target),
-        inner.text(),
-    )?;
-    title(printer, title_of(target))?;
-    printer.put(" />")
+    let ahead = exit.frame.ahead;
+    let target = target_of(alloc, source.bytes, source.definitions, ahead, &notes)?;
+    image_of(alloc, printer, source.options, target, label)
 }
 
 /// A prefix and a text, as one.
@@ -233,5 +248,5 @@ pub fn autolink(
     }
     let destination = joined(alloc, prefix, text)?;
     link_start(alloc, printer, source.options, destination.as_str())?;
-    link_end(printer, encoded.as_str())
+    link_end(alloc, printer, Rope::from_string(alloc, encoded))
 }

@@ -14,7 +14,7 @@ use crate::facts::Frame;
 use md_base::{AlignKind, Name, Point};
 use md_facts::surroundings::{NO_SPINE, inside, passing, slurps_behind, spine_inside};
 use md_meaning::{Ahead, CompileOptions, Container, Passed, Surroundings};
-use md_sheet::{Calls, Defined, Footnotes, Sheet, Target, lay_section};
+use md_sheet::{Calls, Defined, Footnotes, Rope, Sheet, Target, lay_section};
 use std::alloc::{AllocError, Global};
 use std::marker::Model;
 
@@ -47,6 +47,13 @@ impl Printer {
         ensures { OnOk result (self.new ≡ machine.printing [] (said text.now) self.old) }
     {
         self.sheet.put(text)
+    }
+
+    /// Prints a text in parts, without copying the longer of it and the page.
+    pub fn append(&mut self, alloc: Global, text: Rope) -> Result<(), AllocError>
+        ensures { OnOk result (self.new ≡ machine.printing [] (said text) self.old) }
+    {
+        self.sheet.append(alloc, text)
     }
 
     /// Prints a line ending, unless a line starts here.
@@ -240,20 +247,21 @@ impl Printer {
         }
     }
 
-    /// Opens a node's frame.
+    /// Opens a node's frame; `loose` says whether the node, as a list, is loose.
     pub fn open_frame(
         &mut self,
         options: &CompileOptions,
         ahead: Ahead,
+        loose: bool,
         name: Name,
         start: Point,
     ) -> Result<(), AllocError>
-        ensures { OnOk result (self.new ≡ machine.opening_frame options.now ahead name start self.old) }
+        ensures { OnOk result (self.new ≡ machine.opening_frame options.now ahead loose name start self.old) }
     {
         let parent = self.frame;
         self.frames.push(parent)?;
         self.frame = Frame {
-            around: inside(options, ahead.is_loose, name, parent.around),
+            around: inside(options, loose, name, parent.around),
             start,
             is_slurping: self.is_slurping,
             ahead,
@@ -321,7 +329,7 @@ impl Printer {
             tables: _,
         } = self;
         lay_section(alloc, &mut sheet, options, ending, &calls, &footnotes)?;
-        Ok(sheet.into_text())
+        sheet.into_text(alloc)
     }
 
     pub fn new(alloc: Global) -> Printer
@@ -364,7 +372,6 @@ const DOCUMENT_FRAME: Frame = Frame {
     ahead: Ahead {
         mark: None,
         number: None,
-        is_loose: false,
         label: None,
         reference: None,
         defined: None,

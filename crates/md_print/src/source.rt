@@ -10,7 +10,7 @@ ghost use Rattle.md_meaning.specs.Places.{length_of, identifier_at, without_zero
 
 use md_base::{Point, Position, Slice, normalize_identifier};
 use md_meaning::CompileOptions;
-use md_sheet::Defined;
+use md_sheet::Definitions;
 use std::alloc::{AllocError, Global};
 
 /// The document's bytes, the names of references, the options and the line ending that is used.
@@ -20,7 +20,7 @@ pub struct Source<'a> {
     pub names: &'a [(&'a str, &'a str)],
     pub options: &'a CompileOptions,
     pub ending: &'a str,
-    pub definitions: &'a [Defined],
+    pub definitions: &'a Definitions,
 }
 
 /// The text of a node that is one, else nothing.

@@ -10,7 +10,8 @@ use crate::facts::Exit;
 use crate::open::on_own_line;
 use crate::printer::Printer;
 use md_base::AlignKind;
-use std::alloc::AllocError;
+use md_sheet::Sheet;
+use std::alloc::{AllocError, Global};
 
 /// How the cells of a column are aligned.
 fn align_attribute(kind: AlignKind) -> &'static str
@@ -54,17 +55,21 @@ fn cell(
     printer.put(cell_end(in_head))
 }
 
-/// Prints a cell behind its children, whose text it is, if the table has its column.
+/// Prints a cell behind its children, whose page it is handed, if the table has its column.
 pub fn close_cell(
+    alloc: Global,
     printer: &mut Printer,
     ending: &str,
     exit: &Exit,
-    text: &str,
+    inner: &Sheet,
 ) -> Result<(), AllocError>
-    ensures { OnOk result (printer.new ≡ printing ending.now (tables.cell_in exit.now.around.in_head (slice_get (first_or [] printer.old.tables) exit.now.spine.cells) text.now) printer.old) }
+    ensures { OnOk result (printer.new ≡ printing ending.now (tables.cell_in exit.now.around.in_head (slice_get (first_or [] printer.old.tables) exit.now.spine.cells) inner.now.text) printer.old) }
 {
     match printer.column(exit.spine.cells) {
-        Some(kind) => cell(printer, ending, exit.around.in_head, kind, text),
+        Some(kind) => {
+            let text = inner.to_text(alloc)?;
+            cell(printer, ending, exit.around.in_head, kind, text.as_str())
+        }
         None => Ok(()),
     }
 }

@@ -111,19 +111,19 @@ span-node s t content Link e w is inner a =
     let page : Page = page_of s inner in
     let h : Here s t content page.text = page-holds s (Here s t content) inner a in
     prints-alone s (Here s t content) (link_pieces s.given t.around (ahead_of t.children) page)
-    (prints-outside s t.around.in_image (Here s t content) w (said page.text) (link_to s.given.options (target_of s.given (ahead_of t.children) page) page.text)
+    (prints-outside s t.around.in_image (Here s t content) w (said page.text) (link_to s.given.options (target_of s.given (ahead_of t.children) page.notes) page.text)
     (adds-text s.p s.given.ending (Here s t content) page.text h)
     (λ _.
-    adds-link s.p s.given.ending s.given.options s.test (target_of s.given (ahead_of t.children) page) page.text
+    adds-link s.p s.given.ending s.given.options s.test (target_of s.given (ahead_of t.children) page.notes) page.text
     (target-title s (ahead_of t.children) page (page-good s (Here s t content) inner a).resource) (w.read page.text h)))
 span-node s t content Image e w is inner a =
     let page : Page = page_of s inner in
     let h : Escaped page.text = page-holds s Escaped inner a in
     prints-alone s (Here s t content) (image_pieces s.given t.around (ahead_of t.children) page)
-    (prints-outside s t.around.in_image (Here s t content) w (said page.text) (image_of s.given.options (target_of s.given (ahead_of t.children) page) page.text)
+    (prints-outside s t.around.in_image (Here s t content) w (said page.text) (image_of s.given.options (target_of s.given (ahead_of t.children) page.notes) page.text)
     (prints-escaped s t.around.in_image (Here s t content) w page.text h)
     (λ _.
-    adds-image s.p s.given.ending s.given.options s.test (target_of s.given (ahead_of t.children) page) page.text
+    adds-image s.p s.given.ending s.given.options s.test (target_of s.given (ahead_of t.children) page.notes) page.text
     (target-title s (ahead_of t.children) page (page-good s Escaped inner a).resource) h))
 span-node s t content HardBreakEscape e w is inner a =
     prints-both s (Here s t content) w.both inner (outside_images t.around (said (codes "<br />"))) a

@@ -121,7 +121,7 @@ defined-title (defined ∷ others) identifier h = by (bytes_eq defined.identifie
     by true later = h.0
     by false later = later
 
-pub target-title : (s : Setting) (ahead : Ahead) (page : Page) → IsGoodTarget page.notes.resource → IsEscapedTitle (target_of s.given ahead page).title
+pub target-title : (s : Setting) (ahead : Ahead) (page : Page) → IsGoodTarget page.notes.resource → IsEscapedTitle (target_of s.given ahead page.notes).title
 target-title s ahead page good = by page.notes.resource good
   where
     by : (resource : Option Target) → IsGoodTarget resource → IsEscapedTitle (unwrap_or resource (defined_target s.given.definitions (identifier_at s.given.bytes (referring ahead)))).title

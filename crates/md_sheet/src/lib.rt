@@ -3,9 +3,11 @@
 
 mod body;
 mod calls;
+mod definitions;
 mod footnotes;
 mod ids;
 mod notes;
+mod rope;
 mod section;
 mod sheet;
 #[cfg(test)]
@@ -13,8 +15,10 @@ mod tests;
 mod ways_back;
 
 pub use calls::Calls;
+pub use definitions::Definitions;
 pub use footnotes::Footnotes;
 pub use ids::{call_id, footnote_id};
 pub use notes::{Defined, Notes, Target};
+pub use rope::Rope;
 pub use section::lay_section;
 pub use sheet::Sheet;

@@ -1,27 +1,27 @@
 //! A text that is laid out piece by piece.
 
-ghost use Rattle.std.specs.Prelude.{◌≡◌, IfOk, OnOk, string_bytes, [], option_copied};
+ghost use Rattle.std.specs.Prelude.{◌≡◌, IfOk, OnOk, string_bytes, []};
 ghost use Rattle.md_meaning.specs.Piece as piece;
-ghost use Rattle.md_meaning.specs.Piece.{Text, Needed, Forced, Recalled, Noted, lay_piece, is_line_start, blank};
+ghost use Rattle.md_meaning.specs.Piece.{Text, Needed, Forced, Recalled, Noted, lay_piece, ends_line, blank};
 
 use crate::notes::{Notes, Target};
+use crate::rope::Rope;
 use std::alloc::{AllocError, Global};
 use std::marker::Model;
 
 /// What is laid out so far, and the text that was put aside last.
 #[derive(Drop)]
 pub struct Sheet {
-    text: String,
+    text: Rope,
     notes: Notes,
 }
 
 impl Model for Sheet {
-    ghost use Rattle.std.specs.Prelude.{string_bytes};
     ghost use Rattle.md_meaning.specs.Piece.{Page};
 
     ghost Value = { Page };
 
-    ghost view = { λ s. record { text = string_bytes s.text; notes = s.notes } };
+    ghost view = { λ s. record { text = s.text; notes = s.notes } };
 }
 
 impl Sheet {
@@ -30,7 +30,7 @@ impl Sheet {
         ensures { result ≡ blank }
     {
         Sheet {
-            text: String::new(alloc),
+            text: Rope::new(alloc),
             notes: Notes::new(alloc),
         }
     }
@@ -54,7 +54,7 @@ impl Sheet {
     pub fn need(&mut self, ending: &str) -> Result<(), AllocError>
         ensures { OnOk result (self.new ≡ lay_piece ending.now self.old Needed) }
     {
-        if is_line_start(self.text.as_str()) {
+        if ends_line(self.text.last_byte()) {
             Ok(())
         } else {
             self.text.push_str(ending)
@@ -100,12 +100,47 @@ impl Sheet {
         self.text.push_str(self.notes.heading())
     }
 
+    /// Lays a text in parts, without copying the longer of it and what is laid out.
+    ///
+    /// # Errors
+    ///
+    /// Only where memory runs out.
+    pub fn append(&mut self, alloc: Global, text: Rope) -> Result<(), AllocError>
+        ensures { OnOk result (self.new ≡ lay_piece [] self.old (Text text)) }
+    {
+        self.text.append(alloc, text)
+    }
+
     /// The text that is laid out, without what was noted.
-    pub fn into_text(self) -> String
-        ensures { string_bytes result ≡ self.text }
+    ///
+    /// # Errors
+    ///
+    /// Only where memory runs out.
+    pub fn into_text(self, alloc: Global) -> Result<String, AllocError>
+        ensures { IfOk result (λ text. string_bytes text ≡ self.text) }
     {
         let Sheet { text, notes: _ } = self;
-        text
+        text.into_string(alloc)
+    }
+
+    /// A copy of the text that is laid out.
+    ///
+    /// # Errors
+    ///
+    /// Only where memory runs out.
+    pub fn to_text(&self, alloc: Global) -> Result<String, AllocError>
+        ensures { IfOk result (λ text. string_bytes text ≡ self.now.text) }
+    {
+        self.text.to_string(alloc)
+    }
+
+    /// The text that is laid out, and what was noted.
+    pub fn into_parts(self) -> (Rope, Notes)
+        ensures text { result.0 ≡ self.text }
+        ensures notes { result.1 ≡ self.notes }
+    {
+        let Sheet { text, notes } = self;
+        (text, notes)
     }
 
     /// The destination and the title that were noted last, without the text.
@@ -115,28 +150,14 @@ impl Sheet {
         let Sheet { text: _, notes } = self;
         notes.into_target()
     }
-
-    /// The text that is laid out so far.
-    pub fn text(&self) -> &str
-        ensures { result.now ≡ self.now.text }
-    {
-        self.text.as_str()
-    }
-
-    /// The resource that was noted last.
-    pub fn resource(&self) -> Option<&Target>
-        ensures { option_copied result ≡ self.now.notes.resource }
-    {
-        self.notes.resource()
-    }
 }
 
-/// Whether a text is empty or ends in CR or LF.
-fn is_line_start(text: &str) -> bool
-    ensures { result ≡ is_line_start text.now }
+/// A line begins behind this byte: it is CR or LF, or there is none.
+fn ends_line(byte: Option<u8>) -> bool
+    ensures { result ≡ ends_line byte }
 {
-    match text.as_bytes().last() {
-        Some(byte) => *byte == b'\r' || *byte == b'\n',
+    match byte {
+        Some(byte) => byte == b'\r' || byte == b'\n',
         None => true,
     }
 }

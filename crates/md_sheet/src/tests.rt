@@ -44,17 +44,20 @@ fn a_sheet_is_laid_out(rt: HostRuntime) -> Result<(), Fail> {
     sheet.need("\n")?;
     sheet.note_heading(String::from_str(rt.alloc(), "h")?);
     sheet.recall()?;
-    assert_eq!(rt; sheet.text(), "<p>\nh");
-    assert!(rt; sheet.resource().is_none());
+    sheet.append(
+        rt.alloc(),
+        Rope::from_string(rt.alloc(), String::from_str(rt.alloc(), "eading")?),
+    )?;
     sheet.note_resource(Target {
         destination: String::from_str(rt.alloc(), "r")?,
         title: None,
     });
-    match sheet.resource() {
+    let (text, notes) = sheet.into_parts();
+    assert_eq!(rt; text.into_string(rt.alloc())?.as_str(), "<p>\nheading");
+    match notes.resource() {
         Some(target) => assert_eq!(rt; target.destination.as_str(), "r"),
         None => assert!(rt; false),
     }
-    assert_eq!(rt; sheet.into_text().as_str(), "<p>\nh");
     Ok(())
 }
 
@@ -110,10 +113,11 @@ fn a_section_has_each_footnote_that_is_called(rt: HostRuntime) -> Result<(), Fai
         "</section>",
         "",
     ];
-    for (line, text) in sheet.text().split('\n').zip(expected) {
+    let text = sheet.into_text(rt.alloc())?;
+    for (line, text) in text.as_str().split('\n').zip(expected) {
         assert_eq!(rt; line, text);
     }
-    assert_eq!(rt; sheet.text().split('\n').count(), expected.len());
+    assert_eq!(rt; text.as_str().split('\n').count(), expected.len());
     Ok(())
 }
 
@@ -137,7 +141,7 @@ fn a_section_is_as_the_options_ask(rt: HostRuntime) -> Result<(), Fail> {
     let mut sheet = Sheet::new(rt.alloc());
     lay_section(rt.alloc(), &mut sheet, &options, "\r\n", &calls, &footnotes)?;
     assert_eq!(rt;
-        sheet.text(),
+        sheet.into_text(rt.alloc())?.as_str(),
         "<section data-footnotes=\"\" class=\"footnotes\"><h3 id=\"footnote-label\" class=\"x\">&quot;Notes&quot;</h3>\r\n<ol>\r\n<li id=\"&amp;-fn-%C3%A9\">\r\n<blockquote>\r\n<p>q</p>\r\n</blockquote>\r\n<a href=\"#&amp;-fnref-%C3%A9\" data-footnote-backref=\"\" aria-label=\"&lt;b&gt;\" class=\"data-footnote-backref\">↩</a>\r\n</li>\r\n</ol>\r\n</section>\r\n"
     );
     assert_eq!(rt;
@@ -171,6 +175,57 @@ fn without_a_call_there_is_no_section(rt: HostRuntime) -> Result<(), Fail> {
         &Calls::new(rt.alloc()),
         &footnotes,
     )?;
-    assert_eq!(rt; sheet.text(), "");
+    assert_eq!(rt; sheet.into_text(rt.alloc())?.as_str(), "");
+    Ok(())
+}
+
+#[test]
+fn the_first_definition_with_an_identifier_is_found(rt: HostRuntime) -> Result<(), Fail> {
+    let mut list = Vec::new(rt.alloc());
+    for (identifier, destination) in [("b", "x"), ("a", "y"), ("b", "z")] {
+        list.push(Defined {
+            identifier: String::from_str(rt.alloc(), identifier)?,
+            target: Target {
+                destination: String::from_str(rt.alloc(), destination)?,
+                title: None,
+            },
+        })?;
+    }
+    let definitions = Definitions::first_of(rt.alloc(), list)?;
+    for (identifier, destination) in [("a", "y"), ("b", "x")] {
+        match definitions.target(identifier) {
+            Some(target) => assert_eq!(rt; target.destination.as_str(), destination),
+            None => assert!(rt; false, "at {identifier}"),
+        }
+    }
+    assert!(rt; definitions.target("c").is_none());
+    assert!(rt; Definitions::new(rt.alloc()).target("a").is_none());
+    Ok(())
+}
+
+#[test]
+fn a_text_goes_behind_one_that_is_longer_or_shorter(rt: HostRuntime) -> Result<(), Fail> {
+    let mut text = Rope::new(rt.alloc());
+    assert_eq!(rt; text.last_byte(), None);
+    for part in [
+        "",
+        "b",
+        "a long part",
+        "c",
+        "",
+        "a part that is the longest of all",
+    ] {
+        let mut next = Rope::new(rt.alloc());
+        next.push_str("<")?;
+        next.push_str(part)?;
+        text.append(rt.alloc(), next)?;
+        text.push_str(">")?;
+        assert_eq!(rt; text.last_byte(), Some(b'>'));
+    }
+    text.append(rt.alloc(), Rope::new(rt.alloc()))?;
+    assert_eq!(rt;
+        text.into_string(rt.alloc())?.as_str(),
+        "<><b><a long part><c><><a part that is the longest of all>"
+    );
     Ok(())
 }

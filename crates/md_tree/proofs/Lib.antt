@@ -5,10 +5,12 @@ pub mod EnteredTables
 pub mod Entering
 pub mod Gathering
 pub mod Greedy
+pub mod Identifiers
 pub mod Indexed
 pub mod Groups
 pub mod Paths
 pub mod Resolving
+pub mod Runs
 pub mod Tables
 pub mod Trees
 pub mod Verdicts

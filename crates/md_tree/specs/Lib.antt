@@ -8,6 +8,7 @@ pub mod Pattern
 pub mod Refusal
 pub mod Resolve
 pub mod Rules
+pub mod Runs
 pub mod Shape
 pub mod Spine
 pub mod Standing

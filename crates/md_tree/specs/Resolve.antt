@@ -1,5 +1,6 @@
 -- What leads nowhere.
-use Rattle.std.specs.Prelude.{◌≡◌, ℕ, Option, Some, option_map, List, map, slice_get, string_bytes, String}
+use Rattle.std.specs.BTreeSet.{BTreeSet}
+use Rattle.std.specs.Prelude.{◌≡◌, ◌↔◌, ℕ, Option, Some, option_map, List, map, slice_get, string_bytes, String}
 use Rattle.std.specs.List.{Contains}
 use Rattle.std.specs.declared.alloc.Global.{Global}
 use Rattle.md_base.specs.declared.event.Position.{Position}
@@ -25,9 +26,13 @@ abbrev pub IsUnresolved : List ℕ → List Mention → CompileError → Type 0
 IsUnresolved bytes mentions error.Memory = Unit {0}
 IsUnresolved bytes mentions (error.Event index broken) = IsUnresolvedBy bytes mentions index broken
 
--- the bytes of identifiers
-abbrev pub identifiers_of : List (Option (String Global)) → List (Option (List ℕ))
-identifiers_of texts = map (λ text. option_map string_bytes text) texts
+-- the bytes of the identifiers in a set
+abbrev pub identifiers_of : BTreeSet (Option (String Global)) → List (Option (List ℕ))
+identifiers_of found = map (λ text. option_map string_bytes text) found.keys
+
+-- two lists have the same identifiers, in whatever order and however often
+abbrev pub HaveSame : List (Option (List ℕ)) → List (Option (List ℕ)) → Type 0
+HaveSame some others = (identifier : Option (List ℕ)) → Contains some identifier ↔ Contains others identifier
 
 -- what a mention leads to is among these identifiers of definitions and footnote definitions
 abbrev pub IsFound : List ℕ → List (Option (List ℕ)) → List (Option (List ℕ)) → Mention → Type 0

@@ -11,6 +11,7 @@ use crate::judge::Source;
 use crate::resolve::resolve;
 use crate::rule::{CompileError, Rule};
 use crate::steps::can_end;
+use crate::texts::Texts;
 use crate::walk::Walk;
 use md_base::Event;
 use std::alloc::Global;
@@ -37,7 +38,7 @@ pub fn check<'a>(
     ensures of_node { IfErr result (IsOfNode (handed events.now bytes.now names.now)) }
     ensures lost { IfErr result (IsLost (handed events.now bytes.now names.now)) }
 {
-    let walk = walk_through(alloc, events, Source { bytes, names })?;
+    let walk = walk_over(alloc, events, bytes, names)?;
     if !is_done(&walk) {
         return Err(CompileError::Event {
             index: events.len(),
@@ -53,6 +54,25 @@ pub fn check<'a>(
     resolve(alloc, bytes, &notes)?;
     let inferred = gather(alloc, events)?;
     Ok(Checked::new(events, bytes, names, notes, inferred))
+}
+
+/// Walks over all events of a document, of which the texts are found first.
+fn walk_over(
+    alloc: Global,
+    events: &[Event],
+    bytes: &[u8],
+    names: &[(&str, &str)],
+) -> Result<Walk, CompileError>
+    ensures walked { IfOk result
+        (λ walk. Runs (Unbroken bytes.now (name_table names.now)) events.now beginning (course_of walk)) }
+    ensures refused { IfErr result (IsRefusal (handed events.now bytes.now names.now)) }
+{
+    let texts = Texts::new(alloc, bytes)?;
+    let source = Source {
+        bytes: &texts,
+        names,
+    };
+    walk_through(alloc, events, source)
 }
 
 /// Walks over all events.

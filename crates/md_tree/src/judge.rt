@@ -8,6 +8,7 @@ ghost use Rattle.md_tree.specs.declared.rule.Rule.TheVariants as rule;
 use crate::kinds::{Mention, Reading, Role, Symbol, Target};
 use crate::rule::Rule;
 use crate::state::Outer;
+use crate::texts::Texts;
 use md_base::{Point, Position, Slice, decode_character_reference};
 use md_text::LineEnding;
 use std::alloc::{AllocError, Global};
@@ -186,8 +187,8 @@ pub fn mention(reading: Reading, target: Target) -> Mention
 
 /// A document's bytes, and the names of character references with their texts.
 #[derive(Clone, Copy)]
-pub struct Source<'a> {
-    pub bytes: &'a [u8],
+pub struct Source<'t, 'a> {
+    pub bytes: &'t Texts<'a>,
     pub names: &'a [(&'a str, &'a str)],
 }
 
@@ -204,17 +205,18 @@ pub fn broken(
         (λ broken. broken ≡ broken_rule source.entry.bytes.now (name_table source.entry.names.now) outer.now.reading outer.now.state.role outer.now.before position.now.start position.now.end target) }
 {
     let around = outer.state.role;
+    let bytes = source.bytes.bytes();
     match outer.reading {
-        Reading::Text => Ok(broken_text(text_at(source.bytes, position))),
-        Reading::LineEnding => Ok(broken_ending(text_at(source.bytes, position))),
-        Reading::Number => Ok(broken_number(around, text_at(source.bytes, position))),
+        Reading::Text => Ok(broken_text(text_at(bytes, position))),
+        Reading::LineEnding => Ok(broken_ending(text_at(bytes, position))),
+        Reading::Number => Ok(broken_number(around, text_at(bytes, position))),
         Reading::Value => {
-            let text = text_at(source.bytes, position);
+            let text = text_at(bytes, position);
             broken_value(alloc, source.names, outer.before, text)
         }
-        Reading::Mark => Ok(broken_mark(source.bytes, outer.before, position)),
-        Reading::Underline => Ok(broken_underline(source.bytes, position.start)),
-        Reading::Identifier => Ok(broken_text(label_at(source.bytes, position))),
+        Reading::Mark => Ok(broken_mark(bytes, outer.before, position)),
+        Reading::Underline => Ok(broken_underline(bytes, position.start)),
+        Reading::Identifier => Ok(broken_text(source.bytes.label_at(position))),
         Reading::Media => Ok(broken_target(target)),
         Reading::Free
         | Reading::Holder

@@ -19,6 +19,7 @@ mod state;
 mod steps;
 #[cfg(test)]
 mod tests;
+mod texts;
 mod walk;
 
 pub use checked::Checked;

@@ -1,13 +1,17 @@
 ghost use Rattle.std.specs.Prelude.{◌≡◌, ◌↔◌, option_map, string_bytes, IfOk, OnOk, IfErr, IfSome, None, IsTrue};
 ghost use Rattle.std.specs.List.{All, Contains};
 ghost use Rattle.md_tree.specs.Mentions.{identifier_at, defined, footnoted, mentions_in, IsResolved};
-ghost use Rattle.md_tree.specs.Resolve.{IsUnresolved, identifiers_of, IsFound, IsLost};
+ghost use Rattle.md_tree.specs.Resolve.{IsUnresolved, identifiers_of, HaveSame, IsFound, IsLost};
 
 use crate::judge::{label_at, rule_unless};
 use crate::kinds::{Mention, Note};
 use crate::rule::{CompileError, Rule};
 use md_base::{Position, normalize_identifier};
 use std::alloc::{AllocError, Global};
+use std::collections::BTreeSet;
+
+/// Identifiers in their order, so that one is found in few steps, whoever chose them.
+type Identifiers = BTreeSet<Option<String>>;
 
 /// The identifier at a label's place, where it is a text.
 fn identifier(alloc: Global, bytes: &[u8], label: Position) -> Result<Option<String>, AllocError>
@@ -20,58 +24,38 @@ fn identifier(alloc: Global, bytes: &[u8], label: Position) -> Result<Option<Str
 }
 
 /// The identifiers of the definitions.
-fn definitions(
-    alloc: Global,
-    bytes: &[u8],
-    notes: &[Note],
-) -> Result<Vec<Option<String>>, AllocError>
+fn definitions(alloc: Global, bytes: &[u8], notes: &[Note]) -> Result<Identifiers, AllocError>
     ensures { IfOk result
-        (λ found. identifiers_of found.items ≡ defined bytes.now (mentions_in notes.now)) }
+        (λ found. HaveSame (identifiers_of found) (defined bytes.now (mentions_in notes.now))) }
 {
-    let mut found = Vec::new(alloc);
+    let mut found = BTreeSet::new(alloc);
     for note in notes {
         if let Mention::Definition(label) = note.mention {
-            found.push(identifier(alloc, bytes, label)?)?;
+            found.insert(identifier(alloc, bytes, label)?)?;
         }
     }
     Ok(found)
 }
 
 /// The identifiers of the footnote definitions.
-fn footnotes(alloc: Global, bytes: &[u8], notes: &[Note]) -> Result<Vec<Option<String>>, AllocError>
+fn footnotes(alloc: Global, bytes: &[u8], notes: &[Note]) -> Result<Identifiers, AllocError>
     ensures { IfOk result
-        (λ found. identifiers_of found.items ≡ footnoted bytes.now (mentions_in notes.now)) }
+        (λ found. HaveSame (identifiers_of found) (footnoted bytes.now (mentions_in notes.now))) }
 {
-    let mut found = Vec::new(alloc);
+    let mut found = BTreeSet::new(alloc);
     for note in notes {
         if let Mention::FootnoteDefinition(label) = note.mention {
-            found.push(identifier(alloc, bytes, label)?)?;
+            found.insert(identifier(alloc, bytes, label)?)?;
         }
     }
     Ok(found)
 }
 
-/// Whether two identifiers are one.
-fn is_same(one: &Option<String>, other: &Option<String>) -> bool
-    ensures { IsTrue result ↔ (option_map string_bytes one.now ≡ option_map string_bytes other.now) }
-{
-    match (one, other) {
-        (Some(one), Some(other)) => one.as_str() == other.as_str(),
-        (None, None) => true,
-        _ => false,
-    }
-}
-
 /// Whether an identifier is among others.
-fn is_among(found: &[Option<String>], wanted: &Option<String>) -> bool
+fn is_among(found: &Identifiers, wanted: &Option<String>) -> bool
     ensures { IsTrue result ↔ Contains (identifiers_of found.now) (option_map string_bytes wanted.now) }
 {
-    for text in found {
-        if is_same(text, wanted) {
-            return true;
-        }
-    }
-    false
+    found.contains(wanted)
 }
 
 /// Refuses what leads to a definition or a footnote definition that isn't there.
@@ -94,8 +78,8 @@ fn unresolved(
     alloc: Global,
     bytes: &[u8],
     mention: Mention,
-    definitions: &[Option<String>],
-    footnotes: &[Option<String>],
+    definitions: &Identifiers,
+    footnotes: &Identifiers,
 ) -> Result<Option<Rule>, AllocError>
     ensures none { IfOk result
         (λ rule. rule ≡ None → IsFound bytes.now (identifiers_of definitions.now) (identifiers_of footnotes.now) mention) }

@@ -662,3 +662,51 @@ fn footnote_calls_need_a_definition(rt: HostRuntime) -> Result<(), Fail> {
     );
     Ok(())
 }
+
+/// Why a label between two indices of the bytes is refused, if it is.
+fn label_refusal(alloc: Global, bytes: &[u8], start: usize, end: usize) -> Option<CompileError> {
+    let events = [
+        enter(Name::Definition, 0),
+        enter(Name::DefinitionLabelString, start),
+        exit(Name::DefinitionLabelString, end),
+        exit(Name::Definition, bytes.len()),
+    ];
+    refusal(alloc, &events, bytes, &[])
+}
+
+#[test]
+fn labels_are_texts_between_bytes_that_are_none(rt: HostRuntime) -> Result<(), Fail> {
+    let bytes = b"\xff[a\xc3\xa9]\xe2\x82[b]\xff";
+    for (start, end) in [(1, 6), (2, 5), (3, 5), (5, 5), (8, 11), (9, 10)] {
+        let refusal = label_refusal(rt.alloc(), bytes, start, end);
+        assert_eq!(rt; refusal, None, "{start} to {end}");
+    }
+    for place in 0..=bytes.len() {
+        let refusal = label_refusal(rt.alloc(), bytes, place, place);
+        assert_eq!(rt; refusal, None, "nothing at {place}");
+    }
+    Ok(())
+}
+
+#[test]
+fn labels_hold_no_byte_that_is_in_no_text(rt: HostRuntime) -> Result<(), Fail> {
+    let bytes = b"\xff[a\xc3\xa9]\xe2\x82[b]\xff";
+    for (start, end) in [
+        (0, 3),
+        (2, 4),
+        (4, 5),
+        (5, 9),
+        (6, 8),
+        (9, 12),
+        (9, 13),
+        (5, 2),
+    ] {
+        let wanted = Some(CompileError::Event {
+            index: 2,
+            rule: Rule::Place,
+        });
+        let refusal = label_refusal(rt.alloc(), bytes, start, end);
+        assert_eq!(rt; refusal, wanted, "{start} to {end}");
+    }
+    Ok(())
+}

@@ -1,4 +1,5 @@
-use Rattle.std.proofs.Common.{◌≡◌, Option}
+use Rattle.std.proofs.Common.{◌≡◌, Option, Bool, List}
+use Rattle.md_base.specs.declared.event.AlignKind.{AlignKind}
 use Rattle.md_tree.specs.Tree.{Forest}
 use Rattle.md_print.specs.Sources.{IsToldAt, given_of}
 use Rattle.md_print.specs.Machine as machine
@@ -12,10 +13,12 @@ pub returns-in_ok-columns-in-Enter : goal.returns-in_ok-columns-in-Enter
 returns-in_ok-columns-in-Enter c =
     let given = given_of c.args.source.now in
     let event = c.args.event in
-    on_answer (λ _. c.enter.new.printer ≡ machine.entered given c.args.ahead c.in_ok-columns-in-Enter.columns.items (is_captured event.name) event.name event.point c.args.printer.now)
+    let at : Bool → List AlignKind → State = λ loose columns. machine.entered given c.args.ahead loose columns (is_captured event.name) event.name event.point c.args.printer.now in
+    on_answer (λ _. c.enter.new.printer ≡ at c.is_loose-loose.result c.in_ok-columns-in-Enter.columns.items)
     (λ _. (told : Option Forest) → IsToldAt c.args.checked.now c.args.index told → c.enter.new.printer ≡ machine.stepped given event.kind event.name event.point c.args.ahead told c.args.is_last c.args.printer.now)
     (λ _ entered told there.
     entered
-    ∙ ap (λ columns. machine.entered given c.args.ahead columns (is_captured event.name) event.name event.point c.args.printer.now) (c.in_ok-columns-in-Enter.ensures told there)
+    ∙ ap (λ loose. at loose c.in_ok-columns-in-Enter.columns.items) (c.is_loose-loose.ensures told there)
+    ∙ ap (λ columns. at (machine.loose_told event.name told) columns) (c.in_ok-columns-in-Enter.ensures told there)
     ∙ ap (λ kind. machine.stepped given kind event.name event.point c.args.ahead told c.args.is_last c.args.printer.now) (sym c.in-Enter.is))
     c.enter.result c.enter.ensures

@@ -33,14 +33,14 @@ chosen ending false label pieces state e = e
 link_ending : (ending : List ℕ) (given : Given) (around : Surroundings) (ahead : Ahead) (inner : Page) (state : State) →
     printing [] (link_pieces given around ahead inner) state ≡ printing ending (link_pieces given around ahead inner) state
 link_ending ending given around ahead inner state =
-    chosen ending around.in_image inner.text (link_to given.options (target_of given ahead inner) inner.text) state
-    (link_titled ending given.options (target_of given ahead inner).destination inner.text (target_of given ahead inner).title state)
+    chosen ending around.in_image inner.text (link_to given.options (target_of given ahead inner.notes) inner.text) state
+    (link_titled ending given.options (target_of given ahead inner.notes).destination inner.text (target_of given ahead inner.notes).title state)
 
 image_ending : (ending : List ℕ) (given : Given) (around : Surroundings) (ahead : Ahead) (inner : Page) (state : State) →
     printing [] (image_pieces given around ahead inner) state ≡ printing ending (image_pieces given around ahead inner) state
 image_ending ending given around ahead inner state =
-    chosen ending around.in_image inner.text (image_of given.options (target_of given ahead inner) inner.text) state
-    (image_titled ending given.options (target_of given ahead inner).destination inner.text (target_of given ahead inner).title state)
+    chosen ending around.in_image inner.text (image_of given.options (target_of given ahead inner.notes) inner.text) state
+    (image_titled ending given.options (target_of given ahead inner.notes).destination inner.text (target_of given ahead inner.notes).title state)
 
 pub returns-in-Link : goal.returns-in-Link
 returns-in-Link c =

@@ -1,0 +1,54 @@
+-- The parts of a rope, and its last byte.
+use Rattle.std.proofs.Common.{◌≡◌, ℕ, suc, ◌+◌, ◌-◌, ◌^◌, List, [], ◌∷◌, ◌++◌, length, slice_get, Option, Some, None, ap, sym, ◌∙◌, append_assoc, append-nil, arith, String, Global, string_bytes}
+use Rattle.std.specs.Prelude.{min}
+use Rattle.std.proofs.lemmas.Option.{none-some}
+use Rattle.std.proofs.lemmas.List.{length-append}
+use Rattle.md_sheet.specs.Ropes.{joined, counted_up}
+
+-- a part more is the first of all
+pub joined-push : (parts : List (String Global)) (part : String Global) → joined (parts ++ part ∷ []) ≡ string_bytes part ++ joined parts
+joined-push [] part = sym (append-nil (string_bytes part))
+joined-push (first ∷ parts) part =
+    ap (λ t. t ++ string_bytes first) (joined-push parts part)
+    ∙ append_assoc (string_bytes part) (joined parts) (string_bytes first)
+
+-- the last byte
+abbrev pub last : List ℕ → Option ℕ
+last bytes = slice_get bytes (length bytes - 1)
+
+-- the last byte of a list is that of its end
+last-cons : (first next : ℕ) (bytes : List ℕ) → last (first ∷ next ∷ bytes) ≡ last (next ∷ bytes)
+last-cons first next bytes =
+    ap (λ n. slice_get (first ∷ next ∷ bytes) n) (two_less (length bytes))
+    ∙ ap (λ n. slice_get (next ∷ bytes) n) (one_less (length bytes))
+  where
+    two_less : (n : ℕ) → suc (suc n) - 1 ≡ suc n
+    two_less n = omega arith
+
+    one_less : (n : ℕ) → n ≡ suc n - 1
+    one_less n = omega arith
+
+-- a list with a byte has a last one
+last-some : (byte : ℕ) (bytes : List ℕ) → last (byte ∷ bytes) ≡ None → ⊥
+last-some byte [] h = absurd (none-some byte (sym h))
+last-some byte (next ∷ bytes) h = last-some next bytes (sym (last-cons byte next bytes) ∙ h)
+
+pub last-behind : (front back : List ℕ) (byte : ℕ) → last back ≡ Some byte → last (front ++ back) ≡ Some byte
+last-behind [] back byte h = h
+last-behind (b ∷ []) (c ∷ back) byte h = last-cons b c back ∙ h
+last-behind (b ∷ []) [] byte h = absurd (none-some byte h)
+last-behind (b ∷ c ∷ front) back byte h = last-cons b c (front ++ back) ∙ last-behind (c ∷ front) back byte h
+
+pub last-before : (front back : List ℕ) → last back ≡ None → last (front ++ back) ≡ last front
+last-before front [] h = ap (λ t. last t) (append-nil front)
+last-before front (byte ∷ back) h = absurd (last-some byte back h)
+
+-- how long a text is behind another, as far as 64 bits count
+pub counted_up-append : (own rest : List ℕ) (n : ℕ) → n ≡ counted_up rest → min (n + length own) (2 ^ 64 - 1) ≡ counted_up (own ++ rest)
+counted_up-append own rest n h =
+    ap (λ m. min (m + length own) (2 ^ 64 - 1)) h
+    ∙ capped (length own) (length rest)
+    ∙ ap (λ m. min m (2 ^ 64 - 1)) (sym (length-append own rest))
+  where
+    capped : (o r : ℕ) → min (min r (2 ^ 64 - 1) + o) (2 ^ 64 - 1) ≡ min (o + r) (2 ^ 64 - 1)
+    capped o r = omega arith

@@ -1,0 +1,139 @@
+//! A text in parts, behind which another is put without copying the longer of the two.
+
+ghost use Rattle.std.specs.Prelude.{◌≡◌, [], ◌++◌, ◌-◌, OnOk, IfOk, string_bytes, slice_get, length};
+
+use std::alloc::{AllocError, Global};
+use std::marker::Model;
+
+/// A text in parts, behind which another is put without copying the longer of the two: so a text that is put behind
+/// others, and they behind others, is not copied each time.
+#[derive(Drop)]
+pub struct Rope {
+    /// The parts before the last one, the last of them first.
+    front: Vec<String>,
+    last: String,
+    /// How long the text is, as far as a `usize` counts.
+    length: usize,
+}
+
+impl Model for Rope {
+    ghost use Rattle.std.specs.Prelude.{◌≡◌, ℕ, List, ◌++◌, string_bytes};
+    ghost use Rattle.md_sheet.specs.Ropes.{joined, counted_up};
+
+    ghost Value = { List ℕ };
+
+    ghost view = { λ r. joined r.front.items ++ string_bytes r.last };
+
+    ghost invariant = { λ r. r.length ≡ counted_up (joined r.front.items ++ string_bytes r.last) };
+}
+
+impl Rope {
+    /// No text.
+    pub fn new(alloc: Global) -> Rope
+        ensures { result ≡ [] }
+    {
+        Rope::from_string(alloc, String::new(alloc))
+    }
+
+    /// A text, as it is.
+    pub fn from_string(alloc: Global, text: String) -> Rope
+        ensures { result ≡ string_bytes text }
+    {
+        Rope {
+            front: Vec::new(alloc),
+            length: text.len(),
+            last: text,
+        }
+    }
+
+    /// Adds a text.
+    ///
+    /// # Errors
+    ///
+    /// Only where memory runs out.
+    pub fn push_str(&mut self, text: &str) -> Result<(), AllocError>
+        ensures { OnOk result (self.new ≡ self.old ++ text.now) }
+    {
+        self.last.push_str(text)?;
+        self.length = self.length.saturating_add(text.len());
+        Ok(())
+    }
+
+    /// Adds another rope's text: the shorter of the two is copied.
+    ///
+    /// # Errors
+    ///
+    /// Only where memory runs out.
+    pub fn append(&mut self, alloc: Global, other: Rope) -> Result<(), AllocError>
+        ensures { OnOk result (self.new ≡ self.old ++ other) }
+    {
+        if self.length < other.length {
+            let before = std::mem::replace(self, other);
+            self.put_before(before.into_string(alloc)?)
+        } else {
+            self.push_str(other.into_string(alloc)?.as_str())
+        }
+    }
+
+    /// Puts a text before this one.
+    fn put_before(&mut self, text: String) -> Result<(), AllocError>
+        ensures { OnOk result (self.new ≡ string_bytes text ++ self.old) }
+    {
+        let length = self.length.saturating_add(text.len());
+        self.front.push(text)?;
+        self.length = length;
+        Ok(())
+    }
+
+    /// The text in one piece: as it is, where it has one part.
+    ///
+    /// # Errors
+    ///
+    /// Only where memory runs out.
+    pub fn into_string(self, alloc: Global) -> Result<String, AllocError>
+        ensures { IfOk result (λ text. string_bytes text ≡ self) }
+    {
+        if self.front.is_empty() {
+            let Rope {
+                front: _,
+                last,
+                length: _,
+            } = self;
+            return Ok(last);
+        }
+        self.to_string(alloc)
+    }
+
+    /// A copy of the text in one piece.
+    ///
+    /// # Errors
+    ///
+    /// Only where memory runs out.
+    pub fn to_string(&self, alloc: Global) -> Result<String, AllocError>
+        ensures { IfOk result (λ text. string_bytes text ≡ self.now) }
+    {
+        let mut text = String::with_capacity(alloc, self.length)?;
+        let mut parts = self.front.as_slice();
+        while let Some((part, before)) = parts.split_last() {
+            text.push_str(part.as_str())?;
+            parts = before;
+        }
+        text.push_str(self.last.as_str())?;
+        Ok(text)
+    }
+
+    /// The last byte, if there is one.
+    pub fn last_byte(&self) -> Option<u8>
+        ensures { result ≡ slice_get self.now (length self.now - 1) }
+    {
+        if let Some(byte) = self.last.as_bytes().last() {
+            return Some(*byte);
+        }
+        for part in &self.front {
+            if let Some(byte) = part.as_bytes().last() {
+                return Some(*byte);
+            }
+        }
+        None
+    }
+}

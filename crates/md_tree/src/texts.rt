@@ -1,0 +1,108 @@
+//! A document's bytes, of which the parts that are texts are found once.
+
+ghost use Rattle.std.specs.Prelude.{◌≡◌, ℕ, List, Some, length, nat_le, ◌&&◌, option_copied, slice_range, IfOk, IfSome};
+ghost use Rattle.md_base.specs.Place.{text_when, label_between};
+ghost use Rattle.md_tree.specs.Runs.{IsRun, AreRuns};
+
+use crate::judge::label_at;
+use md_base::Position;
+use std::alloc::{AllocError, Global};
+use std::marker::Model;
+
+/// A part of the bytes that is a text.
+#[derive(Drop)]
+struct Run<'a> {
+    /// The index of its first byte.
+    start: usize,
+    text: &'a str,
+}
+
+impl<'a> Run<'a> {
+    /// The text between two indices of the bytes, where it lies in this part.
+    fn text_between(&self, start: usize, end: usize) -> Option<&'a str>
+        ensures { IfSome result
+            (λ text. (bytes : List ℕ) → IsRun bytes self.now → text_when (nat_le start end && nat_le end (length bytes)) (slice_range bytes start end) ≡ Some text.now) }
+    {
+        let from = start.checked_sub(self.start)?;
+        let to = end.checked_sub(self.start)?;
+        if from <= to && self.text.is_char_boundary(from) && self.text.is_char_boundary(to) {
+            Some(&self.text[from..to])
+        } else {
+            None
+        }
+    }
+}
+
+/// Bytes, and the parts of them that are texts, from one byte that is in no character to the next.
+#[derive(Drop)]
+pub struct Texts<'a> {
+    bytes: &'a [u8],
+    runs: Vec<Run<'a>>,
+}
+
+impl<'a> Model for Texts<'a> {
+    ghost use Rattle.std.specs.Prelude.{List, ℕ};
+    ghost use Rattle.md_tree.specs.Runs.{AreRuns};
+
+    ghost Value = { List ℕ };
+
+    ghost view = { λ t. t.bytes.now };
+
+    ghost invariant = { λ t. AreRuns t.bytes.now t.runs.items };
+}
+
+impl<'a> Texts<'a> {
+    /// Finds the texts.
+    pub fn new(alloc: Global, bytes: &'a [u8]) -> Result<Texts<'a>, AllocError>
+        ensures { IfOk result (λ texts. texts ≡ bytes.now) }
+    {
+        let runs = runs(alloc, bytes)?;
+        Ok(Texts { bytes, runs })
+    }
+
+    /// All bytes.
+    pub fn bytes(&self) -> &'a [u8]
+        ensures { result.now ≡ self.now }
+    {
+        self.bytes
+    }
+
+    /// The text between the indices of a node's points, where they fit the bytes and it is one.
+    ///
+    /// A text is not read again, however long it is.
+    pub fn label_at(&self, position: &Position) -> Option<&'a str>
+        ensures { option_copied result ≡ label_between self.now position.now.start position.now.end }
+    {
+        match self.text_in_run(position.start.index, position.end.index) {
+            Some(text) => Some(text),
+            // What is no text, or an empty one among other bytes.
+            None => label_at(self.bytes, position),
+        }
+    }
+
+    /// The text between two indices, where it lies in the last run that starts no later.
+    fn text_in_run(&self, start: usize, end: usize) -> Option<&'a str>
+        ensures { IfSome result
+            (λ text. text_when (nat_le start end && nat_le end (length self.now)) (slice_range self.now start end) ≡ Some text.now) }
+    {
+        let behind = self
+            .runs
+            .partition_point(|run: &Run| -> bool { run.start <= start });
+        let run = self.runs.get(behind.checked_sub(1)?)?;
+        run.text_between(start, end)
+    }
+}
+
+/// The texts in the bytes, in order.
+fn runs<'a>(alloc: Global, bytes: &'a [u8]) -> Result<Vec<Run<'a>>, AllocError>
+    ensures { IfOk result (λ runs. AreRuns bytes.now runs.items) }
+{
+    let mut runs = Vec::new(alloc);
+    let mut start = 0;
+    for chunk in bytes.utf8_chunks() {
+        let text = chunk.valid();
+        runs.push(Run { start, text })?;
+        start += text.len() + chunk.invalid().len();
+    }
+    Ok(runs)
+}
