@@ -125,12 +125,16 @@ def call(script, identifier):
         label(script, "[^", identifier)
 
 
+def defined_label(script, opening, name, identifier):
+    mark(script, opening)
+    with script.node(name):
+        script.leaf("Data", identifier)
+    mark(script, "]: ")
+
+
 def definition(script, identifier, url):
     with script.node("Definition"):
-        mark(script, "[")
-        with script.node("DefinitionLabelString"):
-            script.leaf("Data", identifier)
-        mark(script, "]: ")
+        defined_label(script, "[", "DefinitionLabelString", identifier)
         with script.node("DefinitionDestinationString"):
             script.leaf("Data", url)
 
@@ -138,10 +142,7 @@ def definition(script, identifier, url):
 def footnote(script, identifier, text):
     with script.node("GfmFootnoteDefinition"):
         with script.node("GfmFootnoteDefinitionPrefix"):
-            mark(script, "[^")
-            with script.node("GfmFootnoteDefinitionLabelString"):
-                script.leaf("Data", identifier)
-            mark(script, "]: ")
+            defined_label(script, "[^", "GfmFootnoteDefinitionLabelString", identifier)
         with script.node("Paragraph"):
             script.leaf("Data", text)
 
