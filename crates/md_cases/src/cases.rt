@@ -3,40 +3,90 @@
 mod attacks;
 mod blocks;
 mod compiled;
+mod cuts;
+mod endings;
+mod flags;
+mod footnote_texts;
 mod footnotes;
 mod media;
 mod options;
 mod own;
+mod reading;
 mod refusals;
+mod rules;
 mod scale;
 mod tables;
 mod texts;
 
-use md_script::run;
+use md_html::{CompileError, Rule, check, compile, compile_checked};
+use md_script::{RunError, run};
+use reading::read;
 use std::process::Abort;
 use std::test::Fail;
 
-/// A script compiles to exactly this text.
+/// The names of references in a script's document, each with its text.
+const REFERENCE_NAMES: [(&str, &str); 9] = [
+    ("amp", "&"),
+    ("lt", "<"),
+    ("gt", ">"),
+    ("quot", "\""),
+    ("apos", "'"),
+    ("colon", ":"),
+    ("sol", "/"),
+    ("num", "#"),
+    ("quest", "?"),
+];
+
+/// A script compiles to exactly this text, by `run` and by each call that it makes.
 fn answers(rt: &(impl Abort + AllocGlobal), script: &[u8], expected: &str) -> Result<(), Fail> {
     let text = run(rt.alloc(), script)?;
     assert_eq!(rt; text.as_str(), expected);
+    let read = read(rt.alloc(), script)?;
+    let events = read.events.as_slice();
+    let whole = compile(
+        rt.alloc(),
+        events,
+        read.document,
+        &read.options,
+        &REFERENCE_NAMES,
+    )?;
+    assert_eq!(rt; whole.as_str(), expected);
+    let checked = check(rt.alloc(), events, read.document, &REFERENCE_NAMES)?;
+    let again = compile_checked(rt.alloc(), &checked, &read.options)?;
+    assert_eq!(rt; again.as_str(), expected);
     Ok(())
 }
 
-/// A script is refused, with one of these lines.
-fn refuses(rt: &(impl Abort + AllocGlobal), script: &[u8], lines: &[&str]) -> Result<(), Fail> {
+/// A script is refused by `run` and by `compile`, each time for one of these: an event and its rule.
+fn refuses(
+    rt: &(impl Abort + AllocGlobal),
+    script: &[u8],
+    permitted: &[(usize, Rule)],
+) -> Result<(), Fail> {
     match run(rt.alloc(), script) {
-        Ok(text) => assert_eq!(rt; text.as_str(), "a refusal"),
-        Err(error) => {
-            let said = error.to_string(rt.alloc())?;
-            let mut found = false;
-            for line in lines {
-                if *line == said.as_str() {
-                    found = true;
-                }
-            }
-            assert!(rt; found, "{said}");
+        Err(RunError::Event { index, rule }) => {
+            assert!(rt; permitted.contains(&(index, rule)), "event {index}: {rule}");
         }
+        other => assert!(rt; false, "{other:?}"),
+    }
+    let read = read(rt.alloc(), script)?;
+    let events = read.events.as_slice();
+    match compile(
+        rt.alloc(),
+        events,
+        read.document,
+        &read.options,
+        &REFERENCE_NAMES,
+    ) {
+        Err(CompileError::Event { index, rule }) => {
+            assert!(rt; permitted.contains(&(index, rule)), "event {index}: {rule}");
+        }
+        other => assert!(rt; false, "{other:?}"),
     }
     Ok(())
+}
+
+/// The line of this number is the first of an input that can't be read.
+fn is_unreadable(rt: &(impl Abort + AllocGlobal), input: &[u8], number: usize) {
+    assert_eq!(rt; run(rt.alloc(), input), Err(RunError::Line(number)));
 }

@@ -23,10 +23,6 @@ others_of (first ∷ others) = others
 abbrev pub no_spine : Spine
 no_spine = record { has_fence = false; has_second_fence = false; has_chunk = false; cells = 0; last = None }
 
--- nothing is told ahead
-abbrev pub no_ahead : Ahead
-no_ahead = record { mark = None; number = None; label = None; reference = None; defined = None; footnote = None }
-
 -- no child is passed, behind a spine
 abbrev pub nothing_passed : Spine → Passed
 nothing_passed spine = record { last = None; contributing = None; spine = spine }
@@ -54,9 +50,3 @@ abbrev pub slurps_behind : List Mark → Bool → Bool
 slurps_behind [] slurping = slurping
 slurps_behind (Sets ∷ marks) slurping = true
 slurps_behind (Clears ∷ marks) slurping = false
-
--- what is told ahead at each event of some nodes
-abbrev pub aheads_of : Forest → List Ahead
-aheads_of Empty = []
-aheads_of (Node name start end children rest) =
-    ahead_of children ∷ aheads_of children ++ no_ahead ∷ aheads_of rest

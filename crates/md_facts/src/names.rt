@@ -16,29 +16,10 @@ pub fn is_transparent(name: Name) -> bool
     )
 }
 
-/// A line ending, blank or not.
-pub fn is_line_ending(name: Name) -> bool
-    ensures { result ≡ tests.is_line_ending name }
-{
-    matches!(name, Name::LineEnding | Name::BlankLineEnding)
-}
-
-pub fn is_item(name: Name) -> bool
-    ensures { result ≡ tests.is_item name }
-{
-    matches!(name, Name::ListItem)
-}
-
 pub fn is_item_prefix(name: Name) -> bool
     ensures { result ≡ tests.is_item_prefix name }
 {
     matches!(name, Name::ListItemPrefix)
-}
-
-pub fn is_item_value(name: Name) -> bool
-    ensures { result ≡ tests.is_item_value name }
-{
-    matches!(name, Name::ListItemValue)
 }
 
 pub fn is_paragraph(name: Name) -> bool
@@ -79,48 +60,6 @@ pub fn is_chunk(name: Name) -> bool
     ensures { result ≡ tests.is_chunk name }
 {
     matches!(name, Name::CodeFlowChunk | Name::MathFlowChunk)
-}
-
-pub fn is_heading_mark(name: Name) -> bool
-    ensures { result ≡ tests.is_heading_mark name }
-{
-    matches!(name, Name::HeadingAtxSequence)
-}
-
-pub fn is_label(name: Name) -> bool
-    ensures { result ≡ tests.is_label name }
-{
-    matches!(name, Name::Label)
-}
-
-pub fn is_label_text(name: Name) -> bool
-    ensures { result ≡ tests.is_label_text name }
-{
-    matches!(name, Name::LabelText)
-}
-
-pub fn is_reference(name: Name) -> bool
-    ensures { result ≡ tests.is_reference name }
-{
-    matches!(name, Name::ReferenceString)
-}
-
-pub fn is_definition_label(name: Name) -> bool
-    ensures { result ≡ tests.is_definition_label name }
-{
-    matches!(name, Name::DefinitionLabelString)
-}
-
-pub fn is_footnote_prefix(name: Name) -> bool
-    ensures { result ≡ tests.is_footnote_prefix name }
-{
-    matches!(name, Name::GfmFootnoteDefinitionPrefix)
-}
-
-pub fn is_footnote_label(name: Name) -> bool
-    ensures { result ≡ tests.is_footnote_label name }
-{
-    matches!(name, Name::GfmFootnoteDefinitionLabelString)
 }
 
 /// A node whose children are laid out on a page of their own.

@@ -7,8 +7,9 @@ use Rattle.md_tree.specs.Alignments.{alignments}
 use Rattle.md_tree.specs.Entered.{children_of}
 use Rattle.std.specs.List.{list_any}
 use Rattle.md_base.specs.declared.event.Name.{Name}
-use Rattle.md_base.specs.declared.event.Name.TheVariants.{BlockQuote, ListOrdered, ListUnordered, GfmFootnoteDefinition, Definition}
+use Rattle.md_base.specs.declared.event.Name.TheVariants.{BlockQuote, ListOrdered, ListUnordered, HeadingAtx, Link, Image, GfmFootnoteCall, GfmFootnoteDefinition, Definition}
 use Rattle.md_base.specs.declared.event.Point.{Point}
+use Rattle.md_base.specs.declared.event.Position.{Position}
 use Rattle.md_base.specs.declared.event.Event.{Event}
 use Rattle.md_tree.specs.Tree.{Forest, Empty, Node, flatten, exiting}
 use Rattle.md_tree.specs.NameTests.{is_call, is_table, is_cell, is_link_definition, is_footnote_definition, is_transparent, contributes, is_fence, is_chunk}
@@ -18,6 +19,7 @@ use Rattle.md_meaning.specs.declared.options.CompileOptions.{CompileOptions}
 use Rattle.md_meaning.specs.declared.facts.Surroundings.{Surroundings}
 use Rattle.md_meaning.specs.declared.facts.Spine.{Spine}
 use Rattle.md_meaning.specs.declared.facts.Ahead.{Ahead}
+use Rattle.md_meaning.specs.declared.facts.Passed.{Passed}
 use Rattle.md_meaning.specs.Piece.{Piece, Page, blank, lay}
 use Rattle.md_meaning.specs.Surroundings.{Mark, Sets, Clears, is_slurping, own_marks, marks_of, inside, two_pass, last_of, told_by, spine_inside, spine_behind}
 use Rattle.md_meaning.specs.Given.{Given, Defined}
@@ -28,8 +30,8 @@ use Rattle.md_sheet.proofs.Lists.{lay-append}
 use Rattle.md_sheet.proofs.Tally.{fold-tally}
 use Rattle.md_meaning.specs.Calls.{Called, tally}
 use Rattle.md_meaning.specs.Footnotes.{Footnote}
-use Rattle.md_print.specs.Machine.{State, Log, columns_told, loose_told, entering_table, leaving_table, entered, exited, is_nil, run, beginning}
-use Rattle.md_facts.specs.Steps.{first_or, others_of, no_spine, no_ahead, with_name, passing, aheads_of, slurps_behind}
+use Rattle.md_print.specs.Machine.{State, Log, ahead_by, ahead_told, columns_told, loose_told, entering_table, leaving_table, entered, exited, is_nil, run, beginning}
+use Rattle.md_facts.specs.Steps.{first_or, others_of, no_spine, with_name, passing, slurps_behind}
 
 -- marks before marks
 pub is_slurping-append : (marks before : List Mark) → is_slurping (marks ++ before) ≡ slurps_behind marks (is_slurping before)
@@ -161,9 +163,9 @@ inside-told options ListUnordered children around = refl
 inside-told options _ children around = refl
 
 -- the children's state, from the node's
-children_know : (given : Given) (before : Before) (name : Name) (start : Point) (children : Forest) (captured : Bool) (state : State) → Knows state before →
-    Knows (entered given (ahead_of children) (is_loose children) (columns_told name (Some children)) captured name start state) (before_children name children before)
-children_know given before name start children captured state knows = record {
+children_know : (given : Given) (ahead : Ahead) (before : Before) (name : Name) (start : Point) (children : Forest) (captured : Bool) (state : State) → Knows state before →
+    Knows (entered given ahead (is_loose children) (columns_told name (Some children)) captured name start state) (before_children name children before)
+children_know given ahead before name start children captured state knows = record {
   calls = knows.calls;
   slurping = knows.slurping;
   previous = refl;
@@ -195,17 +197,17 @@ inner_page given around before captured name children =
     if captured then lay given.ending blank (printed given (inside given.options (is_loose children) name around) (before_children name children before) children) else blank
 
 -- what stands before a node's next sibling, as the state knows it when the node is left
-abbrev pub after_node : Given → Before → Bool → Bool → Name → Point → Point → Forest → State → State
-after_node given before last captured name start end children state = record state {
+abbrev pub after_node : Given → Ahead → Before → Bool → Bool → Name → Point → Point → Forest → State → State
+after_node given ahead before last captured name start end children state = record state {
   log = record {
     called =
-        if is_call name then counted (fold counted state.log.called (calls_of given.bytes children)) (identifier_at given.bytes (ahead_of children).label)
+        if is_call name then counted (fold counted state.log.called (calls_of given.bytes children)) (identifier_at given.bytes ahead.label)
         else fold counted state.log.called (calls_of given.bytes children);
     definitions =
         if is_link_definition name
         then (state.log.definitions ++ definitions_of given (inside given.options (is_loose children) name state.frame.around) (before_children name children before) children)
         ++ record {
-          identifier = identifier_at given.bytes (ahead_of children).defined;
+          identifier = identifier_at given.bytes ahead.defined;
           target = (inner_page given state.frame.around before captured name children).notes.target;
         } ∷ []
         else state.log.definitions ++ definitions_of given (inside given.options (is_loose children) name state.frame.around) (before_children name children before) children;
@@ -213,15 +215,15 @@ after_node given before last captured name start end children state = record sta
         if is_footnote_definition name
         then noted (fold noted state.log.footnotes (footnotes_of given (inside given.options (is_loose children) name state.frame.around) (before_children name children before) children))
         (record {
-          identifier = identifier_at given.bytes (ahead_of children).footnote;
+          identifier = identifier_at given.bytes ahead.footnote;
           text = (inner_page given state.frame.around before captured name children).text;
         })
         else fold noted state.log.footnotes (footnotes_of given (inside given.options (is_loose children) name state.frame.around) (before_children name children before) children);
   };
   page = lay given.ending state.page
-      (opening given state.frame.around (ahead_of children) name
+      (opening given state.frame.around ahead name
       ++ ((if captured then [] else printed given (inside given.options (is_loose children) name state.frame.around) (before_children name children before) children)
-      ++ closing given state.frame.around (left_of given.bytes before children) (ahead_of children) (passed_over (spine_inside name before.spine) children) last start end
+      ++ closing given state.frame.around (left_of given.bytes before children) ahead (passed_over (spine_inside name before.spine) children) last start end
       (if captured then lay given.ending blank (printed given (inside given.options (is_loose children) name state.frame.around) (before_children name children before) children) else blank) name));
   is_slurping = slurps_behind (own_marks state.frame.around (told_by before.spine) name) (slurps_behind (marks_of given.options (inside given.options (is_loose children) name state.frame.around) (spine_inside name before.spine) children) state.is_slurping);
   frame = record state.frame { passed = passing name (told_by (spine_inside name before.spine ++ spine_names children)) state.frame.passed };
@@ -254,19 +256,19 @@ left-known given before name start children captured state knows =
     ∙ ap (λ k. L (tally calls) (is_slurping before.marks) before.previous (told_by before.spine) k) knows.columns
 
 -- a node is left behind its children, whose text is not captured
-node_step-streamed : (given : Given) (before : Before) (last : Bool) (name : Name) (start end : Point) (children : Forest) (state : State) → Knows state before →
-    exited given last false name end (after given (before_children name children before) children (entered given (ahead_of children) (is_loose children) (columns_told name (Some children)) false name start state))
-    ≡ after_node given before last false name start end children state
-node_step-streamed given before last name start end children state knows =
+node_step-streamed : (given : Given) (ahead : Ahead) (before : Before) (last : Bool) (name : Name) (start end : Point) (children : Forest) (state : State) → Knows state before →
+    exited given last false name end (after given (before_children name children before) children (entered given ahead (is_loose children) (columns_told name (Some children)) false name start state))
+    ≡ after_node given ahead before last false name start end children state
+node_step-streamed given ahead before last name start end children state knows =
     let around = state.frame.around in
-    let opened : List Piece = opening given around (ahead_of children) name in
+    let opened : List Piece = opening given around ahead name in
     let inner : List Piece = printed given (inside given.options (is_loose children) name around) (before_children name children before) children in
     let spine : Spine = told_by (spine_inside name before.spine ++ spine_names children) in
     let marks : List Mark = marks_of given.options (inside given.options (is_loose children) name around) (spine_inside name before.spine) children in
-    let close : Left → Option Name → Option Name → List Piece = λ left o p. closing given around left (ahead_of children) (record { last = o; contributing = p; spine = spine }) last start end blank name in
+    let close : Left → Option Name → Option Name → List Piece = λ left o p. closing given around left ahead (record { last = o; contributing = p; spine = spine }) last start end blank name in
     let at : List (List AlignKind) → Page → Spine → State = λ tables page told. record state {
       tables = tables;
-      log = (after_node given before last false name start end children state).log;
+      log = (after_node given ahead before last false name start end children state).log;
       page = page;
       is_slurping = slurps_behind (own_marks around told name) (slurps_behind marks state.is_slurping);
       frame = record state.frame { passed = passing name spine state.frame.passed };
@@ -281,19 +283,19 @@ node_step-streamed given before last name start end children state knows =
     ∙ ap (λ page. at state.tables page (told_by before.spine)) (lay_parts given.ending state.page opened inner (close (left_of given.bytes before children) (last_name children) (last_contributing children)))
 
 -- a node is left behind its children, whose text is captured
-node_step-captured : (given : Given) (before : Before) (last : Bool) (name : Name) (start end : Point) (children : Forest) (state : State) → Knows state before →
-    exited given last true name end (after given (before_children name children before) children (entered given (ahead_of children) (is_loose children) (columns_told name (Some children)) true name start state))
-    ≡ after_node given before last true name start end children state
-node_step-captured given before last name start end children state knows =
+node_step-captured : (given : Given) (ahead : Ahead) (before : Before) (last : Bool) (name : Name) (start end : Point) (children : Forest) (state : State) → Knows state before →
+    exited given last true name end (after given (before_children name children before) children (entered given ahead (is_loose children) (columns_told name (Some children)) true name start state))
+    ≡ after_node given ahead before last true name start end children state
+node_step-captured given ahead before last name start end children state knows =
     let around = state.frame.around in
-    let opened : List Piece = opening given around (ahead_of children) name in
+    let opened : List Piece = opening given around ahead name in
     let inner : List Piece = printed given (inside given.options (is_loose children) name around) (before_children name children before) children in
     let spine : Spine = told_by (spine_inside name before.spine ++ spine_names children) in
     let marks : List Mark = marks_of given.options (inside given.options (is_loose children) name around) (spine_inside name before.spine) children in
-    let close : Left → Option Name → Option Name → List Piece = λ left o p. closing given around left (ahead_of children) (record { last = o; contributing = p; spine = spine }) last start end (lay given.ending blank inner) name in
+    let close : Left → Option Name → Option Name → List Piece = λ left o p. closing given around left ahead (record { last = o; contributing = p; spine = spine }) last start end (lay given.ending blank inner) name in
     let at : List (List AlignKind) → Page → Spine → State = λ tables page told. record state {
       tables = tables;
-      log = (after_node given before last true name start end children state).log;
+      log = (after_node given ahead before last true name start end children state).log;
       page = page;
       is_slurping = slurps_behind (own_marks around told name) (slurps_behind marks state.is_slurping);
       frame = record state.frame { passed = passing name spine state.frame.passed };
@@ -307,11 +309,80 @@ node_step-captured given before last name start end children state knows =
     ∙ ap (λ told. laid state.tables (left_of given.bytes before children) (last_name children) (last_contributing children) told) knows.spine
     ∙ ap (λ page. at state.tables page (told_by before.spine)) (lay_two given.ending state.page opened (close (left_of given.bytes before children) (last_name children) (last_contributing children)))
 
+-- what a node's children tell ahead decides by what its name reads alone
+opening-told : (given : Given) (around : Surroundings) (name : Name) (children : Forest) → opening given around (ahead_told name (Some children)) name ≡ opening given around (ahead_of children) name
+opening-told given around HeadingAtx children = refl
+opening-told given around _ children = refl
+
+abbrev told_ahead : (mark number label reference defined footnote : Option Position) → Ahead
+told_ahead mark number label reference defined footnote = record { mark = mark; number = number; label = label; reference = reference; defined = defined; footnote = footnote }
+
+link-told : (given : Given) (around : Surroundings) (left : Left) (passed : Passed) (last : Bool) (start end : Point) (inner : Page) (m n l r d f : Option Position) →
+    closing given around left (ahead_by (or_else r l)) passed last start end inner Link ≡ closing given around left (told_ahead m n l r d f) passed last start end inner Link
+link-told given around left passed last start end inner m n l None d f = refl
+link-told given around left passed last start end inner m n l (Some r) d f = refl
+
+image-told : (given : Given) (around : Surroundings) (left : Left) (passed : Passed) (last : Bool) (start end : Point) (inner : Page) (m n l r d f : Option Position) →
+    closing given around left (ahead_by (or_else r l)) passed last start end inner Image ≡ closing given around left (told_ahead m n l r d f) passed last start end inner Image
+image-told given around left passed last start end inner m n l None d f = refl
+image-told given around left passed last start end inner m n l (Some r) d f = refl
+
+closing-told : (given : Given) (around : Surroundings) (left : Left) (passed : Passed) (last : Bool) (start end : Point) (inner : Page) (name : Name) (children : Forest) →
+    closing given around left (ahead_told name (Some children)) passed last start end inner name ≡ closing given around left (ahead_of children) passed last start end inner name
+closing-told given around left passed last start end inner Link children =
+    link-told given around left passed last start end inner (ahead_of children).mark (ahead_of children).number (ahead_of children).label (ahead_of children).reference (ahead_of children).defined (ahead_of children).footnote
+closing-told given around left passed last start end inner Image children =
+    image-told given around left passed last start end inner (ahead_of children).mark (ahead_of children).number (ahead_of children).label (ahead_of children).reference (ahead_of children).defined (ahead_of children).footnote
+closing-told given around left passed last start end inner _ children = refl
+
+called-told : (bytes : List ℕ) (called : List Called) (name : Name) (children : Forest) →
+    (if is_call name then counted called (identifier_at bytes (ahead_told name (Some children)).label) else called) ≡ (if is_call name then counted called (identifier_at bytes (ahead_of children).label) else called)
+called-told bytes called GfmFootnoteCall children = refl
+called-told bytes called _ children = refl
+
+defined-told : (bytes : List ℕ) (definitions : List Defined) (page : Page) (name : Name) (children : Forest) →
+    (if is_link_definition name then definitions ++ record { identifier = identifier_at bytes (ahead_told name (Some children)).defined; target = page.notes.target } ∷ [] else definitions)
+    ≡ (if is_link_definition name then definitions ++ record { identifier = identifier_at bytes (ahead_of children).defined; target = page.notes.target } ∷ [] else definitions)
+defined-told bytes definitions page Definition children = refl
+defined-told bytes definitions page _ children = refl
+
+noted-told : (bytes : List ℕ) (footnotes : List Footnote) (page : Page) (name : Name) (children : Forest) →
+    (if is_footnote_definition name then noted footnotes (record { identifier = identifier_at bytes (ahead_told name (Some children)).footnote; text = page.text }) else footnotes)
+    ≡ (if is_footnote_definition name then noted footnotes (record { identifier = identifier_at bytes (ahead_of children).footnote; text = page.text }) else footnotes)
+noted-told bytes footnotes page GfmFootnoteDefinition children = refl
+noted-told bytes footnotes page _ children = refl
+
+after_node-told : (given : Given) (before : Before) (last captured : Bool) (name : Name) (start end : Point) (children : Forest) (state : State) →
+    after_node given (ahead_told name (Some children)) before last captured name start end children state ≡ after_node given (ahead_of children) before last captured name start end children state
+after_node-told given before last captured name start end children state =
+    let around = state.frame.around in
+    let told : Ahead = ahead_told name (Some children) in
+    let whole : State = after_node given told before last captured name start end children state in
+    let inner : List Piece = if captured then [] else printed given (inside given.options (is_loose children) name around) (before_children name children before) children in
+    let page : Page = inner_page given around before captured name children in
+    let close : Ahead → List Piece = λ ahead. closing given around (left_of given.bytes before children) ahead (passed_over (spine_inside name before.spine) children) last start end
+    (if captured then lay given.ending blank (printed given (inside given.options (is_loose children) name around) (before_children name children before) children) else blank) name in
+    let made : List Piece → List Piece → List Called → List Defined → List Footnote → State = λ opened closed called definitions footnotes. record whole {
+      page = lay given.ending state.page (opened ++ (inner ++ closed));
+      log = record { called = called; definitions = definitions; footnotes = footnotes };
+    } in
+    let calls : List Called = fold counted state.log.called (calls_of given.bytes children) in
+    let definitions : List Defined = state.log.definitions ++ definitions_of given (inside given.options (is_loose children) name around) (before_children name children before) children in
+    let footnotes : List Footnote = fold noted state.log.footnotes (footnotes_of given (inside given.options (is_loose children) name around) (before_children name children before) children) in
+    let plain = after_node given (ahead_of children) before last captured name start end children state in
+    ap (λ o. made o (close told) whole.log.called whole.log.definitions whole.log.footnotes) (opening-told given around name children)
+    ∙ ap (λ c. made (opening given around (ahead_of children) name) c whole.log.called whole.log.definitions whole.log.footnotes) (closing-told given around (left_of given.bytes before children) (passed_over (spine_inside name before.spine) children) last start end page name children)
+    ∙ ap (λ cs. made (opening given around (ahead_of children) name) (close (ahead_of children)) cs whole.log.definitions whole.log.footnotes) (called-told given.bytes calls name children)
+    ∙ ap (λ ds. made (opening given around (ahead_of children) name) (close (ahead_of children)) plain.log.called ds whole.log.footnotes) (defined-told given.bytes definitions page name children)
+    ∙ ap (λ fs. made (opening given around (ahead_of children) name) (close (ahead_of children)) plain.log.called plain.log.definitions fs) (noted-told given.bytes footnotes page name children)
+
 node_step : (given : Given) (before : Before) (last captured : Bool) (name : Name) (start end : Point) (children : Forest) (state : State) → Knows state before →
-    exited given last captured name end (after given (before_children name children before) children (entered given (ahead_of children) (is_loose children) (columns_told name (Some children)) captured name start state))
-    ≡ after_node given before last captured name start end children state
-node_step given before last true name start end children state knows = node_step-captured given before last name start end children state knows
-node_step given before last false name start end children state knows = node_step-streamed given before last name start end children state knows
+    exited given last captured name end (after given (before_children name children before) children (entered given (ahead_told name (Some children)) (is_loose children) (columns_told name (Some children)) captured name start state))
+    ≡ after_node given (ahead_of children) before last captured name start end children state
+node_step given before last true name start end children state knows =
+    node_step-captured given (ahead_told name (Some children)) before last name start end children state knows ∙ after_node-told given before last true name start end children state
+node_step given before last false name start end children state knows =
+    node_step-streamed given (ahead_told name (Some children)) before last name start end children state knows ∙ after_node-told given before last false name start end children state
 
 -- one more entry of a log, and those after it
 log-step : {A : Type 0} (b : Bool) (xs ys zs : List A) (x : A) → (if b then (xs ++ ys) ++ x ∷ [] else xs ++ ys) ++ zs ≡ xs ++ (ys ++ ((if b then x ∷ [] else []) ++ zs))
@@ -339,7 +410,7 @@ fold-step f false seen xs ys x = sym (fold-append f seen xs ys)
 
 -- the next sibling's state knows what stands before it
 next_knows : (given : Given) (before : Before) (last captured : Bool) (name : Name) (start end : Point) (children : Forest) (state : State) → Knows state before →
-    Knows (after_node given before last captured name start end children state) (before_next given state.frame.around name start end children before)
+    Knows (after_node given (ahead_of children) before last captured name start end children state) (before_next given state.frame.around name start end children before)
 next_knows given before last captured name start end children state knows =
     let own : List Mark = own_marks state.frame.around (told_by before.spine) name in
     let marks : List Mark = marks_of given.options (inside given.options (is_loose children) name state.frame.around) (spine_inside name before.spine) children in
@@ -362,7 +433,7 @@ next_knows given before last captured name start end children state knows =
 -- a node and then its siblings
 after-node : (given : Given) (before : Before) (name : Name) (start end : Point) (children rest : Forest) (state : State) →
     after given (before_next given state.frame.around name start end children before) rest
-    (after_node given before (state.frame.around.is_outermost && is_empty rest) (is_captured name) name start end children state)
+    (after_node given (ahead_of children) before (state.frame.around.is_outermost && is_empty rest) (is_captured name) name start end children state)
     ≡ after given before (Node name start end children rest) state
 after-node given before name start end children rest state =
     let around = state.frame.around in
@@ -380,10 +451,10 @@ after-node given before name start end children rest state =
     let inner_footnotes : List Footnote = footnotes_of given (inside given.options (is_loose children) name around) (before_children name children before) children in
     let later_footnotes : List Footnote = footnotes_of given around next rest in
     let footnote : Footnote = record { identifier = identifier_at given.bytes (ahead_of children).footnote; text = inner.text } in
-    let left : Log = (after_node given before (around.is_outermost && is_empty rest) (is_captured name) name start end children state).log in
+    let left : Log = (after_node given (ahead_of children) before (around.is_outermost && is_empty rest) (is_captured name) name start end children state).log in
     let logged : List Called → List Defined → List Footnote → State = λ cs ds fs. record (after given before (Node name start end children rest) state) { log = record { called = cs; definitions = ds; footnotes = fs } } in
     let made : Page → Bool → Option Name → Option Name → List Name → State = λ page slurping o p names. record state {
-      log = (after given next rest (after_node given before (around.is_outermost && is_empty rest) (is_captured name) name start end children state)).log;
+      log = (after given next rest (after_node given (ahead_of children) before (around.is_outermost && is_empty rest) (is_captured name) name start end children state)).log;
       page = page;
       is_slurping = slurping;
       frame = record state.frame { passed = record { last = o; contributing = p; spine = told_by names } };
@@ -410,27 +481,27 @@ after-node given before name start end children rest state =
     (fold-step counted (is_call name) state.log.called (calls_of given.bytes children) (calls_of given.bytes rest) label)
 
 -- running the events of some nodes, and what follows them
-pub run-flatten : (given : Given) (forest : Forest) (before : Before) (tail : List Event) (aheads : List Ahead) (nodes : List (Option Forest)) (state : State) →
+pub run-flatten : (given : Given) (forest : Forest) (before : Before) (tail : List Event) (nodes : List (Option Forest)) (state : State) →
     Knows state before → state.frame.around.is_outermost ≡ is_nil tail →
-    run given (flatten forest ++ tail) (aheads_of forest ++ aheads) (children_of forest ++ nodes) state ≡ run given tail aheads nodes (after given before forest state)
-run-flatten given Empty before tail aheads nodes state knows outer =
-    ap (λ s. run given tail aheads nodes s) (sym (after-nothing given before state knows))
-run-flatten given (Node name start end children rest) before tail aheads nodes state knows outer =
+    run given (flatten forest ++ tail) (children_of forest ++ nodes) state ≡ run given tail nodes (after given before forest state)
+run-flatten given Empty before tail nodes state knows outer =
+    ap (λ s. run given tail nodes s) (sym (after-nothing given before state knows))
+run-flatten given (Node name start end children rest) before tail nodes state knows outer =
     let captured : Bool = is_captured name in
-    let inner : State = entered given (ahead_of children) (is_loose children) (columns_told name (Some children)) captured name start state in
+    let told : Ahead = ahead_told name (Some children) in
+    let inner : State = entered given told (is_loose children) (columns_told name (Some children)) captured name start state in
     let last : Bool = state.frame.around.is_outermost && is_empty rest in
-    let left : State = after_node given before last captured name start end children state in
+    let left : State = after_node given (ahead_of children) before last captured name start end children state in
     let next : Before = before_next given state.frame.around name start end children before in
     let entered_in : Surroundings → State = λ around. record inner { frame = record inner.frame { around = around } } in
-    ap (λ around. run given ((flatten children ++ exiting name end ∷ flatten rest) ++ tail) ((aheads_of children ++ no_ahead ∷ aheads_of rest) ++ aheads) ((children_of children ++ None ∷ children_of rest) ++ nodes) (entered_in around)) (inside-told given.options name children state.frame.around)
-    ∙ ap (λ es. run given es (aheads_of children ++ no_ahead ∷ aheads_of rest ++ aheads) (children_of children ++ None ∷ children_of rest ++ nodes) inner) (append_assoc (flatten children) (exiting name end ∷ flatten rest) tail)
-    ∙ ap (λ as'. run given (flatten children ++ exiting name end ∷ (flatten rest ++ tail)) as' (children_of children ++ None ∷ children_of rest ++ nodes) inner) (append_assoc (aheads_of children) (no_ahead ∷ aheads_of rest) aheads)
-    ∙ ap (λ cs. run given (flatten children ++ exiting name end ∷ (flatten rest ++ tail)) (aheads_of children ++ no_ahead ∷ (aheads_of rest ++ aheads)) cs inner) (append_assoc (children_of children) (None ∷ children_of rest) nodes)
-    ∙ run-flatten given children (before_children name children before) (exiting name end ∷ (flatten rest ++ tail)) (no_ahead ∷ (aheads_of rest ++ aheads)) (None ∷ (children_of rest ++ nodes)) inner
-    (children_know given before name start children captured state knows)
+    ap (λ around. run given ((flatten children ++ exiting name end ∷ flatten rest) ++ tail) ((children_of children ++ None ∷ children_of rest) ++ nodes) (entered_in around)) (inside-told given.options name children state.frame.around)
+    ∙ ap (λ es. run given es (children_of children ++ None ∷ children_of rest ++ nodes) inner) (append_assoc (flatten children) (exiting name end ∷ flatten rest) tail)
+    ∙ ap (λ cs. run given (flatten children ++ exiting name end ∷ (flatten rest ++ tail)) cs inner) (append_assoc (children_of children) (None ∷ children_of rest) nodes)
+    ∙ run-flatten given children (before_children name children before) (exiting name end ∷ (flatten rest ++ tail)) (None ∷ (children_of rest ++ nodes)) inner
+    (children_know given told before name start children captured state knows)
     (inside_outermost given.options (is_loose children) name state.frame.around)
-    ∙ ap (λ l. run given (flatten rest ++ tail) (aheads_of rest ++ aheads) (children_of rest ++ nodes) (exited given l captured name end (after given (before_children name children before) children inner)))
+    ∙ ap (λ l. run given (flatten rest ++ tail) (children_of rest ++ nodes) (exited given l captured name end (after given (before_children name children before) children inner)))
     (last-event rest tail ∙ ap (λ o. o && is_empty rest) (sym outer))
-    ∙ ap (λ s. run given (flatten rest ++ tail) (aheads_of rest ++ aheads) (children_of rest ++ nodes) s) (node_step given before last captured name start end children state knows)
-    ∙ run-flatten given rest next tail aheads nodes left (next_knows given before last captured name start end children state knows) outer
-    ∙ ap (λ s. run given tail aheads nodes s) (after-node given before name start end children rest state)
+    ∙ ap (λ s. run given (flatten rest ++ tail) (children_of rest ++ nodes) s) (node_step given before last captured name start end children state knows)
+    ∙ run-flatten given rest next tail nodes left (next_knows given before last captured name start end children state knows) outer
+    ∙ ap (λ s. run given tail nodes s) (after-node given before name start end children rest state)

@@ -6,12 +6,11 @@ use Rattle.std.proofs.lemmas.Slice.Eq.{bytes_eq-Decides}
 use Rattle.md_base.specs.declared.event.Event.{Event}
 use Rattle.md_tree.specs.Tree.{Forest, flatten}
 use Rattle.md_meaning.specs.declared.options.CompileOptions.{CompileOptions}
-use Rattle.md_meaning.specs.declared.facts.Ahead.{Ahead}
 use Rattle.md_meaning.specs.Given.{Given, Defined}
-use Rattle.md_meaning.specs.Places.{nothing_before, calls_of}
-use Rattle.md_meaning.specs.Meaning.{meaning, ending_at}
+use Rattle.md_meaning.specs.Places.{nothing_before, calls_of, first_ending}
+use Rattle.md_meaning.specs.Meaning.{ending_at}
+use Rattle.md_meaning.specs.Whole.{printed_meaning as meaning}
 use Rattle.md_print.specs.Machine.{run, beginning, finished}
-use Rattle.md_facts.specs.Steps.{aheads_of}
 use Rattle.md_tree.specs.Entered.{children_of}
 use Rattle.md_meaning.specs.Piece.{Piece, Page, blank, lay, layout}
 use Rattle.md_meaning.specs.Surroundings.{outermost}
@@ -22,10 +21,8 @@ use Rattle.md_meaning.specs.Printed.{printed, definitions_of, footnotes_of}
 use Rattle.md_sheet.specs.Seen.{noted}
 use Rattle.md_sheet.proofs.Lists.{lay-append}
 use Rattle.md_sheet.proofs.Tally.{fold-tally}
-use Rattle.md_facts.specs.LookAhead.{looked_over, no_outlook}
 use Rattle.md_html.proofs.Runs.{run-flatten, Knows, after}
 use Rattle.md_html.proofs.LookUps.{FindAlike, printed-alike, footnotes-alike}
-use Rattle.md_facts.proofs.LookAheadLemmas.{aheads-looked_over, ending-looked_over}
 
 -- what the nodes are given, where lines end so
 abbrev pub given_with : CompileOptions → List (List ℕ × List ℕ) → List ℕ → List ℕ → List Defined → Given
@@ -35,21 +32,16 @@ given_with options names bytes ending definitions = record { bytes = bytes; name
 begins : Knows beginning nothing_before
 begins = record { calls = refl; slurping = refl; previous = refl; spine = refl; columns = refl }
 
-run-document : (given : Given) (document : Forest) → run given (flatten document) (aheads_of document) (children_of document) beginning ≡ after given nothing_before document beginning
+run-document : (given : Given) (document : Forest) → run given (flatten document) (children_of document) beginning ≡ after given nothing_before document beginning
 run-document given document =
-    ap (λ es. run given es (aheads_of document) (children_of document) beginning) (sym (append-nil (flatten document)))
-    ∙ ap (λ as'. run given (flatten document ++ []) as' (children_of document) beginning) (sym (append-nil (aheads_of document)))
-    ∙ ap (λ cs. run given (flatten document ++ []) (aheads_of document ++ []) cs beginning) (sym (append-nil (children_of document)))
-    ∙ run-flatten given document nothing_before [] [] [] beginning begins refl
+    ap (λ es. run given es (children_of document) beginning) (sym (append-nil (flatten document)))
+    ∙ ap (λ cs. run given (flatten document ++ []) cs beginning) (sym (append-nil (children_of document)))
+    ∙ run-flatten given document nothing_before [] [] beginning begins refl
 
 -- one run over the events of a document
-run-events : (given : Given) (events : List Event) (aheads : List Ahead) (document : Forest) →
-    flatten document ≡ events → aheads ≡ (looked_over events no_outlook).aheads →
-    run given events aheads (children_of document) beginning ≡ after given nothing_before document beginning
-run-events given events aheads document flat seen =
-    ap (λ as'. run given events as' (children_of document) beginning) (seen ∙ aheads-looked_over document events flat)
-    ∙ ap (λ es. run given es (aheads_of document) (children_of document) beginning) (sym flat)
-    ∙ run-document given document
+run-events : (given : Given) (events : List Event) (document : Forest) → flatten document ≡ events →
+    run given events (children_of document) beginning ≡ after given nothing_before document beginning
+run-events given events document flat = ap (λ es. run given es (children_of document) beginning) (sym flat) ∙ run-document given document
 
 -- what is found behind one footnote
 found_behind : (first : Footnote) (xs ys : List Footnote) (identifier : List ℕ) → footnote_text xs identifier ≡ footnote_text ys identifier → footnote_text (first ∷ xs) identifier ≡ footnote_text (first ∷ ys) identifier
@@ -116,22 +108,22 @@ finished-document given document =
     ∙ ap (λ p. p.text) (sym (lay-append given.ending blank pieces (section_pieces given.options footnotes (tally (calls_of given.bytes document)))))
 
 -- two runs: in the definitions that the second has the same is found as in those that the first saw
-pub text-run : (options : CompileOptions) (names : List (List ℕ × List ℕ)) (bytes : List ℕ) (events : List Event) (aheads : List Ahead) (ending : List ℕ) (known : List Defined) (document : Forest) →
-    flatten document ≡ events → aheads ≡ (looked_over events no_outlook).aheads → ending ≡ ending_at options bytes (looked_over events no_outlook).here.ending →
-    FindAlike known (run (given_with options names bytes ending []) events aheads (children_of document) beginning).log.definitions →
-    (finished (given_with options names bytes ending known) (run (given_with options names bytes ending known) events aheads (children_of document) beginning)).text ≡ meaning options names bytes document
-text-run options names bytes events aheads ending known document flat seen ends alike =
+pub text-run : (options : CompileOptions) (names : List (List ℕ × List ℕ)) (bytes : List ℕ) (events : List Event) (ending : List ℕ) (known : List Defined) (document : Forest) →
+    flatten document ≡ events → ending ≡ ending_at options bytes (first_ending document) →
+    FindAlike known (run (given_with options names bytes ending []) events (children_of document) beginning).log.definitions →
+    (finished (given_with options names bytes ending known) (run (given_with options names bytes ending known) events (children_of document) beginning)).text ≡ meaning options names bytes document
+text-run options names bytes events ending known document flat ends alike =
     let given : List ℕ → List Defined → Given = λ e ds. given_with options names bytes e ds in
     let seen_first : List ℕ → List Defined = λ e. definitions_of (given e []) outermost nothing_before document in
     let section : List Footnote → List Piece = λ fs. section_pieces options fs (tally (calls_of bytes document)) in
     let whole : List ℕ → List ℕ = λ e.
     layout e (printed (given e (seen_first e)) outermost nothing_before document ++ section (footnotes_of (given e (seen_first e)) outermost nothing_before document))
     in
-    let same : FindAlike known (seen_first ending) = λ identifier. alike identifier ∙ ap (λ s. defined_target s.log.definitions identifier) (run-events (given ending []) events aheads document flat seen) in
-    ap (λ s. (finished (given ending known) s).text) (run-events (given ending known) events aheads document flat seen)
+    let same : FindAlike known (seen_first ending) = λ identifier. alike identifier ∙ ap (λ s. defined_target s.log.definitions identifier) (run-events (given ending []) events document flat) in
+    ap (λ s. (finished (given ending known) s).text) (run-events (given ending known) events document flat)
     ∙ finished-document (given ending known) document
     ∙ ap (λ ps. layout ending (ps ++ section (footnotes_of (given ending known) outermost nothing_before document)))
     (printed-alike known (given ending (seen_first ending)) same outermost nothing_before document)
     ∙ ap (λ fs. layout ending (printed (given ending (seen_first ending)) outermost nothing_before document ++ section fs))
     (footnotes-alike known (given ending (seen_first ending)) same outermost nothing_before document)
-    ∙ ap whole (ends ∙ ap (λ place. ending_at options bytes place) (ending-looked_over document events flat))
+    ∙ ap whole ends

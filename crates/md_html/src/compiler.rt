@@ -5,28 +5,29 @@ ghost use Rattle.md_base.specs.Reference.{name_table};
 ghost use Rattle.md_tree.specs.Tree.{Forest, flatten};
 ghost use Rattle.md_tree.specs.Grammar.{IsChecked, handed};
 ghost use Rattle.md_tree.specs.Texts.{EntersAt};
+ghost use Rattle.md_tree.specs.Reads.{is_reader};
 ghost use Rattle.md_tree.specs.Entered.{children_of};
 ghost use Rattle.md_print.specs.Sources.{IsToldAt, closing_at};
 ghost use Rattle.md_tree.specs.Refusal.{IsOutside, IsOrder, IsMdx, IsOfNode, IsLost};
 ghost use Rattle.md_print.specs.Machine as machine;
 ghost use Rattle.md_facts.specs.Steps as steps;
-ghost use Rattle.md_facts.specs.LookAhead as look;
 ghost use Rattle.md_meaning.specs.Meaning.{meaning, ending_at};
 ghost use Rattle.md_text.specs.Html.{any_attribute, HasOneReadingWith};
 ghost use Rattle.md_text.specs.Safe.{is_safe_link, is_safe_image};
 ghost use Rattle.md_safe.specs.Options.{KeepsGrammar, KeepsLinks, KeepsImages};
 ghost use Rattle.md_print.specs.Sources.{given_of};
+ghost use Rattle.md_meaning.specs.Places.{first_ending as first_place};
+ghost use Rattle.md_html.specs.Ending.{ends_line, first_index};
 ghost use Rattle.md_meaning.specs.Printed.{is_captured};
 
 use md_base::{AlignKind, Event, Kind, Name, Point, Position};
-use md_facts::look_ahead;
 use md_facts::names::{is_captured, is_table};
-use md_meaning::{Ahead, CompileOptions};
+use md_meaning::CompileOptions;
 use md_print::close::close;
 use md_print::facts::Exit;
 use md_print::open::open;
 use md_print::printer::Printer;
-use md_print::source::{Source, identifier_at, text_of};
+use md_print::source::{Source, identifier_at};
 use md_sheet::{Defined, Definitions, Sheet};
 use md_tree::{Checked, CompileError, check, gfm_table_align, list_loose};
 use std::alloc::{AllocError, Global};
@@ -34,9 +35,9 @@ use std::alloc::{AllocError, Global};
 /// The HTML of a list of Markdown events over a document's bytes: the meaning of the document that the list is.
 ///
 /// `names` is the table of named character references. Nothing is assumed of events, bytes, options or names. Where HTML isn't
-/// allowed and the heading of the footnotes is the usual one, the text has exactly one reading in the HTML grammar; where
-/// dangerous protocols, or any image source, aren't allowed either, each link, or image, in it has no protocol or a permitted one.
-/// The default options are such.
+/// allowed and the heading of the footnotes is the usual one, the text has exactly one reading in the HTML grammar. Where
+/// dangerous protocols aren't allowed either, each link in it has no protocol or a permitted one; where any image source
+/// isn't allowed either, so has each image. The default options are such.
 ///
 /// # Errors
 ///
@@ -82,55 +83,106 @@ pub fn compile_checked(
     ensures safe_links { IfOk result (λ text. KeepsLinks options.now → HasOneReadingWith is_safe_link (string_bytes text)) }
     ensures safe_images { IfOk result (λ text. KeepsImages options.now → HasOneReadingWith is_safe_image (string_bytes text)) }
 {
-    let events = checked.events();
-    let bytes = checked.bytes();
-    let (aheads, ending) = look_ahead(alloc, events)?;
     let none = Definitions::new(alloc);
     let alone = Source {
-        bytes,
+        bytes: checked.bytes(),
         names: checked.names(),
         options,
-        ending: ending_at(options, bytes, ending),
+        ending: ending_of(checked, options),
         definitions: &none,
     };
-    let first = run(alloc, &alone, checked, aheads.as_slice())?;
+    let first = run(alloc, &alone, checked)?;
     let definitions = Definitions::first_of(alloc, first.into_definitions())?;
     let source = Source {
         definitions: &definitions,
         ..alone
     };
-    let second = run(alloc, &source, checked, aheads.as_slice())?;
+    let second = run(alloc, &source, checked)?;
     second.into_text(alloc, options, source.ending)
 }
 
-/// The line ending that is used: the text of the document's first, else that of the options.
-fn ending_at<'a>(options: &'a CompileOptions, bytes: &'a [u8], place: Option<Position>) -> &'a str
-    ensures { result.now ≡ ending_at options.now bytes.now place }
+/// Whether an event exits a line ending, blank or not.
+fn ends_line(event: &Event) -> bool
+    ensures { result ≡ ends_line event.now }
 {
-    match place {
-        Some(found) => text_of(bytes, found.start, found.end),
+    matches!(event.kind, Kind::Exit)
+        && matches!(event.name, Name::LineEnding | Name::BlankLineEnding)
+}
+
+/// The index of the event that exits the first line ending, if there is one.
+fn first_ending(events: &[Event]) -> Option<usize>
+    ensures { result ≡ first_index events.now }
+{
+    let mut rest = events;
+    let mut index = 0;
+    while let Some((event, later)) = rest.split_first() {
+        if ends_line(event) {
+            return Some(index);
+        }
+        rest = later;
+        index += 1;
+    }
+    None
+}
+
+/// The line ending that is used: the text of the document's first, else that of the options.
+fn ending_of<'a>(checked: &Checked<'a>, options: &'a CompileOptions) -> &'a str
+    ensures ending { (document : Forest) → flatten document ≡ checked.now.events → result.now ≡ ending_at options.now checked.now.bytes (first_place document) }
+    ensures grammatical { IsChecked checked.now }
+{
+    match first_ending(checked.events()) {
+        Some(index) => checked.text(index),
         None => options.default_line_ending.as_str(),
     }
 }
 
-/// Enters a node; `loose` says whether it is a loose list, and `columns` how those of a table are aligned.
+/// Enters a node; `place` is what its name reads in its children, `loose` says whether it is a loose list, and `columns`
+/// how those of a table are aligned.
 fn enter(
     alloc: Global,
     printer: &mut Printer,
     source: &Source,
-    ahead: Ahead,
+    place: Option<Position>,
     loose: bool,
     columns: Vec<AlignKind>,
     name: Name,
     start: Point,
 ) -> Result<(), AllocError>
-    ensures { OnOk result (printer.new ≡ machine.entered (given_of source.now) ahead loose columns.items (is_captured name) name start printer.old) }
+    ensures { OnOk result (printer.new ≡ machine.entered (given_of source.now) (machine.ahead_by place) loose columns.items (is_captured name) name start printer.old) }
 {
     let around = printer.frame().around;
-    open(printer, source, around, ahead, name)?;
+    open(printer, source, around, place, name)?;
     printer.capture_if(alloc, is_captured(name))?;
-    printer.open_frame(source.options, ahead, loose, name, start)?;
+    printer.open_frame(source.options, place, loose, name, start)?;
     printer.enter_table_if(is_table(name), columns)
+}
+
+/// The place that a name reads in the children of the node that is entered; of another name none.
+fn place_read(checked: &Checked, index: usize, name: Name) -> Option<Position>
+    requires { EntersAt checked.now.events index name }
+    ensures { (told : Option Forest) → IsToldAt checked.now index told → machine.ahead_by result ≡ machine.ahead_told name told }
+{
+    if is_reader(name) {
+        checked.reads(index)
+    } else {
+        None
+    }
+}
+
+/// A name that reads a place in its children.
+fn is_reader(name: Name) -> bool
+    ensures { result ≡ is_reader name }
+{
+    matches!(
+        name,
+        Name::HeadingAtx
+            | Name::ListOrdered
+            | Name::Link
+            | Name::Image
+            | Name::GfmFootnoteCall
+            | Name::Definition
+            | Name::GfmFootnoteDefinition
+    )
 }
 
 /// Whether a list that is entered is loose; another node isn't.
@@ -173,19 +225,19 @@ fn close_and_log(
 ) -> Result<(), AllocError>
     ensures { OnOk result (printer.new ≡ machine.printing source.now.ending.now
         (closing_at (given_of source.now) exit.now printer.old.log.called (steps.first_or [] printer.old.tables) inner name)
-        (machine.logging source.now.bytes.now exit.now.frame.ahead name inner printer.old)) }
+        (machine.logging source.now.bytes.now (machine.ahead_by exit.now.frame.place) name inner printer.old)) }
 {
     match name {
         Name::GfmFootnoteCall => {
             close(alloc, printer, source, exit, inner, name)?;
-            printer.log_call(identifier_at(alloc, source.bytes, exit.frame.ahead.label)?)
+            printer.log_call(identifier_at(alloc, source.bytes, exit.frame.place)?)
         }
         Name::GfmFootnoteDefinition => {
-            let identifier = identifier_at(alloc, source.bytes, exit.frame.ahead.footnote)?;
+            let identifier = identifier_at(alloc, source.bytes, exit.frame.place)?;
             printer.log_footnote(identifier, inner.into_text(alloc)?)
         }
         Name::Definition => {
-            let identifier = identifier_at(alloc, source.bytes, exit.frame.ahead.defined)?;
+            let identifier = identifier_at(alloc, source.bytes, exit.frame.place)?;
             let target = inner.into_target();
             printer.log_definition(Defined { identifier, target })
         }
@@ -227,22 +279,22 @@ fn step(
     checked: &Checked,
     index: usize,
     event: Event,
-    ahead: Ahead,
     is_last: bool,
 ) -> Result<(), AllocError>
     requires { slice_get checked.now.events index ≡ Some event }
     ensures { OnOk result ((told : Option Forest) → IsToldAt checked.now index told
-        → printer.new ≡ machine.stepped (given_of source.now) event.kind event.name event.point ahead told is_last printer.old) }
+        → printer.new ≡ machine.stepped (given_of source.now) event.kind event.name event.point told is_last printer.old) }
 {
     match event.kind {
         Kind::Enter => {
+            let place = place_read(checked, index, event.name);
             let loose = is_loose(checked, index, event.name);
             let columns = columns_of(alloc, checked, index, event.name)?;
             enter(
                 alloc,
                 printer,
                 source,
-                ahead,
+                place,
                 loose,
                 columns,
                 event.name,
@@ -253,37 +305,18 @@ fn step(
     }
 }
 
-/// Prints the events, one after another, each with what is told ahead there.
-fn run(
-    alloc: Global,
-    source: &Source,
-    checked: &Checked,
-    aheads: &[Ahead],
-) -> Result<Printer, AllocError>
+/// Prints the events, one after another.
+fn run(alloc: Global, source: &Source, checked: &Checked) -> Result<Printer, AllocError>
     ensures { IfOk result (λ printer. (document : Forest) → flatten document ≡ checked.now.events
-        → printer ≡ machine.run (given_of source.now) checked.now.events aheads.now (children_of document) machine.beginning) }
+        → printer ≡ machine.run (given_of source.now) checked.now.events (children_of document) machine.beginning) }
 {
     let mut printer = Printer::new(alloc);
     let mut rest = checked.events();
-    let mut aheads = aheads;
     let mut index = 0;
     while let Some((event, later)) = rest.split_first() {
-        let Some((ahead, aheads_later)) = aheads.split_first() else {
-            break;
-        };
         let is_last = later.is_empty();
-        step(
-            alloc,
-            &mut printer,
-            source,
-            checked,
-            index,
-            *event,
-            *ahead,
-            is_last,
-        )?;
+        step(alloc, &mut printer, source, checked, index, *event, is_last)?;
         rest = later;
-        aheads = aheads_later;
         index += 1;
     }
     Ok(printer)

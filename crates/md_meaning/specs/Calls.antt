@@ -1,4 +1,4 @@
--- Footnote calls: which identifiers are called, in which order, and how often.
+-- Footnote calls: which identifiers are called, in which order, and how often. The tallies are the machine's.
 use Rattle.std.specs.Prelude.{ℕ, ◌+◌, suc, not, if◌then◌else◌, List, [], ◌∷◌, map, filter, find, bytes_eq}
 use Rattle.std.specs.Option.{option_map_or}
 

@@ -1,4 +1,5 @@
--- What footnote calls print, and the section of footnotes at a document's end.
+-- The machine's: what footnote calls print, and the section of footnotes at a document's end. The meaning reads
+-- `Footnote` alone.
 use Rattle.std.specs.Prelude.{ℕ, ◌-◌, zero, suc, Bool, true, ◌==◌, if◌then◌else◌, List, [], ◌∷◌, ◌++◌, length, take, drop, find, Option, option_map, bytes_eq, codes, string_bytes}
 use Rattle.std.specs.Option.{option_map_or}
 use Rattle.std.specs.Fmt.{decimal}

@@ -1,4 +1,4 @@
--- What all nodes of a document are given.
+-- What all nodes of a document are given. The record of it is the machine's: the meaning has one with all calls.
 use Rattle.std.specs.Prelude.{ℕ, List, [], unwrap_or}
 use Rattle.md_base.specs.declared.event.Point.{Point}
 use Rattle.md_base.specs.Place.{text_between, serialized_between, label_between}

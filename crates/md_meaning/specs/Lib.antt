@@ -11,4 +11,5 @@ pub mod Tables
 pub mod Footnotes
 pub mod Printed
 pub mod Meaning
+pub mod Whole
 pub mod Trees

@@ -1,29 +1,54 @@
 -- The meaning of a document: its text.
+pub mod Layout
+pub mod Finds
+pub mod At
+pub mod Before
+pub mod Spans
+pub mod Blocks
+pub mod Media
+pub mod Tables
+pub mod Footnotes
+pub mod Means
+pub mod Nodes
 use Rattle.std.specs.Prelude.{ℕ, List, [], ◌++◌, Option}
+use Rattle.std.specs.Option.{option_map_or}
 use Rattle.md_base.specs.declared.event.Position.{Position}
 use Rattle.md_text.specs.LineEnding.{ending_text}
 use Rattle.md_tree.specs.Tree.{Forest}
-use Rattle.std.specs.Option.{option_map_or}
 use Rattle.md_meaning.specs.declared.options.CompileOptions.{CompileOptions}
-use Rattle.md_meaning.specs.Piece.{layout}
 use Rattle.md_meaning.specs.Surroundings.{outermost}
-use Rattle.md_meaning.specs.Given.{Given, text_of}
-use Rattle.md_meaning.specs.Places.{nothing_before, first_ending, calls_of}
-use Rattle.md_meaning.specs.Calls.{tally}
-use Rattle.md_meaning.specs.Footnotes.{section_pieces}
-use Rattle.md_meaning.specs.Printed.{printed, definitions_of, footnotes_of}
+use Rattle.md_meaning.specs.Given.{text_of}
+use Rattle.md_meaning.specs.Places.{first_ending}
+use Rattle.md_meaning.specs.Meaning.Layout.{layout}
+use Rattle.md_meaning.specs.Meaning.At.{Given}
+use Rattle.md_meaning.specs.Meaning.Before.{nothing_before, calls_of}
+use Rattle.md_meaning.specs.Meaning.Nodes.{Meant, meant}
+use Rattle.md_meaning.specs.Meaning.Footnotes.{section}
 
 -- the line ending that is used: the text of the document's first, else that of the options
 abbrev pub ending_at : CompileOptions → List ℕ → Option Position → List ℕ
 ending_at options bytes place =
     option_map_or (λ found. text_of bytes found.start found.end) place (ending_text options.default_line_ending)
 
+-- the text of a document, with the section of its footnotes
+abbrev pub text_by : Given → Meant → List ℕ
+text_by given document = layout given.ending (document.pieces ++ section given document.footnotes)
+
+-- the same, given its definitions as well
+abbrev pub text_given : Given → Forest → List ℕ
+text_given given document = text_by given (meant given outermost nothing_before document)
+
 -- the meaning of a document over its bytes
 abbrev pub meaning : CompileOptions → List (List ℕ × List ℕ) → List ℕ → Forest → List ℕ
 meaning options names bytes document =
     let ending = ending_at options bytes (first_ending document) in
-    let alone : Given = record { bytes = bytes; names = names; options = options; ending = ending; definitions = [] } in
-    let given : Given = record alone { definitions = definitions_of alone outermost nothing_before document } in
-    layout ending
-    (printed given outermost nothing_before document
-    ++ section_pieces options (footnotes_of given outermost nothing_before document) (tally (calls_of bytes document)))
+    let alone : Given = record {
+      bytes = bytes;
+      names = names;
+      options = options;
+      ending = ending;
+      calls = calls_of bytes document;
+      definitions = [];
+    }
+    in
+    text_given (record alone { definitions = (meant alone outermost nothing_before document).definitions }) document

@@ -1,5 +1,5 @@
--- What links, images, autolinks and footnote calls print.
-use Rattle.std.specs.Prelude.{ℕ, Bool, true, if◌then◌else◌, List, [], ◌∷◌, ◌++◌, Option, Some, None, unwrap_or, find, bytes_eq, codes, is_some}
+-- The machine's: what links, images, autolinks and footnote calls print.
+use Rattle.std.specs.Prelude.{ℕ, Bool, true, ◌||◌, if◌then◌else◌, List, [], ◌∷◌, ◌++◌, Option, Some, None, unwrap_or, find, bytes_eq, codes, is_some}
 use Rattle.std.specs.Option.{option_map_or}
 use Rattle.md_base.specs.declared.event.Point.{Point}
 use Rattle.md_base.specs.declared.event.Position.{Position}
@@ -20,10 +20,10 @@ href_of options destination =
     if options.allow_dangerous_protocol then sanitized destination
     else sanitized_with link_protocols destination
 
--- an image's destination as it is written
+-- an image's destination as it is written: not judged where dangerous protocols, or any image source, are allowed
 abbrev pub src_of : CompileOptions → List ℕ → List ℕ
 src_of options destination =
-    if options.allow_any_img_src then sanitized destination
+    if options.allow_dangerous_protocol || options.allow_any_img_src then sanitized destination
     else sanitized_with image_protocols destination
 
 -- where the first definition with an identifier leads

@@ -1,4 +1,5 @@
--- What stands before a node, what its children tell ahead, and what they leave at their end.
+-- The machine's: what stands before a node, what its children tell ahead, and what they leave at their end. The meaning
+-- reads of it how labels, numbers, marks and the first line ending are found.
 use Rattle.std.specs.Prelude.{ℕ, ◌+◌, ◌-◌, Bool, nat_lt, slice_index, ◌&&◌, ◌==◌, if◌then◌else◌, List, [], ◌∷◌, ◌++◌, length, Option, Some, None, unwrap_or}
 use Rattle.md_base.specs.declared.event.Name.{Name}
 use Rattle.md_base.specs.declared.event.Point.{Point}

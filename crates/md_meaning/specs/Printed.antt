@@ -1,4 +1,4 @@
--- What each node prints: before its children, and after them; a few print their children's text themselves.
+-- The machine's: what each node prints before its children, and after them; a few print their children's text themselves.
 use Rattle.std.specs.Prelude.{Bool, true, false, ◌&&◌, ◌||◌, if◌then◌else◌, List, [], ◌∷◌, ◌++◌, codes}
 use Rattle.md_base.specs.declared.event.Name.{Name}
 use Rattle.md_base.specs.declared.event.Name.TheVariants.{LineEnding, BlankLineEnding, BlockQuote, ListOrdered, ListUnordered, ListItem, Data, CharacterEscapeValue, CharacterReferenceValue, CodeIndented, AutolinkEmail, AutolinkProtocol, GfmAutolinkLiteralEmail, GfmAutolinkLiteralMailto, GfmAutolinkLiteralProtocol, GfmAutolinkLiteralWww, GfmAutolinkLiteralXmpp, GfmFootnoteDefinition, GfmFootnoteDefinitionLabelString, GfmFootnoteCall, Definition, DefinitionLabelString, DefinitionDestinationString, DefinitionTitleString, Link, Image, Resource, ResourceDestinationString, ResourceTitleString, ReferenceString, CodeFenced, CodeFencedFence, CodeFencedFenceInfo, CodeFencedFenceMeta, CodeFlowChunk, MathFlow, MathFlowFence, MathFlowFenceMeta, MathFlowChunk, CodeText, CodeTextData, MathText, MathTextData, HtmlFlow, HtmlFlowData, HtmlTextData, GfmTable, GfmTableHead, GfmTableBody, GfmTableRow, GfmTableCell, GfmTableDelimiterRow, HeadingAtx, HeadingSetextText, HeadingSetextUnderlineSequence, Emphasis, Strong, GfmStrikethrough, GfmTaskListItemCheck, GfmTaskListItemValueChecked, HardBreakEscape, HardBreakTrailing, Paragraph, ThematicBreak, Frontmatter}

@@ -1,4 +1,5 @@
--- What a node knows of the nodes round it, of those before it, and of its own children ahead.
+-- What a node knows of the nodes round it and before it. The machine's of it are `told_by`, and the marks by its record
+-- of a spine: the meaning has marks of its own.
 use Rattle.std.specs.Prelude.{Bool, true, false, not, ◌&&◌, ◌||◌, if◌then◌else◌, List, [], ◌∷◌, ◌++◌, Option, Some, None, unwrap_or, count_by}
 use Rattle.std.specs.List.{list_any}
 use Rattle.md_base.specs.declared.event.Name.{Name}
@@ -15,7 +16,17 @@ use Rattle.md_meaning.specs.declared.options.CompileOptions.{CompileOptions}
 
 -- the surroundings of the document's own nodes
 abbrev pub outermost : Surroundings
-outermost = record { container = Nothing; is_outermost = true; in_image = false; in_link = false; in_table = false; in_head = false; in_code = false; in_definition = false; is_escaping = true }
+outermost = record {
+  container = Nothing;
+  is_outermost = true;
+  in_image = false;
+  in_link = false;
+  in_table = false;
+  in_head = false;
+  in_code = false;
+  in_definition = false;
+  is_escaping = true;
+}
 
 abbrev pub list_container : Bool → Container
 list_container loose = if loose then Another else TightList
@@ -33,8 +44,10 @@ inside options loose GfmTableHead around = record around { in_head = true; is_ou
 inside options loose CodeText around = record around { in_code = true; is_outermost = false }
 inside options loose MathText around = record around { in_code = true; is_outermost = false }
 inside options loose Definition around = record around { in_definition = true; is_outermost = false }
-inside options loose HtmlFlow around = record around { is_escaping = not options.allow_dangerous_html; is_outermost = false }
-inside options loose HtmlText around = record around { is_escaping = not options.allow_dangerous_html; is_outermost = false }
+inside options loose HtmlFlow around =
+    record around { is_escaping = not options.allow_dangerous_html; is_outermost = false }
+inside options loose HtmlText around =
+    record around { is_escaping = not options.allow_dangerous_html; is_outermost = false }
 inside options loose DefinitionDestinationString around = record around { is_escaping = false; is_outermost = false }
 inside options loose ResourceDestinationString around = record around { is_escaping = false; is_outermost = false }
 inside options loose _ around = record around { is_outermost = false }

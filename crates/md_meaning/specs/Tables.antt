@@ -1,4 +1,4 @@
--- What tables print.
+-- The machine's: what tables print.
 use Rattle.std.specs.Prelude.{ℕ, if◌then◌else◌, Bool, List, [], ◌∷◌, ◌++◌, drop, Option, Some, None, codes, slice_get}
 use Rattle.md_base.specs.declared.event.AlignKind.{AlignKind}
 use Rattle.md_base.specs.declared.event.AlignKind.TheVariants as align

@@ -4,6 +4,7 @@ pub mod Blocks
 pub mod Lists
 pub mod Spans
 pub mod Media
+pub mod Options
 pub mod Tables
 pub mod Footnotes
 pub mod Endings

@@ -3,11 +3,11 @@ use md_text::LineEnding;
 /// How events are compiled to HTML.
 #[derive(Debug, Drop)]
 pub struct CompileOptions {
-    /// Let images have any source.
+    /// Let images have any source, as `allow_dangerous_protocol` alone does too.
     pub allow_any_img_src: bool,
     /// Leave HTML in the document as it is.
     pub allow_dangerous_html: bool,
-    /// Let links have any protocol.
+    /// Let links and images have any protocol.
     pub allow_dangerous_protocol: bool,
     /// Print tasks without `disabled`.
     pub gfm_task_list_item_checkable: bool,

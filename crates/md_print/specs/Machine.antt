@@ -1,12 +1,14 @@
 -- The compiler's own steps over events. Only contracts of private functions speak of them: the text is
 -- the meaning by a theorem of proofs/.
-use Rattle.std.specs.Prelude.{ℕ, Bool, true, false, if◌then◌else◌, List, [], ◌∷◌, ◌++◌, Option}
+use Rattle.std.specs.Prelude.{ℕ, Bool, true, false, if◌then◌else◌, List, [], ◌∷◌, ◌++◌, Option, None}
 use Rattle.std.specs.Option.{option_map_or}
 use Rattle.md_base.specs.declared.event.Name.{Name}
 use Rattle.md_base.specs.declared.event.Name.TheVariants.{ListOrdered, ListUnordered}
 use Rattle.md_base.specs.declared.event.Kind.{Kind}
 use Rattle.md_base.specs.declared.event.Kind.TheVariants.{Enter, Exit}
 use Rattle.md_base.specs.declared.event.Point.{Point}
+use Rattle.md_base.specs.declared.event.Position.{Position}
+use Rattle.md_tree.specs.Reads.{reads}
 use Rattle.md_base.specs.declared.event.Event.{Event}
 use Rattle.md_base.specs.declared.event.AlignKind.{AlignKind}
 use Rattle.md_tree.specs.Tree.{Forest}
@@ -17,11 +19,12 @@ use Rattle.md_meaning.specs.Footnotes.{Footnote, section_pieces}
 use Rattle.md_sheet.specs.Seen.{counted, noted}
 use Rattle.md_tree.specs.NameTests.{is_call, is_table, is_link_definition, is_footnote_definition, is_transparent}
 use Rattle.md_meaning.specs.declared.facts.Ahead.{Ahead}
-use Rattle.md_print.specs.declared.facts.Frame.{Frame}
+use Rattle.md_meaning.specs.declared.facts.Surroundings.{Surroundings}
+use Rattle.md_meaning.specs.declared.facts.Passed.{Passed}
 use Rattle.md_meaning.specs.declared.options.CompileOptions.{CompileOptions}
 use Rattle.md_meaning.specs.Piece.{Piece, Page, blank, lay}
 use Rattle.md_meaning.specs.Surroundings.{own_marks, inside, outermost}
-use Rattle.md_facts.specs.Steps.{first_or, others_of, no_spine, no_ahead, nothing_passed, passing, slurps_behind}
+use Rattle.md_facts.specs.Steps.{first_or, others_of, no_spine, nothing_passed, passing, slurps_behind}
 use Rattle.md_meaning.specs.Given.{Given, Defined}
 use Rattle.md_meaning.specs.Places.{Left, identifier_at}
 use Rattle.md_meaning.specs.Printed.{opening, closing, is_captured}
@@ -32,6 +35,23 @@ pub record Log : Type 0 where
   pub called : List Called
   pub definitions : List Defined
   pub footnotes : List Footnote
+
+-- what a node's children tell ahead, where its name reads this place
+abbrev pub ahead_by : Option Position → Ahead
+ahead_by place = record { mark = place; number = place; label = place; reference = None; defined = place; footnote = place }
+
+-- what the children of a node of this name tell ahead
+abbrev pub ahead_told : Name → Option Forest → Ahead
+ahead_told name children = ahead_by (option_map_or (reads name) children None)
+
+-- a node that is open: the surroundings of its children, where it starts and whether a line ending is slurped there, what
+-- its children tell ahead, and what they tell so far
+pub record Frame : Type 0 where
+  pub around : Surroundings
+  pub start : Point
+  pub is_slurping : Bool
+  pub ahead : Ahead
+  pub passed : Passed
 
 -- the page, those below it (the newest first), what was seen, whether the last mark is a setting one, the innermost node
 -- that is open, those round it (the innermost first), and the alignments of the tables that are open (the innermost first)
@@ -50,7 +70,7 @@ document_frame = record {
   around = outermost;
   start = record { line = 0; column = 0; index = 0; vs = 0 };
   is_slurping = false;
-  ahead = no_ahead;
+  ahead = ahead_by None;
   passed = nothing_passed no_spine;
 }
 
@@ -173,19 +193,18 @@ loose_told ListOrdered children = option_map_or is_loose children false
 loose_told ListUnordered children = option_map_or is_loose children false
 loose_told _ children = false
 
--- an event, with what is told ahead there, before all others
-abbrev pub stepped : Given → Kind → Name → Point → Ahead → Option Forest → Bool → State → State
-stepped given Enter name point ahead children last state =
-    entered given ahead (loose_told name children) (columns_told name children) (is_captured name) name point state
-stepped given Exit name point ahead children last state = exited given last (is_captured name) name point state
+-- an event, with the children of the node that it enters
+abbrev pub stepped : Given → Kind → Name → Point → Option Forest → Bool → State → State
+stepped given Enter name point children last state =
+    entered given (ahead_told name children) (loose_told name children) (columns_told name children) (is_captured name) name point state
+stepped given Exit name point children last state = exited given last (is_captured name) name point state
 
--- the events one after another, each with what is told ahead there and the children of the node that it enters
-abbrev pub run : Given → List Event → List Ahead → List (Option Forest) → State → State
-run given [] aheads nodes state = state
-run given (event ∷ events) [] nodes state = state
-run given (event ∷ events) (ahead ∷ aheads) [] state = state
-run given (event ∷ events) (ahead ∷ aheads) (children ∷ nodes) state =
-    run given events aheads nodes (stepped given event.kind event.name event.point ahead children (is_nil events) state)
+-- the events one after another, each with the children of the node that it enters
+abbrev pub run : Given → List Event → List (Option Forest) → State → State
+run given [] nodes state = state
+run given (event ∷ events) [] state = state
+run given (event ∷ events) (children ∷ nodes) state =
+    run given events nodes (stepped given event.kind event.name event.point children (is_nil events) state)
 
 -- the text at the end: the section of footnotes comes last
 abbrev pub finished : Given → State → Page

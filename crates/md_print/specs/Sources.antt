@@ -7,6 +7,8 @@ use Rattle.md_tree.specs.Entered.{children_of}
 use Rattle.md_print.specs.declared.source.Source.{Source}
 use Rattle.md_base.specs.declared.event.Name.{Name}
 use Rattle.md_print.specs.declared.facts.Exit.{Exit}
+use Rattle.md_print.specs.declared.facts.Frame.{Frame as FrameInside}
+use Rattle.md_print.specs.Machine.{Frame, ahead_by}
 use Rattle.md_meaning.specs.Piece.{Piece, Page}
 use Rattle.md_meaning.specs.Places.{Left}
 use Rattle.md_meaning.specs.Printed.{closing}
@@ -23,6 +25,16 @@ given_of source = record {
   definitions = source.definitions.now;
 }
 
+-- an open node, as the machine has it
+abbrev pub frame_of : FrameInside → Frame
+frame_of frame = record {
+  around = frame.around;
+  start = frame.start;
+  is_slurping = frame.is_slurping;
+  ahead = ahead_by frame.place;
+  passed = frame.passed;
+}
+
 -- what a node learns from what stands before it
 abbrev pub left_at : Exit → List Called → List AlignKind → Left
 left_at exit called columns = record {
@@ -36,7 +48,7 @@ left_at exit called columns = record {
 -- what is printed where a node is exited
 abbrev pub closing_at : Given → Exit → List Called → List AlignKind → Page → Name → List Piece
 closing_at given exit called columns inner name =
-    closing given exit.around (left_at exit called columns) exit.frame.ahead exit.frame.passed exit.is_last exit.frame.start exit.end inner name
+    closing given exit.around (left_at exit called columns) (ahead_by exit.frame.place) exit.frame.passed exit.is_last exit.frame.start exit.end inner name
 
 -- the event at an index enters a node with these children, or none, in the document that the events are
 abbrev pub IsToldAt : Document → ℕ → Option Forest → Type 0

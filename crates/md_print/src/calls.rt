@@ -1,7 +1,7 @@
 //! What footnote calls print.
 
 ghost use Rattle.std.specs.Prelude.{◌≡◌, ◌∷◌, [], codes, OnOk};
-ghost use Rattle.md_print.specs.Machine.{printing};
+ghost use Rattle.md_print.specs.Machine.{printing, ahead_by};
 ghost use Rattle.md_facts.specs.Steps.{first_or};
 ghost use Rattle.md_print.specs.Sources.{given_of, left_at};
 ghost use Rattle.md_meaning.specs.Footnotes as footnotes;
@@ -52,12 +52,12 @@ pub fn call(
     source: &Source,
     exit: &Exit,
 ) -> Result<(), AllocError>
-    ensures { OnOk result (printer.new ≡ printing [] (footnotes.call_pieces (given_of source.now) exit.now.around (left_at exit.now printer.old.log.called []) exit.now.frame.ahead) printer.old) }
+    ensures { OnOk result (printer.new ≡ printing [] (footnotes.call_pieces (given_of source.now) exit.now.around (left_at exit.now printer.old.log.called []) (ahead_by exit.now.frame.place)) printer.old) }
 {
     if exit.around.in_image {
         return Ok(());
     }
-    let identifier = identifier_at(alloc, source.bytes, exit.frame.ahead.label)?;
+    let identifier = identifier_at(alloc, source.bytes, exit.frame.place)?;
     let number = printer.number(identifier.as_str());
     let before = printer.count_of(identifier.as_str());
     let occurrence = before.checked_add(1).ok_or(AllocError)?;

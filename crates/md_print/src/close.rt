@@ -1,7 +1,7 @@
 //! What nodes print after their children.
 
 ghost use Rattle.std.specs.Prelude.{◌≡◌, ◌∷◌, [], ◌++◌, OnOk, codes, string_bytes, ◌||◌, ◌&&◌, not};
-ghost use Rattle.md_print.specs.Machine.{printing};
+ghost use Rattle.md_print.specs.Machine.{printing, ahead_by};
 ghost use Rattle.md_facts.specs.Steps.{first_or};
 ghost use Rattle.md_meaning.specs.Piece.{Text, Needed, Forced};
 ghost use Rattle.md_meaning.specs.Texts as texts;
@@ -92,7 +92,7 @@ fn close_block(
     name: Name,
 ) -> Result<(), AllocError>
     ensures { OnOk result (printer.new ≡ printing source.now.ending.now
-        (printed.block_closing (given_of source.now) exit.now.around (left_at exit.now printer.old.log.called (first_or [] printer.old.tables)) exit.now.frame.ahead exit.now.frame.passed exit.now.frame.start exit.now.end name) printer.old) }
+        (printed.block_closing (given_of source.now) exit.now.around (left_at exit.now printer.old.log.called (first_or [] printer.old.tables)) (ahead_by exit.now.frame.place) exit.now.frame.passed exit.now.frame.start exit.now.end name) printer.old) }
 {
     match name {
         Name::BlockQuote => on_own_line(printer, source.ending, "</blockquote>"),
@@ -102,7 +102,7 @@ fn close_block(
         Name::Paragraph => paragraph(printer, exit.around),
         Name::ThematicBreak => on_own_line(printer, source.ending, "<hr />"),
         Name::HeadingAtx => {
-            printer.put(heading_closing(rank_of(source.bytes, exit.frame.ahead.mark)))
+            printer.put(heading_closing(rank_of(source.bytes, exit.frame.place)))
         }
         Name::HeadingSetextUnderlineSequence => setext(printer, source, exit),
         Name::CodeIndented => indented(printer, source.ending, exit),
@@ -128,7 +128,7 @@ fn close_media(
     name: Name,
 ) -> Result<(), AllocError>
     ensures { OnOk result (printer.new ≡ printing source.now.ending.now
-        (printed.media_closing (given_of source.now) exit.now.around exit.now.frame.ahead exit.now.frame.start exit.now.end inner name) printer.old) }
+        (printed.media_closing (given_of source.now) exit.now.around (ahead_by exit.now.frame.place) exit.now.frame.start exit.now.end inner name) printer.old) }
 {
     match name {
         Name::HeadingSetextText => {
@@ -213,7 +213,7 @@ fn close_gfm(
     name: Name,
 ) -> Result<(), AllocError>
     ensures { OnOk result (printer.new ≡ printing source.now.ending.now
-        (printed.gfm_closing (given_of source.now) exit.now.around (left_at exit.now printer.old.log.called (first_or [] printer.old.tables)) exit.now.frame.ahead exit.now.frame.passed inner.now name) printer.old) }
+        (printed.gfm_closing (given_of source.now) exit.now.around (left_at exit.now printer.old.log.called (first_or [] printer.old.tables)) (ahead_by exit.now.frame.place) exit.now.frame.passed inner.now name) printer.old) }
 {
     match name {
         Name::GfmTable => on_own_line(printer, source.ending, "</table>"),

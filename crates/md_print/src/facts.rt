@@ -1,7 +1,7 @@
 //! What the printer keeps of a node.
 
-use md_base::{Name, Point};
-use md_meaning::{Ahead, Passed, Spine, Surroundings};
+use md_base::{Name, Point, Position};
+use md_meaning::{Passed, Spine, Surroundings};
 
 /// A node that is open.
 #[derive(Clone, Copy)]
@@ -12,8 +12,8 @@ pub struct Frame {
     pub start: Point,
     /// A line ending is slurped where it starts.
     pub is_slurping: bool,
-    /// What its children tell ahead.
-    pub ahead: Ahead,
+    /// The place that its name reads in its children.
+    pub place: Option<Position>,
     /// What its children tell so far.
     pub passed: Passed,
 }

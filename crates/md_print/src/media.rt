@@ -1,7 +1,7 @@
 //! What links, images and autolinks print.
 
 ghost use Rattle.std.specs.Prelude.{◌≡◌, ◌∷◌, [], ◌++◌, ◌||◌, OnOk, IfOk, unwrap_or, string_bytes, option_copied, option_map};
-ghost use Rattle.md_print.specs.Machine.{printing};
+ghost use Rattle.md_print.specs.Machine.{printing, ahead_by};
 ghost use Rattle.md_meaning.specs.Media as media;
 ghost use Rattle.md_meaning.specs.Piece.{nowhere};
 ghost use Rattle.md_meaning.specs.Places.{identifier_at};
@@ -11,7 +11,7 @@ use crate::facts::Exit;
 use crate::printer::Printer;
 use crate::source::{Source, identifier_at, text_of};
 use md_base::{Position, SAFE_PROTOCOL_HREF, SAFE_PROTOCOL_SRC};
-use md_meaning::{Ahead, CompileOptions, Surroundings};
+use md_meaning::{CompileOptions, Surroundings};
 use md_sheet::{Definitions, Notes, Rope, Sheet, Target};
 use md_text::{encode, sanitize, sanitize_with_protocols};
 use std::alloc::{AllocError, Global};
@@ -35,20 +35,10 @@ pub fn href_of(
 fn src_of(alloc: Global, options: &CompileOptions, destination: &str) -> Result<String, AllocError>
     ensures { IfOk result (λ url. string_bytes url ≡ media.src_of options.now destination.now) }
 {
-    if options.allow_any_img_src {
+    if options.allow_dangerous_protocol || options.allow_any_img_src {
         sanitize(alloc, destination)
     } else {
         sanitize_with_protocols(alloc, destination, &SAFE_PROTOCOL_SRC)
-    }
-}
-
-/// The place of the label by which a link or an image refers: its reference, else the text of its label.
-fn referring(ahead: Ahead) -> Option<Position>
-    ensures { result ≡ media.referring ahead }
-{
-    match ahead.reference {
-        Some(place) => Some(place),
-        None => ahead.label,
     }
 }
 
@@ -64,16 +54,16 @@ fn target_of<'a>(
     alloc: Global,
     bytes: &[u8],
     definitions: &'a Definitions,
-    ahead: Ahead,
+    place: Option<Position>,
     notes: &'a Notes,
 ) -> Result<Option<&'a Target>, AllocError>
     ensures { IfOk result (λ target. unwrap_or (option_copied target) nowhere
-        ≡ unwrap_or notes.now.resource (media.defined_target definitions.now (identifier_at bytes.now (media.referring ahead)))) }
+        ≡ unwrap_or notes.now.resource (media.defined_target definitions.now (identifier_at bytes.now place))) }
 {
     if let Some(target) = notes.resource() {
         return Ok(Some(target));
     }
-    let identifier = identifier_at(alloc, bytes, referring(ahead))?;
+    let identifier = identifier_at(alloc, bytes, place)?;
     Ok(definitions.target(identifier.as_str()))
 }
 
@@ -158,14 +148,14 @@ pub fn link(
     exit: &Exit,
     inner: Sheet,
 ) -> Result<(), AllocError>
-    ensures { OnOk result (printer.new ≡ printing [] (media.link_pieces (given_of source.now) exit.now.around exit.now.frame.ahead inner) printer.old) }
+    ensures { OnOk result (printer.new ≡ printing [] (media.link_pieces (given_of source.now) exit.now.around (ahead_by exit.now.frame.place) inner) printer.old) }
 {
     let (label, notes) = inner.into_parts();
     if exit.around.in_image {
         return printer.append(alloc, label);
     }
-    let ahead = exit.frame.ahead;
-    let target = target_of(alloc, source.bytes, source.definitions, ahead, &notes)?;
+    let place = exit.frame.place;
+    let target = target_of(alloc, source.bytes, source.definitions, place, &notes)?;
     link_to(alloc, printer, source.options, target, label)
 }
 
@@ -210,14 +200,14 @@ pub fn image(
     exit: &Exit,
     inner: Sheet,
 ) -> Result<(), AllocError>
-    ensures { OnOk result (printer.new ≡ printing [] (media.image_pieces (given_of source.now) exit.now.around exit.now.frame.ahead inner) printer.old) }
+    ensures { OnOk result (printer.new ≡ printing [] (media.image_pieces (given_of source.now) exit.now.around (ahead_by exit.now.frame.place) inner) printer.old) }
 {
     let (label, notes) = inner.into_parts();
     if exit.around.in_image {
         return printer.append(alloc, label);
     }
-    let ahead = exit.frame.ahead;
-    let target = target_of(alloc, source.bytes, source.definitions, ahead, &notes)?;
+    let place = exit.frame.place;
+    let target = target_of(alloc, source.bytes, source.definitions, place, &notes)?;
     image_of(alloc, printer, source.options, target, label)
 }
 

@@ -1,7 +1,7 @@
 //! What nodes print before their children.
 
 ghost use Rattle.std.specs.Prelude.{◌≡◌, ◌∷◌, [], ◌++◌, OnOk, codes};
-ghost use Rattle.md_print.specs.Machine.{printing};
+ghost use Rattle.md_print.specs.Machine.{printing, ahead_by};
 ghost use Rattle.md_meaning.specs.Piece.{Text, Needed};
 ghost use Rattle.md_meaning.specs.Texts as texts;
 ghost use Rattle.md_meaning.specs.Texts.{said, outside_images};
@@ -12,7 +12,7 @@ ghost use Rattle.md_print.specs.Sources.{given_of};
 use crate::printer::Printer;
 use crate::source::{Source, length_of, text_of, without_zeros};
 use md_base::{Name, Position};
-use md_meaning::{Ahead, Container, Surroundings};
+use md_meaning::{Container, Surroundings};
 use std::alloc::AllocError;
 
 /// Prints what a node prints before its children.
@@ -20,14 +20,14 @@ pub fn open(
     printer: &mut Printer,
     source: &Source,
     around: Surroundings,
-    ahead: Ahead,
+    place: Option<Position>,
     name: Name,
 ) -> Result<(), AllocError>
-    ensures { OnOk result (printer.new ≡ printing source.now.ending.now (printed.opening (given_of source.now) around ahead name) printer.old) }
+    ensures { OnOk result (printer.new ≡ printing source.now.ending.now (printed.opening (given_of source.now) around (ahead_by place) name) printer.old) }
 {
     match name {
         Name::BlockQuote => on_own_line(printer, source.ending, "<blockquote>"),
-        Name::ListOrdered => ordered_list(printer, source, ahead.number),
+        Name::ListOrdered => ordered_list(printer, source, place),
         Name::ListUnordered => on_own_line(printer, source.ending, "<ul>"),
         Name::ListItem => on_own_line(printer, source.ending, "<li>"),
         Name::Paragraph => paragraph(printer, source.ending, around),
@@ -35,7 +35,7 @@ pub fn open(
             on_own_line(
                 printer,
                 source.ending,
-                heading_opening(rank_of(source.bytes, ahead.mark)),
+                heading_opening(rank_of(source.bytes, place)),
             )
         }
         Name::CodeIndented => on_own_line(printer, source.ending, "<pre><code>"),

@@ -11,9 +11,9 @@ ghost use Rattle.md_sheet.specs.Seen.{counted, noted};
 ghost use Rattle.md_meaning.specs.Texts.{said};
 
 use crate::facts::Frame;
-use md_base::{AlignKind, Name, Point};
+use md_base::{AlignKind, Name, Point, Position};
 use md_facts::surroundings::{NO_SPINE, inside, passing, slurps_behind, spine_inside};
-use md_meaning::{Ahead, CompileOptions, Container, Passed, Surroundings};
+use md_meaning::{CompileOptions, Container, Passed, Surroundings};
 use md_sheet::{Calls, Defined, Footnotes, Rope, Sheet, Target, lay_section};
 use std::alloc::{AllocError, Global};
 use std::marker::Model;
@@ -35,13 +35,16 @@ pub struct Printer {
 impl Model for Printer {
     ghost use Rattle.std.specs.Prelude.{reverse, map};
     ghost use Rattle.md_print.specs.Machine.{State};
+    ghost use Rattle.md_print.specs.Sources.{frame_of};
 
     ghost Value = { State };
 
-    ghost view = { λ p. record { page = p.sheet; below = reverse p.below.items; log = record { called = p.calls; definitions = p.definitions.items; footnotes = p.footnotes }; is_slurping = p.is_slurping; frame = p.frame; frames = reverse p.frames.items; tables = reverse (map (λ v. v.items) p.tables.items) } };
+    ghost view = { λ p. record { page = p.sheet; below = reverse p.below.items; log = record { called = p.calls; definitions = p.definitions.items; footnotes = p.footnotes }; is_slurping = p.is_slurping; frame = frame_of p.frame; frames = reverse (map frame_of p.frames.items); tables = reverse (map (λ v. v.items) p.tables.items) } };
 }
 
 impl Printer {
+    ghost use Rattle.md_print.specs.Sources.{frame_of};
+
     /// Prints a text.
     pub fn put(&mut self, text: &str) -> Result<(), AllocError>
         ensures { OnOk result (self.new ≡ machine.printing [] (said text.now) self.old) }
@@ -202,7 +205,7 @@ impl Printer {
 
     /// The frame of the innermost node that is open.
     pub fn frame(&self) -> Frame
-        ensures { result ≡ self.now.frame }
+        ensures { frame_of result ≡ self.now.frame }
     {
         self.frame
     }
@@ -216,7 +219,7 @@ impl Printer {
 
     /// What the innermost node that is open learns from what stands before it.
     pub fn parent(&self) -> Frame
-        ensures { result ≡ steps.first_or machine.document_frame self.now.frames }
+        ensures { frame_of result ≡ steps.first_or machine.document_frame self.now.frames }
     {
         match self.frames.last() {
             Some(frame) => *frame,
@@ -251,12 +254,12 @@ impl Printer {
     pub fn open_frame(
         &mut self,
         options: &CompileOptions,
-        ahead: Ahead,
+        place: Option<Position>,
         loose: bool,
         name: Name,
         start: Point,
     ) -> Result<(), AllocError>
-        ensures { OnOk result (self.new ≡ machine.opening_frame options.now ahead loose name start self.old) }
+        ensures { OnOk result (self.new ≡ machine.opening_frame options.now (machine.ahead_by place) loose name start self.old) }
     {
         let parent = self.frame;
         self.frames.push(parent)?;
@@ -264,7 +267,7 @@ impl Printer {
             around: inside(options, loose, name, parent.around),
             start,
             is_slurping: self.is_slurping,
-            ahead,
+            place,
             passed: Passed {
                 last: None,
                 contributing: None,
@@ -369,14 +372,7 @@ const DOCUMENT_FRAME: Frame = Frame {
         vs: 0,
     },
     is_slurping: false,
-    ahead: Ahead {
-        mark: None,
-        number: None,
-        label: None,
-        reference: None,
-        defined: None,
-        footnote: None,
-    },
+    place: None,
     passed: Passed {
         last: None,
         contributing: None,

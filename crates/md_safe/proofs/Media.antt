@@ -1,5 +1,5 @@
 -- Links, images, calls and cells as they are printed have readings.
-use Rattle.std.proofs.Common.{◌≡◌, ℕ, ◌==◌, zero, suc, Bool, true, false, ◌&&◌, cond, List, [], ◌∷◌, ◌++◌, refl, subst, append_assoc, codes}
+use Rattle.std.proofs.Common.{◌≡◌, ℕ, ◌==◌, zero, suc, Bool, true, false, ◌&&◌, ◌||◌, cond, List, [], ◌∷◌, ◌++◌, refl, subst, append_assoc, codes}
 use Rattle.std.specs.Prelude.{Option, Some, None, option_map, string_bytes}
 use Rattle.std.specs.Fmt.{decimal}
 use Rattle.std.proofs.lemmas.Bool.{and_from, cond_both}
@@ -26,7 +26,7 @@ href-escaped options x =
 
 pub src-escaped : (options : CompileOptions) (x : List ℕ) → Escaped (src_of options x)
 src-escaped options x =
-    cond_both options.allow_any_img_src (sanitized x) (sanitized_with image_protocols x) Escaped (λ _. sanitized-escaped x) (λ _. sanitized_with-escaped image_protocols x)
+    cond_both (options.allow_dangerous_protocol || options.allow_any_img_src) (sanitized x) (sanitized_with image_protocols x) Escaped (λ _. sanitized-escaped x) (λ _. sanitized_with-escaped image_protocols x)
 
 -- tags with these attributes are of the table, where their values are escaped
 a_href : (v : List ℕ) → Escaped v → is_tag elements (codes "a") (attribute (codes "href") v ∷ []) ≡ true

@@ -1,5 +1,5 @@
 -- The meaning of a document has a reading in which each attribute passes a test.
-use Rattle.std.proofs.Common.{◌≡◌, ℕ, Bool, true, false, not, cond, List, [], ◌++◌, refl, sym, ap, subst, codes}
+use Rattle.std.proofs.Common.{◌≡◌, ℕ, ◌||◌, Bool, true, false, not, cond, List, [], ◌++◌, refl, sym, ap, subst, codes}
 use Rattle.std.specs.Prelude.{Option, Some, None}
 use Rattle.std.specs.Option.{option_map_or}
 use Rattle.std.proofs.lemmas.Bool.{and_parts}
@@ -28,7 +28,8 @@ use Rattle.md_meaning.specs.Calls.{tally}
 use Rattle.md_meaning.specs.Places.{nothing_before, first_ending, calls_of}
 use Rattle.md_meaning.specs.Footnotes.{section_pieces}
 use Rattle.md_meaning.specs.Printed.{printed, definitions_of, footnotes_of}
-use Rattle.md_meaning.specs.Meaning.{meaning, ending_at}
+use Rattle.md_meaning.specs.Meaning.{ending_at}
+use Rattle.md_meaning.specs.Whole.{printed_meaning as meaning}
 use Rattle.md_shape.specs.Built.{Content, Blocks, content_inside, content_behind, content_past, content_after, IsBuilt, IsFit}
 use Rattle.md_safe.specs.Options.{KeepsGrammar, KeepsLinks, KeepsImages}
 use Rattle.md_safe.proofs.Texts.{Escaped, line_ends-escaped}
@@ -129,8 +130,9 @@ image-test options keeps = record {
   link = λ destination. refl;
   anchor = λ rest. refl;
   image = λ destination.
-      subst (λ b. is_safe_value image_protocols (cond b (sanitized destination) (sanitized_with image_protocols destination)) ≡ true) (sym keeps.permitted_images) (kept-image destination);
-  html = keeps.grammar.escapes_html;
+      subst (λ b. is_safe_value image_protocols (cond (b || options.allow_any_img_src) (sanitized destination) (sanitized_with image_protocols destination)) ≡ true) (sym keeps.links.permitted_links)
+      (subst (λ b. is_safe_value image_protocols (cond b (sanitized destination) (sanitized_with image_protocols destination)) ≡ true) (sym keeps.permitted_images) (kept-image destination));
+  html = keeps.links.grammar.escapes_html;
 }
 
 pub one-reading : (bytes : List ℕ) (names : List (List ℕ × List ℕ)) (options : CompileOptions) (document : Forest) → IsBuilt bytes Blocks document → KeepsGrammar options → HasOneReadingWith any_attribute (meaning options names bytes document)
@@ -143,4 +145,4 @@ safe-links bytes names options document built keeps =
 
 pub safe-images : (bytes : List ℕ) (names : List (List ℕ × List ℕ)) (options : CompileOptions) (document : Forest) → IsBuilt bytes Blocks document → KeepsImages options → HasOneReadingWith is_safe_image (meaning options names bytes document)
 safe-images bytes names options document built keeps =
-    only_reading is_safe_image (meaning options names bytes document) (meaning-reads is_safe_image bytes names options document (image-test options keeps) built keeps.grammar)
+    only_reading is_safe_image (meaning options names bytes document) (meaning-reads is_safe_image bytes names options document (image-test options keeps) built keeps.links.grammar)

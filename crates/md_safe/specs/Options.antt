@@ -13,7 +13,7 @@ pub record KeepsLinks (options : CompileOptions) : Type 0 where
   pub grammar : KeepsGrammar options
   pub permitted_links : options.allow_dangerous_protocol ≡ false
 
--- besides, images keep to the permitted protocols
+-- besides, images keep to the permitted protocols: the safe options
 pub record KeepsImages (options : CompileOptions) : Type 0 where
-  pub grammar : KeepsGrammar options
+  pub links : KeepsLinks options
   pub permitted_images : options.allow_any_img_src ≡ false

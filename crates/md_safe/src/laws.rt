@@ -5,8 +5,9 @@ ghost use Rattle.md_text.specs.Html.{any_attribute, HasOneReadingWith};
 ghost use Rattle.md_text.specs.Safe.{is_safe_link, is_safe_image};
 ghost use Rattle.md_tree.specs.Tree.{Forest};
 ghost use Rattle.md_meaning.specs.declared.options.CompileOptions.{CompileOptions};
-ghost use Rattle.md_meaning.specs.Meaning.{meaning};
+ghost use Rattle.md_meaning.specs.Whole.{printed_meaning as meaning};
 ghost use Rattle.md_shape.specs.Built.{Blocks, IsBuilt};
+ghost use Rattle.md_meaning.specs.Defaults.{default_options, gfm_options};
 ghost use Rattle.md_safe.specs.Options.{KeepsGrammar, KeepsLinks, KeepsImages};
 
 /// A document that is built of what may stand where it is means a text of the HTML grammar with exactly one
@@ -22,4 +23,10 @@ pub fn safe_options_make_safe_output()
     ensures safe_images { (bytes : List ℕ) (names : List (List ℕ × List ℕ)) (options : CompileOptions) (document : Forest)
         → IsBuilt bytes Blocks document → KeepsImages options
         → HasOneReadingWith is_safe_image (meaning options names bytes document) }
+{}
+
+/// The default options are safe, and so are those of GitHub flavored Markdown.
+pub fn default_options_are_safe()
+    ensures default { KeepsImages default_options }
+    ensures gfm { KeepsImages gfm_options }
 {}

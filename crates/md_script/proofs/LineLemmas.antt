@@ -12,7 +12,7 @@ use Rattle.md_script.specs.Script.{is_line_feed, lines_of}
 use Rattle.md_script.proofs.SplitLemmas.{any_by_place}
 
 -- an event from the parts that a line says
-abbrev built : Option Kind → Option Name → Option Point → Option Event
+abbrev pub built : Option Kind → Option Name → Option Point → Option Event
 built kind name point = do
   k ← kind
   n ← name

@@ -22,6 +22,12 @@ value_small digits i most all inside short nine =
     let e = length-take-le i digits inside in
     digits_value_short model (take i digits) 9 all (omega (arith, e))
 
+-- so do few digits of many bytes
+pub value_few : (bytes : List ℕ) (i : ℕ) → all_ascii_digits (take i bytes) ≡ true → i ≤ length bytes → i ≤ 9 → digits_value 10 (take i bytes) < 1000000000
+value_few bytes i all inside few =
+    let e = length-take-le i bytes inside in
+    digits_value_short model (take i bytes) 9 all (omega (arith, e, few))
+
 digit_range : (c : ℕ) → is_ascii_digit c ≡ true → (48 ≤ c) × (c ≤ 57)
 digit_range c h = let parts = and_parts (leb 48 c) (leb c 57) h in (leb-true 48 c parts.0, leb-true c 57 parts.1)
 

@@ -11,6 +11,7 @@ use Rattle.md_base.specs.declared.event.Event.{Event}
 use Rattle.md_script.specs.Line.{event_of}
 use Rattle.md_script.specs.Script.{lines_of, end_line, is_readable_after, ReadsAfter, StandsFor, StopsAfter, IsFirstUnreadable}
 use Rattle.md_script.specs.Script.{Explains}
+use Rattle.md_script.specs.PlainLine.{BeginsWithEvent}
 use Rattle.md_script.specs.declared.error.RunError.TheVariants.{Line}
 use Rattle.md_meaning.specs.declared.options.CompileOptions.{CompileOptions}
 use Rattle.md_script.specs.Setting.{is_setting, option_name, is_new, HasOptions}
@@ -91,6 +92,15 @@ line_more {input} {rest} {number} {events} {settings} known line following cut s
       counted = omega (arith, known.counted, length_push known.seen line);
       short = omega (arith, known.short, size, read_line_has_bytes settings line taken);
     }
+
+-- a plain line more
+pub plain_more : {input rest : List ℕ} {number : ℕ} {events : List Event} {settings : List (List ℕ)} → Progress input number events settings rest → (event : Event) (following : List ℕ) → BeginsWithEvent rest event following → Progress input (number + 1) (events ++ event ∷ []) settings following
+plain_more {input} {rest} {number} {events} {settings} known event following read =
+    let line = read.line in
+    let taken : takes settings line ≡ true = ap (λ said. is_some said || is_setting line && is_new settings (option_name line)) read.says in
+    let more = line_more known line following read.cut read.size taken in
+    let said = subst (λ said. Progress input (number + 1) (events ++ option_to_list said) (settings ++ cond (is_some said) [] (line ∷ [])) following) read.says more in
+    subst (λ kept. Progress input (number + 1) (events ++ event ∷ []) kept following) (append-nil settings) said
 
 -- ---- the line that ends the script
 

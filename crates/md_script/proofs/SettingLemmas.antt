@@ -56,20 +56,20 @@ event_is_unmarked (sign ∷ rest) event e =
       | inr other ↦ ap (λ t. is_some (cond t (Some (before_first is_equals rest)) None)) other
     ]
 
-module _ (p q : List ℕ → Bool) (outside : (line : List ℕ) → q line ≡ false → p line ≡ false) where
-  any-filter_step : (here : Bool) (line : List ℕ) (lines : List (List ℕ)) → q line ≡ here → list_any p (filter q lines) ≡ list_any p lines → list_any p (cond here (line ∷ filter q lines) (filter q lines)) ≡ (p line || list_any p lines)
+module _ {A : Type 0} (p q : A → Bool) (outside : (x : A) → q x ≡ false → p x ≡ false) where
+  any-filter_step : (here : Bool) (line : A) (lines : List A) → q line ≡ here → list_any p (filter q lines) ≡ list_any p lines → list_any p (cond here (line ∷ filter q lines) (filter q lines)) ≡ (p line || list_any p lines)
   any-filter_step true line lines h ih = ap (λ t. p line || t) ih
   any-filter_step false line lines h ih = ih ∙ sym (ap (λ t. t || list_any p lines) (outside line h))
 
-  any-filter : (lines : List (List ℕ)) → list_any p (filter q lines) ≡ list_any p lines
+  pub any-filter : (lines : List A) → list_any p (filter q lines) ≡ list_any p lines
   any-filter [] = refl
   any-filter (line ∷ lines) = any-filter_step (q line) line lines refl (any-filter lines)
 
-  find-filter_step : (here : Bool) (line : List ℕ) (lines : List (List ℕ)) → q line ≡ here → find p (filter q lines) ≡ find p lines → find p (cond here (line ∷ filter q lines) (filter q lines)) ≡ cond (p line) (Some line) (find p lines)
+  find-filter_step : (here : Bool) (line : A) (lines : List A) → q line ≡ here → find p (filter q lines) ≡ find p lines → find p (cond here (line ∷ filter q lines) (filter q lines)) ≡ cond (p line) (Some line) (find p lines)
   find-filter_step true line lines h ih = ap (λ t. cond (p line) (Some line) t) ih
   find-filter_step false line lines h ih = ih ∙ sym (ap (λ t. cond t (Some line) (find p lines)) (outside line h))
 
-  find-filter : (lines : List (List ℕ)) → find p (filter q lines) ≡ find p lines
+  pub find-filter : (lines : List A) → find p (filter q lines) ≡ find p lines
   find-filter [] = refl
   find-filter (line ∷ lines) = find-filter_step (q line) line lines refl (find-filter lines)
 

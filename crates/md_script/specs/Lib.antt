@@ -1,7 +1,9 @@
 pub mod Error
 pub mod EventNames
 pub mod Line
+pub mod NamesByLength
 pub mod Number
+pub mod PlainLine
 pub mod Run
 pub mod Script
 pub mod Setting

@@ -6,6 +6,7 @@ mod event_names;
 mod line;
 mod name;
 mod number;
+mod plain_line;
 mod running;
 mod script;
 mod setting;

@@ -18,7 +18,7 @@ pub(crate) fn read_event(line: &[u8]) -> Option<Event>
     Some(Event { kind, name, point })
 }
 
-fn read_kind(sign: u8) -> Option<Kind>
+pub(crate) fn read_kind(sign: u8) -> Option<Kind>
     ensures { result ≡ kind_of sign }
 {
     match sign {

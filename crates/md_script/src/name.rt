@@ -1,5 +1,8 @@
-ghost use Rattle.std.specs.Prelude.{◌≡◌};
+ghost use Rattle.std.specs.Prelude.{◌≡◌, ◌++◌, codes, length, option_and_then};
+ghost use Rattle.std.specs.List.{slice_get};
 ghost use Rattle.md_script.specs.Line.{other_name, name_of};
+ghost use Rattle.md_script.specs.NamesByLength.{IsByLength};
+ghost use Rattle.md_script.specs.Table as spec;
 
 use crate::event_names::EVENT_NAMES;
 use crate::number::read_number;
@@ -10,16 +13,33 @@ use md_base::Name;
 pub(crate) fn read_name(text: &[u8]) -> Option<Name>
     ensures { result ≡ name_of text.now }
 {
-    match listed(&EVENT_NAMES, text) {
-        Some(name) => Some(name),
-        None => read_other_name(text),
+    match text.strip_prefix(b"Other") {
+        Some(digits) => read_other_name(digits),
+        None => listed_at_length(event_names(), text),
     }
 }
 
-fn read_other_name(text: &[u8]) -> Option<Name>
-    ensures { result ≡ other_name text.now }
+/// The names of events, each table at the length of its names.
+fn event_names() -> &'static [&'static [(&'static str, Name)]]
+    ensures count { length result.now ≡ 36 }
+    ensures tables { IsByLength result.now 0 }
 {
-    let digits = text.strip_prefix(b"Other")?;
+    &EVENT_NAMES
+}
+
+/// The name under a text in the table that stands at its length.
+fn listed_at_length(tables: &[&[(&str, Name)]], text: &[u8]) -> Option<Name>
+    ensures { let table = slice_get tables.now (length text.now) in
+        result ≡ option_and_then (λ names. spec.listed (spec.entries_of names.now) text.now) table }
+{
+    let names = tables.get(text.len())?;
+    listed(names, text)
+}
+
+/// `Other` with the number that these digits write.
+fn read_other_name(digits: &[u8]) -> Option<Name>
+    ensures { result ≡ other_name (codes "Other" ++ digits.now) }
+{
     let number = read_number(digits, 5)?;
     Some(Name::Other(u16::try_from(number).ok()?))
 }

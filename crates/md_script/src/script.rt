@@ -6,6 +6,7 @@ ghost use Rattle.md_script.specs.Script.{end_line, lines_of, StandsFor};
 
 use crate::error::RunError;
 use crate::line::read_event;
+use crate::plain_line::read_plain_line;
 use crate::setting::{is_new, is_setting, options_given};
 use crate::split::split_at_first;
 use md_base::Event;
@@ -34,6 +35,12 @@ pub(crate) fn read_script(alloc: Global, input: &[u8]) -> Result<Script<'_>, Run
     let mut read_lines = 0;
     let mut rest = input;
     'lines: loop {
+        if let Some((event, following)) = read_plain_line(rest) {
+            keep(&mut events, event)?;
+            read_lines += 1;
+            rest = following;
+            continue;
+        }
         let (line, following) = first_line(rest);
         if is_end(line) {
             let document = following.unwrap_or(&[]);
@@ -53,6 +60,14 @@ pub(crate) fn read_script(alloc: Global, input: &[u8]) -> Result<Script<'_>, Run
         };
         rest = following;
     }
+}
+
+/// Adds an event to those before it.
+fn keep(events: &mut Vec<Event>, event: Event) -> Result<(), AllocError>
+    ensures { OnOk result (events.new.items ≡ events.old.items ++ event ∷ []) }
+{
+    events.push(event)?;
+    Ok(())
 }
 
 /// Takes a line's event, or the line itself where it sets an option; whether it could be read.

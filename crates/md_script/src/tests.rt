@@ -47,7 +47,7 @@ fn script_cut_at_each_byte(rt: HostRuntime) {
 
 #[test]
 fn first_unreadable_line_is_named(rt: HostRuntime) {
-    let cases: [(&[u8], usize); 30] = [
+    let cases: [(&[u8], usize); 38] = [
         (b"", 1),
         (b"\n--", 1),
         (b"--", 0),
@@ -76,6 +76,14 @@ fn first_unreadable_line_is_named(rt: HostRuntime) {
         (b"+Other000007 0\n--", 1),
         (b"+Other 0\n--", 1),
         (b"+MdxEsm 0\n--", 0),
+        (b"+OtherData 0\n--", 1),
+        (b"+Datum 0\n--", 1),
+        (b"+Data\n0 1\n--", 1),
+        (b"+Data 0 \n--", 1),
+        (b"+Data 0\n-Data 1234567890\n--", 2),
+        (b"+Data 0\n-Data 1.2\n!gfm_tagfilter\n+Data 2\n--", 0),
+        (b"+HeadingSetextUnderlineSequences 0\n--", 1),
+        (b"+CharacterReferenceMarkerHexadecimals 0\n--", 1),
         (b"!unknown\n--", 1),
         (b"!\n--", 1),
     ];

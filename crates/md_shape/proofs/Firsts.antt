@@ -1,6 +1,6 @@
 -- The first node on a spine that passes a test.
-use Rattle.std.proofs.Common.{◌≡◌, ◌⊎◌, inl, inr, ℕ, Bool, true, false, cond, Option, Some, None, List, [], ◌∷◌, ◌++◌, refl, sym, ap, ◌∙◌, subst, length, arith}
-use Rattle.std.specs.List.{list_all}
+use Rattle.std.proofs.Common.{◌≡◌, ◌⊎◌, inl, inr, ℕ, Bool, true, false, ◌||◌, cond, Option, Some, None, List, [], ◌∷◌, ◌++◌, refl, sym, ap, ◌∙◌, subst, length, arith}
+use Rattle.std.specs.List.{list_all, list_any}
 use Rattle.std.proofs.lemmas.Bool.{and_parts, false≢true}
 use Rattle.md_base.specs.declared.event.Name.{Name}
 use Rattle.md_base.specs.declared.event.Point.{Point}
@@ -74,25 +74,36 @@ module _ {A : Type 0} (of_symbols : Symbol → Bool) (of_names : Name → Bool) 
   abbrev told_here : Bool → Bool → A → Option A → Option A
   told_here passes through here inside = cond passes (Some here) (cond through inside None)
 
-  none_step : (standing : Standing) (name : Name) (start end : Point) (children : Forest) (around : Role) (before : Option Symbol) → Told standing name → of_names name ≡ shows of_symbols standing → IsStanding standing around before children → (spine children ≡ [] → first_on_spine of_names tell children ≡ None) → shown standing (spine children) ≡ [] → told_here (of_names name) (is_transparent name) (tell start end children) (first_on_spine of_names tell children) ≡ None
-  none_step Through name start end children around before says same stands again empty =
+  none_step : (standing : Standing) (name : Name) (start end : Point) (children : Forest) (around : Role) (before : Option Symbol) → Told standing name → of_names name ≡ shows of_symbols standing → IsStanding standing around before children → (list_any of_symbols (spine children) ≡ false → first_on_spine of_names tell children ≡ None) → list_any of_symbols (shown standing (spine children)) ≡ false → told_here (of_names name) (is_transparent name) (tell start end children) (first_on_spine of_names tell children) ≡ None
+  none_step Through name start end children around before says same stands again absent =
       ap (λ t. told_here t (is_transparent name) (tell start end children) (first_on_spine of_names tell children)) same
-      ∙ (ap (λ t. told_here false t (tell start end children) (first_on_spine of_names tell children)) says ∙ again empty)
-  none_step Space name start end children around before says same stands again empty =
+      ∙ (ap (λ t. told_here false t (tell start end children) (first_on_spine of_names tell children)) says ∙ again absent)
+  none_step Space name start end children around before says same stands again absent =
       ap (λ t. told_here t (is_transparent name) (tell start end children) (first_on_spine of_names tell children)) same
       ∙ (ap (λ t. told_here false t (tell start end children) (first_on_spine of_names tell children)) says ∙ ap (first_on_spine of_names tell) stands)
-  none_step (Solid symbol usual reading) name start end children around before says same stands again empty = cc
-  none_step Mdx name start end children around before says same stands again empty = absurd stands
+  none_step (Solid symbol usual reading) name start end children around before says same stands again absent =
+      by (of_symbols symbol) (of_names name) (is_transparent name) same absent says.0
+    where
+      by : (shows passes through : Bool) → passes ≡ shows → (shows || false) ≡ false → through ≡ false → told_here passes through (tell start end children) (first_on_spine of_names tell children) ≡ None
+      by true passes through e h t = absurd (lie (sym h))
+      by false true through e h t = absurd (lie (sym e))
+      by false false true e h t = absurd (lie (sym t))
+      by false false false e h t = refl
+  none_step Mdx name start end children around before says same stands again absent = absurd stands
 
-  append_empty : (symbols others : List Symbol) → symbols ++ others ≡ [] → (symbols ≡ []) × (others ≡ [])
-  append_empty [] others e = (refl, e)
-  append_empty (symbol ∷ symbols) others e = cc
+  append_absent : (symbols others : List Symbol) → list_any of_symbols (symbols ++ others) ≡ false → (list_any of_symbols symbols ≡ false) × (list_any of_symbols others ≡ false)
+  append_absent [] others h = (refl, h)
+  append_absent (symbol ∷ symbols) others h = by (of_symbols symbol) h (append_absent symbols others)
+    where
+      by : (passes : Bool) → (passes || list_any of_symbols (symbols ++ others)) ≡ false → (list_any of_symbols (symbols ++ others) ≡ false → (list_any of_symbols symbols ≡ false) × (list_any of_symbols others ≡ false)) → ((passes || list_any of_symbols symbols) ≡ false) × (list_any of_symbols others ≡ false)
+      by true h later = absurd (lie (sym h))
+      by false h later = later h
 
-  -- there is none where no symbol is
-  none_first : (forest : Forest) (around : Role) (before : Option Symbol) → AreFine bytes names forest around before → spine forest ≡ [] → first_on_spine of_names tell forest ≡ None
-  none_first Empty around before all empty = refl
-  none_first (Node name start end children rest) around before all empty =
-      let both = append_empty (shown (standing_of name) (spine children)) (spine rest) empty in
+  -- there is none where no such symbol is
+  pub none_first : (forest : Forest) (around : Role) (before : Option Symbol) → AreFine bytes names forest around before → list_any of_symbols (spine forest) ≡ false → first_on_spine of_names tell forest ≡ None
+  none_first Empty around before all absent = refl
+  none_first (Node name start end children rest) around before all absent =
+      let both = append_absent (shown (standing_of name) (spine children)) (spine rest) absent in
       let here = none_step (standing_of name) name start end children around before (told name) (agree name) all.0.0.1 (none_first children _ _ all.1) both.0 in
       ap (λ o. or_else o (first_on_spine of_names tell rest)) here ∙ none_first rest _ _ all.2 both.1
 
@@ -143,7 +154,7 @@ module _ {A : Type 0} (of_symbols : Symbol → Bool) (of_names : Name → Bool) 
       elim (begins-split of_symbols (spine children) (spine rest) h) [
         | inl b ↦ first_inside name start end children rest around says same (again around fine_inside b)
         | inr e ↦ first_behind name start end children rest around
-            (none_step Through name start end children around None says same stands (none_first children around None fine_inside) e.0)
+            (none_step Through name start end children around None says same stands (none_first children around None fine_inside) (ap (list_any of_symbols) e.0))
             (later around (subst (λ symbols. AreFine bytes names rest around (last_symbol None symbols)) e.0 fine_rest) e.1)
       ]
   first_step Space name start end children rest around says same stands fine_inside fine_rest fine_here fine_own again later h =

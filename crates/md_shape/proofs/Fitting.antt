@@ -1,5 +1,5 @@
 -- What else is asked of a node holds of each node that has its shape and meets the rules.
-use Rattle.std.proofs.Common.{◌≡◌, ◌⊎◌, inl, inr, ℕ, ◌^◌, ◌≤◌, Bool, true, false, not, ◌&&◌, ◌||◌, ◌==◌, if◌then◌else◌, cond, Option, Some, None, is_some, List, [], ◌∷◌, ◌++◌, length, refl, sym, ap, ◌∙◌, subst}
+use Rattle.std.proofs.Common.{◌≡◌, ◌⊎◌, inl, inr, ℕ, ◌^◌, ◌≤◌, Bool, true, false, not, ◌&&◌, ◌||◌, ◌==◌, if◌then◌else◌, cond, Option, Some, None, is_some, List, [], ◌∷◌, ◌++◌, length, refl, sym, ap, ◌∙◌, subst, arith}
 use Rattle.std.specs.Prelude.{nat_lt, nat_le, unwrap_or}
 use Rattle.std.specs.Char.{digit_value}
 use Rattle.std.specs.Str.Parse.{digits_value}
@@ -27,7 +27,8 @@ use Rattle.md_tree.specs.declared.rule.Rule.{Rule}
 use Rattle.md_tree.specs.declared.rule.Rule.TheVariants as rule
 use Rattle.md_tree.specs.Tree.{Forest, Empty, Node}
 use Rattle.md_tree.specs.Standing.{standing_of}
-use Rattle.md_tree.specs.Spine.{spine, shown}
+use Rattle.md_tree.specs.Pattern.{members, takes, once, Fits}
+use Rattle.md_tree.specs.Spine.{spine, shown, IsGrouped, Matches}
 use Rattle.md_tree.specs.Shape.{IsStanding, inner_role, inner_before}
 use Rattle.md_tree.specs.Rules.{is_line_ending, is_rank, columns, unless, broken_by, MeetsRules}
 use Rattle.md_tree.specs.NameTests.{is_transparent, is_heading_mark, is_item, is_item_prefix, is_item_value}
@@ -37,7 +38,8 @@ use Rattle.md_meaning.specs.Places.{position, number_in_prefix, number_in_item, 
 use Rattle.md_meaning.specs.Blocks.{rank_of}
 use Rattle.md_shape.specs.Built.{is_fence, is_digit, IsFit}
 use Rattle.md_shape.proofs.Symbols.{is_fence_symbol, Told, told}
-use Rattle.md_shape.proofs.Firsts.{IsFine, AreFine, shows, begins, Agree, has_first, OfAll, OfFirst, of_first, begins_with}
+use Rattle.md_shape.proofs.Admitted.{taken}
+use Rattle.md_shape.proofs.Firsts.{IsFine, AreFine, shows, begins, Agree, First, has_first, none_first, OfAll, OfFirst, of_first, begins_with}
 
 lie : false ≡ true → ⊥
 lie h = false≢true h
@@ -77,9 +79,9 @@ text_fits test broken Holds each None e = cc
 text_fits test broken Holds each (Some text) e = each text (unless-holds (test text) broken e)
 
 -- a rank of a heading's first mark
-mark_fits : (lies : Bool) (length : ℕ) → (if lies then unless (is_rank None length) rule.HeadingMark else Some rule.Place) ≡ None → (1 ≤ (if lies then length else 0)) × ((if lies then length else 0) ≤ 6)
+mark_fits : (lies : Bool) (length : ℕ) → (if lies then unless (is_rank role.Heading None length) rule.HeadingMark else Some rule.Place) ≡ None → (1 ≤ (if lies then length else 0)) × ((if lies then length else 0) ≤ 6)
 mark_fits true length e =
-    let parts = and_parts (nat_le 1 length) (nat_le length 6) (unless-holds (is_rank None length) rule.HeadingMark e) in
+    let parts = and_parts (nat_le 1 length) (nat_le length 6) (unless-holds (is_rank role.Heading None length) rule.HeadingMark e) in
     (leb-true 1 length parts.0, leb-true length 6 parts.1)
 mark_fits false length e = cc
 
@@ -118,9 +120,6 @@ number_digits text h =
     digits_fit text (and_parts (not (length text == 0)) tests (and_parts (not (length text == 0) && tests) (nat_lt (digits_value 10 text) (2 ^ 32)) h).0).1
 
 -- the number at a place has digits alone
-abbrev HasDigits : List ℕ → Position → Type 0
-HasDigits bytes place = list_all is_digit (text_of bytes place.start place.end) ≡ true
-
 abbrev MayHaveDigits : List ℕ → Option Position → Type 0
 MayHaveDigits bytes number = option_map_or (λ place. list_all is_digit (text_of bytes place.start place.end)) number true ≡ true
 
@@ -163,23 +162,56 @@ item_is : (name : Name) → is_item name ≡ true → name ≡ ListItem
 item_is ListItem h = refl
 item_is _ h = absurd (lie h)
 
-from_first : (bytes : List ℕ) (found : Option Position) → OfFirst (HasDigits bytes) found → MayHaveDigits bytes found
-from_first bytes None h = refl
-from_first bytes (Some place) h = h
-
 from_first_of : (bytes : List ℕ) (found : Option (Option Position)) → OfFirst (MayHaveDigits bytes) found → MayHaveDigits bytes (unwrap_or found None)
 from_first_of bytes None h = refl
 from_first_of bytes (Some number) h = h
 
-prefix_number : (bytes : List ℕ) (names : List (List ℕ × List ℕ)) (children : Forest) → AreFine bytes names children role.FirstOrderedPrefix None → MayHaveDigits bytes (number_in_prefix children)
-prefix_number bytes names children all =
-    from_first bytes (number_in_prefix children)
-    (of_first is_value_symbol is_item_value value_agree position bytes names (HasDigits bytes) role.FirstOrderedPrefix each children None all)
+is_marker_symbol : Symbol → Bool
+is_marker_symbol symbol.ListItemMarker = true
+is_marker_symbol _ = false
+
+marker_is : (seen : Symbol) → is_marker_symbol seen ≡ true → seen ≡ symbol.ListItemMarker
+unfolding is_marker_symbol
+marker_is symbol.ListItemMarker h = refl
+marker_is _ h = absurd (lie h)
+
+-- the spine of an ordered list's first prefix begins with a value, or has none
+value_or_none : (spine : List Symbol) → Matches role.FirstOrderedPrefix spine → (begins is_value_symbol spine ≡ true) ⊎ (list_any is_value_symbol spine ≡ false)
+unfolding is_value_symbol is_marker_symbol
+value_or_none spine match =
+    by_value match.2.0 match.2.1 match.2.3 (subst (λ firsts. IsGrouped firsts spine) match.2.2 match.1) match.2.5
   where
-    each : OfAll is_value_symbol is_item_value value_agree position bytes names (HasDigits bytes) role.FirstOrderedPrefix
-    each before name start end inner passes here inside =
-        text_fits (is_number 10) rule.ListNumber (λ text. list_all is_digit text ≡ true) number_digits (text_between bytes start end)
-        (subst (λ n. MeetsRules bytes names role.FirstOrderedPrefix before n start end inner) (value_is name passes) here.1)
+    alone : (seen : Symbol) → seen ≡ symbol.ListItemMarker → IsGrouped (seen ∷ []) spine → list_any is_value_symbol spine ≡ false
+    alone seen e grouped =
+        let parts = subst (λ first. IsGrouped (first ∷ []) spine) e grouped in
+        ap (list_any is_value_symbol) (parts.2 ∙ ap (λ tail. symbol.ListItemMarker ∷ tail ++ parts.1) parts.3 ∙ ap (λ others. symbol.ListItemMarker ∷ others) parts.4)
+
+    by_marker : (own others : List Symbol) → list_all (takes (Only symbol.ListItemMarker)) own ≡ true → length own ≡ 1 → others ≡ [] → IsGrouped (own ++ others) spine → list_any is_value_symbol spine ≡ false
+    by_marker [] others taken_own count none grouped = absurd (omega arith)
+    by_marker (seen ∷ []) others taken_own count none grouped =
+        let passes = taken is_marker_symbol (members (Only symbol.ListItemMarker)) seen (and_parts (takes (Only symbol.ListItemMarker) seen) true taken_own).0 refl in
+        alone seen (marker_is seen passes) (subst (λ others. IsGrouped (seen ∷ others) spine) none grouped)
+    by_marker (seen ∷ second ∷ own) others taken_own count none grouped = absurd (omega arith)
+
+    by_value : (own others : List Symbol) → list_all (takes (Only symbol.ListItemValue)) own ≡ true → IsGrouped (own ++ others) spine → Fits (once (Only symbol.ListItemMarker) ∷ []) others → (begins is_value_symbol spine ≡ true) ⊎ (list_any is_value_symbol spine ≡ false)
+    by_value [] others taken_own grouped fit =
+        inr (by_marker fit.0 fit.1 fit.3 fit.4 fit.5 (subst (λ firsts. IsGrouped firsts spine) fit.2 grouped))
+    by_value (seen ∷ own) others taken_own grouped fit =
+        inl (ap (begins is_value_symbol) grouped.2 ∙ taken is_value_symbol (members (Only symbol.ListItemValue)) seen (and_parts (takes (Only symbol.ListItemValue) seen) (list_all (takes (Only symbol.ListItemValue)) own) taken_own).0 refl)
+
+prefix_number : (bytes : List ℕ) (names : List (List ℕ × List ℕ)) (children : Forest) → AreFine bytes names children role.FirstOrderedPrefix None → Matches role.FirstOrderedPrefix (spine children) → MayHaveDigits bytes (number_in_prefix children)
+prefix_number bytes names children all match = by (value_or_none (spine children) match)
+  where
+    of_value : First is_value_symbol is_item_value value_agree position bytes names children role.FirstOrderedPrefix → MayHaveDigits bytes (number_in_prefix children)
+    of_value first =
+        subst (MayHaveDigits bytes) (sym first.found)
+        (text_fits (is_number 10) rule.ListNumber (λ text. list_all is_digit text ≡ true) number_digits (text_between bytes first.start first.end)
+        (subst (λ n. MeetsRules bytes names role.FirstOrderedPrefix None n first.start first.end first.children) (value_is first.name first.passes) first.is_fine.1))
+
+    by : (begins is_value_symbol (spine children) ≡ true) ⊎ (list_any is_value_symbol (spine children) ≡ false) → MayHaveDigits bytes (number_in_prefix children)
+    by (inl h) = of_value (has_first is_value_symbol is_item_value value_agree position bytes names children role.FirstOrderedPrefix all h)
+    by (inr h) =
+        subst (MayHaveDigits bytes) (sym (none_first is_value_symbol is_item_value value_agree position bytes names children role.FirstOrderedPrefix None all h)) refl
 
 item_number : (bytes : List ℕ) (names : List (List ℕ × List ℕ)) (children : Forest) → AreFine bytes names children role.FirstOrderedItem None → MayHaveDigits bytes (number_in_item children)
 item_number bytes names children all =
@@ -190,6 +222,7 @@ item_number bytes names children all =
     each before name start end inner passes here inside =
         prefix_number bytes names inner
         (subst (λ n. AreFine bytes names inner (inner_role (standing_of n) role.FirstOrderedItem before) (inner_before (standing_of n) before)) (prefix_is name passes) inside)
+        (subst (λ n. IsStanding (standing_of n) role.FirstOrderedItem before inner) (prefix_is name passes) here.0.1)
 
 list_fits : (bytes : List ℕ) (names : List (List ℕ × List ℕ)) (children : Forest) → AreFine bytes names children role.OrderedList None → begins is_item_symbol (spine children) ≡ true → MayHaveDigits bytes (ahead_of children).number
 list_fits bytes names children all h =

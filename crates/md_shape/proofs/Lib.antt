@@ -2,5 +2,10 @@ pub mod Symbols
 pub mod Admitted
 pub mod Spots
 pub mod Firsts
+pub mod Stands
+pub mod Leading
+pub mod Resolved
+pub mod Listed
+pub mod Decoding
 pub mod Fitting
 pub mod Grammatical

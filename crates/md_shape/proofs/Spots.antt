@@ -53,7 +53,7 @@ after_spine (Node name start end children rest) around before content shaped =
     ∙ (ap (λ c. run c (spine rest)) here ∙ sym (run-append content (shown (standing_of name) (spine children)) (spine rest)))
 
 -- what holds of all roles that a name may have holds of its role
-role_listed : (test : Role → Bool) (around : Role) (before : Option Symbol) (usual : Role) → list_all test (roles_for (is_some before) usual) ≡ true → test (role_for around before usual) ≡ true
+pub role_listed : (test : Role → Bool) (around : Role) (before : Option Symbol) (usual : Role) → list_all test (roles_for (is_some before) usual) ≡ true → test (role_for around before usual) ≡ true
 role_listed test around before role.Item h = by around before
   where
     by : (around : Role) (before : Option Symbol) → test (item_in around before) ≡ true

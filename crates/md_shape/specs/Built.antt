@@ -1,4 +1,4 @@
--- What may stand where in a document, by names alone. Only proofs speak of it: each document of the grammar
+-- What may stand where in a document, by names and a few texts. Only proofs speak of it: each document of the grammar
 -- is built so.
 use Rattle.std.specs.Prelude.{ℕ, ◌≤◌, Bool, true, false, ◌&&◌, ◌||◌, nat_le, if◌then◌else◌, IsTrue, List}
 use Rattle.std.specs.Option.{option_map_or}

@@ -1,12 +1,44 @@
 //! What holds of every document of the grammar, as the contracts of functions that do nothing.
 
-ghost use Rattle.std.specs.Prelude.{ℕ, List};
+ghost use Rattle.std.specs.Prelude.{◌≡◌, ℕ, List, [], map};
 ghost use Rattle.md_tree.specs.Tree.{Forest};
 ghost use Rattle.md_tree.specs.Grammar.{IsGrammatical};
+ghost use Rattle.md_meaning.specs.declared.facts.Surroundings.{Surroundings};
+ghost use Rattle.md_meaning.specs.Meaning.At.{Given, Before};
+ghost use Rattle.md_meaning.specs.Meaning.Nodes.{meant};
 ghost use Rattle.md_shape.specs.Built.{Blocks, IsBuilt};
+ghost use Rattle.md_shape.specs.Leads.{Everywhere, EverywhereAfter, HasItsText, HasItsLabel, Decodes, RefersAlike, LeadsSomewhere, defined_in, footnotes_in};
 
 /// Each document of the grammar is built of what may stand where it is, beginning with blocks.
 pub fn grammatical_documents_are_built()
     ensures { (bytes : List ℕ) (names : List (List ℕ × List ℕ)) (forest : Forest)
         → IsGrammatical bytes names forest → IsBuilt bytes Blocks forest }
+{}
+
+/// In a document of the grammar each text and each label that the meaning reads is there, and each reference stands for a
+/// text.
+pub fn texts_are_there()
+    ensures texts { (bytes : List ℕ) (names : List (List ℕ × List ℕ)) (document : Forest)
+        → IsGrammatical bytes names document → Everywhere (HasItsText bytes) document }
+    ensures labels { (bytes : List ℕ) (names : List (List ℕ × List ℕ)) (document : Forest)
+        → IsGrammatical bytes names document → Everywhere (HasItsLabel bytes) document }
+    ensures references { (bytes : List ℕ) (names : List (List ℕ × List ℕ)) (document : Forest)
+        → IsGrammatical bytes names document → EverywhereAfter (Decodes bytes names) [] document }
+{}
+
+/// The label by which a node refers, or is referred to, is the same to the grammar and to the meaning.
+pub fn grammar_and_meaning_read_the_same_labels()
+    ensures { (bytes : List ℕ) (names : List (List ℕ × List ℕ)) (document : Forest)
+        → IsGrammatical bytes names document → Everywhere RefersAlike document }
+{}
+
+/// In a document of the grammar each link and each image without a resource refers to a definition of the document, and
+/// each footnote call to a footnote definition; and these are the ones that the meaning looks up.
+pub fn references_lead_somewhere()
+    ensures found { (bytes : List ℕ) (names : List (List ℕ × List ℕ)) (document : Forest)
+        → IsGrammatical bytes names document → Everywhere (LeadsSomewhere bytes document) document }
+    ensures definitions { (given : Given) (around : Surroundings) (before : Before) (document : Forest)
+        → map (λ defined. defined.identifier) (meant given around before document).definitions ≡ defined_in given.bytes document }
+    ensures footnotes { (given : Given) (around : Surroundings) (before : Before) (document : Forest)
+        → map (λ footnote. footnote.identifier) (meant given around before document).footnotes ≡ footnotes_in given.bytes document }
 {}

@@ -1,5 +1,5 @@
 -- Which links and images are safe.
-use Rattle.std.specs.Prelude.{ℕ, Bool, true, ◌&&◌, if◌then◌else◌, List, map, codes}
+use Rattle.std.specs.Prelude.{ℕ, Bool, true, if◌then◌else◌, List, map, codes}
 use Rattle.md_base.specs.declared.lists.TheConstants.{SAFE_PROTOCOL_HREF, SAFE_PROTOCOL_SRC}
 use Rattle.md_text.specs.Bytes.{same_text}
 use Rattle.md_text.specs.Url.{has_permitted_protocol}
@@ -25,7 +25,3 @@ is_safe_link a = if same_text a.name (codes "href") then is_safe_value link_prot
 -- a `src` has no protocol or one that an image may have
 abbrev pub is_safe_image : Attribute → Bool
 is_safe_image a = if same_text a.name (codes "src") then is_safe_value image_protocols a.value else true
-
--- both
-abbrev pub is_safe : Attribute → Bool
-is_safe a = is_safe_link a && is_safe_image a

@@ -1,11 +1,9 @@
 -- Which rules a node can break, and how a walk stops at its exit.
 use Rattle.std.proofs.Common.{◌≡◌, ℕ, Bool, true, false, cond, Option, Some, None, List, ◌∷◌, length, nat_lt, sym, subst}
-use Rattle.std.specs.Prelude.{is_some}
 use Rattle.md_base.specs.declared.event.Point.{Point}
 use Rattle.md_base.specs.declared.event.Name.{Name}
 use Rattle.md_base.specs.declared.event.Kind.TheVariants.{Exit}
 use Rattle.md_base.specs.Place.{fits, text_between, label_between}
-use Rattle.md_base.specs.Reference.{decoded}
 use Rattle.md_tree.specs.declared.kinds.Symbol.{Symbol}
 use Rattle.md_tree.specs.declared.kinds.Role.{Role}
 use Rattle.md_tree.specs.declared.kinds.Reading.{Reading}
@@ -21,7 +19,7 @@ use Rattle.md_tree.specs.declared.kinds.Note.{Note}
 use Rattle.md_tree.specs.declared.state.State.{State}
 use Rattle.md_tree.specs.declared.state.Open.{Open}
 use Rattle.md_tree.specs.declared.state.Outer.{Outer}
-use Rattle.md_tree.specs.Rules.{place, is_line_ending, is_list_number, is_rank, marker_after, columns, unless, broken_by, broken_by_target, broken_rule}
+use Rattle.md_tree.specs.Rules.{place, is_line_ending, is_decodable, is_list_number, is_rank, columns, unless, broken_by, broken_by_target, broken_rule}
 use Rattle.md_tree.specs.Machine.{Course, Exits, ExitsWhere, is_complete}
 use Rattle.md_tree.specs.Walk.{Anything, BreaksWhere, BreaksAtExit, StopsAtExit, IsStop, StopsInside, IsStopInside}
 
@@ -62,11 +60,11 @@ of_node bytes names reading.Text around before start end target broken e =
 of_node bytes names reading.LineEnding around before start end target broken e =
     of_text (text_between bytes start end) (λ text. unless (is_line_ending text) rule.LineEnding) broken (λ text f. of_unless (is_line_ending text) rule.LineEnding broken tt f) e
 of_node bytes names reading.Number around before start end target broken e =
-    of_text (text_between bytes start end) (λ text. unless (is_list_number around text) rule.ListNumber) broken (λ text f. of_unless (is_list_number around text) rule.ListNumber broken tt f) e
+    of_text (text_between bytes start end) (λ text. unless (is_list_number around before text) rule.ListNumber) broken (λ text f. of_unless (is_list_number around before text) rule.ListNumber broken tt f) e
 of_node bytes names reading.Value around before start end target broken e =
-    of_text (text_between bytes start end) (λ text. unless (is_some (decoded names (marker_after before) text)) rule.CharacterReference) broken (λ text f. of_unless (is_some (decoded names (marker_after before) text)) rule.CharacterReference broken tt f) e
+    of_text (text_between bytes start end) (λ text. unless (is_decodable names before text) rule.CharacterReference) broken (λ text f. of_unless (is_decodable names before text) rule.CharacterReference broken tt f) e
 of_node bytes names reading.Mark around before start end target broken e =
-    of_mark (fits bytes start end) (is_rank before (columns start end)) broken e
+    of_mark (fits bytes start end) (is_rank around before (columns start end)) broken e
 of_node bytes names reading.Underline around before start end target broken e = of_unless (nat_lt start.index (length bytes)) rule.Place broken tt e
 of_node bytes names reading.Identifier around before start end target broken e =
     of_text (label_between bytes start end) (λ text. None) broken (λ text f. of_none broken f) e

@@ -22,7 +22,7 @@ use Rattle.md_tree.specs.declared.state.Outer.{Outer}
 use Rattle.md_tree.specs.Mentions.{notes_of, mentions_in, IsResolved}
 use Rattle.md_tree.specs.Grammar.{Document, IsGrammatical, IsReadAs, IsChecked}
 use Rattle.md_tree.specs.Noted.{IsNoted}
-use Rattle.md_tree.specs.Refusal.{BeginNoTree, EndsBroken, EndsUnresolved, EntersMdx, IsOrder, IsMdx, IsBroken, IsLost, IsOutside, IsRefusal}
+use Rattle.md_tree.specs.Refusal.{BeginNoTree, EndsBroken, EndsUnresolved, EntersMdx, IsOrder, IsMdx, IsBroken, IsLost, IsRefusal}
 use Rattle.md_tree.specs.Refusal as refusal
 use Rattle.md_tree.specs.Machine.{Reads, Course, Runs, Steps, StepsBy, is_complete, beginning}
 use Rattle.md_tree.specs.Walk.{Anything, Unbroken, BreaksWhere, BreaksAtExit, StopsBy, IsStop}

@@ -1,5 +1,5 @@
 -- The tables of a document of the grammar have a table's shape.
-use Rattle.std.proofs.Common.{◌≡◌, ℕ, Option, Some, None, ◌∷◌, ◌++◌, sym, ap, ◌∙◌, subst}
+use Rattle.std.proofs.Common.{◌≡◌, ℕ, suc, Option, Some, None, ◌∷◌, ◌++◌, sym, ap, ◌∙◌, subst}
 use Rattle.std.specs.Prelude.{slice_get}
 use Rattle.std.specs.List.{All}
 use Rattle.std.proofs.lemmas.List.Elements.{All-cons, All-append, All-nil}
@@ -18,7 +18,9 @@ use Rattle.md_tree.specs.Texts.{EntersAt}
 use Rattle.md_tree.specs.Entered.{children_of, IsEnteredAt}
 use Rattle.md_tree.specs.Tables.{IsTable}
 use Rattle.md_tree.proofs.Indexed.{flatten_one}
-use Rattle.md_tree.proofs.Entering.{Row, rows_of, past_row, inside_rows, event_there, children_there}
+use Rattle.md_tree.specs.Partners.{behind}
+use Rattle.md_tree.specs.Facts.{tables_with, tables_behind}
+use Rattle.md_tree.proofs.Entering.{Row, entry_row, exit_row, rows_of, past_row, inside_rows, event_there, children_there}
 
 -- a table has its shape
 abbrev IsTableRow : Row → Type 0
@@ -30,15 +32,17 @@ entry_shape name children around before stands shaped is other e =
     let table : IsTable children = (subst (λ n. EachNode IsShapedNode children (inner_role (standing_of n) around before) (inner_before (standing_of n) before)) is shaped, subst (λ n. IsStanding (standing_of n) around before children) is stands) in
     subst IsTable one table
 
-rows_shaped : (forest : Forest) (around : Role) (before : Option Symbol) → AreShaped forest around before → All IsTableRow (rows_of forest)
-rows_shaped Empty around before shaped = All-nil IsTableRow
-rows_shaped (Node name start end children rest) around before shaped =
+rows_shaped : (forest : Forest) (index tables : ℕ) (around : Role) (before : Option Symbol) → AreShaped forest around before → All IsTableRow (rows_of index tables forest)
+rows_shaped Empty index tables around before shaped = All-nil IsTableRow
+rows_shaped (Node name start end children rest) index tables around before shaped =
     let st = standing_of name in
-    let entry : Row = record { event = entering name start; children = Some children } in
-    let exit : Row = record { event = exiting name end; children = None } in
+    let exit_index = behind (suc index) children in
+    let more = tables_with name (tables_behind tables children) in
+    let entry : Row = entry_row index tables name (entering name start) children in
+    let exit : Row = exit_row exit_index index (exiting name end) in
     let exit_table : IsTableRow exit = λ is other e. cc in
-    All-cons IsTableRow entry (rows_of children ++ exit ∷ rows_of rest) (entry_shape name children around before shaped.0.1 shaped.1)
-    (All-append IsTableRow (rows_of children) (exit ∷ rows_of rest) (rows_shaped children (inner_role st around before) (inner_before st before) shaped.1) (All-cons IsTableRow exit (rows_of rest) exit_table (rows_shaped rest around (last_symbol before (shown st (spine children))) shaped.2)))
+    All-cons IsTableRow entry (rows_of (suc index) tables children ++ exit ∷ rows_of (suc exit_index) more rest) (entry_shape name children around before shaped.0.1 shaped.1)
+    (All-append IsTableRow (rows_of (suc index) tables children) (exit ∷ rows_of (suc exit_index) more rest) (rows_shaped children (suc index) tables (inner_role st around before) (inner_before st before) shaped.1) (All-cons IsTableRow exit (rows_of (suc exit_index) more rest) exit_table (rows_shaped rest (suc exit_index) more around (last_symbol before (shown st (spine children))) shaped.2)))
 
 -- where a document of the grammar enters a table, its children have a table's shape
 pub IsTable-entered : (given : Document) (index : ℕ) → IsChecked given → EntersAt given.events index GfmTable → (children : Forest) → IsEnteredAt given index children → IsTable children
@@ -51,4 +55,4 @@ IsTable-entered given index checked enters children entered =
     let inside = inside_rows given index GfmTable enters forest flattened in
     let past = past_row given index GfmTable enters in
     let name_is = ap (λ (e : Event). e.name) (event_there given index GfmTable enters forest flattened) ∙ enters.3 in
-    rows_shaped forest role.Flow None shape.0 index past inside name_is children (children_there given index GfmTable enters forest flattened children got)
+    rows_shaped forest 0 0 role.Flow None shape.0 index past inside name_is children (children_there given index GfmTable enters forest flattened children got)

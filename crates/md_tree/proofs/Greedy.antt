@@ -124,11 +124,6 @@ fits_back [] left symbol symbols e fit = cc
 fits_back (item ∷ items) left symbol symbols e fit =
     fits_back_taken item items left symbol symbols fit (λ f. fits_back items left symbol symbols f fit) (takes item.class symbol) refl e
 
-many_is : (times : Times) → is_many times ≡ true → times ≡ Many
-many_is Many e = refl
-many_is Once e = cc
-many_is Maybe e = cc
-
 many_taken : (times : Times) (taken : Bool) → taken ≡ true → (is_many times || not taken) ≡ true → (n : ℕ) → IsCount times n
 many_taken Many taken t e n = tt
 many_taken Once taken t e n = absurd (subst (λ b. (false || not b) ≡ true → ⊥) (sym t) (λ f. cc) e)

@@ -51,7 +51,7 @@ Feeds-split from to (symbol ∷ symbols) others f =
     let rest = Feeds-split f.0 to symbols others f.2 in
     (rest.0, (f.0, f.1, rest.1), rest.2)
 
-pub option_map-option_map : {A B C : Type 0} (f : A → B) (g : B → C) (o : Option A) → option_map g (option_map f o) ≡ option_map (λ x. g (f x)) o
+option_map-option_map : {A B C : Type 0} (f : A → B) (g : B → C) (o : Option A) → option_map g (option_map f o) ≡ option_map (λ x. g (f x)) o
 option_map-option_map f g None = refl
 option_map-option_map f g (Some x) = refl
 
@@ -107,7 +107,7 @@ at_items : (items left : List Item) (stage next : Stage) → At items stage ≡ 
 at_items items left stage next e = let h : items ≡ left = cc in let k : stage ≡ next = cc in (h, k)
 
 -- what spots do, states do
-pub Feeds-from_goes : (from : State) (symbols : List Symbol) (to : Spot) → Goes (items_of from) from.stage symbols to → (end : State) × Feeds from symbols end × (spot_of end ≡ to)
+Feeds-from_goes : (from : State) (symbols : List Symbol) (to : Spot) → Goes (items_of from) from.stage symbols to → (end : State) × Feeds from symbols end × (spot_of end ≡ to)
 Feeds-from_goes from [] to g = (from, refl, g)
 Feeds-from_goes from (symbol ∷ symbols) to g =
     let step = option_map-some spot_of (advance from symbol) (At g.0 g.1) (advance_spot from symbol ∙ g.2) in
@@ -116,7 +116,7 @@ Feeds-from_goes from (symbol ∷ symbols) to g =
     let rest = Feeds-from_goes next symbols to (subst (λ st. Goes (items_of next) st symbols to) (sym same.1) (subst (λ is. Goes is g.1 symbols to) (sym same.0) g.3)) in
     (rest.0, (next, step.1, rest.1), rest.2)
 
-pub Goes-from_feeds : (from : State) (symbols : List Symbol) (to : State) → Feeds from symbols to → Goes (items_of from) from.stage symbols (spot_of to)
+Goes-from_feeds : (from : State) (symbols : List Symbol) (to : State) → Feeds from symbols to → Goes (items_of from) from.stage symbols (spot_of to)
 Goes-from_feeds from [] to f = ap spot_of f
 Goes-from_feeds from (symbol ∷ symbols) to f =
     (items_of f.0, State.stage f.0, sym (advance_spot from symbol) ∙ ap (option_map spot_of) f.1, Goes-from_feeds f.0 symbols to f.2)

@@ -31,19 +31,19 @@ abbrev pub joined : Forest → Forest → Forest
 joined Empty others = others
 joined (Node name start end children rest) others = Node name start end children (joined rest others)
 
-pub flatten-joined : (forest others : Forest) → flatten (joined forest others) ≡ flatten forest ++ flatten others
+flatten-joined : (forest others : Forest) → flatten (joined forest others) ≡ flatten forest ++ flatten others
 flatten-joined Empty others = refl
 flatten-joined (Node name start end children rest) others =
     ap (λ es. entering name start ∷ flatten children ++ exiting name end ∷ es) (flatten-joined rest others)
     ∙ ap (λ es. entering name start ∷ es) (sym (append_assoc (flatten children) (exiting name end ∷ flatten rest) (flatten others)))
 
-pub spine-joined : (forest others : Forest) → spine (joined forest others) ≡ spine forest ++ spine others
+spine-joined : (forest others : Forest) → spine (joined forest others) ≡ spine forest ++ spine others
 spine-joined Empty others = refl
 spine-joined (Node name start end children rest) others =
     ap (λ s. shown (standing_of name) (spine children) ++ s) (spine-joined rest others)
     ∙ sym (append_assoc (shown (standing_of name) (spine children)) (spine rest) (spine others))
 
-pub target_of-joined : (forest others : Forest) (found : Target) → target_of (joined forest others) found ≡ target_of others (target_of forest found)
+target_of-joined : (forest others : Forest) (found : Target) → target_of (joined forest others) found ≡ target_of others (target_of forest found)
 target_of-joined Empty others found = refl
 target_of-joined (Node name start end children rest) others found =
     target_of-joined rest others (target_after (standing_of name) found (target_of children) (place start end))
@@ -52,7 +52,7 @@ last_symbol-append : (before : Option Symbol) (symbols others : List Symbol) →
 last_symbol-append before [] others = refl
 last_symbol-append before (symbol ∷ symbols) others = last_symbol-append (Some symbol) symbols others
 
-pub EachNode-joined : (P : Claim) (forest others : Forest) (around : Role) (before : Option Symbol) → EachNode P forest around before → EachNode P others around (last_symbol before (spine forest)) → EachNode P (joined forest others) around before
+EachNode-joined : (P : Claim) (forest others : Forest) (around : Role) (before : Option Symbol) → EachNode P forest around before → EachNode P others around (last_symbol before (spine forest)) → EachNode P (joined forest others) around before
 EachNode-joined P Empty others around before each more = more
 EachNode-joined P (Node name start end children rest) others around before each more =
     (each.0, each.1, EachNode-joined P rest others around (last_symbol before (shown (standing_of name) (spine children))) each.2 (subst (λ b. EachNode P others around b) (last_symbol-append before (shown (standing_of name) (spine children)) (spine rest)) more))
@@ -98,7 +98,7 @@ Reached-beginning holds = record {
   nodes_fine = tt;
 }
 
-pub may_hold_true : (b : Bool) (o : Option Entry) (entry : Entry) → cond b o None ≡ Some entry → (b ≡ true) × (o ≡ Some entry)
+may_hold_true : (b : Bool) (o : Option Entry) (entry : Entry) → cond b o None ≡ Some entry → (b ≡ true) × (o ≡ Some entry)
 may_hold_true true o entry e = (refl, e)
 may_hold_true false o entry e = cc
 
@@ -295,7 +295,7 @@ pub Left-closed : (holds ending : Reads) (events : List Event) (name : Name) (po
 Left-closed holds ending events name point from to left =
     closed holds ending (standing_of left.level.name) left.level.name left.level.start point left.nodes left.here left.base (target_of left.level.before left.found) left.inner left.open_node.outer left.others from to left.may left.entered_is left.nodes_fine left.inside left.target_is left.exits
 
-pub exits_open : (ending : Reads) (waiting : Option Outer) (start point : Point) (others : List Open) (from to : Course) → ExitsWhere ending waiting start point others from to → to.open_nodes ≡ others
+exits_open : (ending : Reads) (waiting : Option Outer) (start point : Point) (others : List Open) (from to : Course) → ExitsWhere ending waiting start point others from to → to.open_nodes ≡ others
 exits_open ending None start point others from to exits = ap (λ (c : Course). c.open_nodes) exits
 exits_open ending (Some outer) start point others from to exits = ap (λ (c : Course). c.open_nodes) exits.2
 

@@ -58,7 +58,7 @@ Feeds-context from to (symbol ∷ symbols) f =
     let rest = Feeds-context f.0 to symbols f.2 in
     (rest.0 ∙ here.0, rest.1 ∙ ap (λ b. last_symbol b symbols) here.1)
 
-pub may_hold-from : (role : Role) → role ≢ Childless → may_hold role ≡ true
+may_hold-from : (role : Role) → role ≢ Childless → may_hold role ≡ true
 may_hold-from Childless ne = absurd (ne refl)
 may_hold-from _ ne = refl
 
@@ -151,7 +151,7 @@ notes_joined a b c x y =
     append_assoc ((a ++ x ∷ []) ++ b) (y ∷ []) c ∙ append_assoc (a ++ x ∷ []) b (y ∷ c) ∙ append_assoc a (x ∷ []) (b ++ y ∷ c)
 
 -- nodes that are fine are read, from a spine that takes theirs
-pub Runs-nodes : (holds : Reads) → AllowsFree holds → (forest : Forest) (from : Course) (end : State) → EachNode (IsFine holds) forest from.state.role from.state.before → Feeds from.state (spine forest) end → Runs holds (flatten forest) from (after_nodes forest end from)
+Runs-nodes : (holds : Reads) → AllowsFree holds → (forest : Forest) (from : Course) (end : State) → EachNode (IsFine holds) forest from.state.role from.state.before → Feeds from.state (spine forest) end → Runs holds (flatten forest) from (after_nodes forest end from)
 Runs-nodes holds free Empty from end fine feeds =
     ap (λ (s : State). record { state = s; target = from.target; open_nodes = from.open_nodes; notes = from.notes }) feeds
     ∙ ap (λ (n : List Note). record { state = end; target = from.target; open_nodes = from.open_nodes; notes = n }) (sym (append-nil from.notes))

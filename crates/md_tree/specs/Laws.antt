@@ -1,6 +1,11 @@
 -- The words of the laws.
-use Rattle.std.specs.Prelude.{◌≡◌, map, IsTrue}
+use Rattle.std.specs.Prelude.{◌≡◌, List, [], ◌∷◌, ◌++◌, map, IsTrue}
+use Rattle.md_base.specs.declared.event.Name.{Name}
+use Rattle.md_tree.specs.declared.kinds.Symbol.{Symbol}
 use Rattle.md_tree.specs.Tree.{Forest}
+use Rattle.md_tree.specs.Standing.{standing_of}
+use Rattle.md_tree.specs.Spine.{spine, shown}
+use Rattle.md_tree.specs.Children.{spine_names}
 use Rattle.md_tree.specs.Looseness.{is_loose, is_loose_without_items}
 use Rattle.md_tree.specs.Alignments.{alignment_of, alignments}
 use Rattle.md_tree.specs.Tables.{values_of_table}
@@ -12,3 +17,12 @@ HasOneAlignmentForEachValue children = alignments children ≡ map alignment_of 
 -- a list that is loose without its items is loose with them
 abbrev pub IsLooseWithItemsToo : Forest → Type 0
 IsLooseWithItemsToo children = IsTrue (is_loose_without_items children) → IsTrue (is_loose children)
+
+-- the symbols of names that aren't transparent
+abbrev pub symbols_of : List Name → List Symbol
+symbols_of [] = []
+symbols_of (name ∷ names) = shown (standing_of name) [] ++ symbols_of names
+
+-- the spine of symbols is that of names, each with its symbol
+abbrev pub HasOneSpine : Forest → Type 0
+HasOneSpine forest = spine forest ≡ symbols_of (spine_names forest)

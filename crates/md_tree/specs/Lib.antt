@@ -4,7 +4,9 @@ pub mod Machine
 pub mod Mentions
 pub mod Names
 pub mod Noted
+pub mod Partners
 pub mod Pattern
+pub mod Reads
 pub mod Refusal
 pub mod Resolve
 pub mod Rules
@@ -19,8 +21,11 @@ pub mod Children
 pub mod Looseness
 pub mod Alignments
 pub mod Walk
-pub mod Gather
+pub mod Columns
+pub mod Facts
+pub mod Found
+pub mod Seeking
+pub mod Told
 pub mod Entered
-pub mod Inferred
 pub mod Laws
 pub mod Tables

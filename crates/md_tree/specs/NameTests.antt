@@ -1,7 +1,7 @@
 -- Tests on names, each true for the names that it lists.
 use Rattle.std.specs.Prelude.{Bool, true, false}
 use Rattle.md_base.specs.declared.event.Name.{Name}
-use Rattle.md_base.specs.declared.event.Name.TheVariants.{LineEnding, BlankLineEnding, BlockQuote, BlockQuotePrefix, ListItem, ListItemPrefix, ListItemValue, GfmFootnoteDefinition, GfmFootnoteDefinitionPrefix, GfmFootnoteDefinitionLabelString, GfmFootnoteCall, Definition, DefinitionLabelString, CodeFencedFence, MathFlowFence, CodeFlowChunk, MathFlowChunk, HeadingAtxSequence, GfmTable, GfmTableCell, GfmTableDelimiterMarker, GfmTableDelimiterCellValue, GfmTableDelimiterRow, GfmTableHead, ReferenceString, Label, LabelText, SpaceOrTab, Other, Paragraph}
+use Rattle.md_base.specs.declared.event.Name.TheVariants.{LineEnding, BlankLineEnding, BlockQuote, BlockQuotePrefix, ListItem, ListItemPrefix, ListItemValue, GfmFootnoteDefinition, GfmFootnoteDefinitionPrefix, GfmFootnoteDefinitionLabelString, GfmFootnoteCall, Definition, DefinitionLabelString, CodeFencedFence, MathFlowFence, CodeFlowChunk, MathFlowChunk, HeadingAtxSequence, GfmTable, GfmTableCell, GfmTableDelimiterMarker, GfmTableDelimiterCellValue, GfmTableDelimiterRow, GfmTableHead, ReferenceString, Label, LabelText, SpaceOrTab, Other, Paragraph, Resource}
 
 -- a node that its parent's pattern looks through
 abbrev pub is_transparent : Name → Bool
@@ -89,6 +89,10 @@ is_label_text _ = false
 abbrev pub is_reference : Name → Bool
 is_reference ReferenceString = true
 is_reference _ = false
+
+abbrev pub is_resource : Name → Bool
+is_resource Resource = true
+is_resource _ = false
 
 abbrev pub is_definition_label : Name → Bool
 is_definition_label DefinitionLabelString = true

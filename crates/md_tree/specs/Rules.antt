@@ -1,5 +1,6 @@
 -- The side conditions of the grammar: what the bytes of each node have to be.
 use Rattle.std.specs.Prelude.{◌≡◌, ℕ, ◌+◌, ◌-◌, Bool, ◌&&◌, true, nat_lt, nat_le, if◌then◌else◌, Option, Some, None, is_some, List, length}
+use Rattle.std.specs.Option.{option_map_or}
 use Rattle.md_base.specs.declared.event.Name.{Name}
 use Rattle.md_base.specs.declared.event.Point.{Point}
 use Rattle.md_base.specs.declared.event.Position.{Position}
@@ -7,7 +8,7 @@ use Rattle.md_base.specs.Place.{byte_index, spaces_before, spaces_after, fits, t
 use Rattle.md_base.specs.Reference.{is_number, decoded}
 use Rattle.md_text.specs.LineEnding.{ending_of}
 use Rattle.md_tree.specs.declared.kinds.Symbol.{Symbol}
-use Rattle.md_tree.specs.declared.kinds.Symbol.TheVariants.{ReferenceNumeric, ReferenceHexadecimal}
+use Rattle.md_tree.specs.declared.kinds.Symbol.TheVariants.{ReferenceMarker, ReferenceNumeric, ReferenceHexadecimal}
 use Rattle.md_tree.specs.declared.kinds.Role.{Role}
 use Rattle.md_tree.specs.declared.kinds.Role.TheVariants as role
 use Rattle.md_tree.specs.declared.kinds.Reading.{Reading}
@@ -49,25 +50,30 @@ target_of (Node name start end children rest) found =
 abbrev pub is_line_ending : List ℕ → Bool
 is_line_ending text = is_some (ending_of text)
 
--- the marker of a reference whose value stands after this symbol: `#`, `x` or `&`
-abbrev pub marker_after : Option Symbol → ℕ
-marker_after (Some ReferenceNumeric) = 35
-marker_after (Some ReferenceHexadecimal) = 120
-marker_after _ = 38
+-- the marker of the reference group whose value stands after this symbol: `&`, `&#` or `&#x` is before it
+abbrev pub marker_after : Option Symbol → Option ℕ
+marker_after (Some ReferenceMarker) = Some 38
+marker_after (Some ReferenceNumeric) = Some 35
+marker_after (Some ReferenceHexadecimal) = Some 120
+marker_after _ = None
 
--- the number of an ordered list is that of its first item's value
-abbrev pub is_list_number : Role → List ℕ → Bool
-is_list_number role.FirstOrderedPrefix text = is_number 10 text
-is_list_number _ text = true
+-- the value of a reference group decodes; no other value is asked to
+abbrev pub is_decodable : List (List ℕ × List ℕ) → Option Symbol → List ℕ → Bool
+is_decodable names before text = option_map_or (λ marker. is_some (decoded names marker text)) (marker_after before) true
+
+-- the one value in the prefix of an ordered list's first item is the list's number
+abbrev pub is_list_number : Role → Option Symbol → List ℕ → Bool
+is_list_number role.FirstOrderedPrefix None text = is_number 10 text
+is_list_number _ _ text = true
 
 -- how long a node is, the columns of tabs at its ends included
 abbrev pub columns : Point → Point → ℕ
 columns start end = spaces_before start + (byte_index end - byte_index start) + spaces_after end
 
--- the first mark of a heading is its rank
-abbrev pub is_rank : Option Symbol → ℕ → Bool
-is_rank None length = nat_le 1 length && nat_le length 6
-is_rank (Some before) length = true
+-- the length of a heading's first mark is its rank
+abbrev pub is_rank : Role → Option Symbol → ℕ → Bool
+is_rank role.Heading None length = nat_le 1 length && nat_le length 6
+is_rank _ _ length = true
 
 -- nothing is broken where the condition holds
 abbrev pub unless : Bool → Rule → Option Rule
@@ -89,11 +95,11 @@ broken_rule bytes names reading.Text around before start end target = broken_by 
 broken_rule bytes names reading.LineEnding around before start end target =
     broken_by (text_between bytes start end) (λ text. unless (is_line_ending text) rule.LineEnding)
 broken_rule bytes names reading.Number around before start end target =
-    broken_by (text_between bytes start end) (λ text. unless (is_list_number around text) rule.ListNumber)
+    broken_by (text_between bytes start end) (λ text. unless (is_list_number around before text) rule.ListNumber)
 broken_rule bytes names reading.Value around before start end target =
-    broken_by (text_between bytes start end) (λ text. unless (is_some (decoded names (marker_after before) text)) rule.CharacterReference)
+    broken_by (text_between bytes start end) (λ text. unless (is_decodable names before text) rule.CharacterReference)
 broken_rule bytes names reading.Mark around before start end target =
-    if fits bytes start end then unless (is_rank before (columns start end)) rule.HeadingMark else Some rule.Place
+    if fits bytes start end then unless (is_rank around before (columns start end)) rule.HeadingMark else Some rule.Place
 broken_rule bytes names reading.Underline around before start end target = unless (nat_lt start.index (length bytes)) rule.Place
 broken_rule bytes names reading.Identifier around before start end target = broken_by (label_between bytes start end) (λ text. None)
 broken_rule bytes names reading.Media around before start end target = broken_by_target target

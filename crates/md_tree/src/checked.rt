@@ -1,12 +1,14 @@
-ghost use Rattle.std.specs.Prelude.{◌≡◌, ◌↔◌, ◌<◌, length, slice_get, slice_index_or, IsTrue};
+ghost use Rattle.std.specs.Prelude.{◌≡◌, ◌↔◌, ◌<◌, Some, length, map, option_map, slice_get, slice_index_or, IsTrue};
 ghost use Rattle.md_base.specs.declared.event.Event.{Event};
 ghost use Rattle.md_tree.specs.declared.kinds.Note.{Note};
+ghost use Rattle.md_tree.specs.declared.facts.Fact.{Fact};
+ghost use Rattle.md_tree.specs.Found.{index_if, position_at};
 ghost use Rattle.md_tree.specs.Texts.{IsEventAt};
 
-use crate::gather::Inferred;
+use crate::facts::{Fact, Facts};
 use crate::judge::{label_at, text_at};
 use crate::kinds::Note;
-use md_base::{Event, Kind, Name, Position, is_same_name};
+use md_base::{AlignKind, Event, Kind, Name, Position, is_same_name};
 use std::marker::Model;
 
 /// Events, a document's bytes and a table of names that have passed a check: the events are the
@@ -17,7 +19,9 @@ pub struct Checked<'a> {
     bytes: &'a [u8],
     names: &'a [(&'a str, &'a str)],
     notes: Vec<Note>,
-    inferred: Vec<Inferred>,
+    facts: Vec<Fact>,
+    /// The alignments of each table.
+    tables: Vec<Vec<AlignKind>>,
 }
 
 impl<'a> Model for Checked<'a> {
@@ -33,33 +37,41 @@ impl<'a> Model for Checked<'a> {
 }
 
 impl<'a> Checked<'a> {
-    ghost use Rattle.std.specs.Prelude.{◌≡◌, ◌↔◌, IsTrue};
+    ghost use Rattle.std.specs.Prelude.{◌≡◌, ◌↔◌, ◌⊎◌, suc, map, IsTrue};
     ghost use Rattle.md_tree.specs.Texts.{EntersAt, ExitsAt, ExitsText, ExitsIdentifier, IsTextAt, IsIdentifierAt};
     ghost use Rattle.md_base.specs.Reference.{name_table};
     ghost use Rattle.md_tree.specs.Grammar.{IsChecked, handed};
     ghost use Rattle.md_tree.specs.Noted.{IsNoted};
-    ghost use Rattle.md_tree.specs.Gather.{inferred_at};
-    ghost use Rattle.md_tree.specs.Entered.{EntersNode};
-    ghost use Rattle.md_tree.specs.Inferred.{EntersSome, IsInferredAt};
+    ghost use Rattle.md_tree.specs.Tree.{Forest};
+    ghost use Rattle.md_tree.specs.Alignments.{alignments};
+    ghost use Rattle.md_tree.specs.Partners.{IsPartnerAt, last_contributing_at};
+    ghost use Rattle.md_tree.specs.Facts.{facts_at, tables_at};
+    ghost use Rattle.md_tree.specs.Entered.{IsEnteredAt, EntersNode};
+    ghost use Rattle.md_tree.specs.Found.{EntersSome, IsFactAt};
+    ghost use Rattle.md_tree.specs.Reads.{IsReadAt, has_resource};
+    ghost use Rattle.md_base.specs.declared.event.Name.TheVariants as name;
 
-    /// What has passed a check, with the notes of its events and what is inferred at them.
+    /// What has passed a check, with the notes of its events and what is found at them.
     pub(crate) fn new(
         events: &'a [Event],
         bytes: &'a [u8],
         names: &'a [(&'a str, &'a str)],
         notes: Vec<Note>,
-        inferred: Vec<Inferred>,
+        found: Facts,
     ) -> Checked<'a>
         requires noted { IsNoted (handed events.now bytes.now names.now) notes.items }
-        requires inferred { inferred.items ≡ inferred_at events.now }
+        requires facts { found.facts.items ≡ facts_at events.now }
+        requires tables { map (λ t. t.items) found.tables.items ≡ tables_at events.now }
         ensures { result ≡ handed events.entry.now bytes.entry.now names.entry.now }
     {
+        let Facts { facts, tables } = found;
         Checked {
             events,
             bytes,
             names,
             notes,
-            inferred,
+            facts,
+            tables,
         }
     }
 
@@ -99,14 +111,65 @@ impl<'a> Checked<'a> {
         is_event(self.events, index, Kind::Exit, name)
     }
 
-    /// What is inferred of the node that the event at the index enters.
-    pub(crate) fn inferred(&self, index: usize) -> &Inferred
+    /// The index of the other event of the node that the event at the index enters or exits; None
+    /// past the end.
+    pub fn partner(&self, index: usize) -> Option<usize>
+        ensures { IsPartnerAt self.now index result }
+    {
+        partner_at(&self.facts, index)
+    }
+
+    /// The index of the event that enters the last contributing child of the item that the event at
+    /// the index enters; None where there is none. Line endings, spaces or tabs, prefixes of block
+    /// quotes, and definitions don't contribute.
+    pub fn last_contributing(&self, index: usize) -> Option<usize>
+        requires { EntersAt self.now.events index name.ListItem }
+        ensures entered { EntersNode self.now index }
+        ensures contributing { (children : Forest) → IsEnteredAt self.now index children
+            → result ≡ last_contributing_at (suc index) children }
+    {
+        unless_zero(self.fact(index).place)
+    }
+
+    /// The place of what is read of the node that the event at the index enters: of a heading its
+    /// first mark, of an ordered list its number, of a link, an image or a footnote call the label
+    /// or reference by which it refers, of a definition the label by which it is referred to. None
+    /// where there is none. Of a node of another name nothing is promised.
+    pub fn reads(&self, index: usize) -> Option<Position>
+        requires { EntersSome self.now.events index }
+        ensures entered { EntersNode self.now index }
+        ensures reads { IsReadAt self.now index result }
+    {
+        position_of(self.events, &self.facts, self.fact(index).place)
+    }
+
+    /// Whether the link or the image that the event at the index enters has a resource.
+    pub fn has_resource(&self, index: usize) -> bool
+        requires { EntersAt self.now.events index name.Link ⊎ EntersAt self.now.events index name.Image }
+        ensures entered { EntersNode self.now index }
+        ensures resource { (children : Forest) → IsEnteredAt self.now index children → result ≡ has_resource children }
+    {
+        self.fact(index).has_resource
+    }
+
+    /// What is found of the node that the event at the index enters.
+    pub(crate) fn fact(&self, index: usize) -> Fact
         requires { EntersSome self.now.events index }
         ensures grammatical { IsChecked self.now }
         ensures entered { EntersNode self.now index }
-        ensures inferred { IsInferredAt self.now index result.now }
+        ensures fact { IsFactAt self.now index result }
     {
-        inference_at(&self.inferred, index)
+        fact_at(&self.facts, index)
+    }
+
+    /// The alignments of the columns of the table that the event at the index enters.
+    pub(crate) fn columns(&self, index: usize) -> &[AlignKind]
+        requires { EntersAt self.now.events index name.GfmTable }
+        ensures grammatical { IsChecked self.now }
+        ensures entered { EntersNode self.now index }
+        ensures aligned { (children : Forest) → IsEnteredAt self.now index children → result.now ≡ alignments children }
+    {
+        table_at(&self.tables, fact_at(&self.facts, index).place)
     }
 
     /// The text of the node that ends with the event at the index: its bytes alone.
@@ -141,12 +204,53 @@ fn position_at(events: &[Event], notes: &[Note], index: usize) -> Position
     }
 }
 
-/// What is inferred at the index.
-fn inference_at(inferred: &[Inferred], index: usize) -> &Inferred
-    requires { index < length inferred.now }
-    ensures { slice_get inferred.now index ≡ Some result.now }
+/// What is found at the index.
+fn fact_at(facts: &[Fact], index: usize) -> Fact
+    requires { index < length facts.now }
+    ensures { slice_get facts.now index ≡ Some result }
 {
-    &inferred[index]
+    facts[index]
+}
+
+/// The partner of the event at the index, if that is there.
+fn partner_at(facts: &[Fact], index: usize) -> Option<usize>
+    ensures { result ≡ option_map (λ fact. Fact.partner fact) (slice_get facts.now index) }
+{
+    match facts.get(index) {
+        Some(fact) => Some(fact.partner),
+        None => None,
+    }
+}
+
+/// Where the node lies that the event at the index enters, if the index isn't 0.
+fn position_of(events: &[Event], facts: &[Fact], index: usize) -> Option<Position>
+    ensures { result ≡ position_at events.now facts.now index }
+{
+    if index == 0 {
+        return None;
+    }
+    let first = events.get(index)?;
+    let fact = facts.get(index)?;
+    let last = events.get(fact.partner)?;
+    Some(Position {
+        start: first.point,
+        end: last.point,
+    })
+}
+
+/// The columns of a table.
+fn table_at(tables: &[Vec<AlignKind>], index: usize) -> &[AlignKind]
+    requires { index < length tables.now }
+    ensures { slice_get (map (λ t. t.items) tables.now) index ≡ Some result.now }
+{
+    tables[index].as_slice()
+}
+
+/// An index that is there.
+fn unless_zero(index: usize) -> Option<usize>
+    ensures { result ≡ index_if index }
+{
+    if index == 0 { None } else { Some(index) }
 }
 
 /// Whether the event at the index is there, of this kind and name.

@@ -6,7 +6,7 @@ ghost use Rattle.md_tree.specs.Machine.{Runs, beginning, is_complete};
 ghost use Rattle.md_tree.specs.Walk.{course_of, Unbroken};
 
 use crate::checked::Checked;
-use crate::gather::gather;
+use crate::facts::find_facts;
 use crate::judge::Source;
 use crate::resolve::resolve;
 use crate::rule::{CompileError, Rule};
@@ -21,8 +21,8 @@ use std::alloc::Global;
 ///
 /// # Errors
 ///
-/// `CompileError::Memory` where memory is lacking, and `CompileError::Event` exactly where the
-/// events are the flattening of no such document.
+/// `CompileError::Memory` where memory is lacking, and `CompileError::Event` only where the events
+/// are the flattening of no such document, with an event and the rule that it breaks.
 pub fn check<'a>(
     alloc: Global,
     events: &'a [Event],
@@ -52,8 +52,8 @@ pub fn check<'a>(
         notes,
     } = walk;
     resolve(alloc, bytes, &notes)?;
-    let inferred = gather(alloc, events)?;
-    Ok(Checked::new(events, bytes, names, notes, inferred))
+    let found = find_facts(alloc, events)?;
+    Ok(Checked::new(events, bytes, names, notes, found))
 }
 
 /// Walks over all events of a document, of which the texts are found first.

@@ -19,7 +19,7 @@ pub fn list_loose(checked: &Checked, index: usize, include_items: bool) -> bool
     ensures loose { (children : Forest) → IsEnteredAt checked.now index children
         → result ≡ (if include_items then is_loose children else is_loose_without_items children) }
 {
-    let looseness = checked.inferred(index).looseness;
+    let looseness = checked.fact(index).looseness;
     if include_items {
         looseness.with_items
     } else {
@@ -34,7 +34,7 @@ pub fn list_item_loose(checked: &Checked, index: usize) -> bool
     ensures loose { (children : Forest) → IsEnteredAt checked.now index children
         → result ≡ is_loose_item children }
 {
-    checked.inferred(index).looseness.of_item
+    checked.fact(index).looseness.of_item
 }
 
 /// How the columns of the table that the event at the index enters are aligned: one for each value
@@ -55,5 +55,5 @@ pub fn gfm_table_align(
     ensures one_for_each_value { IfOk result (λ columns. (children : Forest) → IsEnteredAt checked.now index children
         → columns.items ≡ map alignment_of (values_of_table children)) }
 {
-    checked.inferred(index).columns.in_order(alloc)
+    Vec::from_slice(alloc, checked.columns(index))
 }

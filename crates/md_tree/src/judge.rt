@@ -1,7 +1,7 @@
-ghost use Rattle.std.specs.Prelude.{◌≡◌, length, nat_lt, is_some, option_copied, IfOk, if◌then◌else◌};
+ghost use Rattle.std.specs.Prelude.{◌≡◌, length, nat_lt, option_copied, IfOk, if◌then◌else◌};
 ghost use Rattle.md_base.specs.Place.{fits, text_between, label_between};
-ghost use Rattle.md_base.specs.Reference.{name_table, decoded, is_number};
-ghost use Rattle.md_tree.specs.Rules.{is_line_ending, is_list_number, is_rank, marker_after, columns, unless, broken_by, broken_by_target, broken_rule, target_at};
+ghost use Rattle.md_base.specs.Reference.{name_table, is_number};
+ghost use Rattle.md_tree.specs.Rules.{is_line_ending, is_decodable, is_list_number, is_rank, marker_after, columns, unless, broken_by, broken_by_target, broken_rule, target_at};
 ghost use Rattle.md_tree.specs.Mentions.{mention_of};
 ghost use Rattle.md_tree.specs.declared.rule.Rule.TheVariants as rule;
 
@@ -62,21 +62,21 @@ fn is_ending(text: &str) -> bool
 }
 
 /// The value of an item, which is a number in the first one of an ordered list.
-fn broken_number(around: Role, text: Option<&str>) -> Option<Rule>
-    ensures { result ≡ broken_by (option_copied text.entry) (λ t. unless (is_list_number around t) rule.ListNumber) }
+fn broken_number(around: Role, before: Option<Symbol>, text: Option<&str>) -> Option<Rule>
+    ensures { result ≡ broken_by (option_copied text.entry) (λ t. unless (is_list_number around before t) rule.ListNumber) }
 {
     match text {
         None => Some(Rule::Place),
-        Some(text) => rule_unless(is_right_number(around, text), Rule::ListNumber),
+        Some(text) => rule_unless(is_right_number(around, before, text), Rule::ListNumber),
     }
 }
 
-/// Whether a text is the number that it has to be in a node of this role.
-fn is_right_number(around: Role, text: &str) -> bool
-    ensures { result ≡ is_list_number around text.now }
+/// Whether a text is the number that it has to be in a node of this role, after a symbol.
+fn is_right_number(around: Role, before: Option<Symbol>, text: &str) -> bool
+    ensures { result ≡ is_list_number around before text.now }
 {
-    match around {
-        Role::FirstOrderedPrefix => is_decimal(text),
+    match (around, before) {
+        (Role::FirstOrderedPrefix, None) => is_decimal(text),
         _ => true,
     }
 }
@@ -100,43 +100,55 @@ fn broken_value(
     text: Option<&str>,
 ) -> Result<Option<Rule>, AllocError>
     ensures { IfOk result
-        (λ broken. broken ≡ broken_by (option_copied text.entry) (λ t. unless (is_some (decoded (name_table names.now) (marker_after before) t)) rule.CharacterReference)) }
+        (λ broken. broken ≡ broken_by (option_copied text.entry) (λ t. unless (is_decodable (name_table names.now) before t) rule.CharacterReference)) }
 {
     let Some(text) = text else {
         return Ok(Some(Rule::Place));
     };
-    let value = decode_character_reference(alloc, text, marker(before), names)?;
+    let Some(marker) = marker(before) else {
+        return Ok(None);
+    };
+    let value = decode_character_reference(alloc, text, marker, names)?;
     Ok(rule_unless(value.is_some(), Rule::CharacterReference))
 }
 
-/// The marker of a reference whose value stands after a symbol.
-fn marker(before: Option<Symbol>) -> u8
+/// The marker of the reference whose value stands after a symbol, where it is one of its marks.
+fn marker(before: Option<Symbol>) -> Option<u8>
     ensures { result ≡ marker_after before }
 {
     match before {
-        Some(Symbol::ReferenceNumeric) => b'#',
-        Some(Symbol::ReferenceHexadecimal) => b'x',
-        _ => b'&',
+        Some(Symbol::ReferenceMarker) => Some(b'&'),
+        Some(Symbol::ReferenceNumeric) => Some(b'#'),
+        Some(Symbol::ReferenceHexadecimal) => Some(b'x'),
+        _ => None,
     }
 }
 
 /// A mark of a heading, the first of which is its rank.
-fn broken_mark(bytes: &[u8], before: Option<Symbol>, position: &Position) -> Option<Rule>
-    ensures { result ≡ (if fits bytes.now position.now.start position.now.end then unless (is_rank before (columns position.now.start position.now.end)) rule.HeadingMark else Some rule.Place) }
+fn broken_mark(
+    bytes: &[u8],
+    around: Role,
+    before: Option<Symbol>,
+    position: &Position,
+) -> Option<Rule>
+    ensures { result ≡ (if fits bytes.now position.now.start position.now.end then unless (is_rank around before (columns position.now.start position.now.end)) rule.HeadingMark else Some rule.Place) }
 {
     match Slice::from_position(bytes, position) {
         None => Some(Rule::Place),
-        Some(slice) => rule_unless(is_right_mark(before, slice.len()), Rule::HeadingMark),
+        Some(slice) => rule_unless(
+            is_right_mark(around, before, slice.len()),
+            Rule::HeadingMark,
+        ),
     }
 }
 
-/// Whether a mark of this length may stand after a symbol.
-fn is_right_mark(before: Option<Symbol>, length: usize) -> bool
-    ensures { result ≡ is_rank before length }
+/// Whether a mark of this length may stand in a node of this role, after a symbol.
+fn is_right_mark(around: Role, before: Option<Symbol>, length: usize) -> bool
+    ensures { result ≡ is_rank around before length }
 {
-    match before {
-        None => 1 <= length && length <= 6,
-        Some(_) => true,
+    match (around, before) {
+        (Role::Heading, None) => 1 <= length && length <= 6,
+        _ => true,
     }
 }
 
@@ -209,12 +221,12 @@ pub fn broken(
     match outer.reading {
         Reading::Text => Ok(broken_text(text_at(bytes, position))),
         Reading::LineEnding => Ok(broken_ending(text_at(bytes, position))),
-        Reading::Number => Ok(broken_number(around, text_at(bytes, position))),
+        Reading::Number => Ok(broken_number(around, outer.before, text_at(bytes, position))),
         Reading::Value => {
             let text = text_at(bytes, position);
             broken_value(alloc, source.names, outer.before, text)
         }
-        Reading::Mark => Ok(broken_mark(bytes, outer.before, position)),
+        Reading::Mark => Ok(broken_mark(bytes, around, outer.before, position)),
         Reading::Underline => Ok(broken_underline(bytes, position.start)),
         Reading::Identifier => Ok(broken_text(source.bytes.label_at(position))),
         Reading::Media => Ok(broken_target(target)),

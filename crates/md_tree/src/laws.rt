@@ -1,8 +1,22 @@
 //! What holds of every document, as the contracts of functions that do nothing.
 
-ghost use Rattle.md_tree.specs.Tree.{Forest};
+ghost use Rattle.md_tree.specs.Tree.{Forest, flatten};
 ghost use Rattle.md_tree.specs.Tables.{IsTable};
-ghost use Rattle.md_tree.specs.Laws.{HasOneAlignmentForEachValue, IsLooseWithItemsToo};
+ghost use Rattle.std.specs.Prelude.{◌≡◌, Option};
+ghost use Rattle.md_tree.specs.declared.kinds.Role.{Role};
+ghost use Rattle.md_tree.specs.declared.kinds.Symbol.{Symbol};
+ghost use Rattle.md_tree.specs.Shape.{AreShaped};
+ghost use Rattle.md_tree.specs.Laws.{HasOneAlignmentForEachValue, HasOneSpine, IsLooseWithItemsToo};
+
+/// A list of events is the flattening of one document at most.
+pub fn events_flatten_one_document()
+    ensures { (one other : Forest) → flatten one ≡ flatten other → one ≡ other }
+{}
+
+/// Where nodes have the shape of the grammar, their spine is the same by names and by symbols.
+pub fn names_and_symbols_tell_one_spine()
+    ensures { (forest : Forest) (around : Role) (before : Option Symbol) → AreShaped forest around before → HasOneSpine forest }
+{}
 
 /// A list that is loose without its items is loose with them.
 pub fn loose_without_items_is_loose()

@@ -3,7 +3,7 @@
 
 mod checked;
 mod columns;
-mod gather;
+mod facts;
 mod grammar;
 mod infer;
 mod judge;
@@ -13,6 +13,7 @@ mod names;
 mod pattern;
 mod resolve;
 mod rule;
+mod seeking;
 mod shape;
 mod standing;
 mod state;
@@ -20,6 +21,7 @@ mod steps;
 #[cfg(test)]
 mod tests;
 mod texts;
+mod told;
 mod walk;
 
 pub use checked::Checked;

@@ -1,6 +1,6 @@
 ghost use Rattle.std.specs.Prelude.{◌≡◌, ◌<◌, ◌+◌, ◌^◌, drop};
 ghost use Rattle.std.specs.List.{list_all};
-ghost use Rattle.md_tree.specs.Machine.{begun_by, continued, is_optional, after_item, seek, advance, items_of, is_complete, start_of, may_hold, entered};
+ghost use Rattle.md_tree.specs.Machine.{begun_by, continued, is_optional, after_item, seek, advance, is_complete, start_of, may_hold, entered};
 ghost use Rattle.md_tree.specs.declared.kinds.Target.TheVariants.{Missing};
 
 use crate::kinds::{Item, Reading, Role, Standing, Symbol, Target, Times};

@@ -1,4 +1,5 @@
 mod conditions;
+mod find;
 mod infer;
 mod order;
 

@@ -21,12 +21,10 @@ pub struct Walk {
 }
 
 impl Walk {
-    ghost use Rattle.std.specs.Prelude.{◌≡◌, [], ◌∷◌, ◌++◌, reverse, IfErr, IfOk, OnOk, IsTrue};
+    ghost use Rattle.std.specs.Prelude.{◌≡◌, [], reverse, IfErr, IfOk, OnOk};
     ghost use Rattle.md_base.specs.Reference.{name_table};
     ghost use Rattle.md_base.specs.declared.event.Kind.TheVariants as kind;
-    ghost use Rattle.md_tree.specs.Mentions.{note, mention_of};
-    ghost use Rattle.md_tree.specs.Rules.{target_at};
-    ghost use Rattle.md_tree.specs.Machine.{Steps, Enters, Exits, beginning, after_entry, is_complete};
+    ghost use Rattle.md_tree.specs.Machine.{Steps, Enters, Exits, beginning, after_entry};
     ghost use Rattle.md_tree.specs.Walk.{course_of, Unbroken, IsStop, Leaves, IsStopInside};
 
     /// Before any event.

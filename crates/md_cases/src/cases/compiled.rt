@@ -1,7 +1,8 @@
 //! Cases over a table of names that no script has, and of each call that answers alone.
 
 use md_html::{
-    CompileError, CompileOptions, Event, Kind, Name, Point, check, compile, compile_checked,
+    CompileError, CompileOptions, Event, Kind, LineEnding, Name, Point, check, compile,
+    compile_checked,
 };
 use std::alloc::Global;
 use std::process::Abort;
@@ -81,8 +82,23 @@ fn always_out_of_memory(rt: HostRuntime) -> Result<(), Fail> {
     Ok(())
 }
 
+/// All options are off or unset, the tag filter aside, and the line ending is a line feed.
+fn leaves_all_unset(rt: &impl Abort, options: &CompileOptions, tagfilter: bool) {
+    assert!(rt; !options.allow_any_img_src);
+    assert!(rt; !options.allow_dangerous_html);
+    assert!(rt; !options.allow_dangerous_protocol);
+    assert!(rt; !options.gfm_task_list_item_checkable);
+    assert_eq!(rt; options.gfm_tagfilter, tagfilter);
+    assert_eq!(rt; options.default_line_ending, LineEnding::LineFeed);
+    assert!(rt; options.gfm_footnote_back_label.is_none());
+    assert!(rt; options.gfm_footnote_clobber_prefix.is_none());
+    assert!(rt; options.gfm_footnote_label.is_none());
+    assert!(rt; options.gfm_footnote_label_attributes.is_none());
+    assert!(rt; options.gfm_footnote_label_tag_name.is_none());
+}
+
 #[test]
 fn default_and_gfm_options(rt: HostRuntime) {
-    assert!(rt; !CompileOptions::default().gfm_tagfilter);
-    assert!(rt; CompileOptions::gfm().gfm_tagfilter);
+    leaves_all_unset(&rt, &CompileOptions::default(), false);
+    leaves_all_unset(&rt, &CompileOptions::gfm(), true);
 }

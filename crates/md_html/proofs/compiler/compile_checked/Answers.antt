@@ -8,15 +8,19 @@ use Rattle.md_safe.specs.Options.{KeepsGrammar, KeepsLinks, KeepsImages}
 use Rattle.md_safe.proofs.Whole.{one-reading, safe-links, safe-images}
 use Rattle.md_base.specs.Reference.{name_table}
 use Rattle.md_tree.specs.Tree.{Forest, flatten}
-use Rattle.md_meaning.specs.declared.facts.Ahead.{Ahead}
 use Rattle.md_meaning.specs.Given.{Given, Defined}
 use Rattle.md_base.specs.declared.event.Event.{Event}
 use Rattle.md_tree.specs.Entered.{children_of}
 use Rattle.md_print.specs.Machine.{State, run, beginning, finished}
-use Rattle.md_facts.specs.LookAhead.{looked_over, no_outlook}
 use Rattle.md_html.proofs.Walks.{on_answer}
 use Rattle.md_meaning.specs.Meaning.{meaning, ending_at}
+use Rattle.md_meaning.specs.Whole.{printed_meaning}
+use Rattle.md_tie.proofs.Whole.{printed-is-meant}
+use Rattle.md_tree.specs.Grammar.{IsGrammatical}
+use Rattle.md_tree.proofs.Indexed.{flatten_one}
+use Rattle.md_base.specs.declared.event.Name.TheVariants.{GfmTable}
 use Rattle.md_meaning.specs.Media.{defined_target}
+use Rattle.md_meaning.specs.Places.{first_ending}
 use Rattle.md_html.proofs.Whole.{given_with, text-run}
 use Rattle.md_html.proofs.compiler.compile_checked.Goals as goal
 
@@ -25,48 +29,51 @@ returns c =
     let checked = c.args.checked.now in
     let options = c.args.options.now in
     let names : List (List ℕ × List ℕ) = name_table c.names.result.now in
-    let bytes : List ℕ = c.bytes-bytes.result.now in
+    let bytes : List ℕ = c.bytes.result.now in
     let given_events : List Event = c.args.checked.now.events in
-    let events : List Event = c.events-events.result.now in
-    let aheads : List Ahead = c.as_slice.result.now in
     let given : List ℕ → List Defined → Given = λ e ds. given_with options names bytes e ds in
-    let ending : List ℕ = c.ending_at.result.now in
+    let ending : List ℕ = c.ending_of.result.now in
     let known : List Defined = c.in_ok-definitions.definitions in
-    let ran : Forest → List Defined → List Ahead → State = λ document ds as'. run (given ending ds) given_events as' (children_of document) beginning in
-    let read = c.events-events.ensures.grammatical in
+    let ran : Forest → List Defined → State = λ document ds. run (given ending ds) given_events (children_of document) beginning in
+    let read = c.ending_of.ensures.grammatical in
     let built : IsBuilt checked.bytes Blocks read.0 = grammatical-built checked.bytes checked.names read.0 read.1.grammatical in
+    let Printed : String Global → Type 0 = λ text. (document : Forest) → flatten document ≡ checked.events → string_bytes text ≡ printed_meaning options checked.names checked.bytes document in
     let Meant : String Global → Type 0 = λ text. (document : Forest) → flatten document ≡ checked.events → string_bytes text ≡ meaning options checked.names checked.bytes document in
-    let meant : IfOk c.into_text.result Meant =
-    on_answer (λ text. string_bytes text ≡ _) (λ text. (document : Forest) → flatten document ≡ given_events → string_bytes text ≡ meaning options c.args.checked.now.names c.args.checked.now.bytes document)
+    let printed : IfOk c.into_text.result Printed =
+    on_answer (λ text. string_bytes text ≡ _) (λ text. (document : Forest) → flatten document ≡ given_events → string_bytes text ≡ printed_meaning options c.args.checked.now.names c.args.checked.now.bytes document)
     (λ text laid document flat.
     laid
     ∙ ap (λ s. (finished (given ending known) s).text) (c.in_ok-second.ensures document flat)
-    ∙ ap (λ as'. (finished (given ending known) (ran document known as')).text) (c.as_slice-2.ensures.value ∙ sym c.as_slice.ensures.value)
-    ∙ text-run options names bytes given_events aheads ending known document flat
-    (c.as_slice.ensures.value ∙ c.in_ok-aheads.ensures.aheads ∙ ap (λ es. (looked_over es no_outlook).aheads) c.events-events.ensures.events)
-    (c.ending_at.ensures ∙ ap (λ place. ending_at options bytes place) (c.in_ok-aheads.ensures.ending ∙ ap (λ es. (looked_over es no_outlook).here.ending) c.events-events.ensures.events))
+    ∙ text-run options names bytes given_events ending known document flat
+    (c.ending_of.ensures.ending document flat ∙ ap (λ b. ending_at options b (first_ending document)) (sym c.bytes.ensures))
     (λ identifier.
     c.in_ok-definitions.ensures identifier
     ∙ ap (λ ds. defined_target ds identifier)
     (c.into_definitions.ensures
     ∙ ap (λ s. s.log.definitions) (c.in_ok-first.ensures document flat)
-    ∙ ap (λ ds. (ran document ds aheads).log.definitions) c.new-none.ensures))
-    ∙ ap (λ n. meaning options n bytes document) c.names.ensures
-    ∙ ap (λ b. meaning options c.args.checked.now.names b document) c.bytes-bytes.ensures)
+    ∙ ap (λ ds. (ran document ds).log.definitions) c.new-none.ensures))
+    ∙ ap (λ n. printed_meaning options n bytes document) c.names.ensures
+    ∙ ap (λ b. printed_meaning options c.args.checked.now.names b document) c.bytes.ensures)
     c.into_text.result c.into_text.ensures
     in
     record {
-      meaning = meant;
+      meaning =
+          on_answer Printed Meant
+          (λ text is document flat.
+          is document flat
+          ∙ printed-is-meant options checked.names checked.bytes document
+          (subst (λ forest. IsGrammatical checked.bytes checked.names forest) (flatten_one GfmTable (record { line = 0; column = 0; index = 0; vs = 0 }) read.0 document (read.1.flattened ∙ sym flat)) read.1.grammatical))
+          c.into_text.result printed;
       one_reading =
-          on_answer Meant (λ text. KeepsGrammar options → HasOneReadingWith any_attribute (string_bytes text))
+          on_answer Printed (λ text. KeepsGrammar options → HasOneReadingWith any_attribute (string_bytes text))
           (λ text is keeps. subst (λ t. HasOneReadingWith any_attribute t) (sym (is read.0 read.1.flattened)) (one-reading checked.bytes checked.names options read.0 built keeps))
-          c.into_text.result meant;
+          c.into_text.result printed;
       safe_links =
-          on_answer Meant (λ text. KeepsLinks options → HasOneReadingWith is_safe_link (string_bytes text))
+          on_answer Printed (λ text. KeepsLinks options → HasOneReadingWith is_safe_link (string_bytes text))
           (λ text is keeps. subst (λ t. HasOneReadingWith is_safe_link t) (sym (is read.0 read.1.flattened)) (safe-links checked.bytes checked.names options read.0 built keeps))
-          c.into_text.result meant;
+          c.into_text.result printed;
       safe_images =
-          on_answer Meant (λ text. KeepsImages options → HasOneReadingWith is_safe_image (string_bytes text))
+          on_answer Printed (λ text. KeepsImages options → HasOneReadingWith is_safe_image (string_bytes text))
           (λ text is keeps. subst (λ t. HasOneReadingWith is_safe_image t) (sym (is read.0 read.1.flattened)) (safe-images checked.bytes checked.names options read.0 built keeps))
-          c.into_text.result meant;
+          c.into_text.result printed;
     }

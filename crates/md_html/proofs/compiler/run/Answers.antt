@@ -7,16 +7,13 @@ use Rattle.md_html.proofs.compiler.run.Goals as goal
 use Rattle.std.proofs.Common.{ap, sym, ◌∙◌, arith, drop, get_or, None}
 use Rattle.std.proofs.lemmas.Option.{slice_get_within}
 use Rattle.md_base.specs.declared.event.Event.{Event}
-use Rattle.md_meaning.specs.declared.facts.Ahead.{Ahead}
 use Rattle.md_sheet.proofs.Lists.{drop-found}
 use Rattle.md_html.proofs.Walks.{is_nil-length, drop-first, drop-later, told-at}
 
--- src/compiler.rt:240:9
 pub step-requires : goal.step-requires
 step-requires c =
     drop-first c.args.checked.now.events c.loop-event.index c.in-Some.event.now c.in-Some.later.now (sym c.in-Some.ensures.cases.0 ∙ c.loop-event.invariant.0)
 
--- src/compiler.rt:235:5
 pub loop-event-preserved : goal.loop-event-preserved
 loop-event-preserved c =
     let given = given_of c.args.source.now in
@@ -24,8 +21,6 @@ loop-event-preserved c =
     let index = c.loop-event.index in
     let event : Event = c.in-Some.event.now in
     let later : List Event = c.in-Some.later.now in
-    let ahead : Ahead = c.in-Some-split_first.ahead.now in
-    let aheads : List Ahead = c.in-Some-split_first.aheads_later.now in
     let printer = c.loop-event.printer in
     let split : event ∷ later ≡ drop index events = sym c.in-Some.ensures.cases.0 ∙ c.loop-event.invariant.0 in
     let got : slice_get events index ≡ Some event = drop-first events index event later split in (
@@ -35,11 +30,10 @@ loop-event-preserved c =
           let nodes : List (Option Forest) = children_of document in
           let told : Option Forest = get_or nodes index None in
           let there : slice_get nodes index ≡ Some told = told-at document events index event flat got in
-          ap (λ s. machine.run given later aheads (drop (index + 1) nodes) s) (c.in_ok-step.ensures told (document, flat, there))
-          ∙ ap (λ b. machine.run given later aheads (drop (index + 1) nodes) (machine.stepped given event.kind event.name event.point ahead told b printer)) (c.is_empty-is_last.ensures ∙ is_nil-length later)
-          ∙ ap (λ cs. machine.run given (event ∷ later) (ahead ∷ aheads) cs printer) (sym (drop-found nodes index told there))
-          ∙ ap (λ as'. machine.run given (event ∷ later) as' (drop index nodes) printer) (sym c.in-Some-split_first.ensures.cases.0)
-          ∙ ap (λ es. machine.run given es c.loop-event.aheads.now (drop index nodes) printer) (sym c.in-Some.ensures.cases.0)
+          ap (λ s. machine.run given later (drop (index + 1) nodes) s) (c.in_ok-step.ensures told (document, flat, there))
+          ∙ ap (λ b. machine.run given later (drop (index + 1) nodes) (machine.stepped given event.kind event.name event.point told b printer)) (c.is_empty-is_last.ensures ∙ is_nil-length later)
+          ∙ ap (λ cs. machine.run given (event ∷ later) cs printer) (sym (drop-found nodes index told there))
+          ∙ ap (λ es. machine.run given es (drop index nodes) printer) (sym c.in-Some.ensures.cases.0)
           ∙ c.loop-event.invariant.2 document flat,
     )
   where

@@ -1,6 +1,6 @@
 -- The three parts, one after another; only one of them prints anything.
 use Rattle.std.proofs.Common.{◌≡◌, [], ◌++◌, List, OnOk, ap, sym, subst, ◌∙◌}
-use Rattle.md_print.specs.Machine.{State, printing}
+use Rattle.md_print.specs.Machine.{State, ahead_by, printing}
 use Rattle.md_facts.specs.Steps.{first_or}
 use Rattle.md_meaning.specs.Piece.{Piece, Page}
 use Rattle.md_base.specs.declared.event.Name.{Name}
@@ -39,14 +39,14 @@ returns c =
     let ending = source.ending.now in
     let left_in : State → Left = λ s. left_at exit s.log.called (first_or [] s.tables) in
     let texts : List Piece = text_closing given exit.around (left_in start) exit.is_last exit.frame.start exit.end c.args.inner name in
-    let blocks : List Piece = block_closing given exit.around (left_in start) exit.frame.ahead exit.frame.passed exit.frame.start exit.end name in
-    let media : List Piece = media_closing given exit.around exit.frame.ahead exit.frame.start exit.end c.args.inner name in
-    let gfm : List Piece = gfm_closing given exit.around (left_in start) exit.frame.ahead exit.frame.passed c.args.inner name in
+    let blocks : List Piece = block_closing given exit.around (left_in start) (ahead_by exit.frame.place) exit.frame.passed exit.frame.start exit.end name in
+    let media : List Piece = media_closing given exit.around (ahead_by exit.frame.place) exit.frame.start exit.end c.args.inner name in
+    let gfm : List Piece = gfm_closing given exit.around (left_in start) (ahead_by exit.frame.place) exit.frame.passed c.args.inner name in
     let P : State → Type 0 = λ s. OnOk c.close_media.result (c.close_media.new.printer ≡ s) in
-    let B : State → State = λ s. printing ending (block_closing given exit.around (left_in s) exit.frame.ahead exit.frame.passed exit.frame.start exit.end name) s in
-    let G : State → State = λ s. printing ending (gfm_closing given exit.around (left_in s) exit.frame.ahead exit.frame.passed c.args.inner name) s in
+    let B : State → State = λ s. printing ending (block_closing given exit.around (left_in s) (ahead_by exit.frame.place) exit.frame.passed exit.frame.start exit.end name) s in
+    let G : State → State = λ s. printing ending (gfm_closing given exit.around (left_in s) (ahead_by exit.frame.place) exit.frame.passed c.args.inner name) s in
     subst P
     (ap (λ s. printing ending media s) (c.in_ok-close_gfm.ensures ∙ ap G (c.in_ok-close_block.ensures ∙ ap B c.in_ok-close_text.ensures))
     ∙ sym (printing-append ending texts (blocks ++ (gfm ++ media)) start ∙ printing-append ending blocks (gfm ++ media) (printing ending texts start) ∙ printing-append ending gfm media (printing ending blocks (printing ending texts start)))
-    ∙ ap (λ pieces. printing ending (texts ++ (blocks ++ pieces)) start) (commute given exit.around (left_in start) exit.frame.ahead exit.frame.passed exit.frame.start exit.end c.args.inner name))
+    ∙ ap (λ pieces. printing ending (texts ++ (blocks ++ pieces)) start) (commute given exit.around (left_in start) (ahead_by exit.frame.place) exit.frame.passed exit.frame.start exit.end c.args.inner name))
     c.close_media.ensures

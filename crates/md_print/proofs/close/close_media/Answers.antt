@@ -5,7 +5,7 @@ use Rattle.md_base.specs.declared.event.Name.{Name}
 use Rattle.md_meaning.specs.declared.options.CompileOptions.{CompileOptions}
 use Rattle.md_meaning.specs.declared.facts.Surroundings.{Surroundings}
 use Rattle.md_meaning.specs.declared.facts.Ahead.{Ahead}
-use Rattle.md_print.specs.Machine.{State, printing}
+use Rattle.md_print.specs.Machine.{State, ahead_by, printing}
 use Rattle.md_meaning.specs.Piece.{Piece, Page}
 use Rattle.md_meaning.specs.Given.{Given}
 use Rattle.md_meaning.specs.Texts.{said}
@@ -49,8 +49,8 @@ returns-in-Link c =
     let ending = c.args.source.now.ending.now in
     let start : State = c.args.printer.now in
     let P : State → Type 0 = λ s. OnOk c.link.result (c.link.new.printer ≡ s) in
-    let Q : Name → Type 0 = λ n. P (printing ending (media_closing given exit.around exit.frame.ahead exit.frame.start exit.end c.args.inner n) start) in
-    subst Q (sym c.in-Link.is) (subst P (link_ending ending given exit.around exit.frame.ahead c.args.inner start) c.link.ensures)
+    let Q : Name → Type 0 = λ n. P (printing ending (media_closing given exit.around (ahead_by exit.frame.place) exit.frame.start exit.end c.args.inner n) start) in
+    subst Q (sym c.in-Link.is) (subst P (link_ending ending given exit.around (ahead_by exit.frame.place) c.args.inner start) c.link.ensures)
 
 pub returns-in-Image : goal.returns-in-Image
 returns-in-Image c =
@@ -59,5 +59,5 @@ returns-in-Image c =
     let ending = c.args.source.now.ending.now in
     let start : State = c.args.printer.now in
     let P : State → Type 0 = λ s. OnOk c.image.result (c.image.new.printer ≡ s) in
-    let Q : Name → Type 0 = λ n. P (printing ending (media_closing given exit.around exit.frame.ahead exit.frame.start exit.end c.args.inner n) start) in
-    subst Q (sym c.in-Image.is) (subst P (image_ending ending given exit.around exit.frame.ahead c.args.inner start) c.image.ensures)
+    let Q : Name → Type 0 = λ n. P (printing ending (media_closing given exit.around (ahead_by exit.frame.place) exit.frame.start exit.end c.args.inner n) start) in
+    subst Q (sym c.in-Image.is) (subst P (image_ending ending given exit.around (ahead_by exit.frame.place) c.args.inner start) c.image.ensures)

@@ -1,16 +1,11 @@
--- The table of the code is the one of the definition, entry by entry.
-use Rattle.std.proofs.Common.{◌≡◌, Some, None, ap, ◌∙◌}
-use Rattle.md_script.specs.EventNames.{event_names}
-use Rattle.md_script.specs.Line.{otherwise, other_name}
-use Rattle.md_script.specs.Table.{listed}
+use Rattle.std.proofs.Common.{◌∙◌}
+use Rattle.md_script.proofs.NameLemmas.{at_length, name_of_other, name_of_listed}
 use Rattle.md_script.proofs.name.read_name.Goals as goal
 
 pub returns-in-Some : goal.returns-in-Some
-returns-in-Some c =
-    let found : Some c.in-Some.name ≡ listed event_names c.args.text.now = c.in-Some.ensures in
-    ap (λ name. otherwise name (other_name c.args.text.now)) found
+returns-in-Some c = c.read_other_name.ensures ∙ name_of_other c.args.text.now c.in-Some.digits.now c.in-Some.ensures.cases.0 c.in-Some.ensures.cases.1
 
 pub returns-in-None : goal.returns-in-None
 returns-in-None c =
-    let missed : None ≡ listed event_names c.args.text.now = c.in-None.ensures in
-    c.read_other_name.ensures ∙ ap (λ name. otherwise name (other_name c.args.text.now)) missed
+    c.listed_at_length.ensures ∙ at_length c.event_names.result.now c.args.text.now c.event_names.ensures.count c.event_names.ensures.tables
+    ∙ name_of_listed c.args.text.now c.in-None.ensures.cases

@@ -1,7 +1,5 @@
-use Rattle.std.proofs.Common.{ap, ◌∙◌}
+use Rattle.std.proofs.Common.{◌∙◌}
 use Rattle.std.specs.Prelude.{Result, Ok, Err, IfOk}
-use Rattle.md_base.specs.declared.event.Name.TheVariants.{GfmTable}
-use Rattle.md_tree.specs.declared.gather.Inferred.{Inferred}
 use Rattle.md_tree.proofs.Tables.{alignments-values_of_table}
 use Rattle.md_tree.proofs.EnteredTables.{IsTable-entered}
 use Rattle.md_tree.proofs.infer.gfm_table_align.Goals as goal
@@ -13,8 +11,8 @@ on_answer P Q f (Err e) p = tt
 
 pub returns-clause-aligned : goal.returns-clause-aligned
 returns-clause-aligned c =
-    on_answer _ _ (λ columns in_order children entered. in_order ∙ ap (λ (i : Inferred). i.columns) (c.inferred.ensures.inferred GfmTable children c.requires entered)) c.in_order.result c.in_order.ensures
+    on_answer _ _ (λ columns items children entered. items ∙ c.columns.ensures.aligned children entered) c.from_slice.result c.from_slice.ensures.items
 
 pub returns-clause-one_for_each_value : goal.returns-clause-one_for_each_value
 returns-clause-one_for_each_value c =
-    on_answer _ _ (λ columns in_order children entered. in_order ∙ ap (λ (i : Inferred). i.columns) (c.inferred.ensures.inferred GfmTable children c.requires entered) ∙ alignments-values_of_table children (IsTable-entered c.args.checked.now c.args.index c.inferred.ensures.grammatical c.requires children entered)) c.in_order.result c.in_order.ensures
+    on_answer _ _ (λ columns items children entered. items ∙ c.columns.ensures.aligned children entered ∙ alignments-values_of_table children (IsTable-entered c.args.checked.now c.args.index c.columns.ensures.grammatical c.requires children entered)) c.from_slice.result c.from_slice.ensures.items

@@ -5,7 +5,6 @@ use Rattle.md_sheet.proofs.calls.Calls.count.Goals as goal
 use Rattle.std.proofs.Common.{ap, sym, ◌∙◌}
 use Rattle.md_sheet.proofs.Maps.{insert-counted, calls_in}
 
--- src/calls.rt:41:5
 pub returns : goal.returns
 returns c =
     ap (λ entries. calls_in entries) c.in_ok-insert.ensures.entries

@@ -5,14 +5,12 @@ use Rattle.std.proofs.Common.{ap, sym, ◌∙◌}
 use Rattle.md_sheet.proofs.Maps.{named, number-place, place-found, place-missing}
 use Rattle.std.specs.Map.{keys_of}
 
--- src/calls.rt:51:5
 pub returns-in-Some : goal.returns-in-Some
 returns-in-Some c =
     ap (λ n. n + 1) (sym (place-found (named c.args.identifier.now) (keys_of c.self.inside.counts.entries) c.in-Some.index (sym c.in-Some.ensures.index)))
     ∙ sym (number-place c.self.inside.counts.entries c.args.identifier.now)
     ∙ ap (λ calls. number_among calls c.args.identifier.now) c.self.view_is
 
--- src/calls.rt:51:5
 pub returns-in-None : goal.returns-in-None
 returns-in-None c =
     ap (λ n. n + 1) c.len-len.ensures.len

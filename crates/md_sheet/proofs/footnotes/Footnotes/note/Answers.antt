@@ -6,7 +6,6 @@ use Rattle.std.specs.Map.{lookup}
 use Rattle.md_meaning.specs.Footnotes.{Footnote}
 use Rattle.md_sheet.proofs.Maps.{named, noted-present, noted-new, footnotes_in}
 
--- src/footnotes.rt:40:5
 pub returns-then-contains_key : goal.returns-then-contains_key
 returns-then-contains_key c =
     let told : Footnote = record { identifier = string_bytes c.args.identifier; text = string_bytes c.args.text } in
@@ -15,7 +14,6 @@ returns-then-contains_key c =
     (ap (λ q. is_some (lookup (named q) c.self.inside.texts.entries)) (sym c.as_str.ensures.value) ∙ sym c.contains_key.ensures ∙ c.if-contains_key.true)
     ∙ ap (λ fs. noted fs told) c.self.view_is
 
--- src/footnotes.rt:40:5
 pub returns : goal.returns
 returns c =
     let told : Footnote = record { identifier = string_bytes c.args.identifier; text = string_bytes c.args.text } in

@@ -5,7 +5,6 @@ use Rattle.std.proofs.Common.{ap, ◌∙◌}
 use Rattle.std.specs.Option.{option_map_or}
 use Rattle.md_sheet.proofs.Maps.{text-lookup}
 
--- src/footnotes.rt:54:5
 pub returns-in-Some : goal.returns-in-Some
 returns-in-Some c =
     c.as_str.ensures.value
@@ -13,7 +12,6 @@ returns-in-Some c =
     ∙ text-lookup c.self.inside.texts.entries c.args.identifier.now
     ∙ ap (λ fs. footnote_text fs c.args.identifier.now) c.self.view_is
 
--- src/footnotes.rt:54:5
 pub returns-in-None : goal.returns-in-None
 returns-in-None c =
     ap (λ o. option_map_or string_bytes o []) c.in-None.ensures.value

@@ -1,0 +1,33 @@
+-- What is found in a node's children: places of marks, labels and numbers.
+use Rattle.std.specs.Prelude.{Bool, Option, None, unwrap_or, is_some, if◌then◌else◌}
+use Rattle.md_base.specs.declared.event.Name.{Name}
+use Rattle.md_base.specs.declared.event.Position.{Position}
+use Rattle.md_tree.specs.Tree.{Forest}
+use Rattle.md_tree.specs.Children.{first_on_spine}
+use Rattle.md_tree.specs.NameTests.{is_label, is_label_text, is_reference, is_footnote_prefix, is_footnote_label, is_item, is_item_prefix, is_item_value}
+use Rattle.md_meaning.specs.Places.{position}
+
+-- the place of the first node on the spine whose name passes a test
+abbrev pub first : (Name → Bool) → Forest → Option Position
+first test children = first_on_spine test position children
+
+-- what is found in the first such node
+abbrev pub in_first : (Name → Bool) → (Forest → Option Position) → Forest → Option Position
+in_first test find children = unwrap_or (first_on_spine test (λ start end inner. find inner) children) None
+
+-- the number of a list's first item, in its prefix
+abbrev pub number_in_list : Forest → Option Position
+number_in_list children = in_first is_item (in_first is_item_prefix (first is_item_value)) children
+
+-- the text of a node's label
+abbrev pub label_in_node : Forest → Option Position
+label_in_node children = in_first is_label (first is_label_text) children
+
+-- what a link or an image refers by: its reference where it has one, else the text of its label
+abbrev pub referring_in : Forest → Option Position
+referring_in children =
+    if is_some (first is_reference children) then first is_reference children else label_in_node children
+
+-- the label of a footnote definition, in its prefix
+abbrev pub footnote_label : Forest → Option Position
+footnote_label children = in_first is_footnote_prefix (first is_footnote_label) children

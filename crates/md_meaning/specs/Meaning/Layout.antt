@@ -1,0 +1,36 @@
+-- What nodes print, and how it is laid out as one text.
+use Rattle.std.specs.Prelude.{ℕ, ◌-◌, Bool, true, ◌||◌, ◌==◌, if◌then◌else◌, List, [], ◌∷◌, ◌++◌, length, slice_get}
+use Rattle.std.specs.Option.{option_map_or}
+
+-- a part of what a node prints: a text, a line ending where one is needed, a line ending in any case
+pub data Piece : Type 0 where
+  Text : (text : List ℕ) → Piece
+  Needed : Piece
+  Forced : Piece
+
+-- a text that is empty or ends in CR or LF
+abbrev pub begins_line : List ℕ → Bool
+begins_line text = option_map_or (λ byte. byte == 13 || byte == 10) (slice_get text (length text - 1)) true
+
+-- some pieces behind a text, where lines end in `ending`
+abbrev pub behind : List ℕ → List ℕ → List Piece → List ℕ
+behind ending text [] = text
+behind ending text (Text more ∷ pieces) = behind ending (text ++ more) pieces
+behind ending text (Needed ∷ pieces) = behind ending (if begins_line text then text else text ++ ending) pieces
+behind ending text (Forced ∷ pieces) = behind ending (text ++ ending) pieces
+
+-- some pieces by themselves
+abbrev pub layout : List ℕ → List Piece → List ℕ
+layout ending pieces = behind ending [] pieces
+
+-- a text as one piece
+abbrev pub said : List ℕ → List Piece
+said text = Text text ∷ []
+
+-- a needed line ending, and a tag
+abbrev pub on_own_line : List ℕ → List Piece
+on_own_line tag = Needed ∷ said tag
+
+-- some pieces, where a test holds
+abbrev pub when : Bool → List Piece → List Piece
+when holds pieces = if holds then pieces else []

@@ -1,0 +1,73 @@
+-- What links, images and autolinks mean.
+use Rattle.std.specs.Prelude.{ℕ, Bool, true, ◌||◌, if◌then◌else◌, List, [], ◌∷◌, ◌++◌, Option, None, unwrap_or, find, bytes_eq, codes}
+use Rattle.std.specs.Option.{option_map_or}
+use Rattle.md_text.specs.Encode.{encoded}
+use Rattle.md_text.specs.Url.{sanitized, sanitized_with}
+use Rattle.md_meaning.specs.declared.options.CompileOptions.{CompileOptions}
+use Rattle.md_meaning.specs.Piece.{Target}
+use Rattle.md_meaning.specs.Places.{identifier_at}
+use Rattle.md_meaning.specs.Meaning.Finds.{referring_in}
+use Rattle.md_meaning.specs.Meaning.Layout.{Piece, Text, said}
+use Rattle.md_meaning.specs.Meaning.At.{Given, At, text_at, nothing_found, target_in}
+
+-- the protocols that a link may have, and those that an image may have
+abbrev pub link_protocols : List (List ℕ)
+link_protocols = codes "http" ∷ codes "https" ∷ codes "irc" ∷ codes "ircs" ∷ codes "mailto" ∷ codes "xmpp" ∷ []
+
+abbrev pub image_protocols : List (List ℕ)
+image_protocols = codes "http" ∷ codes "https" ∷ []
+
+-- a URL as it is written, judged unless that is off
+abbrev pub url : Bool → List (List ℕ) → List ℕ → List ℕ
+url any protocols destination = if any then sanitized destination else sanitized_with protocols destination
+
+abbrev pub href : CompileOptions → List ℕ → List ℕ
+href options destination = url options.allow_dangerous_protocol link_protocols destination
+
+abbrev pub src : CompileOptions → List ℕ → List ℕ
+src options destination =
+    url (options.allow_any_img_src || options.allow_dangerous_protocol) image_protocols destination
+
+-- where the first definition with an identifier leads
+abbrev pub defined_by : Given → List ℕ → Target
+defined_by given identifier =
+    option_map_or (λ defined. defined.target)
+    (find (λ defined. bytes_eq defined.identifier identifier) given.definitions) (target_in nothing_found)
+
+-- where a link or an image leads: as its resource says, else as the definition to which it refers
+abbrev pub leads_to : Given → At → Target
+leads_to given at =
+    unwrap_or at.found.resource (defined_by given (identifier_at given.bytes (referring_in at.children)))
+
+-- ` title="` title `"`, where there is one
+abbrev pub title_attribute : Option (List ℕ) → List Piece
+title_attribute title = option_map_or (λ text. Text (codes " title=\"") ∷ Text text ∷ Text (codes "\"") ∷ []) title []
+
+-- a link with a label
+abbrev pub anchor : CompileOptions → Target → List ℕ → List Piece
+anchor options target label =
+    Text (codes "<a href=\"") ∷ Text (href options target.destination) ∷ Text (codes "\"")
+    ∷ (title_attribute target.title ++ (Text (codes ">") ∷ Text label ∷ Text (codes "</a>") ∷ []))
+
+-- an image with an alternative text
+abbrev pub picture : CompileOptions → Target → List ℕ → List Piece
+picture options target label =
+    Text (codes "<img src=\"") ∷ Text (src options target.destination)
+    ∷ Text (codes "\" alt=\"") ∷ Text label ∷ Text (codes "\"") ∷ (title_attribute target.title ++ said (codes " />"))
+
+abbrev pub link : Given → At → List ℕ → List Piece
+link given at label = if at.around.in_image then said label else anchor given.options (leads_to given at) label
+
+abbrev pub image : Given → At → List ℕ → List Piece
+image given at label = if at.around.in_image then said label else picture given.options (leads_to given at) label
+
+-- an autolink: its text, which leads to itself behind a prefix unless it is plain
+abbrev pub autolink : Given → At → Bool → List ℕ → List Piece
+autolink given at plain prefix =
+    if plain then said (encoded true (text_at given at))
+    else anchor given.options (record { destination = prefix ++ text_at given at; title = None })
+    (encoded true (text_at given at))
+
+-- a literal one is plain in a link as well
+abbrev pub literal : Given → At → List ℕ → List Piece
+literal given at prefix = autolink given at (at.around.in_image || at.around.in_link) prefix

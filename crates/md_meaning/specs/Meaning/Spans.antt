@@ -1,0 +1,87 @@
+-- What texts, line endings, code in texts and breaks mean.
+use Rattle.std.specs.Prelude.{ℕ, ◌-◌, Bool, false, not, ◌&&◌, ◌||◌, ◌==◌, if◌then◌else◌, List, [], ◌∷◌, ◌++◌, length, take, drop, unwrap_or, codes, slice_get}
+use Rattle.std.specs.Option.{option_map_or}
+use Rattle.std.specs.List.{list_all}
+use Rattle.md_base.specs.declared.event.Name.{Name}
+use Rattle.md_base.specs.declared.event.Name.TheVariants.{CharacterReferenceMarkerNumeric, CharacterReferenceMarkerHexadecimal}
+use Rattle.md_base.specs.Reference.{decoded}
+use Rattle.md_text.specs.Encode.{encoded}
+use Rattle.md_text.specs.Filter.{tag_filtered}
+use Rattle.md_tree.specs.NameTests.{is_definition}
+use Rattle.md_meaning.specs.Surroundings.{is_slurping, last_of}
+use Rattle.md_meaning.specs.Meaning.Layout.{Piece, Text, said, when}
+use Rattle.md_meaning.specs.Meaning.At.{Given, At, text_at}
+
+-- a text, escaped where the surroundings say so
+abbrev pub written : At → List ℕ → List Piece
+written at text = said (encoded at.around.is_escaping text)
+
+-- the marker that a name is: `x`, `#` or `&`
+abbrev pub marker : Name → ℕ
+marker CharacterReferenceMarkerHexadecimal = 120
+marker CharacterReferenceMarkerNumeric = 35
+marker _ = 38
+
+-- what a reference stands for: the last mark before its value says how to read it
+abbrev pub reference : Given → At → List ℕ
+reference given at =
+    unwrap_or (decoded given.names (option_map_or marker (last_of at.before.spine) 38) (text_at given at)) []
+
+-- a line ending is dropped where the last mark before it is a setting one, but in a definition, and behind a definition
+abbrev pub is_dropped : At → Bool
+is_dropped at =
+    not at.around.in_definition && is_slurping at.before.marks || option_map_or is_definition at.before.previous false
+
+-- a line ending: a space in code, else its own text unless it is dropped
+abbrev pub line_ending : Given → At → List Piece
+line_ending given at =
+    if at.around.in_code then said (codes " ")
+    else (if is_dropped at then [] else said (text_at given at))
+
+-- HTML, which the tag filter disarms where it may stand
+abbrev pub html : Given → At → List ℕ
+html given at =
+    if given.options.allow_dangerous_html && given.options.gfm_tagfilter
+    then tag_filtered (text_at given at)
+    else text_at given at
+
+-- outside images
+abbrev pub unless_in_image : At → List Piece → List Piece
+unless_in_image at pieces = when (not at.around.in_image) pieces
+
+-- a span between its tags, which don't stand in an image
+abbrev pub span : At → List Piece → List Piece → List Piece → List Piece
+span at start inner end = if at.around.in_image then inner else start ++ (inner ++ end)
+
+-- a task's tag, up to what tells that it is done
+abbrev pub task_start : Given → List Piece
+task_start given =
+    Text (codes "<input type=\"checkbox\" ")
+    ∷ when (not given.options.gfm_task_list_item_checkable) (said (codes "disabled=\"\" "))
+
+-- this byte stands there
+abbrev pub is_at : ℕ → List ℕ → ℕ → Bool
+is_at byte text index = option_map_or (λ found. found == byte) (slice_get text index) false
+
+-- a text whose backslashes directly before pipes are gone
+abbrev pub without_escapes : List ℕ → List ℕ
+without_escapes [] = []
+without_escapes (byte ∷ bytes) =
+    (if byte == 92 && is_at 124 bytes 0 then [] else byte ∷ []) ++ without_escapes bytes
+
+-- one space less at each end of a text that begins and ends with one and isn't all spaces
+abbrev pub trimmed : List ℕ → List ℕ
+trimmed text =
+    if is_at 32 text 0 && is_at 32 text (length text - 1) && not (list_all (λ byte. byte == 32) text)
+    then take (length text - 2) (drop 1 text)
+    else text
+
+-- the text of code where it stands
+abbrev pub code_text : At → List ℕ → List ℕ
+code_text at text = trimmed (if at.around.in_table then without_escapes text else text)
+
+-- code in a text
+abbrev pub code : At → List ℕ → List ℕ → List Piece
+code at tag text =
+    if at.around.in_image then said (code_text at text)
+    else Text tag ∷ Text (code_text at text) ∷ Text (codes "</code>") ∷ []

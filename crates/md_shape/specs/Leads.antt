@@ -1,0 +1,98 @@
+-- By what nodes of a document refer to one another, and that what the meaning reads of a document is there.
+use Rattle.std.specs.Prelude.{◌≡◌, ℕ, ◌⊎◌, if◌then◌else◌, List, [], ◌∷◌, ◌++◌, Option, Some, None, is_some, IsTrue, Contains}
+use Rattle.md_base.specs.declared.event.Name.{Name}
+use Rattle.md_base.specs.declared.event.Name.TheVariants.{Link, Image, Definition, GfmFootnoteCall, GfmFootnoteDefinition, CharacterReferenceValue}
+use Rattle.md_base.specs.declared.event.Point.{Point}
+use Rattle.md_base.specs.declared.event.Position.{Position}
+use Rattle.md_base.specs.Place.{text_between, label_between, serialized_between}
+use Rattle.md_base.specs.Reference.{decoded}
+use Rattle.std.specs.Option.{option_map_or}
+use Rattle.md_meaning.specs.Given.{text_of}
+use Rattle.md_meaning.specs.Surroundings.{last_of, spine_inside, spine_behind}
+use Rattle.md_meaning.specs.Meaning.Spans.{marker}
+use Rattle.md_tree.specs.declared.kinds.Target.{Target}
+use Rattle.md_tree.specs.declared.kinds.Target.TheVariants.{Missing, Label, Resource}
+use Rattle.md_tree.specs.Tree.{Forest, Empty, Node}
+use Rattle.md_tree.specs.Rules.{target_of}
+use Rattle.md_tree.specs.Texts.{is_text_name, is_identifier_name}
+use Rattle.md_tree.specs.NameTests.{is_link_definition, is_footnote_definition, is_definition_label}
+use Rattle.md_meaning.specs.Places.{identifier_at}
+use Rattle.md_meaning.specs.Meaning.Finds.{first, label_in_node, referring_in, footnote_label}
+
+-- a claim holds of each node, at any depth
+abbrev pub Everywhere : (Name → Point → Point → Forest → Type 0) → Forest → Type 0
+Everywhere holds Empty = Unit {0}
+Everywhere holds (Node name start end children rest) =
+    holds name start end children × Everywhere holds children × Everywhere holds rest
+
+-- a node whose text is read has one, also with the spaces of tabs that are cut at its ends
+abbrev pub HasItsText : List ℕ → Name → Point → Point → Forest → Type 0
+HasItsText bytes name start end children =
+    IsTrue (is_text_name name)
+    → IsTrue (is_some (text_between bytes start end)) × IsTrue (is_some (serialized_between bytes start end))
+
+-- a claim holds of each node, at any depth, after the names on its spine
+abbrev pub EverywhereAfter : (List Name → Name → Point → Point → Forest → Type 0) → List Name → Forest → Type 0
+EverywhereAfter holds spine Empty = Unit {0}
+EverywhereAfter holds spine (Node name start end children rest) =
+    holds spine name start end children
+    × EverywhereAfter holds (spine_inside name spine) children
+    × EverywhereAfter holds (spine_behind name children spine) rest
+
+-- a reference's value stands for a text, by the mark before it
+abbrev pub Decodes : List ℕ → List (List ℕ × List ℕ) → List Name → Name → Point → Point → Forest → Type 0
+Decodes bytes names spine CharacterReferenceValue start end children =
+    IsTrue (is_some (decoded names (option_map_or marker (last_of spine) 38) (text_of bytes start end)))
+Decodes bytes names spine _ start end children = Unit {0}
+
+-- a node that identifies what it stands in has a text between its indices
+abbrev pub HasItsLabel : List ℕ → Name → Point → Point → Forest → Type 0
+HasItsLabel bytes name start end children = IsTrue (is_identifier_name name) → IsTrue (is_some (label_between bytes start end))
+
+-- the target that the place of a label is, if there is one
+abbrev pub label_target : Option Position → Target
+label_target None = Missing
+label_target (Some place) = Label place
+
+-- to the grammar a node with these children leads to its resource, or to this label
+abbrev pub HasResource : Forest → Type 0
+HasResource children = target_of children Missing ≡ Resource
+
+abbrev pub IsLabelled : Option Position → Forest → Type 0
+IsLabelled label children = target_of children Missing ≡ label_target label
+
+-- a link or an image refers by its resource, else by the label that the meaning reads; a call, a definition and a footnote
+-- definition by theirs
+abbrev pub RefersAlike : Name → Point → Point → Forest → Type 0
+RefersAlike Link start end children = HasResource children ⊎ IsLabelled (referring_in children) children
+RefersAlike Image start end children = HasResource children ⊎ IsLabelled (referring_in children) children
+RefersAlike GfmFootnoteCall start end children = IsLabelled (label_in_node children) children
+RefersAlike Definition start end children = IsLabelled (first is_definition_label children) children
+RefersAlike GfmFootnoteDefinition start end children = IsLabelled (footnote_label children) children
+RefersAlike _ start end children = Unit {0}
+
+-- the identifiers of the definitions in some nodes, in the order of their exits
+abbrev pub defined_in : List ℕ → Forest → List (List ℕ)
+defined_in bytes Empty = []
+defined_in bytes (Node name start end children rest) =
+    defined_in bytes children
+    ++ ((if is_link_definition name then identifier_at bytes (first is_definition_label children) ∷ [] else [])
+    ++ defined_in bytes rest)
+
+-- those of the footnote definitions
+abbrev pub footnotes_in : List ℕ → Forest → List (List ℕ)
+footnotes_in bytes Empty = []
+footnotes_in bytes (Node name start end children rest) =
+    footnotes_in bytes children
+    ++ ((if is_footnote_definition name then identifier_at bytes (footnote_label children) ∷ [] else [])
+    ++ footnotes_in bytes rest)
+
+-- a link or an image without a resource refers to a definition of the document, a call to a footnote definition
+abbrev pub LeadsSomewhere : List ℕ → Forest → Name → Point → Point → Forest → Type 0
+LeadsSomewhere bytes document Link start end children =
+    HasResource children ⊎ Contains (defined_in bytes document) (identifier_at bytes (referring_in children))
+LeadsSomewhere bytes document Image start end children =
+    HasResource children ⊎ Contains (defined_in bytes document) (identifier_at bytes (referring_in children))
+LeadsSomewhere bytes document GfmFootnoteCall start end children =
+    Contains (footnotes_in bytes document) (identifier_at bytes (label_in_node children))
+LeadsSomewhere bytes document _ start end children = Unit {0}

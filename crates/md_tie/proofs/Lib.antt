@@ -1,0 +1,12 @@
+pub mod Reading
+pub mod Leaves
+pub mod Sides
+pub mod Calls
+pub mod Captured
+pub mod Section
+pub mod Shapes
+pub mod Silence
+pub mod Marks
+pub mod Nodes
+pub mod Forests
+pub mod Whole

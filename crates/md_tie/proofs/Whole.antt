@@ -1,0 +1,59 @@
+-- What is printed for a document of the grammar is what it means.
+use Rattle.std.proofs.Common.{◌≡◌, ℕ, List, [], ◌++◌, ap, sym, ◌∙◌, None, false, append-nil}
+use Rattle.std.proofs.lemmas.Bool.{true≢false}
+use Rattle.md_tree.specs.declared.kinds.Role.TheVariants as role
+use Rattle.md_tree.specs.Tree.{Forest}
+use Rattle.md_tree.specs.Spine.{spine}
+use Rattle.md_tree.specs.Grammar.{IsGrammatical}
+use Rattle.md_shape.specs.Built.{Blocks}
+use Rattle.md_shape.proofs.Grammatical.{grammatical-built}
+use Rattle.md_meaning.specs.declared.options.CompileOptions.{CompileOptions}
+use Rattle.md_meaning.specs.Surroundings.{outermost}
+use Rattle.md_meaning.specs.Calls.{tally}
+use Rattle.md_meaning.specs.Given.{Defined}
+use Rattle.md_meaning.specs.Footnotes.{Footnote, section_pieces}
+use Rattle.md_meaning.specs.Places.{first_ending}
+use Rattle.md_meaning.specs.Places.{nothing_before as nothing_stood, calls_of as calls_in}
+use Rattle.md_meaning.specs.Printed.{printed, footnotes_of}
+use Rattle.md_meaning.specs.Piece.{no_notes}
+use Rattle.md_meaning.specs.Piece.{Piece as Printed, layout as laid}
+use Rattle.md_meaning.specs.Meaning.{meaning, ending_at}
+use Rattle.md_meaning.specs.Whole.{printed_meaning}
+use Rattle.md_meaning.specs.Meaning.At.{Given}
+use Rattle.md_meaning.specs.Meaning.Before.{nothing_before, calls_of}
+use Rattle.md_meaning.specs.Meaning.Nodes.{Meant, meant}
+use Rattle.md_meaning.specs.Meaning.Footnotes.{section}
+use Rattle.md_tie.proofs.Reading.{read, noted_after, read-append, captured-text}
+use Rattle.md_tie.proofs.Sides.{source_of}
+use Rattle.md_tie.proofs.Captured.{calls-same}
+use Rattle.md_tie.proofs.Section.{section-read}
+use Rattle.md_tie.proofs.Shapes.{matches-underlined}
+use Rattle.md_tie.proofs.Forests.{Tied, tied}
+
+pub printed-is-meant : (options : CompileOptions) (names : List (List ℕ × List ℕ)) (bytes : List ℕ) (document : Forest) →
+    IsGrammatical bytes names document → printed_meaning options names bytes document ≡ meaning options names bytes document
+printed-is-meant options names bytes document grammatical =
+    let ending : List ℕ = ending_at options bytes (first_ending document) in
+    let given : List Defined → Given = λ ds. record { bytes = bytes; names = names; options = options; ending = ending; calls = calls_of bytes document; definitions = ds } in
+    let is_tied : (ds : List Defined) → Tied (given ds) outermost nothing_before no_notes false document = λ ds.
+    tied (given ds) document outermost nothing_before role.Flow None Blocks [] no_notes false
+    (record {
+      shaped = grammatical.shape.0;
+      built = grammatical-built bytes names document grammatical;
+      underlines = matches-underlined role.Flow (spine document) grammatical.shape.1 false;
+      heading = λ w. absurd (true≢false (sym w));
+      calls = sym (append-nil (calls_of bytes document));
+    })
+    in
+    let pieces : List Defined → List Printed = λ ds. printed (source_of (given ds)) outermost nothing_stood document in
+    let footnotes : List Defined → List Footnote = λ ds. footnotes_of (source_of (given ds)) outermost nothing_stood document in
+    let known : List Defined = (meant (given []) outermost nothing_before document).definitions in
+    let whole : Meant = meant (given known) outermost nothing_before document in
+    let section_of : List Footnote → List Printed = λ fs. section_pieces options fs (tally (calls_of bytes document)) in
+    ap (λ ds. laid ending (pieces ds ++ section_pieces options (footnotes ds) (tally (calls_in bytes document)))) (is_tied []).definitions
+    ∙ ap (λ cs. laid ending (pieces known ++ section_pieces options (footnotes known) (tally cs))) (calls-same bytes document)
+    ∙ ap (λ fs. laid ending (pieces known ++ section_of fs)) (is_tied known).footnotes
+    ∙ captured-text ending (pieces known ++ section_of whole.footnotes) (whole.pieces ++ section (given known) whole.footnotes)
+    (read-append no_notes (pieces known) (section_of whole.footnotes)
+    ∙ ap (λ ps. ps ++ read (noted_after no_notes (pieces known)) (section_of whole.footnotes)) (is_tied known).agree.pieces_are
+    ∙ ap (λ ps. whole.pieces ++ ps) (section-read (given known) whole.footnotes (noted_after no_notes (pieces known))))

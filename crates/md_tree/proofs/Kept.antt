@@ -1,0 +1,51 @@
+-- What is kept at the index of an event that enters a node.
+use Rattle.std.proofs.Common.{◌≡◌, ℕ, ◌<◌, Some, length, refl, sym, ap, ◌∙◌, subst}
+use Rattle.std.specs.Prelude.{map, slice_get}
+use Rattle.std.proofs.lemmas.List.{length-map}
+use Rattle.md_base.specs.declared.event.Name.TheVariants.{GfmTable}
+use Rattle.md_tree.specs.declared.checked.Checked.TheInside.{Inside}
+use Rattle.md_tree.specs.declared.facts.Fact.{Fact}
+use Rattle.md_tree.specs.Tree.{Forest, flatten}
+use Rattle.md_tree.specs.Alignments.{alignments}
+use Rattle.md_tree.specs.Grammar.{Document, IsReadAs}
+use Rattle.md_tree.specs.Texts.{EntersAt}
+use Rattle.md_tree.specs.Entered.{IsEnteredAt, EntersNode}
+use Rattle.md_tree.specs.Checked.{given_of, IsKept}
+use Rattle.md_tree.specs.Facts.{facts_at, tables_at, fact_at}
+use Rattle.md_tree.specs.Found.{EntersSome, IsFactAt}
+use Rattle.md_tree.proofs.Entering.{got_inside, EntersNode-entered, found-entered, facts_at-inside}
+
+module _ (inside : Inside) (given : Document) (index : ℕ) (kept : IsKept inside) (same : given_of inside ≡ given) where
+  -- the document's nodes
+  flattened : flatten kept.0.0 ≡ given.events
+  flattened = IsReadAs.flattened kept.0.1 ∙ ap (λ (g : Document). g.events) same
+
+  pub facts_are : inside.facts.items ≡ facts_at given.events
+  facts_are = kept.1 ∙ ap (λ (g : Document). facts_at g.events) same
+
+  tables_are : map (λ t. t.items) inside.tables.items ≡ tables_at given.events
+  tables_are = kept.2 ∙ ap (λ (g : Document). tables_at g.events) same
+
+  pub facts-inside : EntersSome given.events index → index < length inside.facts.items
+  facts-inside enters =
+      subst (λ xs. index < length xs) (sym facts_are) (facts_at-inside given index enters.0 enters.1 kept.0.0 flattened)
+
+  pub node-entered : EntersSome given.events index → EntersNode given index
+  node-entered enters = EntersNode-entered given index enters.0 enters.1 kept.0.0 flattened
+
+  pub fact-kept : (fact : Fact) → slice_get inside.facts.items index ≡ Some fact → IsFactAt given index fact
+  fact-kept fact got name children enters entered =
+      let found = found-entered given index name enters children fact entered (ap (λ xs. slice_get xs index) (sym facts_are) ∙ got) in
+      (found.0, found.1)
+
+  -- a table's columns
+  pub columns-kept : EntersAt given.events index GfmTable → (fact : Fact) → slice_get inside.facts.items index ≡ Some fact → (children : Forest) → IsEnteredAt given index children → slice_get (map (λ t. t.items) inside.tables.items) fact.place ≡ Some (alignments children)
+  columns-kept enters fact got children entered =
+      let found = found-entered given index GfmTable enters children fact entered (ap (λ xs. slice_get xs index) (sym facts_are) ∙ got) in
+      ap (λ (f : Fact). slice_get (map (λ t. t.items) inside.tables.items) f.place) found.1 ∙ ap (λ ts. slice_get ts (Fact.place (fact_at index found.0 GfmTable children))) tables_are ∙ found.2 refl
+
+  pub columns-inside : EntersAt given.events index GfmTable → (fact : Fact) → slice_get inside.facts.items index ≡ Some fact → fact.place < length inside.tables.items
+  columns-inside enters fact got =
+      let node = node-entered (GfmTable, enters) in
+      subst (λ n. fact.place < n) (length-map inside.tables.items (λ t. t.items))
+      (got_inside (map (λ t. t.items) inside.tables.items) fact.place (alignments node.0) (columns-kept enters fact got node.0 node.1))

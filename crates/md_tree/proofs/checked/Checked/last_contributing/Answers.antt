@@ -1,0 +1,11 @@
+use Rattle.std.proofs.Common.{ap, ◌∙◌}
+use Rattle.md_base.specs.declared.event.Name.TheVariants.{ListItem}
+use Rattle.md_tree.specs.declared.facts.Fact.{Fact}
+use Rattle.md_tree.specs.Found.{index_if}
+use Rattle.md_tree.proofs.Contributing.{contributing-found}
+use Rattle.md_tree.proofs.checked.Checked.last_contributing.Goals as goal
+
+pub returns-clause-contributing : goal.returns-clause-contributing
+returns-clause-contributing c = λ children entered.
+    let found = c.fact.ensures.fact ListItem children c.requires entered in
+    c.unless_zero.ensures ∙ ap (λ (f : Fact). index_if f.place) found.1 ∙ contributing-found children c.args.index

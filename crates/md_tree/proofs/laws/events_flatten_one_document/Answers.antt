@@ -1,0 +1,11 @@
+use Rattle.md_base.specs.declared.event.Name.TheVariants.{Data}
+use Rattle.md_base.specs.declared.event.Point.{Point}
+use Rattle.md_tree.proofs.Indexed.{flatten_one}
+use Rattle.md_tree.proofs.laws.events_flatten_one_document.Goals as goal
+
+-- any point
+somewhere : Point
+somewhere = record { line = 1; column = 1; index = 0; vs = 0 }
+
+pub returns : goal.returns
+returns c = λ one other e. flatten_one Data somewhere one other e

@@ -1,0 +1,5 @@
+use Rattle.md_tree.proofs.Spines.{spine-names}
+use Rattle.md_tree.proofs.laws.names_and_symbols_tell_one_spine.Goals as goal
+
+pub returns : goal.returns
+returns c = spine-names

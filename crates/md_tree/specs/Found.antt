@@ -1,0 +1,44 @@
+-- What is found of a node by the index of the event that enters it. Only contracts of private functions speak of it.
+use Rattle.std.specs.Prelude.{◌≡◌, ℕ, zero, suc, Option, Some, None, List, slice_get}
+use Rattle.md_base.specs.declared.event.Name.{Name}
+use Rattle.md_base.specs.declared.event.Event.{Event}
+use Rattle.md_base.specs.declared.event.Position.{Position}
+use Rattle.md_tree.specs.declared.facts.Fact.{Fact}
+use Rattle.md_tree.specs.Tree.{Forest}
+use Rattle.md_tree.specs.Rules.{place}
+use Rattle.md_tree.specs.Grammar.{Document}
+use Rattle.md_tree.specs.Texts.{EntersAt}
+use Rattle.md_tree.specs.Entered.{IsEnteredAt}
+use Rattle.md_tree.specs.Facts.{fact_at}
+
+-- the event at an index enters a node
+abbrev pub EntersSome : List Event → ℕ → Type 0
+EntersSome events index = (name : Name) × EntersAt events index name
+
+-- what is found of the node that the event at an index enters, where some number of tables have ended
+abbrev pub IsFactAt : Document → ℕ → Fact → Type 0
+IsFactAt given index fact =
+    (name : Name) (children : Forest) → EntersAt given.events index name → IsEnteredAt given index children → (tables : ℕ) × (fact ≡ fact_at index tables name children)
+
+-- an index that is there
+abbrev pub index_if : ℕ → Option ℕ
+index_if zero = None
+index_if (suc index) = Some (suc index)
+
+-- where a node starts and ends, by its two events
+abbrev pub position_from : Option Event → Option Event → Option Position
+position_from (Some first) (Some last) = Some (place first.point last.point)
+position_from _ _ = None
+
+-- the partner's event
+abbrev pub last_event : List Event → Option Fact → Option Event
+last_event events None = None
+last_event events (Some fact) = slice_get events fact.partner
+
+-- the place of the node that the event at an index enters; 0 stands for no index
+abbrev pub position_there : List Event → List Fact → ℕ → Option Position
+position_there events facts index = position_from (slice_get events index) (last_event events (slice_get facts index))
+
+abbrev pub position_at : List Event → List Fact → ℕ → Option Position
+position_at events facts zero = None
+position_at events facts (suc index) = position_there events facts (suc index)

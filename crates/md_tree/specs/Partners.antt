@@ -1,0 +1,28 @@
+-- The indices of a node's two events, and of its children's.
+use Rattle.std.specs.Prelude.{◌≡◌, ℕ, suc, if◌then◌else◌, Option, Some, None, List, [], ◌∷◌, ◌++◌, slice_get}
+use Rattle.md_tree.specs.Tree.{Forest, Empty, Node, flatten}
+use Rattle.md_tree.specs.NameTests.{contributes}
+use Rattle.md_tree.specs.Children.{or_else}
+use Rattle.md_tree.specs.Grammar.{Document}
+
+-- the index behind the events of some nodes, of which the first has an index
+abbrev pub behind : ℕ → Forest → ℕ
+behind index Empty = index
+behind index (Node name start end children rest) = behind (suc (behind (suc index) children)) rest
+
+-- for each event of the nodes, in order, the index of the other event of its node, where the first has an index
+abbrev pub partners_of : ℕ → Forest → List ℕ
+partners_of index Empty = []
+partners_of index (Node name start end children rest) =
+    behind (suc index) children ∷ partners_of (suc index) children ++ index ∷ partners_of (suc (behind (suc index) children)) rest
+
+-- the index of the other event of a node, in the document that the events are; there is none past the end
+abbrev pub IsPartnerAt : Document → ℕ → Option ℕ → Type 0
+IsPartnerAt given index partner =
+    (forest : Forest) × (flatten forest ≡ given.events) × (partner ≡ slice_get (partners_of 0 forest) index)
+
+-- the index of the event that enters the last of some nodes that contributes to an item, where the first has an index
+abbrev pub last_contributing_at : ℕ → Forest → Option ℕ
+last_contributing_at index Empty = None
+last_contributing_at index (Node name start end children rest) =
+    or_else (last_contributing_at (suc (behind (suc index) children)) rest) (if contributes name then Some index else None)
