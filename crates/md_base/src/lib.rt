@@ -9,8 +9,6 @@ mod name;
 mod position;
 mod reference;
 mod slice;
-#[cfg(test)]
-mod tests;
 
 pub use event::{AlignKind, Event, Kind, Name, Point, Position};
 pub use identifier::normalize_identifier;

@@ -8,6 +8,7 @@ mod endings;
 mod flags;
 mod footnote_texts;
 mod footnotes;
+mod lines;
 mod media;
 mod options;
 mod own;

@@ -12,8 +12,6 @@ mod script;
 mod setting;
 mod split;
 mod table;
-#[cfg(test)]
-mod tests;
 
 pub use error::RunError;
 pub use running::run;

@@ -13,6 +13,3 @@ pub use escape::encode;
 pub use filter::gfm_tagfilter;
 pub use line_ending::{LineEnding, LineEndingError};
 pub use url::{sanitize, sanitize_with_protocols};
-
-#[cfg(test)]
-mod tests;

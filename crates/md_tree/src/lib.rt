@@ -18,8 +18,6 @@ mod shape;
 mod standing;
 mod state;
 mod steps;
-#[cfg(test)]
-mod tests;
 mod texts;
 mod told;
 mod walk;

@@ -1,32 +1,19 @@
-use crate::script::read_script;
-use crate::{RunError, run};
-use md_base::{Kind, Name};
-use md_text::LineEnding;
-use md_tree::Rule;
+//! Lines of scripts: which can't be read, and what is told of a failure.
+
+use md_html::Rule;
+use md_script::{RunError, run};
 use std::test::Fail;
 
 /// The number of the line that can't be read, or 0.
 fn unreadable_line(rt: &HostRuntime, input: &[u8]) -> usize {
-    match read_script(rt.alloc(), input) {
-        Ok(_) => 0,
+    match run(rt.alloc(), input) {
+        Ok(_) | Err(RunError::Event { .. }) => 0,
         Err(RunError::Line(number)) => number,
-        Err(_) => 999,
+        Err(RunError::Memory) => 999,
     }
 }
 
 const THEMATIC_BREAK: &[u8] = b"+ThematicBreak 0\n-ThematicBreak 3\n--\n***";
-
-#[test]
-fn thematic_break_is_read(rt: HostRuntime) -> Result<(), Fail> {
-    let script = read_script(rt.alloc(), THEMATIC_BREAK)?;
-    assert_eq!(rt; script.document, b"***".as_slice());
-    assert_eq!(rt; script.events.len(), 2);
-    assert_eq!(rt; script.events[0].kind, Kind::Enter);
-    assert_eq!(rt; script.events[1].kind, Kind::Exit);
-    assert_eq!(rt; script.events[1].name, Name::ThematicBreak);
-    assert_eq!(rt; script.events[1].point.index, 3);
-    Ok(())
-}
 
 #[test]
 fn script_cut_at_each_byte(rt: HostRuntime) {
@@ -114,22 +101,6 @@ fn option_lines_are_read_once(rt: HostRuntime) {
     for (input, wanted) in cases {
         assert_eq!(rt; unreadable_line(&rt, input), wanted, "at {input:?}");
     }
-}
-
-#[test]
-fn options_are_kept(rt: HostRuntime) -> Result<(), Fail> {
-    let script = read_script(
-        rt.alloc(),
-        b"!allow_dangerous_html\n!default_line_ending=cr\n!gfm_footnote_label=a=b\r\n--",
-    )?;
-    let options = script.options;
-    assert!(rt; options.allow_dangerous_html);
-    assert!(rt; !options.gfm_tagfilter);
-    assert_eq!(rt; options.default_line_ending, LineEnding::CarriageReturn);
-    let label = options.gfm_footnote_label.ok_or("it is set")?;
-    assert_eq!(rt; label.as_str(), "a=b\r");
-    assert!(rt; options.gfm_footnote_back_label.is_none());
-    Ok(())
 }
 
 #[test]

@@ -1,4 +1,6 @@
-use super::*;
+use md_base::{
+    Name, Point, Position, Slice, decode_character_reference, is_same_name, normalize_identifier,
+};
 use std::test::Fail;
 
 fn at(index: usize, vs: usize) -> Point {

@@ -1,5 +1,5 @@
-use super::*;
 use md_base::{SAFE_PROTOCOL_HREF, SAFE_PROTOCOL_SRC};
+use md_text::{LineEnding, encode, gfm_tagfilter, sanitize, sanitize_with_protocols};
 use std::alloc::{AllocError, Global};
 use std::test::Fail;
 

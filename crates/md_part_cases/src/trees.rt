@@ -3,9 +3,10 @@ mod find;
 mod infer;
 mod order;
 
-use super::*;
+use md_base::Kind::{Enter, Exit};
 use md_base::{Event, Kind, Name, Point};
-use std::alloc::Global;
+use md_tree::{Checked, CompileError, Rule, check, gfm_table_align, list_item_loose, list_loose};
+use std::alloc::{AllocError, Global};
 use std::test::Fail;
 
 fn event(kind: Kind, name: Name, index: usize, vs: usize) -> Event {
@@ -37,8 +38,33 @@ fn exit_at(name: Name, index: usize, vs: usize) -> Event {
     event(Kind::Exit, name, index, vs)
 }
 
+/// An event by its kind, its name and its index.
+type Plain = (Kind, Name, usize);
+
+/// The events of a list, without virtual spaces.
+fn listed(alloc: Global, list: &[Plain]) -> Result<Vec<Event>, AllocError> {
+    let mut events = Vec::new(alloc);
+    for (kind, name, index) in list {
+        events.push(event(*kind, *name, *index, 0))?;
+    }
+    Ok(events)
+}
+
 /// Why the events are refused, if they are.
 fn refusal(
+    alloc: Global,
+    list: &[Plain],
+    bytes: &[u8],
+    names: &[(&str, &str)],
+) -> Option<CompileError> {
+    match listed(alloc, list) {
+        Ok(events) => refusal_of(alloc, events.as_slice(), bytes, names),
+        Err(_) => Some(CompileError::Memory),
+    }
+}
+
+/// The same of events with virtual spaces.
+fn refusal_of(
     alloc: Global,
     events: &[Event],
     bytes: &[u8],
@@ -64,15 +90,16 @@ fn refusals_print(rt: HostRuntime) -> Result<(), Fail> {
 #[test]
 fn what_was_checked_is_kept(rt: HostRuntime) -> Result<(), Fail> {
     let events = [
-        enter(Name::Definition, 0),
-        enter(Name::DefinitionLabelString, 1),
-        enter(Name::Data, 1),
-        exit(Name::Data, 2),
-        exit(Name::DefinitionLabelString, 2),
-        exit(Name::Definition, 3),
+        (Enter, Name::Definition, 0),
+        (Enter, Name::DefinitionLabelString, 1),
+        (Enter, Name::Data, 1),
+        (Exit, Name::Data, 2),
+        (Exit, Name::DefinitionLabelString, 2),
+        (Exit, Name::Definition, 3),
     ];
+    let events = listed(rt.alloc(), &events)?;
     let names = [("amp", "&")];
-    match check(rt.alloc(), &events, b"[a]", &names) {
+    match check(rt.alloc(), events.as_slice(), b"[a]", &names) {
         Ok(checked) => {
             assert_eq!(rt; checked.events(), events.as_slice());
             assert_eq!(rt; checked.bytes(), b"[a]".as_slice());

@@ -9,7 +9,7 @@ fn nothing_is_a_document(rt: HostRuntime) -> Result<(), Fail> {
 #[test]
 fn a_lone_exit_is_out_of_order(rt: HostRuntime) -> Result<(), Fail> {
     assert_eq!(rt;
-        refusal(rt.alloc(), &[exit(Name::Paragraph, 0)], b"", &[]),
+        refusal(rt.alloc(), &[(Exit, Name::Paragraph, 0)], b"", &[]),
         Some(CompileError::Event {
             index: 0,
             rule: Rule::Order
@@ -21,7 +21,7 @@ fn a_lone_exit_is_out_of_order(rt: HostRuntime) -> Result<(), Fail> {
 #[test]
 fn a_lone_entry_stays_open(rt: HostRuntime) -> Result<(), Fail> {
     assert_eq!(rt;
-        refusal(rt.alloc(), &[enter(Name::Paragraph, 0)], b"", &[]),
+        refusal(rt.alloc(), &[(Enter, Name::Paragraph, 0)], b"", &[]),
         Some(CompileError::Event {
             index: 1,
             rule: Rule::Order
@@ -35,7 +35,7 @@ fn mdx_is_refused(rt: HostRuntime) -> Result<(), Fail> {
     assert_eq!(rt;
         refusal(
             rt.alloc(),
-            &[enter(Name::MdxEsm, 0), exit(Name::MdxEsm, 0)],
+            &[(Enter, Name::MdxEsm, 0), (Exit, Name::MdxEsm, 0)],
             b"",
             &[]
         ),
@@ -48,8 +48,8 @@ fn mdx_is_refused(rt: HostRuntime) -> Result<(), Fail> {
         refusal(
             rt.alloc(),
             &[
-                enter(Name::MdxFlowExpression, 0),
-                exit(Name::MdxFlowExpression, 0)
+                (Enter, Name::MdxFlowExpression, 0),
+                (Exit, Name::MdxFlowExpression, 0)
             ],
             b"",
             &[]
@@ -63,8 +63,8 @@ fn mdx_is_refused(rt: HostRuntime) -> Result<(), Fail> {
         refusal(
             rt.alloc(),
             &[
-                enter(Name::MdxTextExpression, 0),
-                exit(Name::MdxTextExpression, 0)
+                (Enter, Name::MdxTextExpression, 0),
+                (Exit, Name::MdxTextExpression, 0)
             ],
             b"",
             &[]
@@ -77,7 +77,10 @@ fn mdx_is_refused(rt: HostRuntime) -> Result<(), Fail> {
     assert_eq!(rt;
         refusal(
             rt.alloc(),
-            &[enter(Name::MdxJsxFlowTag, 0), exit(Name::MdxJsxFlowTag, 0)],
+            &[
+                (Enter, Name::MdxJsxFlowTag, 0),
+                (Exit, Name::MdxJsxFlowTag, 0)
+            ],
             b"",
             &[]
         ),
@@ -89,7 +92,10 @@ fn mdx_is_refused(rt: HostRuntime) -> Result<(), Fail> {
     assert_eq!(rt;
         refusal(
             rt.alloc(),
-            &[enter(Name::MdxJsxTextTag, 0), exit(Name::MdxJsxTextTag, 0)],
+            &[
+                (Enter, Name::MdxJsxTextTag, 0),
+                (Exit, Name::MdxJsxTextTag, 0)
+            ],
             b"",
             &[]
         ),
@@ -107,14 +113,14 @@ fn a_second_fence_says_nothing(rt: HostRuntime) -> Result<(), Fail> {
         refusal(
             rt.alloc(),
             &[
-                enter(Name::CodeFenced, 0),
-                enter(Name::CodeFencedFence, 0),
-                exit(Name::CodeFencedFence, 3),
-                enter(Name::CodeFencedFence, 3),
-                enter(Name::CodeFencedFenceInfo, 4),
-                exit(Name::CodeFencedFenceInfo, 5),
-                exit(Name::CodeFencedFence, 6),
-                exit(Name::CodeFenced, 6)
+                (Enter, Name::CodeFenced, 0),
+                (Enter, Name::CodeFencedFence, 0),
+                (Exit, Name::CodeFencedFence, 3),
+                (Enter, Name::CodeFencedFence, 3),
+                (Enter, Name::CodeFencedFenceInfo, 4),
+                (Exit, Name::CodeFencedFenceInfo, 5),
+                (Exit, Name::CodeFencedFence, 6),
+                (Exit, Name::CodeFenced, 6)
             ],
             b"abcdef",
             &[]
@@ -128,14 +134,14 @@ fn a_second_fence_says_nothing(rt: HostRuntime) -> Result<(), Fail> {
         refusal(
             rt.alloc(),
             &[
-                enter(Name::CodeFenced, 0),
-                enter(Name::CodeFencedFence, 0),
-                exit(Name::CodeFencedFence, 3),
-                enter(Name::CodeFencedFence, 3),
-                enter(Name::SpaceOrTab, 4),
-                exit(Name::SpaceOrTab, 5),
-                exit(Name::CodeFencedFence, 6),
-                exit(Name::CodeFenced, 6)
+                (Enter, Name::CodeFenced, 0),
+                (Enter, Name::CodeFencedFence, 0),
+                (Exit, Name::CodeFencedFence, 3),
+                (Enter, Name::CodeFencedFence, 3),
+                (Enter, Name::SpaceOrTab, 4),
+                (Exit, Name::SpaceOrTab, 5),
+                (Exit, Name::CodeFencedFence, 6),
+                (Exit, Name::CodeFenced, 6)
             ],
             b"abcdef",
             &[]
@@ -146,14 +152,14 @@ fn a_second_fence_says_nothing(rt: HostRuntime) -> Result<(), Fail> {
         refusal(
             rt.alloc(),
             &[
-                enter(Name::MathFlow, 0),
-                enter(Name::MathFlowFence, 0),
-                exit(Name::MathFlowFence, 3),
-                enter(Name::MathFlowFence, 3),
-                enter(Name::MathFlowFenceMeta, 4),
-                exit(Name::MathFlowFenceMeta, 5),
-                exit(Name::MathFlowFence, 6),
-                exit(Name::MathFlow, 6)
+                (Enter, Name::MathFlow, 0),
+                (Enter, Name::MathFlowFence, 0),
+                (Exit, Name::MathFlowFence, 3),
+                (Enter, Name::MathFlowFence, 3),
+                (Enter, Name::MathFlowFenceMeta, 4),
+                (Exit, Name::MathFlowFenceMeta, 5),
+                (Exit, Name::MathFlowFence, 6),
+                (Exit, Name::MathFlow, 6)
             ],
             b"abcdef",
             &[]
@@ -167,14 +173,14 @@ fn a_second_fence_says_nothing(rt: HostRuntime) -> Result<(), Fail> {
         refusal(
             rt.alloc(),
             &[
-                enter(Name::CodeFenced, 0),
-                enter(Name::CodeFencedFence, 0),
-                exit(Name::CodeFencedFence, 0),
-                enter(Name::CodeFencedFence, 0),
-                exit(Name::CodeFencedFence, 0),
-                enter(Name::CodeFencedFence, 0),
-                exit(Name::CodeFencedFence, 0),
-                exit(Name::CodeFenced, 0)
+                (Enter, Name::CodeFenced, 0),
+                (Enter, Name::CodeFencedFence, 0),
+                (Exit, Name::CodeFencedFence, 0),
+                (Enter, Name::CodeFencedFence, 0),
+                (Exit, Name::CodeFencedFence, 0),
+                (Enter, Name::CodeFencedFence, 0),
+                (Exit, Name::CodeFencedFence, 0),
+                (Exit, Name::CodeFenced, 0)
             ],
             b"",
             &[]
@@ -193,10 +199,10 @@ fn a_list_begins_with_an_item(rt: HostRuntime) -> Result<(), Fail> {
         refusal(
             rt.alloc(),
             &[
-                enter(Name::ListUnordered, 0),
-                enter(Name::LineEnding, 0),
-                exit(Name::LineEnding, 1),
-                exit(Name::ListUnordered, 1)
+                (Enter, Name::ListUnordered, 0),
+                (Enter, Name::LineEnding, 0),
+                (Exit, Name::LineEnding, 1),
+                (Exit, Name::ListUnordered, 1)
             ],
             b"\n",
             &[]
@@ -209,7 +215,10 @@ fn a_list_begins_with_an_item(rt: HostRuntime) -> Result<(), Fail> {
     assert_eq!(rt;
         refusal(
             rt.alloc(),
-            &[enter(Name::ListUnordered, 0), exit(Name::ListUnordered, 0)],
+            &[
+                (Enter, Name::ListUnordered, 0),
+                (Exit, Name::ListUnordered, 0)
+            ],
             b"",
             &[]
         ),
@@ -227,12 +236,12 @@ fn a_group_stays_in_its_node(rt: HostRuntime) -> Result<(), Fail> {
         refusal(
             rt.alloc(),
             &[
-                enter(Name::Emphasis, 0),
-                enter(Name::CharacterReferenceMarker, 0),
-                exit(Name::CharacterReferenceMarker, 1),
-                exit(Name::Emphasis, 1),
-                enter(Name::CharacterReferenceValue, 1),
-                exit(Name::CharacterReferenceValue, 2)
+                (Enter, Name::Emphasis, 0),
+                (Enter, Name::CharacterReferenceMarker, 0),
+                (Exit, Name::CharacterReferenceMarker, 1),
+                (Exit, Name::Emphasis, 1),
+                (Enter, Name::CharacterReferenceValue, 1),
+                (Exit, Name::CharacterReferenceValue, 2)
             ],
             b"&x;",
             &[("x", "<")]
@@ -246,12 +255,12 @@ fn a_group_stays_in_its_node(rt: HostRuntime) -> Result<(), Fail> {
         refusal(
             rt.alloc(),
             &[
-                enter(Name::Other(1), 0),
-                enter(Name::CharacterReferenceMarker, 0),
-                exit(Name::CharacterReferenceMarker, 1),
-                exit(Name::Other(1), 1),
-                enter(Name::CharacterReferenceValue, 1),
-                exit(Name::CharacterReferenceValue, 2)
+                (Enter, Name::Other(1), 0),
+                (Enter, Name::CharacterReferenceMarker, 0),
+                (Exit, Name::CharacterReferenceMarker, 1),
+                (Exit, Name::Other(1), 1),
+                (Enter, Name::CharacterReferenceValue, 1),
+                (Exit, Name::CharacterReferenceValue, 2)
             ],
             b"&x;",
             &[("x", "<")]
@@ -262,8 +271,8 @@ fn a_group_stays_in_its_node(rt: HostRuntime) -> Result<(), Fail> {
         refusal(
             rt.alloc(),
             &[
-                enter(Name::CharacterReferenceMarker, 0),
-                exit(Name::CharacterReferenceMarker, 1)
+                (Enter, Name::CharacterReferenceMarker, 0),
+                (Exit, Name::CharacterReferenceMarker, 1)
             ],
             b"&",
             &[]
@@ -277,10 +286,10 @@ fn a_group_stays_in_its_node(rt: HostRuntime) -> Result<(), Fail> {
         refusal(
             rt.alloc(),
             &[
-                enter(Name::CharacterReferenceMarker, 0),
-                exit(Name::CharacterReferenceMarker, 1),
-                enter(Name::Data, 0),
-                exit(Name::Data, 1)
+                (Enter, Name::CharacterReferenceMarker, 0),
+                (Exit, Name::CharacterReferenceMarker, 1),
+                (Enter, Name::Data, 0),
+                (Exit, Name::Data, 1)
             ],
             b"&",
             &[]
@@ -294,10 +303,10 @@ fn a_group_stays_in_its_node(rt: HostRuntime) -> Result<(), Fail> {
         refusal(
             rt.alloc(),
             &[
-                enter(Name::HeadingSetextText, 0),
-                exit(Name::HeadingSetextText, 0),
-                enter(Name::LineEnding, 0),
-                exit(Name::LineEnding, 1)
+                (Enter, Name::HeadingSetextText, 0),
+                (Exit, Name::HeadingSetextText, 0),
+                (Enter, Name::LineEnding, 0),
+                (Exit, Name::LineEnding, 1)
             ],
             b"\n",
             &[]
@@ -311,10 +320,10 @@ fn a_group_stays_in_its_node(rt: HostRuntime) -> Result<(), Fail> {
         refusal(
             rt.alloc(),
             &[
-                enter(Name::HeadingSetextText, 0),
-                exit(Name::HeadingSetextText, 0),
-                enter(Name::HeadingSetextUnderlineSequence, 0),
-                exit(Name::HeadingSetextUnderlineSequence, 0)
+                (Enter, Name::HeadingSetextText, 0),
+                (Exit, Name::HeadingSetextText, 0),
+                (Enter, Name::HeadingSetextUnderlineSequence, 0),
+                (Exit, Name::HeadingSetextUnderlineSequence, 0)
             ],
             b"",
             &[]
@@ -328,14 +337,14 @@ fn a_group_stays_in_its_node(rt: HostRuntime) -> Result<(), Fail> {
         refusal(
             rt.alloc(),
             &[
-                enter(Name::HeadingSetextText, 0),
-                enter(Name::Data, 0),
-                exit(Name::Data, 1),
-                exit(Name::HeadingSetextText, 1),
-                enter(Name::LineEnding, 1),
-                exit(Name::LineEnding, 2),
-                enter(Name::HeadingSetextUnderlineSequence, 2),
-                exit(Name::HeadingSetextUnderlineSequence, 4)
+                (Enter, Name::HeadingSetextText, 0),
+                (Enter, Name::Data, 0),
+                (Exit, Name::Data, 1),
+                (Exit, Name::HeadingSetextText, 1),
+                (Enter, Name::LineEnding, 1),
+                (Exit, Name::LineEnding, 2),
+                (Enter, Name::HeadingSetextUnderlineSequence, 2),
+                (Exit, Name::HeadingSetextUnderlineSequence, 4)
             ],
             b"a\n--",
             &[]
@@ -351,10 +360,10 @@ fn labels_may_be_empty(rt: HostRuntime) -> Result<(), Fail> {
         refusal(
             rt.alloc(),
             &[
-                enter(Name::Definition, 0),
-                enter(Name::DefinitionLabelString, 0),
-                exit(Name::DefinitionLabelString, 0),
-                exit(Name::Definition, 0)
+                (Enter, Name::Definition, 0),
+                (Enter, Name::DefinitionLabelString, 0),
+                (Exit, Name::DefinitionLabelString, 0),
+                (Exit, Name::Definition, 0)
             ],
             b"",
             &[]
@@ -364,7 +373,7 @@ fn labels_may_be_empty(rt: HostRuntime) -> Result<(), Fail> {
     assert_eq!(rt;
         refusal(
             rt.alloc(),
-            &[enter(Name::Definition, 0), exit(Name::Definition, 0)],
+            &[(Enter, Name::Definition, 0), (Exit, Name::Definition, 0)],
             b"",
             &[]
         ),
@@ -377,14 +386,14 @@ fn labels_may_be_empty(rt: HostRuntime) -> Result<(), Fail> {
         refusal(
             rt.alloc(),
             &[
-                enter(Name::Definition, 0),
-                enter(Name::DefinitionLabelString, 0),
-                exit(Name::DefinitionLabelString, 0),
-                enter(Name::DefinitionTitleString, 0),
-                exit(Name::DefinitionTitleString, 0),
-                enter(Name::DefinitionDestinationString, 0),
-                exit(Name::DefinitionDestinationString, 0),
-                exit(Name::Definition, 0)
+                (Enter, Name::Definition, 0),
+                (Enter, Name::DefinitionLabelString, 0),
+                (Exit, Name::DefinitionLabelString, 0),
+                (Enter, Name::DefinitionTitleString, 0),
+                (Exit, Name::DefinitionTitleString, 0),
+                (Enter, Name::DefinitionDestinationString, 0),
+                (Exit, Name::DefinitionDestinationString, 0),
+                (Exit, Name::Definition, 0)
             ],
             b"",
             &[]
@@ -403,16 +412,16 @@ fn labels_have_one_text(rt: HostRuntime) -> Result<(), Fail> {
         refusal(
             rt.alloc(),
             &[
-                enter(Name::Link, 0),
-                enter(Name::Label, 0),
-                enter(Name::LabelText, 0),
-                exit(Name::LabelText, 0),
-                enter(Name::LabelText, 0),
-                exit(Name::LabelText, 0),
-                exit(Name::Label, 0),
-                enter(Name::Resource, 0),
-                exit(Name::Resource, 0),
-                exit(Name::Link, 0)
+                (Enter, Name::Link, 0),
+                (Enter, Name::Label, 0),
+                (Enter, Name::LabelText, 0),
+                (Exit, Name::LabelText, 0),
+                (Enter, Name::LabelText, 0),
+                (Exit, Name::LabelText, 0),
+                (Exit, Name::Label, 0),
+                (Enter, Name::Resource, 0),
+                (Exit, Name::Resource, 0),
+                (Exit, Name::Link, 0)
             ],
             b"",
             &[]
@@ -426,10 +435,10 @@ fn labels_have_one_text(rt: HostRuntime) -> Result<(), Fail> {
         refusal(
             rt.alloc(),
             &[
-                enter(Name::GfmFootnoteCall, 0),
-                enter(Name::Label, 0),
-                exit(Name::Label, 0),
-                exit(Name::GfmFootnoteCall, 0)
+                (Enter, Name::GfmFootnoteCall, 0),
+                (Enter, Name::Label, 0),
+                (Exit, Name::Label, 0),
+                (Exit, Name::GfmFootnoteCall, 0)
             ],
             b"",
             &[]
@@ -448,10 +457,10 @@ fn endings_and_spaces_have_no_children(rt: HostRuntime) -> Result<(), Fail> {
         refusal(
             rt.alloc(),
             &[
-                enter(Name::SpaceOrTab, 0),
-                enter(Name::Data, 0),
-                exit(Name::Data, 1),
-                exit(Name::SpaceOrTab, 1)
+                (Enter, Name::SpaceOrTab, 0),
+                (Enter, Name::Data, 0),
+                (Exit, Name::Data, 1),
+                (Exit, Name::SpaceOrTab, 1)
             ],
             b"a",
             &[]
@@ -465,10 +474,10 @@ fn endings_and_spaces_have_no_children(rt: HostRuntime) -> Result<(), Fail> {
         refusal(
             rt.alloc(),
             &[
-                enter(Name::LineEnding, 0),
-                enter(Name::Other(1), 0),
-                exit(Name::Other(1), 1),
-                exit(Name::LineEnding, 1)
+                (Enter, Name::LineEnding, 0),
+                (Enter, Name::Other(1), 0),
+                (Exit, Name::Other(1), 1),
+                (Exit, Name::LineEnding, 1)
             ],
             b"\n",
             &[]
@@ -482,10 +491,10 @@ fn endings_and_spaces_have_no_children(rt: HostRuntime) -> Result<(), Fail> {
         refusal(
             rt.alloc(),
             &[
-                enter(Name::SpaceOrTab, 0),
-                enter(Name::Other(1), 0),
-                exit(Name::Other(1), 1),
-                exit(Name::SpaceOrTab, 1)
+                (Enter, Name::SpaceOrTab, 0),
+                (Enter, Name::Other(1), 0),
+                (Exit, Name::Other(1), 1),
+                (Exit, Name::SpaceOrTab, 1)
             ],
             b"a",
             &[]
@@ -504,12 +513,12 @@ fn a_table_head_has_a_delimiter_row(rt: HostRuntime) -> Result<(), Fail> {
         refusal(
             rt.alloc(),
             &[
-                enter(Name::GfmTable, 0),
-                enter(Name::GfmTableHead, 0),
-                enter(Name::GfmTableRow, 0),
-                exit(Name::GfmTableRow, 0),
-                exit(Name::GfmTableHead, 0),
-                exit(Name::GfmTable, 0)
+                (Enter, Name::GfmTable, 0),
+                (Enter, Name::GfmTableHead, 0),
+                (Enter, Name::GfmTableRow, 0),
+                (Exit, Name::GfmTableRow, 0),
+                (Exit, Name::GfmTableHead, 0),
+                (Exit, Name::GfmTable, 0)
             ],
             b"",
             &[]
@@ -523,16 +532,16 @@ fn a_table_head_has_a_delimiter_row(rt: HostRuntime) -> Result<(), Fail> {
         refusal(
             rt.alloc(),
             &[
-                enter(Name::GfmTable, 0),
-                enter(Name::GfmTableHead, 0),
-                enter(Name::GfmTableRow, 0),
-                exit(Name::GfmTableRow, 0),
-                enter(Name::GfmTableDelimiterRow, 0),
-                enter(Name::GfmTableDelimiterCellValue, 0),
-                exit(Name::GfmTableDelimiterCellValue, 0),
-                exit(Name::GfmTableDelimiterRow, 0),
-                exit(Name::GfmTableHead, 0),
-                exit(Name::GfmTable, 0)
+                (Enter, Name::GfmTable, 0),
+                (Enter, Name::GfmTableHead, 0),
+                (Enter, Name::GfmTableRow, 0),
+                (Exit, Name::GfmTableRow, 0),
+                (Enter, Name::GfmTableDelimiterRow, 0),
+                (Enter, Name::GfmTableDelimiterCellValue, 0),
+                (Exit, Name::GfmTableDelimiterCellValue, 0),
+                (Exit, Name::GfmTableDelimiterRow, 0),
+                (Exit, Name::GfmTableHead, 0),
+                (Exit, Name::GfmTable, 0)
             ],
             b"",
             &[]
@@ -548,10 +557,10 @@ fn other_names_stand_anywhere(rt: HostRuntime) -> Result<(), Fail> {
         refusal(
             rt.alloc(),
             &[
-                enter(Name::Other(7), 0),
-                enter(Name::ThematicBreak, 0),
-                exit(Name::ThematicBreak, 3),
-                exit(Name::Other(7), 3)
+                (Enter, Name::Other(7), 0),
+                (Enter, Name::ThematicBreak, 0),
+                (Exit, Name::ThematicBreak, 3),
+                (Exit, Name::Other(7), 3)
             ],
             b"***",
             &[]
@@ -562,10 +571,10 @@ fn other_names_stand_anywhere(rt: HostRuntime) -> Result<(), Fail> {
         refusal(
             rt.alloc(),
             &[
-                enter(Name::ThematicBreak, 0),
-                enter(Name::Data, 0),
-                exit(Name::Data, 3),
-                exit(Name::ThematicBreak, 3)
+                (Enter, Name::ThematicBreak, 0),
+                (Enter, Name::Data, 0),
+                (Exit, Name::Data, 3),
+                (Exit, Name::ThematicBreak, 3)
             ],
             b"***",
             &[]
@@ -579,10 +588,10 @@ fn other_names_stand_anywhere(rt: HostRuntime) -> Result<(), Fail> {
         refusal(
             rt.alloc(),
             &[
-                enter(Name::ThematicBreak, 0),
-                enter(Name::Other(65535), 0),
-                exit(Name::Other(65535), 3),
-                exit(Name::ThematicBreak, 3)
+                (Enter, Name::ThematicBreak, 0),
+                (Enter, Name::Other(65535), 0),
+                (Exit, Name::Other(65535), 3),
+                (Exit, Name::ThematicBreak, 3)
             ],
             b"***",
             &[]
