@@ -11,6 +11,7 @@ mod footnotes;
 mod media;
 mod options;
 mod own;
+mod pages;
 mod reading;
 mod refusals;
 mod rules;
