@@ -15,5 +15,5 @@ mod table;
 #[cfg(test)]
 mod tests;
 
-pub use error::RunError;
-pub use running::run;
+pub use error::{RunError, SafeRunError};
+pub use running::{run, run_safe};
