@@ -12,6 +12,7 @@ mod lines;
 mod media;
 mod options;
 mod own;
+mod pages;
 mod reading;
 mod refusals;
 mod rules;

@@ -3,6 +3,7 @@
 
 mod compiler;
 pub mod laws;
+mod safe_html;
 
 pub use compiler::{compile, compile_checked};
 pub use md_base::{
@@ -16,3 +17,4 @@ pub use md_text::{
 pub use md_tree::{
     Checked, CompileError, Rule, check, gfm_table_align, list_item_loose, list_loose,
 };
+pub use safe_html::{SafeError, SafeHtml, compile_safe};

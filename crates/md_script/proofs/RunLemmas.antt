@@ -4,13 +4,20 @@ use Rattle.std.specs.Prelude.{IsErrAnd}
 use Rattle.md_base.specs.declared.event.Event.{Event}
 use Rattle.md_tree.specs.declared.rule.CompileError.{CompileError}
 use Rattle.md_tree.specs.declared.rule.CompileError.TheVariants as refusal
-use Rattle.md_tree.specs.Refusal.{IsRefusal}
+use Rattle.md_tree.specs.Grammar.{Document}
+use Rattle.md_tree.specs.Refusal.{IsRefusal, IsOrder, IsMdx, IsOfNode, IsLost, IsOutside}
+use Rattle.md_html.specs.Safe.{IsRefusedFor, OfCompile}
+use Rattle.md_html.specs.declared.safe_html.SafeError.{SafeError}
+use Rattle.md_html.specs.declared.safe_html.SafeError.TheVariants as safe
 use Rattle.md_meaning.specs.declared.options.CompileOptions.{CompileOptions}
 use Rattle.md_script.specs.declared.error.RunError.{RunError}
 use Rattle.md_script.specs.declared.error.RunError.TheVariants as error
 use Rattle.md_script.specs.Error.{run_error_of}
 use Rattle.md_script.specs.Script.{StandsFor, Explains}
 use Rattle.md_script.specs.Run.{document_of, ExplainsEvents, ExplainsRun}
+use Rattle.md_script.specs.SafeRun.{ExplainsSafeEvents, ExplainsSafeRun, safe_run_error_of}
+use Rattle.md_script.specs.declared.error.SafeRunError.{SafeRunError}
+use Rattle.md_script.specs.declared.error.SafeRunError.TheVariants as unsafe_run
 
 pub refused : (events : List Event) (bytes : List ℕ) (why : CompileError) → IsRefusal (document_of events bytes) why → ExplainsEvents events bytes (run_error_of why)
 refused events bytes refusal.Memory h = tt
@@ -34,3 +41,25 @@ pub unread : (input : List ℕ) (why : RunError) → Explains input why → Expl
 unread input error.Memory h = tt
 unread input (error.Line number) h = h
 unread input (error.Event index rule) h = absurd h
+
+-- what is said of a refusal in five claims is said in one
+pub refusal_of : (given : Document) (why : SafeError) → OfCompile (IsOrder given) why → OfCompile (IsMdx given) why → OfCompile (IsOfNode given) why → OfCompile (IsLost given) why → OfCompile (IsOutside given) why → OfCompile (IsRefusal given) why
+refusal_of given safe.Options order mdx of_node lost outside = tt
+refusal_of given (safe.Compile cause) order mdx of_node lost outside =
+    record { order = order; mdx = mdx; of_node = of_node; lost = lost; outside = outside }
+
+refused_safely : (events : List Event) (bytes : List ℕ) (options : CompileOptions) (why : SafeError) → IsRefusedFor options why → OfCompile (IsRefusal (document_of events bytes)) why → ExplainsSafeEvents events bytes options (safe_run_error_of why)
+refused_safely events bytes options safe.Options unsafe refusal = unsafe
+refused_safely events bytes options (safe.Compile cause) keeps refusal = refused events bytes cause refusal
+
+-- what the conversion of a safe compiler's error gives
+pub told_safely : {T : Type 0} (r : Result T SafeRunError) (why : SafeError) (given events : List Event) (bytes : List ℕ) (options : CompileOptions) → given ≡ events → IsErrAnd r (λ made. made ≡ safe_run_error_of why) → IsRefusedFor options why → OfCompile (IsRefusal (document_of given bytes)) why → IfErr r (λ error. ExplainsSafeEvents events bytes options error)
+told_safely (Ok x) why given events bytes options same h refused_for refusal = tt
+told_safely (Err made) why given events bytes options same h refused_for refusal =
+    subst (λ es. ExplainsSafeEvents es bytes options made) same (subst (λ error. ExplainsSafeEvents given bytes options error) (sym h) (refused_safely given bytes options why refused_for refusal))
+
+-- a script that was read, with what the safe compiler answers
+pub explained_safely : (input : List ℕ) (events : List Event) (bytes : List ℕ) (options : CompileOptions) (why : SafeRunError) → StandsFor input events bytes options → ExplainsSafeEvents events bytes options why → ExplainsSafeRun input why
+explained_safely input events bytes options unsafe_run.Options stands h =
+    record { events = events; bytes = bytes; options = options; stands = stands; unsafe = h }
+explained_safely input events bytes options (unsafe_run.Run error) stands h = explained input events bytes options error stands h

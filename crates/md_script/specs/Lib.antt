@@ -5,6 +5,7 @@ pub mod NamesByLength
 pub mod Number
 pub mod PlainLine
 pub mod Run
+pub mod SafeRun
 pub mod Script
 pub mod Setting
 pub mod Table

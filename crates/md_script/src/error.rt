@@ -1,3 +1,4 @@
+use md_html::SafeError;
 use md_tree::{CompileError, Rule};
 use std::alloc::AllocError;
 use std::error::Error;
@@ -69,6 +70,40 @@ impl From<CompileError> for RunError {
         match error {
             CompileError::Memory => RunError::Memory,
             CompileError::Event { index, rule } => RunError::Event { index, rule },
+        }
+    }
+}
+
+/// Why a script gives no safe text.
+#[derive(Debug, PartialEq, Eq, Drop)]
+pub enum SafeRunError {
+    /// Its options aren't safe.
+    Options,
+    /// It gives no text.
+    Run(RunError),
+}
+
+impl From<RunError> for SafeRunError {
+    ghost use Rattle.std.specs.Prelude.{◌≡◌};
+    ghost use Rattle.md_script.specs.declared.error.SafeRunError.TheVariants.{Run};
+
+    ghost from_gives = { λ cause error. error ≡ Run cause };
+
+    fn from(error: RunError) -> SafeRunError {
+        SafeRunError::Run(error)
+    }
+}
+
+impl From<SafeError> for SafeRunError {
+    ghost use Rattle.std.specs.Prelude.{◌≡◌};
+    ghost use Rattle.md_script.specs.SafeRun.{safe_run_error_of};
+
+    ghost from_gives = { λ cause error. error ≡ safe_run_error_of cause };
+
+    fn from(error: SafeError) -> SafeRunError {
+        match error {
+            SafeError::Options => SafeRunError::Options,
+            SafeError::Compile(cause) => SafeRunError::Run(RunError::from(cause)),
         }
     }
 }

@@ -13,5 +13,5 @@ mod setting;
 mod split;
 mod table;
 
-pub use error::RunError;
-pub use running::run;
+pub use error::{RunError, SafeRunError};
+pub use running::{run, run_safe};

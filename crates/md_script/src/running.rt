@@ -1,9 +1,10 @@
 ghost use Rattle.std.specs.Prelude.{string_bytes, IfOk, IfErr};
 ghost use Rattle.md_script.specs.Run.{IsCompiled, ExplainsEvents, IsTextOf, ExplainsRun};
+ghost use Rattle.md_script.specs.SafeRun.{ExplainsSafeEvents, ExplainsSafeRun};
 
-use crate::error::RunError;
+use crate::error::{RunError, SafeRunError};
 use crate::script::{Script, read_script};
-use md_html::compile;
+use md_html::{SafeHtml, compile, compile_safe};
 use std::alloc::Global;
 
 /// The names of character references in a script's document, each with its text.
@@ -40,6 +41,34 @@ fn compile_script(alloc: Global, script: &Script) -> Result<String, RunError>
         ExplainsEvents script.now.events.items script.now.document.now error) }
 {
     Ok(compile(
+        alloc,
+        script.events.as_slice(),
+        script.document,
+        &script.options,
+        &REFERENCE_NAMES,
+    )?)
+}
+
+/// Reads a script and compiles what it stands for, where its options are safe.
+///
+/// # Errors
+///
+/// `SafeRunError::Options` where the script can be read and its options aren't safe; else as [`run`].
+pub fn run_safe(alloc: Global, input: &[u8]) -> Result<SafeHtml, SafeRunError>
+    ensures text { IfOk result (λ html. IsTextOf input.now html) }
+    ensures err { IfErr result (λ error. ExplainsSafeRun input.now error) }
+{
+    let script = read_script(alloc, input)?;
+    compile_safely(alloc, &script)
+}
+
+fn compile_safely(alloc: Global, script: &Script) -> Result<SafeHtml, SafeRunError>
+    ensures text { IfOk result (λ html.
+        IsCompiled script.now.events.items script.now.document.now script.now.options html) }
+    ensures err { IfErr result (λ error.
+        ExplainsSafeEvents script.now.events.items script.now.document.now script.now.options error) }
+{
+    Ok(compile_safe(
         alloc,
         script.events.as_slice(),
         script.document,

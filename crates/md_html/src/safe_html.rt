@@ -1,0 +1,140 @@
+//! Texts that may be set into a page.
+
+ghost use Rattle.std.specs.Prelude.{◌≡◌, ◌↔◌, OnOk, IfOk, IfErr, IsTrue};
+ghost use Rattle.md_base.specs.Reference.{name_table};
+ghost use Rattle.md_tree.specs.Tree.{Forest, flatten};
+ghost use Rattle.md_tree.specs.Grammar.{IsChecked, handed};
+ghost use Rattle.md_tree.specs.Refusal.{IsOutside, IsOrder, IsMdx, IsOfNode, IsLost};
+ghost use Rattle.md_meaning.specs.Meaning.{meaning};
+ghost use Rattle.md_safe.specs.Options.{KeepsImages};
+ghost use Rattle.md_html.specs.Safe.{IsRefusedFor, OfCompile};
+
+use crate::compiler::compile;
+use md_base::Event;
+use md_meaning::CompileOptions;
+use md_tree::CompileError;
+use std::alloc::Global;
+use std::error::Error;
+use std::fmt;
+use std::marker::Model;
+
+/// A text that has exactly one reading in the HTML grammar, in which each `href` and `src` has no protocol or a permitted
+/// one. Only [`compile_safe`] makes one.
+#[derive(Drop)]
+pub struct SafeHtml {
+    text: String,
+}
+
+impl Model for SafeHtml {
+    ghost use Rattle.std.specs.Prelude.{ℕ, List};
+    ghost use Rattle.std.specs.String.{string_bytes};
+    ghost use Rattle.md_html.specs.SafeHtml.{IsKept};
+
+    ghost Value = { List ℕ };
+
+    ghost view = { λ s. string_bytes s.text };
+
+    ghost invariant = { IsKept };
+}
+
+impl SafeHtml {
+    ghost use Rattle.md_html.specs.Safe.{IsSafe};
+    ghost use Rattle.std.specs.Prelude.{◌≡◌, string_bytes};
+
+    /// A text that is safe.
+    fn new(text: String) -> SafeHtml
+        requires { IsSafe (string_bytes text) }
+        ensures { result ≡ string_bytes text }
+    {
+        SafeHtml { text }
+    }
+
+    /// The text.
+    pub fn as_str(&self) -> &str
+        ensures text { result.now ≡ self.now }
+        ensures safe { IsSafe self.now }
+    {
+        self.text.as_str()
+    }
+}
+
+/// Why there is no safe text.
+#[derive(Debug, PartialEq, Eq, Drop)]
+pub enum SafeError {
+    /// The options aren't safe.
+    Options,
+    /// The compiler refuses the events, or memory runs out.
+    Compile(CompileError),
+}
+
+impl fmt::Display for SafeError {
+    ghost use Rattle.std.specs.Prelude.{Some};
+    ghost use Rattle.md_html.specs.Safe.{line_of};
+
+    ghost output = { λ error. Some (line_of error) };
+
+    fn fmt<W: fmt::Write>(&self, f: &mut fmt::Formatter<W>) -> fmt::Result {
+        match self {
+            SafeError::Options => write!(f, "unsafe options"),
+            SafeError::Compile(error) => write!(f, "{error}"),
+        }
+    }
+}
+
+impl Error for SafeError {}
+
+impl From<CompileError> for SafeError {
+    ghost use Rattle.std.specs.Prelude.{◌≡◌};
+    ghost use Rattle.md_html.specs.declared.safe_html.SafeError.TheVariants.{Compile};
+
+    ghost from_gives = { λ cause error. error ≡ Compile cause };
+
+    fn from(error: CompileError) -> SafeError {
+        SafeError::Compile(error)
+    }
+}
+
+/// The HTML of a list of Markdown events, as [`compile`] gives it, where the options are safe.
+///
+/// The options are safe where `allow_any_img_src`, `allow_dangerous_html` and `allow_dangerous_protocol` are off, and
+/// `gfm_footnote_label_tag_name` and `gfm_footnote_label_attributes` are unset. The default options are such.
+///
+/// # Errors
+///
+/// [`SafeError::Options`] exactly where the options aren't safe, whatever else is handed in; else the refusal of [`compile`].
+pub fn compile_safe(
+    alloc: Global,
+    events: &[Event],
+    bytes: &[u8],
+    options: &CompileOptions,
+    names: &[(&str, &str)],
+) -> Result<SafeHtml, SafeError>
+    ensures safe { OnOk result (KeepsImages options.now) }
+    ensures options { IfErr result (IsRefusedFor options.now) }
+    ensures grammatical { OnOk result (IsChecked (handed events.now bytes.now names.now)) }
+    ensures meaning { IfOk result (λ html. (document : Forest) → flatten document ≡ events.now →
+        html ≡ meaning options.now (name_table names.now) bytes.now document) }
+
+    ensures outside { IfErr result (OfCompile (IsOutside (handed events.now bytes.now names.now))) }
+    ensures order { IfErr result (OfCompile (IsOrder (handed events.now bytes.now names.now))) }
+    ensures mdx { IfErr result (OfCompile (IsMdx (handed events.now bytes.now names.now))) }
+    ensures of_node { IfErr result (OfCompile (IsOfNode (handed events.now bytes.now names.now))) }
+    ensures lost { IfErr result (OfCompile (IsLost (handed events.now bytes.now names.now))) }
+{
+    if !are_safe(options) {
+        return Err(SafeError::Options);
+    }
+    let text = compile(alloc, events, bytes, options, names)?;
+    Ok(SafeHtml::new(text))
+}
+
+/// Whether options are safe.
+fn are_safe(options: &CompileOptions) -> bool
+    ensures { IsTrue result ↔ KeepsImages options.now }
+{
+    !options.allow_dangerous_html
+        && options.gfm_footnote_label_tag_name.is_none()
+        && options.gfm_footnote_label_attributes.is_none()
+        && !options.allow_dangerous_protocol
+        && !options.allow_any_img_src
+}

@@ -1,0 +1,52 @@
+-- The page round a title and a safe text.
+use Rattle.std.proofs.Common.{◌≡◌, ℕ, Bool, true, ◌&&◌, List, [], ◌∷◌, ◌++◌, refl, sym, ap, ◌∙◌, subst, codes}
+use Rattle.std.proofs.lemmas.Bool.{and_from}
+use Rattle.std.proofs.lemmas.List.{append-nil}
+use Rattle.md_text.specs.Encode.{encoded}
+use Rattle.md_text.specs.References.{is_escaped, read_back}
+use Rattle.md_text.specs.Html.{Forest, Empty, Text, is_filled, written, all_attributes}
+use Rattle.md_text.specs.Safe.{is_safe_image}
+use Rattle.md_text.proofs.EncodeLaws.{is_escaped-encoded, read_back-encoded}
+use Rattle.md_html.specs.Safe.{IsSafe}
+use Rattle.md_page.specs.Page.{page_tree, is_title, IsPage, IsPageOf, page_text}
+use Rattle.md_page.proofs.Pages.{before_title, before_body, behind_body, page_written, one_page}
+
+-- a text as a title
+abbrev titled_by : List ℕ → Forest
+titled_by [] = Empty
+titled_by (b ∷ rest) = Text (b ∷ rest) Empty
+
+titled_by-written : (text : List ℕ) → written (titled_by text) ≡ text
+titled_by-written [] = refl
+titled_by-written (b ∷ rest) = append-nil (b ∷ rest)
+
+titled_by-title : (text : List ℕ) → is_escaped text ≡ true → is_title (titled_by text) ≡ true
+titled_by-title [] e = refl
+titled_by-title (b ∷ rest) e = and_from true (is_escaped (b ∷ rest)) refl e
+
+pub page_given : (title body text : List ℕ) → text ≡ page_text title body → IsSafe body → IsPageOf title body text
+page_given title body text e safe =
+    let escaped = encoded true title in
+    let head = titled_by escaped in
+    let inside = safe.safe_links.forest in
+    let page : IsPage text head inside = record {
+      title_is_text = titled_by-title escaped (is_escaped-encoded title);
+      body_in_grammar = safe.safe_links.reading.in_grammar;
+      written_so =
+          e ∙ sym (page_written head inside
+          ∙ ap (λ t. before_title ++ (t ++ (before_body ++ (written inside ++ behind_body)))) (titled_by-written escaped)
+          ∙ ap (λ b. before_title ++ (escaped ++ (before_body ++ (b ++ behind_body)))) safe.safe_links.reading.written_so);
+    }
+    in
+    record {
+      head = head;
+      inside = inside;
+      page = page;
+      only = λ other_head other_inside other. one_page text other_head other_inside head inside other page;
+      titled = ap read_back (titled_by-written escaped) ∙ read_back-encoded title;
+      reading = safe.safe_links.reading;
+      safe_links = safe.safe_links.passes;
+      safe_images =
+          subst (λ f. all_attributes is_safe_image f ≡ true)
+          (sym (safe.safe_images.only inside safe.safe_links.reading)) safe.safe_images.passes;
+    }

@@ -1,0 +1,31 @@
+//! A whole page round a text of the HTML grammar that is safe.
+#![tactic(auto)]
+
+ghost use Rattle.std.specs.Prelude.{◌≡◌, IfOk, string_bytes};
+ghost use Rattle.md_page.specs.Page.{IsPageOf, page_text};
+
+use md_html::SafeHtml;
+use md_text::encode;
+use std::alloc::{AllocError, Global};
+
+/// A whole page: `title`, escaped, in its head, and `body` as it is.
+///
+/// The page can be read in exactly one way. Its title, the references read back, is `title` with U+FFFD for each NUL; its
+/// body is the one reading of `body`, so each `href` and `src` in the page has no protocol or a permitted one.
+///
+/// # Errors
+///
+/// Only where memory runs out.
+pub fn page(alloc: Global, title: &str, body: &SafeHtml) -> Result<String, AllocError>
+    ensures text { IfOk result (λ text. string_bytes text ≡ page_text title.now body.now) }
+    ensures page { IfOk result (λ text. IsPageOf title.now body.now (string_bytes text)) }
+{
+    let escaped = encode(alloc, title, true)?;
+    let mut text = String::new(alloc);
+    text.push_str("<!doctype html>\n<html><head><meta charset=\"utf-8\" /><title>")?;
+    text.push_str(escaped.as_str())?;
+    text.push_str("</title></head><body>")?;
+    text.push_str(body.as_str())?;
+    text.push_str("</body></html>\n")?;
+    Ok(text)
+}
