@@ -21,7 +21,6 @@ use Rattle.md_tree.specs.declared.state.Open.{Open}
 use Rattle.md_tree.specs.declared.state.Outer.{Outer}
 use Rattle.md_tree.specs.Mentions.{notes_of, mentions_in, IsResolved}
 use Rattle.md_tree.specs.Grammar.{Document, IsGrammatical, IsReadAs, IsChecked}
-use Rattle.md_tree.specs.Noted.{IsNoted}
 use Rattle.md_tree.specs.Refusal.{BeginNoTree, EndsBroken, EndsUnresolved, EntersMdx, IsOrder, IsMdx, IsBroken, IsLost, IsRefusal}
 use Rattle.md_tree.specs.Refusal as refusal
 use Rattle.md_tree.specs.Machine.{Reads, Course, Runs, Steps, StepsBy, is_complete, beginning}
@@ -207,8 +206,8 @@ IsRefusal-lost given notes (error.Event index broken) walked lost = refused_lost
 
 -- ---- what passes
 
-pub IsNoted-walked : (given : Document) (notes : List Note) → IsWalked given notes → All (IsResolved given.bytes (mentions_in notes)) (mentions_in notes) → IsNoted given notes
-IsNoted-walked given notes walked resolved = (
+pub IsChecked-walked : (given : Document) (notes : List Note) → IsWalked given notes → All (IsResolved given.bytes (mentions_in notes)) (mentions_in notes) → IsChecked given
+IsChecked-walked given notes walked resolved = (
   walked.forest,
   record {
     flattened = walked.flattened;
@@ -218,5 +217,4 @@ IsNoted-walked given notes walked resolved = (
       resolved = subst (λ ns. All (IsResolved given.bytes (mentions_in ns)) (mentions_in ns)) walked.notes_are resolved;
     };
   },
-  sym walked.notes_are,
 )

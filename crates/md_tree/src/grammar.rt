@@ -53,7 +53,7 @@ pub fn check<'a>(
     } = walk;
     resolve(alloc, bytes, &notes)?;
     let found = find_facts(alloc, events)?;
-    Ok(Checked::new(events, bytes, names, notes, found))
+    Ok(Checked::new(events, bytes, names, found))
 }
 
 /// Walks over all events of a document, of which the texts are found first.

@@ -10,7 +10,7 @@ use Rattle.md_tree.specs.Grammar.{handed}
 use Rattle.md_tree.specs.Refusal.{IsRefusal}
 use Rattle.md_tree.specs.Walk.{course_of}
 use Rattle.md_tree.proofs.Endings.{IsWalked, IsWalked-done}
-use Rattle.md_tree.proofs.Checking.{IsRefusal-undone, IsRefusal-lost, IsNoted-walked}
+use Rattle.md_tree.proofs.Checking.{IsRefusal-undone, IsRefusal-lost, IsChecked-walked}
 use Rattle.md_tree.proofs.grammar.check.Goals as goal
 
 -- the open nodes, in the order of a course
@@ -45,10 +45,10 @@ returns-in_err-resolve-clause-lost c =
     rw (p.1, p.2)
     (IsRefusal.lost (IsRefusal-lost given notes c.in_err-resolve.field-0.0 walked (subst (λ ns. IsUnresolved c.args.bytes.now (mentions_in ns) c.in_err-resolve.field-0.0) c.deref.ensures.value c.in_err-resolve.ensures.refused)))
 
-pub new-requires-clause-noted : goal.new-requires-clause-noted
-new-requires-clause-noted c =
+pub new-requires-clause-grammatical : goal.new-requires-clause-grammatical
+new-requires-clause-grammatical c =
     let given = handed c.args.events.now c.args.bytes.now c.args.names.now in
     let notes = c.in_ok-walk.walk.notes.items in
     let done = c.is_done.ensures.done c.if-not-is_done.false in
     let walked : IsWalked given notes = IsWalked-done given (course_of c.in_ok-walk.walk) c.in_ok-walk.ensures.walked (ap reverse done.0) done.1 in
-    IsNoted-walked given notes walked (subst (λ ns. All (IsResolved c.args.bytes.now (mentions_in ns)) (mentions_in ns)) c.deref.ensures.value c.in_ok-resolve.ensures.ok)
+    IsChecked-walked given notes walked (subst (λ ns. All (IsResolved c.args.bytes.now (mentions_in ns)) (mentions_in ns)) c.deref.ensures.value c.in_ok-resolve.ensures.ok)
