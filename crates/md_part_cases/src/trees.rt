@@ -109,6 +109,7 @@ fn what_was_checked_is_kept(rt: HostRuntime) -> Result<(), Fail> {
             assert!(rt; !checked.exits(1, Name::DefinitionLabelString));
             assert!(rt; checked.exits(5, Name::Definition));
             assert!(rt; !checked.exits(6, Name::Definition));
+            assert_eq!(rt; checked.definitions(), [0].as_slice());
         }
         Err(_) => assert!(rt; false),
     }

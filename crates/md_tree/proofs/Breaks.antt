@@ -15,7 +15,7 @@ use Rattle.md_tree.specs.declared.rule.Rule.TheVariants as rule
 use Rattle.md_tree.specs.declared.rule.CompileError.{CompileError}
 use Rattle.md_tree.specs.declared.rule.CompileError.TheVariants as error
 use Rattle.md_base.specs.declared.event.Position.{Position}
-use Rattle.md_tree.specs.declared.kinds.Note.{Note}
+use Rattle.md_tree.specs.declared.kinds.Mentioned.{Mentioned}
 use Rattle.md_tree.specs.declared.state.State.{State}
 use Rattle.md_tree.specs.declared.state.Open.{Open}
 use Rattle.md_tree.specs.declared.state.Outer.{Outer}
@@ -109,12 +109,12 @@ IsStop-inside bytes names index error.Memory others open_node outer name point c
 IsStop-inside bytes names index (error.Event named broken) others open_node outer name point course opens_are same outer_is stops =
     (stops.0, exit_stops bytes names broken others open_node outer name point course opens_are same outer_is stops.1)
 
--- the open nodes and the notes don't matter inside
-StopsInside-same : (bytes : List ℕ) (names : List (List ℕ × List ℕ)) (broken : Rule) (outer : Outer) (position : Position) (state : State) (target : Target) (opens others : List Open) (notes more : List Note) → StopsInside bytes names broken outer position (record { state = state; target = target; open_nodes = opens; notes = notes }) → StopsInside bytes names broken outer position (record { state = state; target = target; open_nodes = others; notes = more })
-StopsInside-same bytes names rule.Order outer position state target opens others notes more stops = stops
-StopsInside-same bytes names _ outer position state target opens others notes more stops = stops
+-- the open nodes don't matter inside
+StopsInside-same : (bytes : List ℕ) (names : List (List ℕ × List ℕ)) (broken : Rule) (outer : Outer) (position : Position) (state : State) (target : Target) (opens others : List Open) (count : ℕ) (mentions : List Mentioned) → StopsInside bytes names broken outer position (record { state = state; target = target; open_nodes = opens; count = count; mentions = mentions }) → StopsInside bytes names broken outer position (record { state = state; target = target; open_nodes = others; count = count; mentions = mentions })
+StopsInside-same bytes names rule.Order outer position state target opens others count mentions stops = stops
+StopsInside-same bytes names _ outer position state target opens others count mentions stops = stops
 
-pub IsStopInside-same : (bytes : List ℕ) (names : List (List ℕ × List ℕ)) (index : ℕ) (refusal : CompileError) (outer : Outer) (position : Position) (state : State) (target : Target) (opens others : List Open) (notes more : List Note) → IsStopInside bytes names index outer position (record { state = state; target = target; open_nodes = opens; notes = notes }) refusal → IsStopInside bytes names index outer position (record { state = state; target = target; open_nodes = others; notes = more }) refusal
-IsStopInside-same bytes names index error.Memory outer position state target opens others notes more stops = tt
-IsStopInside-same bytes names index (error.Event named broken) outer position state target opens others notes more stops =
-    (stops.0, StopsInside-same bytes names broken outer position state target opens others notes more stops.1)
+pub IsStopInside-same : (bytes : List ℕ) (names : List (List ℕ × List ℕ)) (index : ℕ) (refusal : CompileError) (outer : Outer) (position : Position) (state : State) (target : Target) (opens others : List Open) (count : ℕ) (mentions : List Mentioned) → IsStopInside bytes names index outer position (record { state = state; target = target; open_nodes = opens; count = count; mentions = mentions }) refusal → IsStopInside bytes names index outer position (record { state = state; target = target; open_nodes = others; count = count; mentions = mentions }) refusal
+IsStopInside-same bytes names index error.Memory outer position state target opens others count mentions stops = tt
+IsStopInside-same bytes names index (error.Event named broken) outer position state target opens others count mentions stops =
+    (stops.0, StopsInside-same bytes names broken outer position state target opens others count mentions stops.1)

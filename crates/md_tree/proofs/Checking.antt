@@ -1,5 +1,5 @@
 -- What a check may say of a list of events.
-use Rattle.std.proofs.Common.{◌≡◌, ◌⊎◌, inl, inr, ℕ, suc, ◌+◌, ◌<◌, ◌≤◌, false, Option, Some, None, List, [], ◌∷◌, ◌++◌, length, take, drop, get_or, refl, sym, ap, ◌∙◌, subst, arith, add-one}
+use Rattle.std.proofs.Common.{◌≡◌, ◌⊎◌, inl, inr, ℕ, suc, ◌<◌, ◌≤◌, false, Option, Some, None, List, [], ◌∷◌, ◌++◌, length, take, drop, get_or, refl, sym, ap, ◌∙◌, subst, arith}
 use Rattle.std.specs.Prelude.{slice_get}
 use Rattle.std.specs.List.{All}
 use Rattle.std.proofs.Math.Seq.{take-suc, drop-cons}
@@ -7,36 +7,38 @@ use Rattle.std.proofs.lemmas.List.{take-append-drop}
 use Rattle.std.proofs.lemmas.Option.{slice_get-get_or, slice_get_cases, get_or_from_slice_get}
 use Rattle.md_base.specs.declared.event.Point.{Point}
 use Rattle.md_base.specs.declared.event.Name.{Name}
+use Rattle.md_base.specs.declared.event.Name.TheVariants.{Data}
 use Rattle.md_base.specs.declared.event.Kind.{Kind}
 use Rattle.md_base.specs.declared.event.Kind.TheVariants.{Enter, Exit}
 use Rattle.md_base.specs.declared.event.Event.{Event}
 use Rattle.md_tree.specs.declared.kinds.Mention.{Mention}
 use Rattle.md_tree.specs.declared.kinds.Mention.TheVariants.{Reference, Call}
-use Rattle.md_tree.specs.declared.kinds.Note.{Note}
+use Rattle.md_tree.specs.declared.kinds.Mentioned.{Mentioned}
 use Rattle.md_tree.specs.declared.rule.Rule.{Rule}
 use Rattle.md_tree.specs.declared.rule.Rule.TheVariants as rule
 use Rattle.md_tree.specs.declared.rule.CompileError.{CompileError}
 use Rattle.md_tree.specs.declared.rule.CompileError.TheVariants as error
 use Rattle.md_tree.specs.declared.state.Open.{Open}
 use Rattle.md_tree.specs.declared.state.Outer.{Outer}
-use Rattle.md_tree.specs.Mentions.{notes_of, mentions_in, IsResolved}
+use Rattle.md_tree.specs.Mentions.{mentions_among, IsResolved}
 use Rattle.md_tree.specs.Grammar.{Document, IsGrammatical, IsReadAs, IsChecked}
-use Rattle.md_tree.specs.Noted.{IsNoted}
 use Rattle.md_tree.specs.Refusal.{BeginNoTree, EndsBroken, EndsUnresolved, EntersMdx, IsOrder, IsMdx, IsBroken, IsLost, IsRefusal}
 use Rattle.md_tree.specs.Refusal as refusal
 use Rattle.md_tree.specs.Machine.{Reads, Course, Runs, Steps, StepsBy, is_complete, beginning}
 use Rattle.md_tree.specs.Walk.{Anything, Unbroken, BreaksWhere, BreaksAtExit, StopsBy, IsStop}
 use Rattle.md_tree.specs.Resolve.{LeadsNowhere, IsUnresolvedBy, IsUnresolved}
+use Rattle.md_tree.proofs.Indexed.{flatten_one}
+use Rattle.md_tree.proofs.Listing.{mentions_of, resolved-listed, all-resolved, got-listed}
 use Rattle.md_tree.proofs.Breaks.{IsOfNode, of_node}
-use Rattle.md_tree.proofs.Trees.{Runs-append, after_nodes}
-use Rattle.md_tree.proofs.Verdicts.{Runs-same, Runs-checked, Reached-runs, BeginNoTree-stuck, outside-stopped}
+use Rattle.md_tree.proofs.Trees.{Runs-append}
+use Rattle.md_tree.proofs.Verdicts.{Reached-runs, BeginNoTree-stuck, outside-stopped}
 use Rattle.md_tree.proofs.Endings.{EndsBroken-exit, LeaveOpen-undone, outside-undone, IsWalked}
 
 -- ---- one event more
 
-pub Runs-more : (holds : Reads) (events : List Event) (index : ℕ) (d : Event) (from to : Course) → index < length events → Runs holds (take index events) beginning from → Steps holds (get_or events index d) from to → Runs holds (take (index + 1) events) beginning to
+pub Runs-more : (holds : Reads) (events : List Event) (index : ℕ) (d : Event) (from to : Course) → index < length events → Runs holds (take index events) beginning from → Steps holds (get_or events index d) from to → Runs holds (take (suc index) events) beginning to
 Runs-more holds events index d from to inside runs step =
-    rw add-one (subst (λ es. Runs holds es beginning to) (sym (take-suc events index d inside)) (Runs-append holds (take index events) (get_or events index d ∷ []) beginning from to runs (to, step, refl)))
+    subst (λ es. Runs holds es beginning to) (sym (take-suc events index d inside)) (Runs-append holds (take index events) (get_or events index d ∷ []) beginning from to runs (to, step, refl))
 
 -- ---- an event that stops a walk
 
@@ -150,14 +152,14 @@ IsRefusal-undone given course runs undone = record {
 
 -- ---- what leads nowhere
 
--- two documents of the same events have the same notes
-notes_one : (given : Document) (notes : List Note) (walked : IsWalked given notes) (checked : IsChecked given) → notes ≡ notes_of checked.0
-notes_one given notes walked checked =
-    let holds = Unbroken given.bytes given.names in
-    let one = Runs-checked given walked.forest walked.flattened walked.shape walked.rules in
-    let other = Runs-checked given checked.0 (IsReadAs.flattened checked.1) (IsGrammatical.shape (IsReadAs.grammatical checked.1)) (IsGrammatical.rules (IsReadAs.grammatical checked.1)) in
-    let same = Runs-same holds holds given.events beginning (after_nodes walked.forest one.0 beginning) (after_nodes checked.0 other.0 beginning) one.1 other.1 in
-    walked.notes_are ∙ ap (λ (c : Course). c.notes) same
+-- any point
+somewhere : Point
+somewhere = record { line = 1; column = 1; index = 0; vs = 0 }
+
+-- a document of the same events is the one that was read
+document_one : (given : Document) (mentions : List Mentioned) (walked : IsWalked given mentions) (checked : IsChecked given) → checked.0 ≡ walked.forest
+document_one given mentions walked checked =
+    flatten_one Data somewhere checked.0 walked.forest (IsReadAs.flattened checked.1 ∙ sym walked.flattened)
 
 got_inside : (mentions : List Mention) (index : ℕ) (mention : Mention) → slice_get mentions index ≡ Some mention → index < length mentions
 got_inside mentions index mention e = by_cases (slice_get_cases mentions index).1
@@ -166,57 +168,68 @@ got_inside mentions index mention e = by_cases (slice_get_cases mentions index).
     by_cases (inl here) = here.1
     by_cases (inr past) = let clash : Some mention ≡ None = sym e ∙ past.1 in cc
 
--- a document's mentions are resolved
-lost_outside : (given : Document) (notes : List Note) (index : ℕ) (mention : Mention) → IsWalked given notes → LeadsNowhere given.bytes (mentions_in notes) index mention → IsChecked given → ⊥
-lost_outside given notes index mention walked lost checked =
-    let same = notes_one given notes walked checked in
-    let all = subst (λ ns. All (IsResolved given.bytes (mentions_in ns)) (mentions_in ns)) (sym same) (IsGrammatical.resolved (IsReadAs.grammatical checked.1)) in
-    let here = all index mention (got_inside (mentions_in notes) index mention lost.0) in
-    lost.1 (subst (λ m. IsResolved given.bytes (mentions_in notes) m) (get_or_from_slice_get (mentions_in notes) index mention mention lost.0) here)
+-- what leads nowhere, among the mentions of the document
+module _ (given : Document) (mentioned : List Mentioned) (index : ℕ) (mention : Mention) (walked : IsWalked given mentioned) (lost : LeadsNowhere given.bytes mentioned index mention) where
+  abbrev all : List Mention
+  all = mentions_of walked.forest
 
-ends_unresolved : (given : Document) (notes : List Note) (index : ℕ) (mention : Mention) → IsWalked given notes → LeadsNowhere given.bytes (mentions_in notes) index mention → EndsUnresolved given.bytes given.names given.events index mention
-ends_unresolved given notes index mention walked lost = record {
-  forest = walked.forest;
-  flattened = walked.flattened;
-  shape = walked.shape;
-  rules = walked.rules;
-  mentioned = subst (λ ns. slice_get (mentions_in ns) index ≡ Some mention) walked.notes_are lost.0;
-  unresolved = subst (λ ns. IsResolved given.bytes (mentions_in ns) mention → ⊥) walked.notes_are lost.1;
-}
+  lost_got : slice_get all index ≡ Some mention
+  lost_got =
+      got-listed all lost.0 (record { index = index; mention = mention }) (ap (λ ms. slice_get ms lost.0) (sym walked.mentions_are) ∙ lost.1)
 
-refused_lost : (given : Document) (notes : List Note) (index : ℕ) (broken : Rule) → IsWalked given notes → IsUnresolvedBy given.bytes (mentions_in notes) index broken → IsRefusal given (error.Event index broken)
-refused_lost given notes index rule.Definition walked lost = record {
+  lost_unresolved : IsResolved given.bytes all mention → ⊥
+  lost_unresolved is =
+      lost.2 (subst (λ ms. IsResolved given.bytes (mentions_among ms) mention) (sym walked.mentions_are) (resolved-listed given.bytes all mention is))
+
+  -- a document's mentions are resolved
+  lost_outside : IsChecked given → ⊥
+  lost_outside checked =
+      let resolved = subst (λ f. All (IsResolved given.bytes (mentions_of f)) (mentions_of f)) (document_one given mentioned walked checked) (IsGrammatical.resolved (IsReadAs.grammatical checked.1)) in
+      let here = resolved index mention (got_inside all index mention lost_got) in
+      lost_unresolved (subst (λ m. IsResolved given.bytes all m) (get_or_from_slice_get all index mention mention lost_got) here)
+
+  ends_unresolved : EndsUnresolved given.bytes given.names given.events index mention
+  ends_unresolved = record {
+    forest = walked.forest;
+    flattened = walked.flattened;
+    shape = walked.shape;
+    rules = walked.rules;
+    mentioned = lost_got;
+    unresolved = lost_unresolved;
+  }
+
+refused_lost : (given : Document) (mentioned : List Mentioned) (index : ℕ) (broken : Rule) → IsWalked given mentioned → IsUnresolvedBy given.bytes mentioned index broken → IsRefusal given (error.Event index broken)
+refused_lost given mentioned index rule.Definition walked lost = record {
   order = tt;
   mdx = tt;
   of_node = tt;
-  lost = (lost.0, ends_unresolved given notes index (Reference lost.0) walked lost.1);
-  outside = lost_outside given notes index (Reference lost.0) walked lost.1;
+  lost = (lost.0, ends_unresolved given mentioned index (Reference lost.0) walked lost.1);
+  outside = lost_outside given mentioned index (Reference lost.0) walked lost.1;
 }
-refused_lost given notes index rule.Footnote walked lost = record {
+refused_lost given mentioned index rule.Footnote walked lost = record {
   order = tt;
   mdx = tt;
   of_node = tt;
-  lost = (lost.0, ends_unresolved given notes index (Call lost.0) walked lost.1);
-  outside = lost_outside given notes index (Call lost.0) walked lost.1;
+  lost = (lost.0, ends_unresolved given mentioned index (Call lost.0) walked lost.1);
+  outside = lost_outside given mentioned index (Call lost.0) walked lost.1;
 }
-refused_lost given notes index _ walked lost = absurd lost
+refused_lost given mentioned index _ walked lost = absurd lost
 
-pub IsRefusal-lost : (given : Document) (notes : List Note) (refused : CompileError) → IsWalked given notes → IsUnresolved given.bytes (mentions_in notes) refused → IsRefusal given refused
-IsRefusal-lost given notes error.Memory walked lost = record { order = tt; mdx = tt; of_node = tt; lost = tt; outside = tt }
-IsRefusal-lost given notes (error.Event index broken) walked lost = refused_lost given notes index broken walked lost
+pub IsRefusal-lost : (given : Document) (mentioned : List Mentioned) (refused : CompileError) → IsWalked given mentioned → IsUnresolved given.bytes mentioned refused → IsRefusal given refused
+IsRefusal-lost given mentioned error.Memory walked lost = record { order = tt; mdx = tt; of_node = tt; lost = tt; outside = tt }
+IsRefusal-lost given mentioned (error.Event index broken) walked lost = refused_lost given mentioned index broken walked lost
 
 -- ---- what passes
 
-pub IsNoted-walked : (given : Document) (notes : List Note) → IsWalked given notes → All (IsResolved given.bytes (mentions_in notes)) (mentions_in notes) → IsNoted given notes
-IsNoted-walked given notes walked resolved = (
+pub IsChecked-walked : (given : Document) (mentioned : List Mentioned) → IsWalked given mentioned → All (IsResolved given.bytes (mentions_among mentioned)) (mentions_among mentioned) → IsChecked given
+IsChecked-walked given mentioned walked resolved = (
   walked.forest,
   record {
     flattened = walked.flattened;
     grammatical = record {
       shape = walked.shape;
       rules = walked.rules;
-      resolved = subst (λ ns. All (IsResolved given.bytes (mentions_in ns)) (mentions_in ns)) walked.notes_are resolved;
+      resolved = all-resolved given.bytes (mentions_of walked.forest) (subst (λ ms. All (IsResolved given.bytes (mentions_among ms)) (mentions_among ms)) walked.mentions_are resolved);
     };
   },
-  sym walked.notes_are,
 )

@@ -10,7 +10,7 @@ use Rattle.md_tree.specs.declared.kinds.Standing.{Standing}
 use Rattle.md_tree.specs.declared.kinds.Standing.TheVariants.{Through, Space, Solid, Mdx}
 use Rattle.md_tree.specs.declared.kinds.Target.{Target}
 use Rattle.md_tree.specs.declared.kinds.Target.TheVariants.{Missing}
-use Rattle.md_tree.specs.declared.kinds.Note.{Note}
+use Rattle.md_tree.specs.declared.kinds.Mentioned.{Mentioned}
 use Rattle.md_tree.specs.declared.rule.Rule.{Rule}
 use Rattle.md_tree.specs.declared.state.State.{State}
 use Rattle.md_tree.specs.declared.state.Open.{Open}
@@ -21,11 +21,11 @@ use Rattle.md_tree.specs.Spine.{spine}
 use Rattle.md_tree.specs.Pattern.{pattern_of}
 use Rattle.md_tree.specs.Shape.{EachNode, IsShaped, AreShaped, inner_role, inner_before}
 use Rattle.md_tree.specs.Rules.{broken_where, MeetRules, target_of}
-use Rattle.md_tree.specs.Mentions.{notes_of}
 use Rattle.md_tree.specs.Grammar.{Document, IsGrammatical, IsReadAs, IsChecked}
 use Rattle.md_tree.specs.Refusal.{Level, opening, role_in, before_in, symbol_after, Begins, LeaveOpen, EndsBroken}
 use Rattle.md_tree.specs.Machine.{Reads, Course, Runs, Exits, ExitsWhere, after_exit, entered_on, is_complete, is_whole, is_optional, items_of, start_of, beginning}
 use Rattle.md_tree.specs.Walk.{Unbroken, Broken, BreaksWhere, BreaksAtExit}
+use Rattle.md_tree.proofs.Listing.{listed, mentions_of, mentions_over-listed}
 use Rattle.md_tree.proofs.Greedy.{and_both}
 use Rattle.md_tree.proofs.Groups.{Feeds, matches_feeds, EndsInGroup-feeds}
 use Rattle.md_tree.proofs.Trees.{IsFine, after_nodes, Feeds-context}
@@ -161,14 +161,14 @@ outside-undone given course runs undone checked =
     true_false (is_complete course.state) (ap (λ (c : Course). is_complete c.state) same ∙ document.2) (undone (ap (λ (c : Course). c.open_nodes) same))
 
 -- all has ended: the document that was read
-pub record IsWalked (given : Document) (notes : List Note) : Type 0 where
+pub record IsWalked (given : Document) (mentions : List Mentioned) : Type 0 where
   pub forest : Forest
   pub flattened : flatten forest ≡ given.events
   pub shape : IsShaped forest
   pub rules : MeetRules given.bytes given.names forest Flow None
-  pub notes_are : notes ≡ notes_of forest
+  pub mentions_are : mentions ≡ listed 0 (mentions_of forest)
 
-pub IsWalked-done : (given : Document) (course : Course) → Runs (Unbroken given.bytes given.names) given.events beginning course → course.open_nodes ≡ [] → is_complete course.state ≡ true → IsWalked given course.notes
+pub IsWalked-done : (given : Document) (course : Course) → Runs (Unbroken given.bytes given.names) given.events beginning course → course.open_nodes ≡ [] → is_complete course.state ≡ true → IsWalked given course.mentions
 IsWalked-done given course runs none complete =
     let holds = Unbroken given.bytes given.names in
     let reached = Reached-runs holds given.events course runs in
@@ -185,5 +185,5 @@ IsWalked-done given course runs none complete =
       flattened = flattened;
       shape = shape;
       rules = rules;
-      notes_are = ap (λ (c : Course). c.notes) same;
+      mentions_are = ap (λ (c : Course). c.mentions) same ∙ mentions_over-listed reached.nodes;
     }

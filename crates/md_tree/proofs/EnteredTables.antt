@@ -9,7 +9,7 @@ use Rattle.md_base.specs.declared.event.Name.TheVariants.{GfmTable}
 use Rattle.md_tree.specs.declared.kinds.Symbol.{Symbol}
 use Rattle.md_tree.specs.declared.kinds.Role.{Role}
 use Rattle.md_tree.specs.declared.kinds.Role.TheVariants as role
-use Rattle.md_tree.specs.Tree.{Forest, Empty, Node, entering, exiting}
+use Rattle.md_tree.specs.Tree.{Forest, Empty, Node, entering}
 use Rattle.md_tree.specs.Standing.{standing_of}
 use Rattle.md_tree.specs.Spine.{spine, shown}
 use Rattle.md_tree.specs.Shape.{EachNode, IsShapedNode, IsStanding, AreShaped, inner_role, inner_before, last_symbol}
@@ -39,7 +39,7 @@ rows_shaped (Node name start end children rest) index tables around before shape
     let exit_index = behind (suc index) children in
     let more = tables_with name (tables_behind tables children) in
     let entry : Row = entry_row index tables name (entering name start) children in
-    let exit : Row = exit_row exit_index index (exiting name end) in
+    let exit : Row = exit_row exit_index index name start end in
     let exit_table : IsTableRow exit = λ is other e. cc in
     All-cons IsTableRow entry (rows_of (suc index) tables children ++ exit ∷ rows_of (suc exit_index) more rest) (entry_shape name children around before shaped.0.1 shaped.1)
     (All-append IsTableRow (rows_of (suc index) tables children) (exit ∷ rows_of (suc exit_index) more rest) (rows_shaped children (suc index) tables (inner_role st around before) (inner_before st before) shaped.1) (All-cons IsTableRow exit (rows_of (suc exit_index) more rest) exit_table (rows_shaped rest (suc exit_index) more around (last_symbol before (shown st (spine children))) shaped.2)))

@@ -7,6 +7,7 @@ use Rattle.std.proofs.lemmas.List.Elements.{All-cons, All-append, All-nil}
 use Rattle.std.proofs.lemmas.Option.{slice_get_cases, slice_get-get_or, slice_get-map, get_or_from_slice_get}
 use Rattle.md_base.specs.declared.event.AlignKind.{AlignKind}
 use Rattle.md_base.specs.declared.event.Point.{Point}
+use Rattle.md_base.specs.declared.event.Position.{Position}
 use Rattle.md_base.specs.declared.event.Name.{Name}
 use Rattle.md_base.specs.declared.event.Kind.TheVariants.{Enter}
 use Rattle.md_base.specs.declared.event.Event.{Event}
@@ -15,42 +16,56 @@ use Rattle.md_tree.specs.Tree.{Forest, Empty, Node, flatten, entering, exiting}
 use Rattle.md_tree.specs.NameTests.{is_table}
 use Rattle.md_tree.specs.Alignments.{alignments}
 use Rattle.md_tree.specs.Grammar.{Document}
-use Rattle.md_tree.specs.Texts.{EntersAt}
+use Rattle.md_tree.specs.Rules.{place}
+use Rattle.md_tree.specs.Texts.{EntersAt, positions_of}
 use Rattle.md_tree.specs.Entered.{children_of, IsEnteredAt, EntersNode}
 use Rattle.md_tree.specs.Partners.{behind, partners_of}
 use Rattle.md_tree.specs.Columns.{tables_of}
 use Rattle.md_tree.specs.Facts.{partner_alone, tables_with, tables_behind, fact_at, facts_of, facts_at, tables_at}
 use Rattle.md_tree.proofs.Passing.{facts-flatten, tables-flatten, length_table, length_tables}
 
--- an event, its index, what is found at it, and at an entry the node's children
+-- an event, its index, what is found at it, at an entry the node's children, and at an exit where the node lies
 pub record Row : Type 0 where
   pub event : Event
   pub children : Option Forest
   pub index : ℕ
   pub fact : Fact
+  pub position : Option Position
 
 abbrev pub entry_row : ℕ → ℕ → Name → Event → Forest → Row
 entry_row index tables name event children =
-    record { event = event; children = Some children; index = index; fact = fact_at index tables name children }
+    record {
+      event = event;
+      children = Some children;
+      index = index;
+      fact = fact_at index tables name children;
+      position = None;
+    }
 
-abbrev pub exit_row : ℕ → ℕ → Event → Row
-exit_row index entry event = record { event = event; children = None; index = index; fact = partner_alone entry }
+abbrev pub exit_row : ℕ → ℕ → Name → Point → Point → Row
+exit_row index entry name start end = record {
+  event = exiting name end;
+  children = None;
+  index = index;
+  fact = partner_alone entry;
+  position = Some (place start end);
+}
 
 abbrev pub rows_of : ℕ → ℕ → Forest → List Row
 rows_of index tables Empty = []
 rows_of index tables (Node name start end children rest) =
     entry_row index tables name (entering name start) children
     ∷ rows_of (suc index) tables children
-    ++ exit_row (behind (suc index) children) index (exiting name end)
+    ++ exit_row (behind (suc index) children) index name start end
     ∷ rows_of (suc (behind (suc index) children)) (tables_with name (tables_behind tables children)) rest
 
 -- a column of the rows, where it is so of each node
-module _ {A : Type 0} (of_row : Row → A) (column : ℕ → ℕ → Forest → List A) (at_end : (index tables : ℕ) → column index tables Empty ≡ []) (at_node : (index tables : ℕ) (name : Name) (start end : Point) (children rest : Forest) → column index tables (Node name start end children rest) ≡ of_row (entry_row index tables name (entering name start) children) ∷ (column (suc index) tables children ++ of_row (exit_row (behind (suc index) children) index (exiting name end)) ∷ column (suc (behind (suc index) children)) (tables_with name (tables_behind tables children)) rest)) where
+module _ {A : Type 0} (of_row : Row → A) (column : ℕ → ℕ → Forest → List A) (at_end : (index tables : ℕ) → column index tables Empty ≡ []) (at_node : (index tables : ℕ) (name : Name) (start end : Point) (children rest : Forest) → column index tables (Node name start end children rest) ≡ of_row (entry_row index tables name (entering name start) children) ∷ (column (suc index) tables children ++ of_row (exit_row (behind (suc index) children) index name start end) ∷ column (suc (behind (suc index) children)) (tables_with name (tables_behind tables children)) rest)) where
   pub column_rows : (forest : Forest) (index tables : ℕ) → map of_row (rows_of index tables forest) ≡ column index tables forest
   column_rows Empty index tables = sym (at_end index tables)
   column_rows (Node name start end children rest) index tables =
       let entry = of_row (entry_row index tables name (entering name start) children) in
-      let exit = exit_row (behind (suc index) children) index (exiting name end) in
+      let exit = exit_row (behind (suc index) children) index name start end in
       let more = tables_with name (tables_behind tables children) in
       let later = suc (behind (suc index) children) in
       ap (λ xs. entry ∷ xs)
@@ -59,14 +74,17 @@ module _ {A : Type 0} (of_row : Row → A) (column : ℕ → ℕ → Forest → 
       ∙ ap (λ xs. column (suc index) tables children ++ of_row exit ∷ xs) (column_rows rest later more))
       ∙ sym (at_node index tables name start end children rest)
 
-event_rows : (forest : Forest) (index tables : ℕ) → map (λ (r : Row). r.event) (rows_of index tables forest) ≡ flatten forest
+pub event_rows : (forest : Forest) (index tables : ℕ) → map (λ (r : Row). r.event) (rows_of index tables forest) ≡ flatten forest
 event_rows = column_rows (λ (r : Row). r.event) (λ index tables forest. flatten forest) (λ index tables. refl) (λ index tables name start end children rest. refl)
 
 children_rows : (forest : Forest) (index tables : ℕ) → map (λ (r : Row). r.children) (rows_of index tables forest) ≡ children_of forest
 children_rows = column_rows (λ (r : Row). r.children) (λ index tables forest. children_of forest) (λ index tables. refl) (λ index tables name start end children rest. refl)
 
-fact_rows : (forest : Forest) (index tables : ℕ) → map (λ (r : Row). r.fact) (rows_of index tables forest) ≡ facts_of index tables forest
+pub fact_rows : (forest : Forest) (index tables : ℕ) → map (λ (r : Row). r.fact) (rows_of index tables forest) ≡ facts_of index tables forest
 fact_rows = column_rows (λ (r : Row). r.fact) facts_of (λ index tables. refl) (λ index tables name start end children rest. refl)
+
+pub position_rows : (forest : Forest) (index tables : ℕ) → map (λ (r : Row). r.position) (rows_of index tables forest) ≡ positions_of forest
+position_rows = column_rows (λ (r : Row). r.position) (λ index tables forest. positions_of forest) (λ index tables. refl) (λ index tables name start end children rest. refl)
 
 -- rows have their indices, from the first one up to the next
 abbrev pub Numbered : ℕ → List Row → ℕ → Type 0
@@ -82,7 +100,7 @@ numbered_rows Empty index tables = refl
 numbered_rows (Node name start end children rest) index tables =
     let exit = behind (suc index) children in (
       refl,
-      numbered_append (rows_of (suc index) tables children) (exit_row exit index (exiting name end) ∷ rows_of (suc exit) (tables_with name (tables_behind tables children)) rest) (suc index) exit (behind (suc exit) rest)
+      numbered_append (rows_of (suc index) tables children) (exit_row exit index name start end ∷ rows_of (suc exit) (tables_with name (tables_behind tables children)) rest) (suc index) exit (behind (suc exit) rest)
           (numbered_rows children (suc index) tables) (refl, numbered_rows rest (suc exit) (tables_with name (tables_behind tables children))),
     )
 
@@ -121,7 +139,7 @@ rows_found ended before later (Node name start end children rest) index tables e
     let exit = behind (suc index) children in
     let more = tables_with name (tables_behind tables children) in
     let entry : Row = entry_row index tables name (entering name start) children in
-    let last : Row = exit_row exit index (exiting name end) in
+    let last : Row = exit_row exit index name start end in
     let last_found : IsFound ended last = λ other none. cc in
     let is_inside : ended ≡ before ++ (inner ++ (own ++ (behind_rest ++ later))) =
     is ∙ ap (λ ts. before ++ ts) (append_assoc inner (own ++ behind_rest) later ∙ ap (λ ts. inner ++ ts) (append_assoc own behind_rest later)) in
@@ -143,7 +161,7 @@ rows_have Empty index tables = All-nil HasChildren
 rows_have (Node name start end children rest) index tables =
     let exit = behind (suc index) children in
     let entry : Row = entry_row index tables name (entering name start) children in
-    let last : Row = exit_row exit index (exiting name end) in
+    let last : Row = exit_row exit index name start end in
     let last_has : HasChildren last = λ e. cc in
     let later = rows_of (suc exit) (tables_with name (tables_behind tables children)) rest in
     All-cons HasChildren entry (rows_of (suc index) tables children ++ last ∷ later) (λ e. (children, refl)) (All-append HasChildren (rows_of (suc index) tables children) (last ∷ later) (rows_have children (suc index) tables) (All-cons HasChildren last later last_has (rows_have rest (suc exit) (tables_with name (tables_behind tables children)))))
@@ -156,11 +174,11 @@ got_inside {A = A} xs index x e = by_cases (slice_get_cases xs index).1
     by_cases (inr past) = let clash : Some x ≡ None = sym e ∙ past.1 in cc
 
 -- what is got at an index of a list that another is mapped to
-got_mapped : {A B : Type 0} (f : A → B) (xs : List A) (ys : List B) (index : ℕ) (x : A) (y : B) → map f xs ≡ ys → index < length xs → slice_get ys index ≡ Some y → f (get_or xs index x) ≡ y
+pub got_mapped : {A B : Type 0} (f : A → B) (xs : List A) (ys : List B) (index : ℕ) (x : A) (y : B) → map f xs ≡ ys → index < length xs → slice_get ys index ≡ Some y → f (get_or xs index x) ≡ y
 got_mapped f xs ys index x y same inside e =
     sym (get_or-map f xs index x y inside) ∙ ap (λ zs. get_or zs index y) same ∙ get_or_from_slice_get ys index y y e
 
-mapped_long : {A B : Type 0} (f : A → B) (xs : List A) (ys : List B) → map f xs ≡ ys → length xs ≡ length ys
+pub mapped_long : {A B : Type 0} (f : A → B) (xs : List A) (ys : List B) → map f xs ≡ ys → length xs ≡ length ys
 mapped_long f xs ys same = sym (length-map xs f) ∙ ap length same
 
 -- the partners, wherever the index is
@@ -186,7 +204,7 @@ module _ (given : Document) (index : ℕ) (name : Name) (enters : EntersAt given
   event = enters.0
 
   abbrev pub past_row : Row
-  past_row = record { event = event; children = None; index = index; fact = partner_alone index }
+  past_row = record { event = event; children = None; index = index; fact = partner_alone index; position = None }
 
   pub inside_rows : (forest : Forest) → flatten forest ≡ given.events → index < length (rows_of 0 0 forest)
   inside_rows forest flattened =

@@ -18,7 +18,7 @@ use Rattle.std.proofs.lemmas.Slice.Eq.{bytes_eq-Decides}
 use Rattle.md_base.specs.declared.event.Position.{Position}
 use Rattle.md_tree.specs.declared.kinds.Mention.{Mention}
 use Rattle.md_tree.specs.declared.kinds.Mention.TheVariants.{Definition, FootnoteDefinition}
-use Rattle.md_tree.specs.declared.kinds.Note.{Note}
+use Rattle.md_tree.specs.declared.kinds.Mentioned.{Mentioned}
 use Rattle.md_tree.specs.Mentions.{defined_by, footnoted_by}
 use Rattle.md_tree.specs.Resolve.{HaveSame}
 
@@ -166,22 +166,22 @@ HaveSame-inserted texts text rest all same z =
       ],
     )
 
--- a loop over notes puts in what they define, which F gives: at a note that defines an identifier, at another, and at the end
-module _ (F : List Note → List Identifier) (notes : List Note) (i : ℕ) (texts : List Text) (same : HaveSame (map identifier_of texts ++ F (drop i notes)) (F notes)) where
-  pub HaveSame-put : (n : Note) (text : Text) (x : Identifier) → i < length notes → F (get_or notes i n ∷ drop (i + 1) notes) ≡ x ∷ F (drop (i + 1) notes) → identifier_of text ≡ x → HaveSame (map identifier_of (insert_key text_cmp texts text) ++ F (drop (i + 1) notes)) (F notes)
+-- a loop over mentions puts in what they define, which F gives: at one that defines an identifier, at another, and at the end
+module _ (F : List Mentioned → List Identifier) (mentioned : List Mentioned) (i : ℕ) (texts : List Text) (same : HaveSame (map identifier_of texts ++ F (drop i mentioned)) (F mentioned)) where
+  pub HaveSame-put : (n : Mentioned) (text : Text) (x : Identifier) → i < length mentioned → F (get_or mentioned i n ∷ drop (i + 1) mentioned) ≡ x ∷ F (drop (i + 1) mentioned) → identifier_of text ≡ x → HaveSame (map identifier_of (insert_key text_cmp texts text) ++ F (drop (i + 1) mentioned)) (F mentioned)
   HaveSame-put n text x inside first is =
-      HaveSame-inserted texts text (F (drop (i + 1) notes)) (F notes)
-      (subst (λ xs. HaveSame (map identifier_of texts ++ xs) (F notes)) (at_drop_more F notes i n inside ∙ first ∙ ap (λ y. y ∷ F (drop (i + 1) notes)) (sym is)) same)
+      HaveSame-inserted texts text (F (drop (i + 1) mentioned)) (F mentioned)
+      (subst (λ xs. HaveSame (map identifier_of texts ++ xs) (F mentioned)) (at_drop_more F mentioned i n inside ∙ first ∙ ap (λ y. y ∷ F (drop (i + 1) mentioned)) (sym is)) same)
 
-  pub HaveSame-passed : (n : Note) → i < length notes → F (get_or notes i n ∷ drop (i + 1) notes) ≡ F (drop (i + 1) notes) → HaveSame (map identifier_of texts ++ F (drop (i + 1) notes)) (F notes)
+  pub HaveSame-passed : (n : Mentioned) → i < length mentioned → F (get_or mentioned i n ∷ drop (i + 1) mentioned) ≡ F (drop (i + 1) mentioned) → HaveSame (map identifier_of texts ++ F (drop (i + 1) mentioned)) (F mentioned)
   HaveSame-passed n inside first =
-      subst (λ xs. HaveSame (map identifier_of texts ++ xs) (F notes)) (at_drop_more F notes i n inside ∙ first) same
+      subst (λ xs. HaveSame (map identifier_of texts ++ xs) (F mentioned)) (at_drop_more F mentioned i n inside ∙ first) same
 
-  pub HaveSame-all : length notes ≤ i → F [] ≡ [] → HaveSame (map identifier_of texts) (F notes)
+  pub HaveSame-all : length mentioned ≤ i → F [] ≡ [] → HaveSame (map identifier_of texts) (F mentioned)
   HaveSame-all end none =
-      subst (λ xs. HaveSame xs (F notes)) (ap (λ xs. map identifier_of texts ++ xs) (ap F (drop_all i notes end) ∙ none) ∙ append-nil (map identifier_of texts)) same
+      subst (λ xs. HaveSame xs (F mentioned)) (ap (λ xs. map identifier_of texts ++ xs) (ap F (drop_all i mentioned end) ∙ none) ∙ append-nil (map identifier_of texts)) same
 
--- what a note that defines nothing adds
+-- what a mention that defines nothing adds
 pub defined_by-other : (bytes : List ℕ) (mention : Mention) (others : List Identifier) → ((label : Position) → mention ≡ Definition label → ⊥) → defined_by bytes mention others ≡ others
 defined_by-other bytes (Definition label) others no_such = absurd (no_such label refl)
 defined_by-other bytes _ others no_such = refl

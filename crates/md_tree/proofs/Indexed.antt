@@ -1,11 +1,10 @@
--- The events of a document, each with what is kept of it.
-use Rattle.std.proofs.Common.{◌≡◌, ◌⊎◌, inl, inr, ℕ, ◌<◌, ◌≤◌, Bool, true, Option, Some, None, List, [], ◌∷◌, ◌++◌, length, get_or, refl, sym, ap, ◌∙◌, subst, append_assoc, arith}
-use Rattle.std.specs.Prelude.{map, slice_get, option_copied, IsSome}
+-- The events of a document, each with what is known of it.
+use Rattle.std.proofs.Common.{◌≡◌, ℕ, suc, ◌<◌, Bool, true, Option, Some, None, List, [], ◌∷◌, ◌++◌, length, get_or, refl, sym, ap, ◌∙◌, append_assoc, append-nil, arith}
+use Rattle.std.specs.Prelude.{map, option_map, slice_get, option_copied, IsSome}
 use Rattle.std.specs.Borrow.{Bor}
 use Rattle.std.specs.List.{All}
-use Rattle.std.proofs.lemmas.List.{get_or-map, map-append, length-map}
 use Rattle.std.proofs.lemmas.List.Elements.{All-cons, All-append, All-nil}
-use Rattle.std.proofs.lemmas.Option.{slice_get_cases, get_or_from_slice_get}
+use Rattle.std.proofs.lemmas.Option.{slice_get-map, slice_get-get_or}
 use Rattle.md_base.specs.declared.event.Point.{Point}
 use Rattle.md_base.specs.declared.event.Position.{Position}
 use Rattle.md_base.specs.declared.event.Name.{Name}
@@ -21,17 +20,20 @@ use Rattle.md_tree.specs.declared.kinds.Standing.{Standing}
 use Rattle.md_tree.specs.declared.kinds.Standing.TheVariants.{Through, Space, Solid, Mdx}
 use Rattle.md_tree.specs.declared.kinds.Target.{Target}
 use Rattle.md_tree.specs.declared.kinds.Target.TheVariants.{Missing}
-use Rattle.md_tree.specs.declared.kinds.Note.{Note}
 use Rattle.md_tree.specs.declared.rule.Rule.{Rule}
 use Rattle.md_tree.specs.Tree.{Forest, Empty, Node, flatten, entering, exiting}
 use Rattle.md_tree.specs.Standing.{standing_of}
 use Rattle.md_tree.specs.Spine.{spine, shown}
 use Rattle.md_tree.specs.Shape.{inner_role, inner_before, last_symbol}
 use Rattle.md_tree.specs.Rules.{place, broken_by, broken_rule, broken_where, MeetRules, target_of}
-use Rattle.md_tree.specs.Mentions.{notes_of}
-use Rattle.md_tree.specs.Grammar.{Document, IsGrammatical, IsReadAs}
-use Rattle.md_tree.specs.Noted.{IsNoted}
-use Rattle.md_tree.specs.Texts.{positions_of, has_reading, is_text, is_identifier}
+use Rattle.md_tree.specs.Grammar.{Document, IsGrammatical, IsReadAs, IsChecked}
+use Rattle.md_tree.specs.Partners.{behind}
+use Rattle.md_tree.specs.Facts.{partner_alone, tables_with, tables_behind, facts_at}
+use Rattle.md_tree.specs.Found.{position_from, partner_event, position_ended}
+use Rattle.md_tree.specs.Texts.{ExitsAt, positions_of, has_reading, is_text, is_identifier}
+use Rattle.md_tree.proofs.Passing.{length_one, facts-flatten}
+use Rattle.md_tree.proofs.Entering.{Row, entry_row, exit_row, rows_of, event_rows, fact_rows, position_rows, get_at, got_inside, got_mapped, mapped_long}
+use Rattle.md_tree.proofs.Placing.{at_entry, in_node, behind_node, length_events}
 
 -- ---- a list of events is the flattening of at most one document
 
@@ -67,60 +69,39 @@ flatten_one n p one other e = (one_forest one other n n p p [] [] (ap (λ es. es
 
 -- ---- rows
 
--- an event, where its node starts, and at an exit where the node lies
-pub record Row : Type 0 where
-  pub event : Event
-  pub start : Point
-  pub position : Option Position
-
-abbrev pub rows_of : Forest → List Row
-rows_of Empty = []
-rows_of (Node name start end children rest) =
-    record { event = entering name start; start = start; position = None } ∷ rows_of children ++ record { event = exiting name end; start = start; position = Some (place start end) } ∷ rows_of rest
-
-event_rows : (forest : Forest) → map (λ (r : Row). r.event) (rows_of forest) ≡ flatten forest
-event_rows Empty = refl
-event_rows (Node name start end children rest) =
-    ap (λ es. entering name start ∷ es) (map-append (λ (r : Row). r.event) (rows_of children) (record { event = exiting name end; start = start; position = Some (place start end) } ∷ rows_of rest) ∙ ap (λ es. es ++ exiting name end ∷ map (λ (r : Row). r.event) (rows_of rest)) (event_rows children) ∙ ap (λ es. flatten children ++ exiting name end ∷ es) (event_rows rest))
-
-start_rows : (forest : Forest) → map (λ (r : Row). r.start) (rows_of forest) ≡ map (λ (n : Note). n.start) (notes_of forest)
-start_rows Empty = refl
-start_rows (Node name start end children rest) =
-    ap (λ ps. start ∷ ps) (map-append (λ (r : Row). r.start) (rows_of children) (record { event = exiting name end; start = start; position = Some (place start end) } ∷ rows_of rest) ∙ ap (λ ps. ps ++ start ∷ map (λ (r : Row). r.start) (rows_of rest)) (start_rows children) ∙ ap (λ ps. map (λ (n : Note). n.start) (notes_of children) ++ start ∷ ps) (start_rows rest) ∙ sym (map-append (λ (n : Note). n.start) (notes_of children) _))
-
-position_rows : (forest : Forest) → map (λ (r : Row). r.position) (rows_of forest) ≡ positions_of forest
-position_rows Empty = refl
-position_rows (Node name start end children rest) =
-    ap (λ ps. None ∷ ps) (map-append (λ (r : Row). r.position) (rows_of children) (record { event = exiting name end; start = start; position = Some (place start end) } ∷ rows_of rest) ∙ ap (λ ps. ps ++ Some (place start end) ∷ map (λ (r : Row). r.position) (rows_of rest)) (position_rows children) ∙ ap (λ ps. positions_of children ++ Some (place start end) ∷ ps) (position_rows rest))
-
--- what is known of a row, of names with a reading and a text
-abbrev pub IsKeptRow : (Reading → Bool) → (Point → Point → Option (List ℕ)) → Row → Type 0
-IsKeptRow is text row =
-    (row.event.kind ≡ Exit → has_reading is (standing_of row.event.name) ≡ true → (found : List ℕ) × (text row.start row.event.point ≡ Some found)) × ((position : Position) → row.position ≡ Some position → (position.start ≡ row.start) × (position.end ≡ row.event.point))
+-- what is known of a row, of names with a reading and a text: at an exit, where the node lies, and the text there
+abbrev IsEnded : List Event → (Reading → Bool) → (Point → Point → Option (List ℕ)) → Row → Type 0
+IsEnded events is text row =
+    row.event.kind ≡ Exit → (position : Position) × (row.position ≡ Some position) × (position_from (slice_get events row.fact.partner) (Some row.event) ≡ Some position) × (has_reading is (standing_of row.event.name) ≡ true → (found : List ℕ) × (text position.start position.end ≡ Some found))
 
 -- names with the reading have the text, where they break no rule
 abbrev pub HaveText : List ℕ → List (List ℕ × List ℕ) → (Reading → Bool) → (Point → Point → Option (List ℕ)) → Type 0
 HaveText bytes names is text =
     (standing : Standing) (around : Role) (before : Option Symbol) (start end : Point) (target : Target) → broken_where bytes names standing around before start end target ≡ None → has_reading is standing ≡ true → (found : List ℕ) × (text start end ≡ Some found)
 
-enter_kept : (is : Reading → Bool) (text : Point → Point → Option (List ℕ)) (name : Name) (start : Point) → IsKeptRow is text (record { event = entering name start; start = start; position = None })
-enter_kept is text name start = ((λ e. cc), (λ position e. cc))
-
-position_parts : (start end : Point) (position : Position) → Some (place start end) ≡ Some position → (position.start ≡ start) × (position.end ≡ end)
-position_parts start end position e =
-    let same : place start end ≡ position = cc in
-    (ap (λ (p : Position). p.start) (sym same), ap (λ (p : Position). p.end) (sym same))
-
-rows_kept : (bytes : List ℕ) (names : List (List ℕ × List ℕ)) (is : Reading → Bool) (text : Point → Point → Option (List ℕ)) → HaveText bytes names is text → (forest : Forest) (around : Role) (before : Option Symbol) → MeetRules bytes names forest around before → All (IsKeptRow is text) (rows_of forest)
-rows_kept bytes names is text have Empty around before meets = All-nil (IsKeptRow is text)
-rows_kept bytes names is text have (Node name start end children rest) around before meets =
+rows_ended : (bytes : List ℕ) (names : List (List ℕ × List ℕ)) (is : Reading → Bool) (text : Point → Point → Option (List ℕ)) → HaveText bytes names is text → (events : List Event) (forest : Forest) (around : Role) (before : Option Symbol) → MeetRules bytes names forest around before → (index tables : ℕ) (seen later : List Event) → length seen ≡ index → events ≡ seen ++ (flatten forest ++ later) → All (IsEnded events is text) (rows_of index tables forest)
+rows_ended bytes names is text have events Empty around before meets index tables seen later e same =
+    All-nil (IsEnded events is text)
+rows_ended bytes names is text have events (Node name start end children rest) around before meets index tables seen later e same =
     let st = standing_of name in
-    let exit : Row = record { event = exiting name end; start = start; position = Some (place start end) } in
-    let entry : Row = record { event = entering name start; start = start; position = None } in
-    let exit_kept : IsKeptRow is text exit = ((λ e reads. have st around before start end (target_of children Missing) meets.0 reads), position_parts start end) in
-    let rest_kept = rows_kept bytes names is text have rest around (last_symbol before (shown st (spine children))) meets.2 in
-    let children_kept = rows_kept bytes names is text have children (inner_role st around before) (inner_before st before) meets.1 in
-    All-cons (IsKeptRow is text) entry (rows_of children ++ exit ∷ rows_of rest) (enter_kept is text name start) (All-append (IsKeptRow is text) (rows_of children) (exit ∷ rows_of rest) children_kept (All-cons (IsKeptRow is text) exit (rows_of rest) exit_kept rest_kept))
+    let exit = behind (suc index) children in
+    let more = tables_with name (tables_behind tables children) in
+    let first = entering name start in
+    let last = exiting name end in
+    let inner = flatten children in
+    let holds = IsEnded events is text in
+    let rows_behind = rows_of (suc exit) more rest in
+    let one = length_one seen first ∙ ap suc e in
+    let inside = length_events children (suc index) (seen ++ first ∷ []) one in
+    let there : slice_get events index ≡ Some first = ap (λ es. slice_get es index) (at_entry events seen inner (flatten rest) later first last same) ∙ get_at seen (inner ++ (last ∷ (flatten rest ++ later))) first index e in
+    let entry_ended : holds (entry_row index tables name first children) = λ exits. cc in
+    let exit_ended : holds (exit_row exit index name start end) =
+    λ exits. (place start end, refl, ap (λ o. position_from o (Some last)) there, λ reads. have st around before start end (target_of children Missing) meets.0 reads) in
+    All-cons holds (entry_row index tables name first children) (rows_of (suc index) tables children ++ exit_row exit index name start end ∷ rows_behind) entry_ended
+    (All-append holds (rows_of (suc index) tables children) (exit_row exit index name start end ∷ rows_behind)
+    (rows_ended bytes names is text have events children (inner_role st around before) (inner_before st before) meets.1 (suc index) tables (seen ++ first ∷ []) (last ∷ (flatten rest ++ later)) one (in_node events seen inner (flatten rest) later first last same))
+    (All-cons holds (exit_row exit index name start end) rows_behind exit_ended
+    (rows_ended bytes names is text have events rest around (last_symbol before (shown st (spine children))) meets.2 (suc exit) more (((seen ++ first ∷ []) ++ inner) ++ last ∷ []) later (length_one ((seen ++ first ∷ []) ++ inner) last ∙ ap suc inside) (behind_node events seen inner (flatten rest) later first last same))))
 
 -- ---- names with a text
 
@@ -153,66 +134,60 @@ identifier_names bytes names Mdx around before start end target e is = cc
 
 -- ---- at an index
 
-got_inside : {A : Type 0} (xs : List A) (index : ℕ) (x : A) → slice_get xs index ≡ Some x → index < length xs
-got_inside {A = A} xs index x e = by_cases (slice_get_cases xs index).1
-  where
-    by_cases : ((y : A) × (index < length xs) × (slice_get xs index ≡ Some y) × (get_or xs index y ≡ y)) ⊎ ((length xs ≤ index) × (slice_get xs index ≡ None)) → index < length xs
-    by_cases (inl here) = here.1
-    by_cases (inr past) = let clash : Some x ≡ None = sym e ∙ past.1 in cc
-
--- what is known at an index
-pub record KeptAt (text : Point → Point → Option (List ℕ)) (given : Document) (notes : List Note) (index : ℕ) (event : Event) (d : Note) : Type 0 where
-  pub in_events : index < length given.events
-  pub in_notes : index < length notes
-  pub event_is : get_or given.events index event ≡ event
+-- what is known of an exit, by what is found at the events: where its node lies, in any document of the events, and the text there
+pub record EndedAt (text : Point → Point → Option (List ℕ)) (given : Document) (index : ℕ) : Type 0 where
+  pub position : Position
+  pub there : position_ended given.events (facts_at given.events) index ≡ Some position
   pub found : List ℕ
-  pub is_found : text (Note.start (get_or notes index d)) event.point ≡ Some found
-  pub position_is : (forest : Forest) (position : Position) → flatten forest ≡ given.events → slice_get (positions_of forest) index ≡ Some (Some position) → (position.start ≡ Note.start (get_or notes index d)) × (position.end ≡ event.point)
+  pub is_found : text position.start position.end ≡ Some found
+  pub position_is : (forest : Forest) (other : Position) → flatten forest ≡ given.events → slice_get (positions_of forest) index ≡ Some (Some other) → other ≡ position
 
-kept_at : (is : Reading → Bool) (text : Point → Point → Option (List ℕ)) (given : Document) (notes : List Note) (index : ℕ) (event : Event) (d : Note) (forest : Forest) → HaveText given.bytes given.names is text → flatten forest ≡ given.events → MeetRules given.bytes given.names forest Flow None → notes_of forest ≡ notes → slice_get given.events index ≡ Some event → event.kind ≡ Exit → has_reading is (standing_of event.name) ≡ true → KeptAt text given notes index event d
-kept_at is text given notes index event d forest have flattened meets noted got exits reads =
-    let rows = rows_of forest in
-    let row : Row = record { event = event; start = event.point; position = None } in
-    let here = get_or rows index row in
-    let events_are : map (λ (r : Row). r.event) rows ≡ given.events = event_rows forest ∙ flattened in
-    let starts_are : map (λ (r : Row). r.start) rows ≡ map (λ (n : Note). n.start) notes = start_rows forest ∙ ap (map (λ (n : Note). n.start)) noted in
-    let in_events : index < length given.events = got_inside given.events index event got in
-    let rows_long : length rows ≡ length given.events = sym (length-map rows (λ (r : Row). r.event)) ∙ ap length events_are in
-    let notes_long : length rows ≡ length notes = sym (length-map rows (λ (r : Row). r.start)) ∙ ap length starts_are ∙ length-map notes (λ (n : Note). n.start) in
-    let in_rows : index < length rows = omega arith in
-    let in_notes : index < length notes = omega arith in
-    let event_is : here.event ≡ event = sym (get_or-map (λ (r : Row). r.event) rows index row event in_rows) ∙ ap (λ es. get_or es index event) events_are ∙ get_or_from_slice_get given.events index event event got in
-    let start_is : here.start ≡ Note.start (get_or notes index d) = sym (get_or-map (λ (r : Row). r.start) rows index row (Note.start d) in_rows) ∙ ap (λ ps. get_or ps index (Note.start d)) starts_are ∙ get_or-map (λ (n : Note). n.start) notes index d (Note.start d) in_notes in
-    let kept = rows_kept given.bytes given.names is text have forest Flow None meets index row in_rows in
-    let found = kept.0 (ap (λ (e : Event). e.kind) event_is ∙ exits) (ap (λ (e : Event). has_reading is (standing_of e.name)) event_is ∙ reads) in
+one_position : (o : Option Position) (one other : Position) → o ≡ Some one → o ≡ Some other → other ≡ one
+one_position o one other e f = cc
+
+pub EndedAt-checked : (is : Reading → Bool) (text : Point → Point → Option (List ℕ)) (given : Document) (index : ℕ) (name : Name) → HaveText given.bytes given.names is text → IsChecked given → ExitsAt given.events index name → has_reading is (standing_of name) ≡ true → EndedAt text given index
+EndedAt-checked is text given index name have checked exits reads =
+    let forest = checked.0 in
+    let flattened = IsReadAs.flattened checked.1 in
+    let events = given.events in
+    let event = exits.0 in
+    let rows = rows_of 0 0 forest in
+    let past : Row = record { event = event; children = None; index = index; fact = partner_alone index; position = None } in
+    let row = get_or rows index past in
+    let events_are : map (λ (r : Row). r.event) rows ≡ events = event_rows forest 0 0 ∙ flattened in
+    let facts_are : map (λ (r : Row). r.fact) rows ≡ facts_at events = fact_rows forest 0 0 ∙ sym (facts-flatten forest events flattened) in
+    let long = mapped_long (λ (r : Row). r.event) rows events events_are in
+    let in_events = got_inside events index event exits.1 in
+    let inside : index < length rows = omega arith in
+    let event_is : row.event ≡ event = got_mapped (λ (r : Row). r.event) rows events index past event events_are inside exits.1 in
+    let fact_is : slice_get (facts_at events) index ≡ Some row.fact = ap (λ fs. slice_get fs index) (sym facts_are) ∙ slice_get-map (λ (r : Row). r.fact) rows index ∙ ap (option_map (λ (r : Row). r.fact)) (slice_get-get_or rows index past inside) in
+    let all = rows_ended given.bytes given.names is text have events forest Flow None (IsGrammatical.rules (IsReadAs.grammatical checked.1)) 0 0 [] [] refl (sym flattened ∙ sym (append-nil (flatten forest))) in
+    let here = all index past inside (ap (λ (e : Event). e.kind) event_is ∙ exits.2) in
+    let text_here = here.3 (ap (λ (e : Event). has_reading is (standing_of e.name)) event_is ∙ ap (λ n. has_reading is (standing_of n)) exits.3 ∙ reads) in
     record {
-      in_events = in_events;
-      in_notes = in_notes;
-      event_is = get_or_from_slice_get given.events index event event got;
-      found = found.0;
-      is_found = subst (λ s. text s event.point ≡ Some found.0) start_is (subst (λ (e : Event). text here.start e.point ≡ Some found.0) event_is found.1);
+      position = here.0;
+      there = ap (λ o. position_from (partner_event events o) (slice_get events index)) fact_is ∙ ap (λ o. position_from (slice_get events row.fact.partner) o) (exits.1 ∙ ap Some (sym event_is)) ∙ here.2;
+      found = text_here.0;
+      is_found = text_here.1;
       position_is = λ other position same positioned.
           let one : other ≡ forest = flatten_one event.name event.point other forest (same ∙ sym flattened) in
-          let there : slice_get (map (λ (r : Row). r.position) rows) index ≡ Some (Some position) = ap (λ ps. slice_get ps index) (position_rows forest ∙ ap positions_of (sym one)) ∙ positioned in
-          let position_here : here.position ≡ Some position = sym (get_or-map (λ (r : Row). r.position) rows index row None in_rows) ∙ get_or_from_slice_get (map (λ (r : Row). r.position) rows) index (Some position) None there in
-          let parts = kept.1 position position_here in
-          (parts.0 ∙ start_is, parts.1 ∙ ap (λ (e : Event). e.point) event_is);
+          let got = ap (λ f. slice_get (positions_of f) index) (sym one) ∙ positioned in
+          one_position row.position here.0 position here.1 (got_mapped (λ (r : Row). r.position) rows (positions_of forest) index past (Some position) (position_rows forest 0 0) inside got);
     }
 
-pub KeptAt-noted : (is : Reading → Bool) (text : Point → Point → Option (List ℕ)) (given : Document) (notes : List Note) (index : ℕ) (event : Event) (d : Note) → HaveText given.bytes given.names is text → IsNoted given notes → slice_get given.events index ≡ Some event → event.kind ≡ Exit → has_reading is (standing_of event.name) ≡ true → KeptAt text given notes index event d
-KeptAt-noted is text given notes index event d have noted got exits reads =
-    kept_at is text given notes index event d noted.0 have (IsReadAs.flattened noted.1) (IsGrammatical.rules (IsReadAs.grammatical noted.1)) noted.2 got exits reads
+-- what is read at the place is the text of the node in any document of the events
+pub EndedAt-text : (text : Point → Point → Option (List ℕ)) (given : Document) (index : ℕ) (ended : EndedAt text given index) (result : List ℕ) → Some ended.found ≡ Some result → (forest : Forest) (position : Position) → flatten forest ≡ given.events → slice_get (positions_of forest) index ≡ Some (Some position) → text position.start position.end ≡ Some result
+EndedAt-text text given index ended result same forest position flattened got =
+    ap (λ (p : Position). text p.start p.end) (ended.position_is forest position flattened got) ∙ ended.is_found ∙ same
 
--- what is read at a place is the text
-pub KeptAt-read : (text : Point → Point → Option (List ℕ)) (given : Document) (notes there : List Note) (index : ℕ) (event : Event) (d : Note) (kept : KeptAt text given notes index event d) (position : Position) → there ≡ notes → position.start ≡ Note.start (get_or there index d) → position.end ≡ Event.point (get_or given.events index event) → text position.start position.end ≡ Some kept.found
-KeptAt-read text given notes there index event d kept position same start end =
-    ap (λ s. text s position.end) (start ∙ ap (λ ns. Note.start (get_or ns index d)) same) ∙ ap (λ e. text (Note.start (get_or notes index d)) e) (end ∙ ap (λ (e : Event). e.point) kept.event_is) ∙ kept.is_found
+-- and of what a look-up gives
+pub EndedAt-read : (text : Point → Point → Option (List ℕ)) (given : Document) (index : ℕ) (ended : EndedAt text given index) (o : Option Position) (position : Position) → o ≡ position_ended given.events (facts_at given.events) index → o ≡ Some position → text position.start position.end ≡ Some ended.found
+EndedAt-read text given index ended o position is some =
+    ap (λ (p : Position). text p.start p.end) (one_position (position_ended given.events (facts_at given.events) index) ended.position position ended.there (sym is ∙ some)) ∙ ended.is_found
 
--- and so is that of the node in any document of the events
-pub KeptAt-position : (text : Point → Point → Option (List ℕ)) (given : Document) (notes : List Note) (index : ℕ) (event : Event) (d : Note) (kept : KeptAt text given notes index event d) (result : List ℕ) → Some kept.found ≡ Some result → (forest : Forest) (position : Position) → flatten forest ≡ given.events → slice_get (positions_of forest) index ≡ Some (Some position) → text position.start position.end ≡ Some result
-KeptAt-position text given notes index event d kept result same forest position flattened got =
-    let parts = kept.position_is forest position flattened got in
-    ap (λ s. text s position.end) parts.0 ∙ ap (λ e. text (Note.start (get_or notes index d)) e) parts.1 ∙ kept.is_found ∙ same
+pub place_some : (o : Option Position) (x : Position) → o ≡ Some x → IsSome o
+place_some None x e = cc
+place_some (Some o) x e = refl
 
 pub copied_some : (r : Option (Bor (List ℕ))) (x : List ℕ) → option_copied r ≡ Some x → IsSome r
 copied_some None x e = cc

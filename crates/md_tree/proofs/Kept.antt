@@ -1,18 +1,26 @@
--- What is kept at the index of an event that enters a node.
-use Rattle.std.proofs.Common.{◌≡◌, ℕ, ◌<◌, Some, length, refl, sym, ap, ◌∙◌, subst}
+-- What is kept at the index of an event.
+use Rattle.std.proofs.Common.{◌≡◌, ℕ, ◌<◌, Bool, true, Option, Some, List, length, refl, sym, ap, ◌∙◌, subst}
 use Rattle.std.specs.Prelude.{map, slice_get}
 use Rattle.std.proofs.lemmas.List.{length-map}
+use Rattle.md_base.specs.declared.event.Point.{Point}
+use Rattle.md_base.specs.declared.event.Position.{Position}
+use Rattle.md_base.specs.declared.event.Name.{Name}
 use Rattle.md_base.specs.declared.event.Name.TheVariants.{GfmTable}
 use Rattle.md_tree.specs.declared.checked.Checked.TheInside.{Inside}
 use Rattle.md_tree.specs.declared.facts.Fact.{Fact}
+use Rattle.md_tree.specs.declared.kinds.Reading.{Reading}
 use Rattle.md_tree.specs.Tree.{Forest, flatten}
 use Rattle.md_tree.specs.Alignments.{alignments}
-use Rattle.md_tree.specs.Grammar.{Document, IsReadAs}
-use Rattle.md_tree.specs.Texts.{EntersAt}
+use Rattle.md_tree.specs.Grammar.{Document, IsReadAs, IsChecked}
+use Rattle.md_tree.specs.Standing.{standing_of}
+use Rattle.md_tree.specs.Texts.{EntersAt, ExitsAt, has_reading}
 use Rattle.md_tree.specs.Entered.{IsEnteredAt, EntersNode}
 use Rattle.md_tree.specs.Checked.{given_of, IsKept}
-use Rattle.md_tree.specs.Facts.{facts_at, tables_at, fact_at}
-use Rattle.md_tree.specs.Found.{EntersSome, IsFactAt}
+use Rattle.md_tree.specs.Facts.{facts_at, tables_at, definitions_at, fact_at}
+use Rattle.md_tree.specs.Found.{EntersSome, IsFactAt, position_ended}
+use Rattle.md_tree.specs.Partners.{AreDefinitions}
+use Rattle.md_tree.proofs.Passing.{definitions-flatten}
+use Rattle.md_tree.proofs.Indexed.{HaveText, EndedAt, EndedAt-checked}
 use Rattle.md_tree.proofs.Entering.{got_inside, EntersNode-entered, found-entered, facts_at-inside}
 
 module _ (inside : Inside) (given : Document) (index : ℕ) (kept : IsKept inside) (same : given_of inside ≡ given) where
@@ -25,6 +33,20 @@ module _ (inside : Inside) (given : Document) (index : ℕ) (kept : IsKept insid
 
   tables_are : map (λ t. t.items) inside.tables.items ≡ tables_at given.events
   tables_are = kept.2 ∙ ap (λ (g : Document). tables_at g.events) same
+
+  pub definitions-kept : AreDefinitions given inside.definitions.items
+  definitions-kept forest flattens =
+      kept.3 ∙ ap (λ (g : Document). definitions_at g.events) same ∙ definitions-flatten forest given.events flattens
+
+  -- an exit
+  pub ended-kept : (is : Reading → Bool) (text : Point → Point → Option (List ℕ)) (name : Name) → HaveText given.bytes given.names is text → ExitsAt given.events index name → has_reading is (standing_of name) ≡ true → EndedAt text given index
+  ended-kept is text name have exits reads =
+      EndedAt-checked is text given index name have (subst IsChecked same kept.0) exits reads
+
+  -- the place that is looked up
+  pub ended-place : (there : List Fact) (found : Option Position) → there ≡ inside.facts.items → found ≡ position_ended inside.events.now there index → found ≡ position_ended given.events (facts_at given.events) index
+  ended-place there found are is =
+      is ∙ ap (λ (g : Document). position_ended g.events there index) same ∙ ap (λ fs. position_ended given.events fs index) (are ∙ facts_are)
 
   pub facts-inside : EntersSome given.events index → index < length inside.facts.items
   facts-inside enters =

@@ -12,6 +12,7 @@ pub mod Identifiers
 pub mod Indexed
 pub mod Kept
 pub mod Groups
+pub mod Listing
 pub mod Paths
 pub mod Resolving
 pub mod Runs

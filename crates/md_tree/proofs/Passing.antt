@@ -14,9 +14,9 @@ use Rattle.md_tree.specs.declared.seeking.Sought.{Sought}
 use Rattle.md_tree.specs.declared.facts.Fact.{Fact}
 use Rattle.md_tree.specs.declared.facts.OpenNode.{OpenNode}
 use Rattle.md_tree.specs.Tree.{Forest, Empty, Node, flatten, exiting}
-use Rattle.md_tree.specs.NameTests.{is_transparent, is_item, is_table, is_delimiter_value, leads_to_values}
+use Rattle.md_tree.specs.NameTests.{is_transparent, is_item, is_table, is_link_definition, is_delimiter_value, leads_to_values}
 use Rattle.md_tree.specs.Alignments.{alignment_of, alignments}
-use Rattle.md_tree.specs.Partners.{behind}
+use Rattle.md_tree.specs.Partners.{behind, definitions_of}
 use Rattle.md_tree.specs.Told.{nothing_told, told_over, alignment, looseness}
 use Rattle.md_tree.specs.Seeking.{search_of}
 use Rattle.md_tree.specs.Columns.{Collected, part_of, collects_where, collects_in, entered_where, columns_entered, exited_where, columns_exited, tables_of, columns_behind}
@@ -165,8 +165,9 @@ length_tables (Node name start end children rest) tables ended e =
 
 -- ---- the pass
 
-abbrev state : List OpenNode → OpenNode → List Fact → Collected → Passed
-state round here facts columns = record { facts = facts; columns = columns; here = here; round = round }
+abbrev state : List OpenNode → OpenNode → List ℕ → List Fact → Collected → Passed
+state round here definitions facts columns =
+    record { facts = facts; columns = columns; definitions = definitions; here = here; round = round }
 
 passed_over-append : (xs ys : List Event) (pass : Passed) → passed_over (xs ++ ys) pass ≡ passed_over ys (passed_over xs pass)
 passed_over-append [] ys pass = refl
@@ -177,6 +178,7 @@ abbrev passed_forest : ℕ → ℕ → Forest → Passed → Passed
 passed_forest index tables forest pass = record {
   facts = pass.facts ++ facts_of index tables forest;
   columns = columns_behind forest pass.here.collects pass.columns;
+  definitions = pass.definitions ++ definitions_of index forest;
   here = after index forest pass.here;
   round = pass.round;
 }
@@ -186,6 +188,7 @@ abbrev inside_node : ℕ → Name → Passed → Passed
 inside_node index name pass = record {
   facts = pass.facts ++ partner_alone 0 ∷ [];
   columns = columns_entered name pass.columns;
+  definitions = pass.definitions;
   here = opened index name pass.here;
   round = pass.here ∷ pass.round;
 }
@@ -194,6 +197,7 @@ abbrev behind_node : ℕ → ℕ → Name → Forest → Passed → Passed
 behind_node index tables name children pass = record {
   facts = ((pass.facts ++ fact_at index tables name children ∷ []) ++ facts_of (suc index) tables children) ++ partner_alone index ∷ [];
   columns = columns_next (is_table name) (is_delimiter_value name) (leads_to_values name) children pass.here.collects pass.columns;
+  definitions = (pass.definitions ++ definitions_of (suc index) children) ++ cond (is_link_definition name) (index ∷ []) [];
   here = followed name (after (suc index) children (opened index name pass.here)) pass.here;
   round = pass.round;
 }
@@ -207,6 +211,7 @@ exit_behind index tables name children pass e t =
     let contributing = contributing_over (suc index) children 0 in
     let sought = sought_over (suc index) children (sought_inside name pass.here.sought) in
     let told = told_over children nothing_told in
+    let definitions = (pass.definitions ++ definitions_of (suc index) children) ++ cond (is_link_definition name) (index ∷ []) [] in
     let exit_is : length found ≡ behind (suc index) children = length_facts children (suc index) tables (pass.facts ++ partner_alone 0 ∷ []) (length_one pass.facts (partner_alone 0) ∙ ap suc e) in
     let tables_are : length ended ≡ tables_behind tables children = length_tables children tables (Collected.tables (columns_entered name pass.columns)) (ap length (entered_tables (part_of name) pass.columns) ∙ t) in
     let fact_is : fact_of name (length found) (length ended) contributing sought told ≡ fact_at index tables name children =
@@ -218,13 +223,17 @@ exit_behind index tables name children pass e t =
     ∙ ap (λ fs. set fs index (fact_at index tables name children)) (append_assoc pass.facts (partner_alone 0 ∷ []) inner)
     ∙ set_at pass.facts (partner_alone 0) inner (fact_at index tables name children) index e
     ∙ sym (append_assoc pass.facts (fact_at index tables name children ∷ []) inner) in
-    ap (λ fs. state pass.round here (fs ++ partner_alone index ∷ []) (columns_exited name told pass.here.collects (columns_behind children (collects_in name pass.here.collects) (columns_entered name pass.columns)))) put
-    ∙ ap (λ columns. state pass.round here (((pass.facts ++ fact_at index tables name children ∷ []) ++ inner) ++ partner_alone index ∷ []) columns) (columns_node name children pass.here.collects pass.columns)
+    ap (λ fs. state pass.round here definitions (fs ++ partner_alone index ∷ []) (columns_exited name told pass.here.collects (columns_behind children (collects_in name pass.here.collects) (columns_entered name pass.columns)))) put
+    ∙ ap (λ columns. state pass.round here definitions (((pass.facts ++ fact_at index tables name children ∷ []) ++ inner) ++ partner_alone index ∷ []) columns) (columns_node name children pass.here.collects pass.columns)
+
+definitions_joined : (a b c d : List ℕ) → ((a ++ b) ++ c) ++ d ≡ a ++ (b ++ (c ++ d))
+definitions_joined a b c d = append_assoc (a ++ b) c d ∙ append_assoc a b (c ++ d)
 
 pub passed_over-flatten : (forest : Forest) (index tables : ℕ) (pass : Passed) → length pass.facts ≡ index → length pass.columns.tables ≡ tables → passed_over (flatten forest) pass ≡ passed_forest index tables forest pass
 passed_over-flatten Empty index tables pass e t =
-    ap (λ fs. state pass.round pass.here fs pass.columns) (sym (append-nil pass.facts))
-    ∙ ap (λ columns. state pass.round pass.here (pass.facts ++ []) columns)
+    ap (λ ds. state pass.round pass.here ds pass.facts pass.columns) (sym (append-nil pass.definitions))
+    ∙ ap (λ fs. state pass.round pass.here (pass.definitions ++ []) fs pass.columns) (sym (append-nil pass.facts))
+    ∙ ap (λ columns. state pass.round pass.here (pass.definitions ++ []) (pass.facts ++ []) columns)
     (both_made pass.columns.starts _ _ _ _ (sym (append-nil pass.columns.tables)) (sym (append-nil pass.columns.pending) ∙ ap (λ none. pass.columns.pending ++ none) (sym (cond-nil pass.here.collects []))))
 passed_over-flatten (Node name start end children rest) index tables pass e t =
     let exit = behind (suc index) children in
@@ -235,6 +244,8 @@ passed_over-flatten (Node name start end children rest) index tables pass e t =
     let entered = inside_node index name pass in
     let behind_it = behind_node index tables name children pass in
     let own = cond (is_table name) (alignments children ∷ []) [] in
+    let all_here = after index (Node name start end children rest) pass.here in
+    let all_defined = pass.definitions ++ definitions_of index (Node name start end children rest) in
     let length_behind : length behind_it.facts ≡ suc exit = length_one ((pass.facts ++ fact ∷ []) ++ inner) (partner_alone index) ∙ ap suc (length_facts children (suc index) tables (pass.facts ++ fact ∷ []) (length_one pass.facts fact ∙ ap suc e)) in
     let tables_behind_it : length behind_it.columns.tables ≡ more =
     ap length (sym (append_assoc pass.columns.tables (tables_of children) own)) ∙ length_table name (pass.columns.tables ++ tables_of children) (alignments children) (tables_behind tables children) (length_tables children tables pass.columns.tables t) in
@@ -243,8 +254,9 @@ passed_over-flatten (Node name start end children rest) index tables pass e t =
     ∙ ap (λ p. passed_over last p) (passed_over-flatten children (suc index) tables entered (length_one pass.facts (partner_alone 0) ∙ ap suc e) (ap length (entered_tables (part_of name) pass.columns) ∙ t))
     ∙ ap (λ p. passed_over (flatten rest) p) (exit_behind index tables name children pass e t)
     ∙ passed_over-flatten rest (suc exit) more behind_it length_behind tables_behind_it
-    ∙ ap (λ fs. state pass.round (after index (Node name start end children rest) pass.here) fs (columns_behind rest pass.here.collects behind_it.columns)) (regrouped pass.facts inner (facts_of (suc exit) more rest) fact (partner_alone index))
-    ∙ ap (λ columns. state pass.round (after index (Node name start end children rest) pass.here) (pass.facts ++ facts_of index tables (Node name start end children rest)) columns)
+    ∙ ap (λ ds. state pass.round all_here ds (behind_it.facts ++ facts_of (suc exit) more rest) (columns_behind rest pass.here.collects behind_it.columns)) (definitions_joined pass.definitions (definitions_of (suc index) children) (cond (is_link_definition name) (index ∷ []) []) (definitions_of (suc exit) rest))
+    ∙ ap (λ fs. state pass.round all_here all_defined fs (columns_behind rest pass.here.collects behind_it.columns)) (regrouped pass.facts inner (facts_of (suc exit) more rest) fact (partner_alone index))
+    ∙ ap (λ columns. state pass.round all_here all_defined (pass.facts ++ facts_of index tables (Node name start end children rest)) columns)
     (columns_rest name children rest own (added (is_delimiter_value name) (leads_to_values name) children) pass.here.collects pass.columns)
 
 -- one more event
@@ -260,3 +272,7 @@ facts-flatten forest events e =
 pub tables-flatten : (forest : Forest) (events : List Event) → flatten forest ≡ events → Collected.tables (Passed.columns (passed_over events nothing_passed)) ≡ tables_of forest
 tables-flatten forest events e =
     ap (λ es. Collected.tables (Passed.columns (passed_over es nothing_passed))) (sym e) ∙ ap (λ (p : Passed). p.columns.tables) (passed_over-flatten forest 0 0 nothing_passed refl refl)
+
+pub definitions-flatten : (forest : Forest) (events : List Event) → flatten forest ≡ events → Passed.definitions (passed_over events nothing_passed) ≡ definitions_of 0 forest
+definitions-flatten forest events e =
+    ap (λ es. Passed.definitions (passed_over es nothing_passed)) (sym e) ∙ ap (λ (p : Passed). p.definitions) (passed_over-flatten forest 0 0 nothing_passed refl refl)

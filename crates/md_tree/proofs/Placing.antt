@@ -14,26 +14,26 @@ use Rattle.md_tree.specs.Texts.{EntersAt}
 use Rattle.md_tree.specs.Entered.{IsEnteredAt}
 use Rattle.md_tree.specs.Partners.{behind}
 use Rattle.md_tree.specs.Facts.{partner_alone, tables_with, tables_behind, fact_at, facts_of, facts_at}
-use Rattle.md_tree.specs.Found.{position_from, last_event, position_there, position_at}
+use Rattle.md_tree.specs.Found.{position_from, partner_event, position_there, position_at}
 use Rattle.md_tree.proofs.Passing.{length_one, length_facts, regrouped, facts-flatten}
 use Rattle.md_tree.proofs.Entering.{Row, entry_row, exit_row, rows_of, get_at, numbered_rows, numbered_get, past_row, inside_rows, children_there}
 use Rattle.md_tree.proofs.Searching.{AllAt}
 
 -- a list with a node's part in it, split at the entry, behind it, at the exit and behind that
 module _ {A : Type 0} (xs before inner rest later : List A) (entry exit : A) (is : xs ≡ before ++ ((entry ∷ (inner ++ (exit ∷ rest))) ++ later)) where
-  at_entry : xs ≡ before ++ (entry ∷ (inner ++ (exit ∷ (rest ++ later))))
+  pub at_entry : xs ≡ before ++ (entry ∷ (inner ++ (exit ∷ (rest ++ later))))
   at_entry = is ∙ ap (λ ys. before ++ (entry ∷ ys)) (append_assoc inner (exit ∷ rest) later)
 
-  in_node : xs ≡ (before ++ entry ∷ []) ++ (inner ++ (exit ∷ (rest ++ later)))
+  pub in_node : xs ≡ (before ++ entry ∷ []) ++ (inner ++ (exit ∷ (rest ++ later)))
   in_node = at_entry ∙ sym (append_assoc before (entry ∷ []) (inner ++ (exit ∷ (rest ++ later))))
 
   at_exit : xs ≡ ((before ++ entry ∷ []) ++ inner) ++ (exit ∷ (rest ++ later))
   at_exit = in_node ∙ sym (append_assoc (before ++ entry ∷ []) inner (exit ∷ (rest ++ later)))
 
-  behind_node : xs ≡ (((before ++ entry ∷ []) ++ inner) ++ exit ∷ []) ++ (rest ++ later)
+  pub behind_node : xs ≡ (((before ++ entry ∷ []) ++ inner) ++ exit ∷ []) ++ (rest ++ later)
   behind_node = at_exit ∙ sym (append_assoc ((before ++ entry ∷ []) ++ inner) (exit ∷ []) (rest ++ later))
 
-length_events : (forest : Forest) (index : ℕ) (events : List Event) → length events ≡ index → length (events ++ flatten forest) ≡ behind index forest
+pub length_events : (forest : Forest) (index : ℕ) (events : List Event) → length events ≡ index → length (events ++ flatten forest) ≡ behind index forest
 length_events Empty index events e = ap length (append-nil events) ∙ e
 length_events (Node name start end children rest) index events e =
     let first = entering name start in
@@ -44,8 +44,8 @@ length_events (Node name start end children rest) index events e =
 
 node_there : (events : List Event) (facts : List Fact) (index : ℕ) (fact : Fact) (name : Name) (start end : Point) → slice_get events index ≡ Some (entering name start) → slice_get facts index ≡ Some fact → slice_get events fact.partner ≡ Some (exiting name end) → position_there events facts index ≡ Some (place start end)
 node_there events facts index fact name start end first found last =
-    ap (λ o. position_from o (last_event events (slice_get facts index))) first
-    ∙ ap (λ o. position_from (Some (entering name start)) (last_event events o)) found
+    ap (λ o. position_from o (partner_event events (slice_get facts index))) first
+    ∙ ap (λ o. position_from (Some (entering name start)) (partner_event events o)) found
     ∙ ap (λ o. position_from (Some (entering name start)) o) last
 
 all_there : (events : List Event) (facts : List Fact) (forest : Forest) (index tables : ℕ) (before later : List Event) (found more : List Fact) → length before ≡ index → length found ≡ index → events ≡ before ++ (flatten forest ++ later) → facts ≡ found ++ (facts_of index tables forest ++ more) → AllAt (position_there events facts) index forest
@@ -89,7 +89,7 @@ rows_there events facts (Node name start end children rest) index tables all =
     let exit = behind (suc index) children in
     let ended = tables_with name (tables_behind tables children) in
     let entry : Row = entry_row index tables name (entering name start) children in
-    let last : Row = exit_row exit index (exiting name end) in
+    let last : Row = exit_row exit index name start end in
     let entry_has : HasThem events facts entry = λ other e. let one : children ≡ other = cc in subst (λ nodes. AllAt (position_there events facts) (suc index) nodes) one all.1 in
     let last_has : HasThem events facts last = λ other e. cc in
     let later = rows_of (suc exit) ended rest in

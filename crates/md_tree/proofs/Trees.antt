@@ -1,5 +1,5 @@
 -- A tree with the shape of the grammar is read from its first event to its last.
-use Rattle.std.proofs.Common.{◌≡◌, ◌≢◌, true, cond, Option, Some, None, MatchOption, List, [], ◌∷◌, ◌++◌, refl, sym, ap, ◌∙◌, subst, append_assoc, append-nil}
+use Rattle.std.proofs.Common.{◌≡◌, ◌≢◌, ℕ, suc, true, cond, Option, Some, None, MatchOption, List, [], ◌∷◌, ◌++◌, refl, sym, ap, ◌∙◌, subst}
 use Rattle.std.specs.Prelude.{option_map}
 use Rattle.md_base.specs.declared.event.Point.{Point}
 use Rattle.md_base.specs.declared.event.Name.{Name}
@@ -13,8 +13,7 @@ use Rattle.md_tree.specs.declared.kinds.Standing.{Standing}
 use Rattle.md_tree.specs.declared.kinds.Standing.TheVariants.{Through, Space, Solid, Mdx}
 use Rattle.md_tree.specs.declared.kinds.Target.{Target}
 use Rattle.md_tree.specs.declared.kinds.Target.TheVariants.{Missing}
-use Rattle.md_tree.specs.declared.kinds.Mention.TheVariants.{Nothing}
-use Rattle.md_tree.specs.declared.kinds.Note.{Note}
+use Rattle.md_tree.specs.declared.kinds.Mentioned.{Mentioned}
 use Rattle.md_tree.specs.declared.state.State.{State}
 use Rattle.md_tree.specs.declared.state.Entry.{Entry}
 use Rattle.md_tree.specs.Tree.{Forest, Empty, Node, flatten, exiting}
@@ -22,7 +21,8 @@ use Rattle.md_tree.specs.Standing.{standing_of}
 use Rattle.md_tree.specs.Spine.{spine, shown, Matches}
 use Rattle.md_tree.specs.Shape.{Claim, EachNode, IsShapedNode, IsStanding, inner_role, inner_before, last_symbol, role_for}
 use Rattle.md_tree.specs.Rules.{place, target_after, target_of}
-use Rattle.md_tree.specs.Mentions.{mention_where, note, notes_of}
+use Rattle.md_tree.specs.Mentions.{mention_where, mentions_with}
+use Rattle.md_tree.specs.Partners.{behind}
 use Rattle.md_tree.specs.Machine.{Reads, Course, Runs, Exits, after_entry, entered, entered_on, may_hold, start_of, advance, is_complete, beginning}
 use Rattle.md_tree.proofs.Groups.{Feeds, Feeds-split, Feeds-matches, advance_role}
 
@@ -62,10 +62,23 @@ may_hold-from : (role : Role) → role ≢ Childless → may_hold role ≡ true
 may_hold-from Childless ne = absurd (ne refl)
 may_hold-from _ ne = refl
 
+-- what is mentioned behind nodes of which the first event has an index
+abbrev pub mentions_over : ℕ → Forest → List Mentioned → List Mentioned
+mentions_over index Empty before = before
+mentions_over index (Node name start end children rest) before =
+    mentions_over (suc (behind (suc index) children)) rest
+    (mentions_with (behind (suc index) children) (mention_where (standing_of name) (target_of children Missing)) (mentions_over (suc index) children before))
+
 -- after nodes
 abbrev pub after_nodes : Forest → State → Course → Course
 after_nodes forest end from =
-    record { state = end; target = target_of forest from.target; open_nodes = from.open_nodes; notes = from.notes ++ notes_of forest }
+    record {
+      state = end;
+      target = target_of forest from.target;
+      open_nodes = from.open_nodes;
+      count = behind from.count forest;
+      mentions = mentions_over from.count forest from.mentions;
+    }
 
 -- a node is entered, its children are read, and it is left
 pub record NodeRuns (holds : Reads) (standing : Standing) (name : Name) (start end : Point) (children : Forest) (from : Course) (middle : State) : Type 0 where
@@ -77,7 +90,8 @@ pub record NodeRuns (holds : Reads) (standing : Standing) (name : Name) (start e
     state = middle;
     target = target_after standing from.target (target_of children) (place start end);
     open_nodes = from.open_nodes;
-    notes = ((from.notes ++ note start Nothing ∷ []) ++ notes_of children) ++ note start (mention_where standing (target_of children Missing)) ∷ [];
+    count = suc (behind (suc from.count) children);
+    mentions = mentions_with (behind (suc from.count) children) (mention_where standing (target_of children Missing)) (mentions_over (suc from.count) children from.mentions);
   })
 
 enters_with : (standing : Standing) (name : Name) (start : Point) (from : Course) (entry : Entry) → may_hold from.state.role ≡ true → entered_on standing from.state from.target ≡ Some entry → MatchOption (entered standing from.state from.target) ⊥ (λ e. after_entry entry name start from ≡ after_entry e name start from)
@@ -118,7 +132,8 @@ node_space holds free name start end children from middle may reads fine empty s
             state = s;
             target = from.target;
             open_nodes = from.open_nodes;
-            notes = ((from.notes ++ note start Nothing ∷ []) ++ notes_of children) ++ note start Nothing ∷ [];
+            count = suc (behind (suc from.count) children);
+            mentions = mentions_over (suc from.count) children from.mentions;
           }) (sym same),
         ),
       );
@@ -146,15 +161,10 @@ node_runs holds free (Solid symbol usual reading) name start end children from m
     node_solid holds name start end children from middle symbol usual reading (may_hold-from from.state.role ne) reads fine stands read (feeds.1 ∙ ap Some feeds.2)
 node_runs holds free Mdx name start end children from middle ne stands read reads fine feeds = absurd stands
 
-notes_joined : (a b c : List Note) (x y : Note) → (((a ++ x ∷ []) ++ b) ++ y ∷ []) ++ c ≡ a ++ (x ∷ b ++ y ∷ c)
-notes_joined a b c x y =
-    append_assoc ((a ++ x ∷ []) ++ b) (y ∷ []) c ∙ append_assoc (a ++ x ∷ []) b (y ∷ c) ∙ append_assoc a (x ∷ []) (b ++ y ∷ c)
-
 -- nodes that are fine are read, from a spine that takes theirs
 Runs-nodes : (holds : Reads) → AllowsFree holds → (forest : Forest) (from : Course) (end : State) → EachNode (IsFine holds) forest from.state.role from.state.before → Feeds from.state (spine forest) end → Runs holds (flatten forest) from (after_nodes forest end from)
 Runs-nodes holds free Empty from end fine feeds =
-    ap (λ (s : State). record { state = s; target = from.target; open_nodes = from.open_nodes; notes = from.notes }) feeds
-    ∙ ap (λ (n : List Note). record { state = end; target = from.target; open_nodes = from.open_nodes; notes = n }) (sym (append-nil from.notes))
+    ap (λ (s : State). record { state = s; target = from.target; open_nodes = from.open_nodes; count = from.count; mentions = from.mentions }) feeds
 Runs-nodes holds free (Node name start stop children rest) from end fine feeds =
     let st = standing_of name in
     let parts = Feeds-split from.state end (shown st (spine children)) (spine rest) feeds in
@@ -165,12 +175,12 @@ Runs-nodes holds free (Node name start stop children rest) from end fine feeds =
       state = middle;
       target = target_after st from.target (target_of children) (place start stop);
       open_nodes = from.open_nodes;
-      notes = ((from.notes ++ note start Nothing ∷ []) ++ notes_of children) ++ note start (mention_where st (target_of children Missing)) ∷ [];
+      count = suc (behind (suc from.count) children);
+      mentions = mentions_with (behind (suc from.count) children) (mention_where st (target_of children Missing)) (mentions_over (suc from.count) children from.mentions);
     } in
     let rest_fine = subst (λ b. EachNode (IsFine holds) rest middle.role b) (sym context.1) (subst (λ r. EachNode (IsFine holds) rest r (last_symbol from.state.before (shown st (spine children)))) (sym context.0) fine.2) in
     let rest_runs = Runs-nodes holds free rest after end rest_fine parts.2 in
-    let same = ap (λ (n : List Note). record { state = end; target = target_of rest (target_after st from.target (target_of children) (place start stop)); open_nodes = from.open_nodes; notes = n }) (notes_joined from.notes (notes_of children) (notes_of rest) (note start Nothing) (note start (mention_where st (target_of children Missing)))) in
-    (node.inside, node.enters, Runs-append holds (flatten children) (exiting name stop ∷ flatten rest) node.inside node.last (after_nodes (Node name start stop children rest) end from) node.runs (after, node.exits, subst (λ c. Runs holds (flatten rest) after c) same rest_runs))
+    (node.inside, node.enters, Runs-append holds (flatten children) (exiting name stop ∷ flatten rest) node.inside node.last (after_nodes (Node name start stop children rest) end from) node.runs (after, node.exits, rest_runs))
 
 pub EachNode-map : (P Q : Claim) → ((around : Role) (before : Option Symbol) (name : Name) (start end : Point) (children : Forest) → P around before name start end children → Q around before name start end children) → (forest : Forest) (around : Role) (before : Option Symbol) → EachNode P forest around before → EachNode Q forest around before
 EachNode-map P Q f Empty around before each = tt

@@ -1,17 +1,17 @@
 -- What a checked document keeps.
 use Rattle.std.specs.Prelude.{◌≡◌, map}
 use Rattle.md_tree.specs.declared.checked.Checked.TheInside.{Inside}
-use Rattle.md_tree.specs.Noted.{IsNoted}
-use Rattle.md_tree.specs.Grammar.{Document, handed}
-use Rattle.md_tree.specs.Facts.{facts_at, tables_at}
+use Rattle.md_tree.specs.Grammar.{Document, handed, IsChecked}
+use Rattle.md_tree.specs.Facts.{facts_at, tables_at, definitions_at}
 
 -- what was handed in
 abbrev pub given_of : Inside → Document
 given_of inside = handed inside.events.now inside.bytes.now inside.names.now
 
--- the events are a document's of the grammar, and each has its note and what is found at it
+-- the events are a document's of the grammar, each has what is found at it, and the tables and definitions are theirs
 abbrev pub IsKept : Inside → Type 0
 IsKept inside =
-    IsNoted (given_of inside) inside.notes.items
+    IsChecked (given_of inside)
     × (inside.facts.items ≡ facts_at inside.events.now)
     × (map (λ t. t.items) inside.tables.items ≡ tables_at inside.events.now)
+    × (inside.definitions.items ≡ definitions_at inside.events.now)

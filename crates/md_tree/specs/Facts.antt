@@ -12,7 +12,7 @@ use Rattle.md_tree.specs.declared.seeking.Sought.{Sought}
 use Rattle.md_tree.specs.declared.facts.Fact.{Fact}
 use Rattle.md_tree.specs.declared.facts.OpenNode.{OpenNode}
 use Rattle.md_tree.specs.Tree.{Forest, Empty, Node}
-use Rattle.md_tree.specs.NameTests.{is_transparent, is_item, is_table, contributes}
+use Rattle.md_tree.specs.NameTests.{is_transparent, is_item, is_table, is_link_definition, contributes}
 use Rattle.md_tree.specs.Partners.{behind}
 use Rattle.md_tree.specs.Told.{nothing_told, told_with, told_over, looseness}
 use Rattle.md_tree.specs.Seeking.{search_of, seen}
@@ -78,16 +78,17 @@ partner_alone partner = record {
   has_resource = false;
 }
 
--- what is found at the events so far, the innermost open node, and those round it, the next one first
+-- what is found at the events so far, the entries of the definitions that have ended, the innermost open node, and those round it, the next one first
 pub record Passed : Type 0 where
   pub facts : List Fact
   pub columns : Collected
+  pub definitions : List ℕ
   pub here : OpenNode
   pub round : List OpenNode
 
 -- before any event
 abbrev pub nothing_passed : Passed
-nothing_passed = record { facts = []; columns = nothing_collected; here = nowhere; round = [] }
+nothing_passed = record { facts = []; columns = nothing_collected; definitions = []; here = nowhere; round = [] }
 
 -- the first of some open nodes, and the others
 abbrev pub next_round : List OpenNode → OpenNode
@@ -103,6 +104,7 @@ abbrev pub passed_entry : Name → Passed → Passed
 passed_entry name pass = record {
   facts = pass.facts ++ partner_alone 0 ∷ [];
   columns = columns_entered name pass.columns;
+  definitions = pass.definitions;
   here = opened (length pass.facts) name pass.here;
   round = pass.here ∷ pass.round;
 }
@@ -112,11 +114,16 @@ abbrev pub fact_here : Name → Passed → Fact
 fact_here name pass =
     fact_of name (length pass.facts) (length pass.columns.tables) pass.here.contributing pass.here.sought pass.here.told
 
+-- the entries of definitions, with that of one more node
+abbrev pub definitions_with : Name → ℕ → List ℕ → List ℕ
+definitions_with name entry definitions = definitions ++ (if is_link_definition name then entry ∷ [] else [])
+
 -- the exit of a node
 abbrev pub passed_exit : Name → Passed → Passed
 passed_exit name pass = record {
   facts = set pass.facts pass.here.entry (fact_here name pass) ++ partner_alone pass.here.entry ∷ [];
   columns = columns_exited name pass.here.told (OpenNode.collects (next_round pass.round)) pass.columns;
+  definitions = definitions_with name pass.here.entry pass.definitions;
   here = followed name pass.here (next_round pass.round);
   round = others_round pass.round;
 }
@@ -179,9 +186,12 @@ facts_of index tables (Node name start end children rest) =
     ++ partner_alone index
     ∷ facts_of (suc (behind (suc index) children)) (tables_with name (tables_behind tables children)) rest
 
--- what is found at each event, and the alignments of the tables
+-- what is found at each event, the alignments of the tables, and the entries of the definitions
 abbrev pub facts_at : List Event → List Fact
 facts_at events = Passed.facts (passed_over events nothing_passed)
 
 abbrev pub tables_at : List Event → List (List AlignKind)
 tables_at events = Collected.tables (Passed.columns (passed_over events nothing_passed))
+
+abbrev pub definitions_at : List Event → List ℕ
+definitions_at events = Passed.definitions (passed_over events nothing_passed)

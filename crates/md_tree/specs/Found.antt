@@ -31,14 +31,18 @@ position_from (Some first) (Some last) = Some (place first.point last.point)
 position_from _ _ = None
 
 -- the partner's event
-abbrev pub last_event : List Event → Option Fact → Option Event
-last_event events None = None
-last_event events (Some fact) = slice_get events fact.partner
+abbrev pub partner_event : List Event → Option Fact → Option Event
+partner_event events None = None
+partner_event events (Some fact) = slice_get events fact.partner
 
 -- the place of the node that the event at an index enters; 0 stands for no index
 abbrev pub position_there : List Event → List Fact → ℕ → Option Position
-position_there events facts index = position_from (slice_get events index) (last_event events (slice_get facts index))
+position_there events facts index = position_from (slice_get events index) (partner_event events (slice_get facts index))
 
 abbrev pub position_at : List Event → List Fact → ℕ → Option Position
 position_at events facts zero = None
 position_at events facts (suc index) = position_there events facts (suc index)
+
+-- the place of the node that the event at an index exits
+abbrev pub position_ended : List Event → List Fact → ℕ → Option Position
+position_ended events facts index = position_from (partner_event events (slice_get facts index)) (slice_get events index)

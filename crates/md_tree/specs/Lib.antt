@@ -3,7 +3,6 @@ pub mod Grammar
 pub mod Machine
 pub mod Mentions
 pub mod Names
-pub mod Noted
 pub mod Partners
 pub mod Pattern
 pub mod Reads

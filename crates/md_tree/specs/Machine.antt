@@ -1,5 +1,5 @@
 -- How a check reads events: one small state for each open node.
-use Rattle.std.specs.Prelude.{◌≡◌, ℕ, ◌+◌, Bool, true, false, ◌&&◌, if◌then◌else◌, Option, Some, None, option_map, List, [], ◌∷◌, ◌++◌, drop, IsTrue, MatchOption}
+use Rattle.std.specs.Prelude.{◌≡◌, ℕ, suc, ◌+◌, Bool, true, false, ◌&&◌, if◌then◌else◌, Option, Some, None, option_map, List, [], ◌∷◌, drop, IsTrue, MatchOption}
 use Rattle.std.specs.List.{list_all}
 use Rattle.md_base.specs.declared.event.Point.{Point}
 use Rattle.md_base.specs.declared.event.Name.{Name}
@@ -19,8 +19,7 @@ use Rattle.md_tree.specs.declared.kinds.Times.TheVariants.{Once, Many}
 use Rattle.md_tree.specs.declared.kinds.Item.{Item}
 use Rattle.md_tree.specs.declared.kinds.Target.{Target}
 use Rattle.md_tree.specs.declared.kinds.Target.TheVariants.{Missing}
-use Rattle.md_tree.specs.declared.kinds.Mention.TheVariants.{Nothing}
-use Rattle.md_tree.specs.declared.kinds.Note.{Note}
+use Rattle.md_tree.specs.declared.kinds.Mentioned.{Mentioned}
 use Rattle.md_tree.specs.declared.state.Stage.{Stage}
 use Rattle.md_tree.specs.declared.state.Stage.TheVariants.{Whole, Marker, Numeric, Hexadecimal, Setext}
 use Rattle.md_tree.specs.declared.state.State.{State}
@@ -31,7 +30,7 @@ use Rattle.md_tree.specs.Standing.{standing_of}
 use Rattle.md_tree.specs.Pattern.{pattern_of, takes}
 use Rattle.md_tree.specs.Shape.{role_for}
 use Rattle.md_tree.specs.Rules.{place, target_at}
-use Rattle.md_tree.specs.Mentions.{mention_of, note}
+use Rattle.md_tree.specs.Mentions.{mention_of, mentions_with}
 
 -- the group that a symbol begins
 abbrev pub begun_by : Symbol → Stage
@@ -115,12 +114,13 @@ entered_on Mdx state target = None
 abbrev pub entered : Standing → State → Target → Option Entry
 entered standing state target = if may_hold state.role then entered_on standing state target else None
 
--- how far events have been read; of the open nodes the innermost is first
+-- how far events have been read: how many, what they mention, and of the open nodes the innermost first
 pub record Course : Type 0 where
   pub state : State
   pub target : Target
   pub open_nodes : List Open
-  pub notes : List Note
+  pub count : ℕ
+  pub mentions : List Mentioned
 
 -- after an entering event
 abbrev pub after_entry : Entry → Name → Point → Course → Course
@@ -128,16 +128,18 @@ after_entry entry name point course = record {
   state = entry.state;
   target = entry.target;
   open_nodes = record { name = name; start = point; outer = entry.outer } ∷ course.open_nodes;
-  notes = course.notes ++ note point Nothing ∷ [];
+  count = suc course.count;
+  mentions = course.mentions;
 }
 
 -- after the exit of a transparent node
-abbrev pub after_through : Point → List Open → Course → Course
-after_through start others course = record {
+abbrev pub after_through : List Open → Course → Course
+after_through others course = record {
   state = course.state;
   target = course.target;
   open_nodes = others;
-  notes = course.notes ++ note start Nothing ∷ [];
+  count = suc course.count;
+  mentions = course.mentions;
 }
 
 -- after the exit of another node
@@ -146,7 +148,8 @@ after_exit outer start end others course = record {
   state = outer.state;
   target = target_at outer.reading outer.target course.target (place start end);
   open_nodes = others;
-  notes = course.notes ++ note start (mention_of outer.reading course.target) ∷ [];
+  count = suc course.count;
+  mentions = mentions_with course.count (mention_of outer.reading course.target) course.mentions;
 }
 
 -- a claim about nodes that stand on a spine: what is read of each, the role around it, the symbol before it, its start, end and target
@@ -155,7 +158,7 @@ Reads = Reading → Role → Option Symbol → Point → Point → Target → Ty
 
 -- the exit of a node that waits so
 abbrev pub ExitsWhere : Reads → Option Outer → Point → Point → List Open → Course → Course → Type 0
-ExitsWhere holds None start end others from to = to ≡ after_through start others from
+ExitsWhere holds None start end others from to = to ≡ after_through others from
 ExitsWhere holds (Some outer) start end others from to =
     IsTrue (is_complete from.state) × holds outer.reading outer.state.role outer.before start end from.target × (to ≡ after_exit outer start end others from)
 
@@ -185,4 +188,4 @@ Runs holds (event ∷ events) from to = (next : Course) × Steps holds event fro
 
 -- before any event
 abbrev pub beginning : Course
-beginning = record { state = start_of role.Flow; target = Missing; open_nodes = []; notes = [] }
+beginning = record { state = start_of role.Flow; target = Missing; open_nodes = []; count = 0; mentions = [] }

@@ -14,6 +14,7 @@ use Rattle.md_tree.specs.declared.kinds.Target.TheVariants.{Missing, Label}
 use Rattle.md_tree.specs.declared.kinds.Mention.{Mention}
 use Rattle.md_tree.specs.declared.kinds.Mention.TheVariants.{Nothing, Reference, Call, Definition, FootnoteDefinition}
 use Rattle.md_tree.specs.declared.kinds.Note.{Note}
+use Rattle.md_tree.specs.declared.kinds.Mentioned.{Mentioned}
 use Rattle.md_tree.specs.Tree.{Forest, Empty, Node}
 use Rattle.md_tree.specs.Standing.{standing_of}
 use Rattle.md_tree.specs.Rules.{target_of}
@@ -44,6 +45,15 @@ notes_of (Node name start end children rest) =
 -- what each event mentions
 abbrev pub mentions_in : List Note → List Mention
 mentions_in notes = map (λ note. note.mention) notes
+
+-- what is mentioned, with what one more event mentions, if it mentions anything
+abbrev pub mentions_with : ℕ → Mention → List Mentioned → List Mentioned
+mentions_with index Nothing before = before
+mentions_with index mention before = before ++ record { index = index; mention = mention } ∷ []
+
+-- the mentions in a list
+abbrev pub mentions_among : List Mentioned → List Mention
+mentions_among mentioned = map (λ one. one.mention) mentioned
 
 -- the identifier at a label's place
 abbrev pub identifier_at : List ℕ → Position → Option (List ℕ)

@@ -1,7 +1,7 @@
--- The indices of a node's two events, and of its children's.
+-- The indices of a node's two events, of its children's, and of the definitions.
 use Rattle.std.specs.Prelude.{◌≡◌, ℕ, suc, if◌then◌else◌, Option, Some, None, List, [], ◌∷◌, ◌++◌, slice_get}
 use Rattle.md_tree.specs.Tree.{Forest, Empty, Node, flatten}
-use Rattle.md_tree.specs.NameTests.{contributes}
+use Rattle.md_tree.specs.NameTests.{contributes, is_link_definition}
 use Rattle.md_tree.specs.Children.{or_else}
 use Rattle.md_tree.specs.Grammar.{Document}
 
@@ -26,3 +26,16 @@ abbrev pub last_contributing_at : ℕ → Forest → Option ℕ
 last_contributing_at index Empty = None
 last_contributing_at index (Node name start end children rest) =
     or_else (last_contributing_at (suc (behind (suc index) children)) rest) (if contributes name then Some index else None)
+
+-- the indices of the events that enter definitions among some nodes, in the order of their exits, where the first event
+-- has an index
+abbrev pub definitions_of : ℕ → Forest → List ℕ
+definitions_of index Empty = []
+definitions_of index (Node name start end children rest) =
+    definitions_of (suc index) children
+    ++ ((if is_link_definition name then index ∷ [] else []) ++ definitions_of (suc (behind (suc index) children)) rest)
+
+-- these indices are those of the definitions, in the document that the events are
+abbrev pub AreDefinitions : Document → List ℕ → Type 0
+AreDefinitions given indices =
+    (forest : Forest) → flatten forest ≡ given.events → indices ≡ definitions_of 0 forest

@@ -6,25 +6,27 @@ use Rattle.std.specs.declared.alloc.Global.{Global}
 use Rattle.md_base.specs.declared.event.Position.{Position}
 use Rattle.md_tree.specs.declared.kinds.Mention.{Mention}
 use Rattle.md_tree.specs.declared.kinds.Mention.TheVariants.{Reference, Call}
+use Rattle.md_tree.specs.declared.kinds.Mentioned.{Mentioned}
 use Rattle.md_tree.specs.declared.rule.Rule.{Rule}
 use Rattle.md_tree.specs.declared.rule.Rule.TheVariants as rule
 use Rattle.md_tree.specs.declared.rule.CompileError.{CompileError}
 use Rattle.md_tree.specs.declared.rule.CompileError.TheVariants as error
-use Rattle.md_tree.specs.Mentions.{IsResolved, identifier_at}
+use Rattle.md_tree.specs.Mentions.{mentions_among, IsResolved, identifier_at}
 
 -- the event at the index mentions this, and nothing of the kind is defined
-abbrev pub LeadsNowhere : List ℕ → List Mention → ℕ → Mention → Type 0
-LeadsNowhere bytes mentions index mention = (slice_get mentions index ≡ Some mention) × (IsResolved bytes mentions mention → ⊥)
+abbrev pub LeadsNowhere : List ℕ → List Mentioned → ℕ → Mention → Type 0
+LeadsNowhere bytes mentioned index mention =
+    (at : ℕ) × (slice_get mentioned at ≡ Some (record { index = index; mention = mention })) × (IsResolved bytes (mentions_among mentioned) mention → ⊥)
 
 -- the rule that what leads nowhere breaks
-abbrev pub IsUnresolvedBy : List ℕ → List Mention → ℕ → Rule → Type 0
-IsUnresolvedBy bytes mentions index rule.Definition = (label : Position) × LeadsNowhere bytes mentions index (Reference label)
-IsUnresolvedBy bytes mentions index rule.Footnote = (label : Position) × LeadsNowhere bytes mentions index (Call label)
-IsUnresolvedBy bytes mentions index _ = ⊥
+abbrev pub IsUnresolvedBy : List ℕ → List Mentioned → ℕ → Rule → Type 0
+IsUnresolvedBy bytes mentioned index rule.Definition = (label : Position) × LeadsNowhere bytes mentioned index (Reference label)
+IsUnresolvedBy bytes mentioned index rule.Footnote = (label : Position) × LeadsNowhere bytes mentioned index (Call label)
+IsUnresolvedBy bytes mentioned index _ = ⊥
 
-abbrev pub IsUnresolved : List ℕ → List Mention → CompileError → Type 0
-IsUnresolved bytes mentions error.Memory = Unit {0}
-IsUnresolved bytes mentions (error.Event index broken) = IsUnresolvedBy bytes mentions index broken
+abbrev pub IsUnresolved : List ℕ → List Mentioned → CompileError → Type 0
+IsUnresolved bytes mentioned error.Memory = Unit {0}
+IsUnresolved bytes mentioned (error.Event index broken) = IsUnresolvedBy bytes mentioned index broken
 
 -- the bytes of the identifiers in a set
 abbrev pub identifiers_of : BTreeSet (Option (String Global)) → List (Option (List ℕ))

@@ -19,13 +19,14 @@ use Rattle.md_tree.specs.Mentions.{mention_of}
 use Rattle.md_tree.specs.declared.kinds.Mention.{Mention}
 use Rattle.md_tree.specs.Machine.{Reads, Course, Enters, Exits, is_complete}
 
--- the course of a walk, whose vector has the innermost open node last
-abbrev pub course_of : Walk → Course
-course_of walk = record {
+-- the course of a walk over so many events, whose vector has the innermost open node last
+abbrev pub course_of : ℕ → Walk → Course
+course_of count walk = record {
   state = walk.state;
   target = walk.target;
   open_nodes = reverse walk.open_nodes.items;
-  notes = walk.notes.items;
+  count = count;
+  mentions = walk.mentions.items;
 }
 
 -- any node

@@ -1,13 +1,11 @@
-ghost use Rattle.std.specs.Prelude.{◌≡◌, ◌↔◌, ◌<◌, Some, length, map, option_map, slice_get, slice_index_or, IsTrue};
+ghost use Rattle.std.specs.Prelude.{◌≡◌, ◌↔◌, ◌<◌, Some, length, map, option_map, slice_get, IsTrue};
 ghost use Rattle.md_base.specs.declared.event.Event.{Event};
-ghost use Rattle.md_tree.specs.declared.kinds.Note.{Note};
 ghost use Rattle.md_tree.specs.declared.facts.Fact.{Fact};
-ghost use Rattle.md_tree.specs.Found.{index_if, position_at};
+ghost use Rattle.md_tree.specs.Found.{index_if, position_at, position_ended};
 ghost use Rattle.md_tree.specs.Texts.{IsEventAt};
 
 use crate::facts::{Fact, Facts};
 use crate::judge::{label_at, text_at};
-use crate::kinds::Note;
 use md_base::{AlignKind, Event, Kind, Name, Position, is_same_name};
 use std::marker::Model;
 
@@ -18,10 +16,11 @@ pub struct Checked<'a> {
     events: &'a [Event],
     bytes: &'a [u8],
     names: &'a [(&'a str, &'a str)],
-    notes: Vec<Note>,
     facts: Vec<Fact>,
     /// The alignments of each table.
     tables: Vec<Vec<AlignKind>>,
+    /// The entry of each definition.
+    definitions: Vec<usize>,
 }
 
 impl<'a> Model for Checked<'a> {
@@ -41,37 +40,40 @@ impl<'a> Checked<'a> {
     ghost use Rattle.md_tree.specs.Texts.{EntersAt, ExitsAt, ExitsText, ExitsIdentifier, IsTextAt, IsIdentifierAt};
     ghost use Rattle.md_base.specs.Reference.{name_table};
     ghost use Rattle.md_tree.specs.Grammar.{IsChecked, handed};
-    ghost use Rattle.md_tree.specs.Noted.{IsNoted};
     ghost use Rattle.md_tree.specs.Tree.{Forest};
     ghost use Rattle.md_tree.specs.Alignments.{alignments};
-    ghost use Rattle.md_tree.specs.Partners.{IsPartnerAt, last_contributing_at};
-    ghost use Rattle.md_tree.specs.Facts.{facts_at, tables_at};
+    ghost use Rattle.md_tree.specs.Partners.{IsPartnerAt, AreDefinitions, last_contributing_at};
+    ghost use Rattle.md_tree.specs.Facts.{facts_at, tables_at, definitions_at};
     ghost use Rattle.md_tree.specs.Entered.{IsEnteredAt, EntersNode};
     ghost use Rattle.md_tree.specs.Found.{EntersSome, IsFactAt};
     ghost use Rattle.md_tree.specs.Reads.{IsReadAt, has_resource};
     ghost use Rattle.md_base.specs.declared.event.Name.TheVariants as name;
 
-    /// What has passed a check, with the notes of its events and what is found at them.
+    /// What has passed a check, with what is found at its events.
     pub(crate) fn new(
         events: &'a [Event],
         bytes: &'a [u8],
         names: &'a [(&'a str, &'a str)],
-        notes: Vec<Note>,
         found: Facts,
     ) -> Checked<'a>
-        requires noted { IsNoted (handed events.now bytes.now names.now) notes.items }
+        requires grammatical { IsChecked (handed events.now bytes.now names.now) }
         requires facts { found.facts.items ≡ facts_at events.now }
         requires tables { map (λ t. t.items) found.tables.items ≡ tables_at events.now }
+        requires definitions { found.definitions.items ≡ definitions_at events.now }
         ensures { result ≡ handed events.entry.now bytes.entry.now names.entry.now }
     {
-        let Facts { facts, tables } = found;
+        let Facts {
+            facts,
+            tables,
+            definitions,
+        } = found;
         Checked {
             events,
             bytes,
             names,
-            notes,
             facts,
             tables,
+            definitions,
         }
     }
 
@@ -117,6 +119,13 @@ impl<'a> Checked<'a> {
         ensures { IsPartnerAt self.now index result }
     {
         partner_at(&self.facts, index)
+    }
+
+    /// The indices of the events that enter definitions, in the order of their exits.
+    pub fn definitions(&self) -> &[usize]
+        ensures { AreDefinitions self.now result.now }
+    {
+        self.definitions.as_slice()
     }
 
     /// The index of the event that enters the last contributing child of the item that the event at
@@ -177,7 +186,7 @@ impl<'a> Checked<'a> {
         requires { ExitsText self.now.events index }
         ensures { IsTextAt self.now index result.now }
     {
-        let position = position_at(self.events, &self.notes, index);
+        let position = position_ended(self.events, &self.facts, index).unwrap();
         text_at(self.bytes, &position).unwrap()
     }
 
@@ -186,22 +195,22 @@ impl<'a> Checked<'a> {
         requires { ExitsIdentifier self.now.events index }
         ensures { IsIdentifierAt self.now index result.now }
     {
-        let position = position_at(self.events, &self.notes, index);
+        let position = position_ended(self.events, &self.facts, index).unwrap();
         label_at(self.bytes, &position).unwrap()
     }
 }
 
 /// Where the node that ends with the event at the index starts and ends.
-fn position_at(events: &[Event], notes: &[Note], index: usize) -> Position
-    requires event { index < length events.now }
-    requires note { index < length notes.now }
-    ensures start { (d : Note) → result.start ≡ Note.start (slice_index_or notes.now index d) }
-    ensures end { (d : Event) → result.end ≡ Event.point (slice_index_or events.now index d) }
+fn position_ended(events: &[Event], facts: &[Fact], index: usize) -> Option<Position>
+    ensures { result ≡ position_ended events.now facts.now index }
 {
-    Position {
-        start: notes[index].start,
-        end: events[index].point,
-    }
+    let fact = facts.get(index)?;
+    let first = events.get(fact.partner)?;
+    let last = events.get(index)?;
+    Some(Position {
+        start: first.point,
+        end: last.point,
+    })
 }
 
 /// What is found at the index.

@@ -5,7 +5,7 @@ ghost use Rattle.md_tree.specs.NameTests.{is_transparent};
 ghost use Rattle.md_tree.specs.Facts as spec;
 
 use crate::columns::{Columns, collects_in};
-use crate::names::{is_item, is_table, is_transparent};
+use crate::names::{is_item, is_link_definition, is_table, is_transparent};
 use crate::seeking::{Sought, search_of, seen};
 use crate::told::{Looseness, NOT_LOOSE, NOTHING_TOLD, Told, told_looseness, told_with};
 use md_base::{AlignKind, Event, Kind, Name};
@@ -160,11 +160,13 @@ fn partner_alone(partner: usize) -> Fact
     }
 }
 
-/// What is found at each event, and the alignments of the tables in the order of their exits.
+/// What is found at each event, the alignments of the tables and the entries of the definitions, both in
+/// the order of their exits.
 #[derive(Drop)]
 pub struct Facts {
     pub facts: Vec<Fact>,
     pub tables: Vec<Vec<AlignKind>>,
+    pub definitions: Vec<usize>,
 }
 
 /// What is found at the events so far.
@@ -172,6 +174,8 @@ pub struct Facts {
 struct Pass {
     facts: Vec<Fact>,
     columns: Columns,
+    /// The entries of the definitions that have ended.
+    definitions: Vec<usize>,
     /// The innermost open node, and those round it, the next one last.
     here: OpenNode,
     round: Vec<OpenNode>,
@@ -183,7 +187,7 @@ impl Model for Pass {
 
     ghost Value = { Passed };
 
-    ghost view = { λ p. record { facts = p.facts.items; columns = p.columns; here = p.here; round = reverse p.round.items } };
+    ghost view = { λ p. record { facts = p.facts.items; columns = p.columns; definitions = p.definitions.items; here = p.here; round = reverse p.round.items } };
 }
 
 impl Pass {
@@ -194,6 +198,7 @@ impl Pass {
         Pass {
             facts: Vec::new(alloc),
             columns: Columns::new(alloc),
+            definitions: Vec::new(alloc),
             here: nowhere(),
             round: Vec::new(alloc),
         }
@@ -232,6 +237,7 @@ impl Pass {
         put(&mut self.facts, own.entry, fact);
         self.facts.push(partner_alone(own.entry))?;
         self.columns.exit(alloc, name, own.told, around.collects)?;
+        define(&mut self.definitions, name, own.entry)?;
         self.here = followed(name, &own, &around);
         Ok(())
     }
@@ -240,18 +246,31 @@ impl Pass {
     fn into_facts(self) -> Facts
         ensures facts { result.facts.items ≡ self.facts }
         ensures tables { map (λ t. t.items) result.tables.items ≡ self.columns.tables }
+        ensures definitions { result.definitions.items ≡ self.definitions }
     {
         let Pass {
             facts,
             columns,
+            definitions,
             here: _,
             round: _,
         } = self;
         Facts {
             facts,
             tables: columns.into_tables(),
+            definitions,
         }
     }
+}
+
+/// Adds the entry of a node that exits, if it is a definition.
+fn define(definitions: &mut Vec<usize>, name: Name, entry: usize) -> Result<(), AllocError>
+    ensures { OnOk result (definitions.new.items ≡ spec.definitions_with name entry definitions.old.items) }
+{
+    if is_link_definition(name) {
+        definitions.push(entry)?;
+    }
+    Ok(())
 }
 
 /// Puts a fact at an index, where there is one.
@@ -267,6 +286,7 @@ fn put(facts: &mut [Fact], index: usize, fact: Fact)
 pub fn find_facts(alloc: Global, events: &[Event]) -> Result<Facts, AllocError>
     ensures facts { IfOk result (λ found. found.facts.items ≡ spec.facts_at events.now) }
     ensures tables { IfOk result (λ found. map (λ t. t.items) found.tables.items ≡ spec.tables_at events.now) }
+    ensures definitions { IfOk result (λ found. found.definitions.items ≡ spec.definitions_at events.now) }
 {
     let mut pass = Pass::new(alloc);
     for event in events {

@@ -1,4 +1,4 @@
-ghost use Rattle.std.specs.Prelude.{◌≡◌, [], true, false, IfOk, OnOk, IfErr};
+ghost use Rattle.std.specs.Prelude.{◌≡◌, [], true, false, length, IfOk, OnOk, IfErr};
 ghost use Rattle.md_base.specs.Reference.{name_table};
 ghost use Rattle.md_tree.specs.Grammar.{handed, IsChecked};
 ghost use Rattle.md_tree.specs.Refusal.{IsOrder, IsMdx, IsOfNode, IsLost, IsOutside, IsRefusal};
@@ -49,11 +49,11 @@ pub fn check<'a>(
         state: _,
         target: _,
         open_nodes: _,
-        notes,
+        mentions,
     } = walk;
-    resolve(alloc, bytes, &notes)?;
+    resolve(alloc, bytes, &mentions)?;
     let found = find_facts(alloc, events)?;
-    Ok(Checked::new(events, bytes, names, notes, found))
+    Ok(Checked::new(events, bytes, names, found))
 }
 
 /// Walks over all events of a document, of which the texts are found first.
@@ -64,7 +64,7 @@ fn walk_over(
     names: &[(&str, &str)],
 ) -> Result<Walk, CompileError>
     ensures walked { IfOk result
-        (λ walk. Runs (Unbroken bytes.now (name_table names.now)) events.now beginning (course_of walk)) }
+        (λ walk. Runs (Unbroken bytes.now (name_table names.now)) events.now beginning (course_of (length events.now) walk)) }
     ensures refused { IfErr result (IsRefusal (handed events.now bytes.now names.now)) }
 {
     let texts = Texts::new(alloc, bytes)?;
@@ -78,7 +78,7 @@ fn walk_over(
 /// Walks over all events.
 fn walk_through(alloc: Global, events: &[Event], source: Source) -> Result<Walk, CompileError>
     ensures walked { IfOk result
-        (λ walk. Runs (Unbroken source.entry.bytes.now (name_table source.entry.names.now)) events.now beginning (course_of walk)) }
+        (λ walk. Runs (Unbroken source.entry.bytes.now (name_table source.entry.names.now)) events.now beginning (course_of (length events.now) walk)) }
     ensures refused { IfErr result (IsRefusal (handed events.now source.entry.bytes.now source.entry.names.now)) }
 {
     let mut walk = Walk::new(alloc);

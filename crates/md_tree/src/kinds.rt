@@ -199,7 +199,14 @@ pub enum Mention {
     FootnoteDefinition(Position),
 }
 
-/// What is kept of an event: where its node starts, and at an exit what the node mentions.
+/// What is mentioned by a node that exits at an index.
+#[derive(Clone, Copy, Debug, PartialEq, Eq)]
+pub struct Mentioned {
+    pub index: usize,
+    pub mention: Mention,
+}
+
+/// What is said of an event: where its node starts, and at an exit what the node mentions.
 #[derive(Clone, Copy, Debug, PartialEq, Eq)]
 pub struct Note {
     pub start: Point,

@@ -21,6 +21,13 @@ pub fn is_item(name: Name) -> bool
     matches!(name, Name::ListItem)
 }
 
+/// What a link or an image refers to.
+pub fn is_link_definition(name: Name) -> bool
+    ensures { result ≡ tests.is_link_definition name }
+{
+    matches!(name, Name::Definition)
+}
+
 pub fn is_table(name: Name) -> bool
     ensures { result ≡ tests.is_table name }
 {

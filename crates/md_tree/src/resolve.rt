@@ -1,10 +1,10 @@
 ghost use Rattle.std.specs.Prelude.{◌≡◌, ◌↔◌, option_map, string_bytes, IfOk, OnOk, IfErr, IfSome, None, IsTrue};
 ghost use Rattle.std.specs.List.{All, Contains};
-ghost use Rattle.md_tree.specs.Mentions.{identifier_at, defined, footnoted, mentions_in, IsResolved};
+ghost use Rattle.md_tree.specs.Mentions.{identifier_at, defined, footnoted, mentions_among, IsResolved};
 ghost use Rattle.md_tree.specs.Resolve.{IsUnresolved, identifiers_of, HaveSame, IsFound, IsLost};
 
 use crate::judge::{label_at, rule_unless};
-use crate::kinds::{Mention, Note};
+use crate::kinds::{Mention, Mentioned};
 use crate::rule::{CompileError, Rule};
 use md_base::{Position, normalize_identifier};
 use std::alloc::{AllocError, Global};
@@ -24,13 +24,17 @@ fn identifier(alloc: Global, bytes: &[u8], label: Position) -> Result<Option<Str
 }
 
 /// The identifiers of the definitions.
-fn definitions(alloc: Global, bytes: &[u8], notes: &[Note]) -> Result<Identifiers, AllocError>
+fn definitions(
+    alloc: Global,
+    bytes: &[u8],
+    mentions: &[Mentioned],
+) -> Result<Identifiers, AllocError>
     ensures { IfOk result
-        (λ found. HaveSame (identifiers_of found) (defined bytes.now (mentions_in notes.now))) }
+        (λ found. HaveSame (identifiers_of found) (defined bytes.now (mentions_among mentions.now))) }
 {
     let mut found = BTreeSet::new(alloc);
-    for note in notes {
-        if let Mention::Definition(label) = note.mention {
+    for mentioned in mentions {
+        if let Mention::Definition(label) = mentioned.mention {
             found.insert(identifier(alloc, bytes, label)?)?;
         }
     }
@@ -38,13 +42,13 @@ fn definitions(alloc: Global, bytes: &[u8], notes: &[Note]) -> Result<Identifier
 }
 
 /// The identifiers of the footnote definitions.
-fn footnotes(alloc: Global, bytes: &[u8], notes: &[Note]) -> Result<Identifiers, AllocError>
+fn footnotes(alloc: Global, bytes: &[u8], mentions: &[Mentioned]) -> Result<Identifiers, AllocError>
     ensures { IfOk result
-        (λ found. HaveSame (identifiers_of found) (footnoted bytes.now (mentions_in notes.now))) }
+        (λ found. HaveSame (identifiers_of found) (footnoted bytes.now (mentions_among mentions.now))) }
 {
     let mut found = BTreeSet::new(alloc);
-    for note in notes {
-        if let Mention::FootnoteDefinition(label) = note.mention {
+    for mentioned in mentions {
+        if let Mention::FootnoteDefinition(label) = mentioned.mention {
             found.insert(identifier(alloc, bytes, label)?)?;
         }
     }
@@ -59,15 +63,18 @@ fn is_among(found: &Identifiers, wanted: &Option<String>) -> bool
 }
 
 /// Refuses what leads to a definition or a footnote definition that isn't there.
-pub fn resolve(alloc: Global, bytes: &[u8], notes: &[Note]) -> Result<(), CompileError>
-    ensures ok { OnOk result (All (IsResolved bytes.now (mentions_in notes.now)) (mentions_in notes.now)) }
-    ensures refused { IfErr result (IsUnresolved bytes.now (mentions_in notes.now)) }
+pub fn resolve(alloc: Global, bytes: &[u8], mentions: &[Mentioned]) -> Result<(), CompileError>
+    ensures ok { OnOk result (All (IsResolved bytes.now (mentions_among mentions.now)) (mentions_among mentions.now)) }
+    ensures refused { IfErr result (IsUnresolved bytes.now mentions.now) }
 {
-    let definitions = definitions(alloc, bytes, notes)?;
-    let footnotes = footnotes(alloc, bytes, notes)?;
-    for (index, note) in notes.iter().enumerate() {
-        if let Some(rule) = unresolved(alloc, bytes, note.mention, &definitions, &footnotes)? {
-            return Err(CompileError::Event { index, rule });
+    let definitions = definitions(alloc, bytes, mentions)?;
+    let footnotes = footnotes(alloc, bytes, mentions)?;
+    for mentioned in mentions {
+        if let Some(rule) = unresolved(alloc, bytes, mentioned.mention, &definitions, &footnotes)? {
+            return Err(CompileError::Event {
+                index: mentioned.index,
+                rule,
+            });
         }
     }
     Ok(())

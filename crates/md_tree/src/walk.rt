@@ -1,8 +1,11 @@
+ghost use Rattle.std.specs.Prelude.{◌≡◌, OnOk};
+ghost use Rattle.md_tree.specs.Mentions.{mentions_with};
+
 use crate::judge::{Source, broken, mention, target_left};
-use crate::kinds::{Mention, Note, Role, Standing, Target};
+use crate::kinds::{Mention, Mentioned, Role, Standing, Target};
 use crate::rule::{CompileError, Rule};
 use crate::standing::standing;
-use crate::state::{Entry, Open, Outer, State};
+use crate::state::{Open, Outer, State};
 use crate::steps::{can_end, entry, start};
 use md_base::{Event, Kind, Name, Point, Position, is_same_name};
 use std::alloc::{AllocError, Global};
@@ -16,26 +19,26 @@ pub struct Walk {
     pub target: Target,
     /// The nodes that are open, the innermost last.
     pub open_nodes: Vec<Open>,
-    /// One for each event.
-    pub notes: Vec<Note>,
+    /// What the nodes mention that have ended.
+    pub mentions: Vec<Mentioned>,
 }
 
 impl Walk {
-    ghost use Rattle.std.specs.Prelude.{◌≡◌, [], reverse, IfErr, IfOk, OnOk};
+    ghost use Rattle.std.specs.Prelude.{◌≡◌, ℕ, suc, [], reverse, IfErr, IfOk, OnOk};
     ghost use Rattle.md_base.specs.Reference.{name_table};
     ghost use Rattle.md_base.specs.declared.event.Kind.TheVariants as kind;
-    ghost use Rattle.md_tree.specs.Machine.{Steps, Enters, Exits, beginning, after_entry};
+    ghost use Rattle.md_tree.specs.Machine.{Steps, Enters, Exits, beginning};
     ghost use Rattle.md_tree.specs.Walk.{course_of, Unbroken, IsStop, Leaves, IsStopInside};
 
     /// Before any event.
     pub fn new(alloc: Global) -> Walk
-        ensures { course_of result ≡ beginning }
+        ensures { course_of 0 result ≡ beginning }
     {
         Walk {
             state: start(Role::Flow),
             target: Target::Missing,
             open_nodes: Vec::new(alloc),
-            notes: Vec::new(alloc),
+            mentions: Vec::new(alloc),
         }
     }
 
@@ -48,9 +51,9 @@ impl Walk {
         event: Event,
     ) -> Result<(), CompileError>
         ensures ok { OnOk result
-            (Steps (Unbroken source.entry.bytes.now (name_table source.entry.names.now)) event (course_of self.old) (course_of self.new)) }
+            (Steps (Unbroken source.entry.bytes.now (name_table source.entry.names.now)) event (course_of index self.old) (course_of (suc index) self.new)) }
         ensures refused { IfErr result
-            (IsStop source.entry.bytes.now (name_table source.entry.names.now) index event.kind event.name event.point (course_of self.old)) }
+            (IsStop source.entry.bytes.now (name_table source.entry.names.now) index event.kind event.name event.point (course_of index self.old)) }
     {
         match event.kind {
             Kind::Enter => self.enter(index, event.name, event.point),
@@ -60,8 +63,8 @@ impl Walk {
 
     /// Enters a node.
     fn enter(&mut self, index: usize, name: Name, point: Point) -> Result<(), CompileError>
-        ensures ok { OnOk result (Enters name point (course_of self.old) (course_of self.new)) }
-        ensures refused { IfErr result (IsStop [] [] index kind.Enter name point (course_of self.old)) }
+        ensures ok { OnOk result (Enters name point (course_of index self.old) (course_of (suc index) self.new)) }
+        ensures refused { IfErr result (IsStop [] [] index kind.Enter name point (course_of index self.old)) }
     {
         let standing = standing(name);
         if matches!(standing, Standing::Mdx) {
@@ -76,18 +79,6 @@ impl Walk {
                 rule: Rule::Order,
             });
         };
-        self.go_in(name, point, entry)?;
-        Ok(())
-    }
-
-    /// Goes to where a node's children begin.
-    fn go_in(&mut self, name: Name, point: Point, entry: Entry) -> Result<(), AllocError>
-        ensures { OnOk result (course_of self.new ≡ after_entry entry name point (course_of self.old)) }
-    {
-        self.notes.push(Note {
-            start: point,
-            mention: Mention::Nothing,
-        })?;
         self.open_nodes.push(Open {
             name,
             start: point,
@@ -108,9 +99,9 @@ impl Walk {
         point: Point,
     ) -> Result<(), CompileError>
         ensures ok { OnOk result
-            (Exits (Unbroken source.entry.bytes.now (name_table source.entry.names.now)) (reverse self.old.open_nodes.items) name point (course_of self.old) (course_of self.new)) }
+            (Exits (Unbroken source.entry.bytes.now (name_table source.entry.names.now)) (reverse self.old.open_nodes.items) name point (course_of index self.old) (course_of (suc index) self.new)) }
         ensures refused { IfErr result
-            (IsStop source.entry.bytes.now (name_table source.entry.names.now) index kind.Exit name point (course_of self.old)) }
+            (IsStop source.entry.bytes.now (name_table source.entry.names.now) index kind.Exit name point (course_of index self.old)) }
     {
         let Some(open_node) = self.open_nodes.pop() else {
             return Err(CompileError::Event {
@@ -132,10 +123,7 @@ impl Walk {
             None => Mention::Nothing,
             Some(outer) => self.leave(alloc, source, index, outer, position)?,
         };
-        self.notes.push(Note {
-            start: open_node.start,
-            mention,
-        })?;
+        keep(&mut self.mentions, index, mention)?;
         Ok(())
     }
 
@@ -151,7 +139,7 @@ impl Walk {
         ensures ok { IfOk result
             (Leaves (Unbroken source.entry.bytes.now (name_table source.entry.names.now)) outer position self.old self.new) }
         ensures refused { IfErr result
-            (IsStopInside source.entry.bytes.now (name_table source.entry.names.now) index outer position (course_of self.old)) }
+            (IsStopInside source.entry.bytes.now (name_table source.entry.names.now) index outer position (course_of index self.old)) }
     {
         if !can_end(self.state) {
             return Err(CompileError::Event {
@@ -166,5 +154,18 @@ impl Walk {
         self.target = target_left(outer.reading, outer.target, self.target, position);
         self.state = outer.state;
         Ok(mention)
+    }
+}
+
+/// Keeps what a node mentions that exits at the index, if it mentions anything.
+fn keep(mentions: &mut Vec<Mentioned>, index: usize, mention: Mention) -> Result<(), AllocError>
+    ensures { OnOk result (mentions.new.items ≡ mentions_with index mention mentions.old.items) }
+{
+    match mention {
+        Mention::Nothing => Ok(()),
+        mention => {
+            mentions.push(Mentioned { index, mention })?;
+            Ok(())
+        }
     }
 }

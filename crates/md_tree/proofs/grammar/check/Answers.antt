@@ -1,16 +1,16 @@
-use Rattle.std.proofs.Common.{◌≡◌, [], sym, ap, ◌∙◌, subst, List}
+use Rattle.std.proofs.Common.{◌≡◌, [], sym, ap, ◌∙◌, subst, length, List}
 use Rattle.std.specs.Prelude.{reverse}
 use Rattle.std.specs.List.{All}
 use Rattle.std.proofs.lemmas.List.{reverse-reverse}
 use Rattle.std.proofs.lemmas.Result.{err_from_is_err_and}
 use Rattle.md_tree.specs.declared.state.Open.{Open}
-use Rattle.md_tree.specs.Mentions.{mentions_in, IsResolved}
+use Rattle.md_tree.specs.Mentions.{mentions_among, IsResolved}
 use Rattle.md_tree.specs.Resolve.{IsUnresolved}
 use Rattle.md_tree.specs.Grammar.{handed}
 use Rattle.md_tree.specs.Refusal.{IsRefusal}
 use Rattle.md_tree.specs.Walk.{course_of}
 use Rattle.md_tree.proofs.Endings.{IsWalked, IsWalked-done}
-use Rattle.md_tree.proofs.Checking.{IsRefusal-undone, IsRefusal-lost, IsNoted-walked}
+use Rattle.md_tree.proofs.Checking.{IsRefusal-undone, IsRefusal-lost, IsChecked-walked}
 use Rattle.md_tree.proofs.grammar.check.Goals as goal
 
 -- the open nodes, in the order of a course
@@ -19,36 +19,36 @@ none_open opens e = sym (reverse-reverse opens) ∙ ap reverse e
 
 pub returns-then-not-is_done-clause-outside : goal.returns-then-not-is_done-clause-outside
 returns-then-not-is_done-clause-outside c =
-    IsRefusal.outside (IsRefusal-undone (handed c.args.events.now c.args.bytes.now c.args.names.now) (course_of c.in_ok-walk.walk) c.in_ok-walk.ensures.walked (λ e. c.is_done.ensures.undone c.if-not-is_done.true (none_open c.in_ok-walk.walk.open_nodes.items e)))
+    IsRefusal.outside (IsRefusal-undone (handed c.args.events.now c.args.bytes.now c.args.names.now) (course_of (length c.args.events.now) c.in_ok-walk.walk) c.in_ok-walk.ensures.walked (λ e. c.is_done.ensures.undone c.if-not-is_done.true (none_open c.in_ok-walk.walk.open_nodes.items e)))
 
 pub returns-then-not-is_done-clause-order : goal.returns-then-not-is_done-clause-order
 returns-then-not-is_done-clause-order c =
-    IsRefusal.order (IsRefusal-undone (handed c.args.events.now c.args.bytes.now c.args.names.now) (course_of c.in_ok-walk.walk) c.in_ok-walk.ensures.walked (λ e. c.is_done.ensures.undone c.if-not-is_done.true (none_open c.in_ok-walk.walk.open_nodes.items e)))
+    IsRefusal.order (IsRefusal-undone (handed c.args.events.now c.args.bytes.now c.args.names.now) (course_of (length c.args.events.now) c.in_ok-walk.walk) c.in_ok-walk.ensures.walked (λ e. c.is_done.ensures.undone c.if-not-is_done.true (none_open c.in_ok-walk.walk.open_nodes.items e)))
 
 pub returns-in_err-resolve-clause-outside : goal.returns-in_err-resolve-clause-outside
 returns-in_err-resolve-clause-outside c =
     let p = err_from_is_err_and c.from_residual-in_err-resolve.result c.from_residual-in_err-resolve.ensures.1 in
     let given = handed c.args.events.now c.args.bytes.now c.args.names.now in
-    let notes = c.in_ok-walk.walk.notes.items in
+    let mentions = c.in_ok-walk.walk.mentions.items in
     let done = c.is_done.ensures.done c.if-not-is_done.false in
-    let walked : IsWalked given notes = IsWalked-done given (course_of c.in_ok-walk.walk) c.in_ok-walk.ensures.walked (ap reverse done.0) done.1 in
+    let walked : IsWalked given mentions = IsWalked-done given (course_of (length c.args.events.now) c.in_ok-walk.walk) c.in_ok-walk.ensures.walked (ap reverse done.0) done.1 in
     rw (p.1, p.2)
-    (IsRefusal.outside (IsRefusal-lost given notes c.in_err-resolve.field-0.0 walked (subst (λ ns. IsUnresolved c.args.bytes.now (mentions_in ns) c.in_err-resolve.field-0.0) c.deref.ensures.value c.in_err-resolve.ensures.refused)))
+    (IsRefusal.outside (IsRefusal-lost given mentions c.in_err-resolve.field-0.0 walked (subst (λ ms. IsUnresolved c.args.bytes.now ms c.in_err-resolve.field-0.0) c.deref.ensures.value c.in_err-resolve.ensures.refused)))
 
 pub returns-in_err-resolve-clause-lost : goal.returns-in_err-resolve-clause-lost
 returns-in_err-resolve-clause-lost c =
     let p = err_from_is_err_and c.from_residual-in_err-resolve.result c.from_residual-in_err-resolve.ensures.1 in
     let given = handed c.args.events.now c.args.bytes.now c.args.names.now in
-    let notes = c.in_ok-walk.walk.notes.items in
+    let mentions = c.in_ok-walk.walk.mentions.items in
     let done = c.is_done.ensures.done c.if-not-is_done.false in
-    let walked : IsWalked given notes = IsWalked-done given (course_of c.in_ok-walk.walk) c.in_ok-walk.ensures.walked (ap reverse done.0) done.1 in
+    let walked : IsWalked given mentions = IsWalked-done given (course_of (length c.args.events.now) c.in_ok-walk.walk) c.in_ok-walk.ensures.walked (ap reverse done.0) done.1 in
     rw (p.1, p.2)
-    (IsRefusal.lost (IsRefusal-lost given notes c.in_err-resolve.field-0.0 walked (subst (λ ns. IsUnresolved c.args.bytes.now (mentions_in ns) c.in_err-resolve.field-0.0) c.deref.ensures.value c.in_err-resolve.ensures.refused)))
+    (IsRefusal.lost (IsRefusal-lost given mentions c.in_err-resolve.field-0.0 walked (subst (λ ms. IsUnresolved c.args.bytes.now ms c.in_err-resolve.field-0.0) c.deref.ensures.value c.in_err-resolve.ensures.refused)))
 
-pub new-requires-clause-noted : goal.new-requires-clause-noted
-new-requires-clause-noted c =
+pub new-requires-clause-grammatical : goal.new-requires-clause-grammatical
+new-requires-clause-grammatical c =
     let given = handed c.args.events.now c.args.bytes.now c.args.names.now in
-    let notes = c.in_ok-walk.walk.notes.items in
+    let mentions = c.in_ok-walk.walk.mentions.items in
     let done = c.is_done.ensures.done c.if-not-is_done.false in
-    let walked : IsWalked given notes = IsWalked-done given (course_of c.in_ok-walk.walk) c.in_ok-walk.ensures.walked (ap reverse done.0) done.1 in
-    IsNoted-walked given notes walked (subst (λ ns. All (IsResolved c.args.bytes.now (mentions_in ns)) (mentions_in ns)) c.deref.ensures.value c.in_ok-resolve.ensures.ok)
+    let walked : IsWalked given mentions = IsWalked-done given (course_of (length c.args.events.now) c.in_ok-walk.walk) c.in_ok-walk.ensures.walked (ap reverse done.0) done.1 in
+    IsChecked-walked given mentions walked (subst (λ ms. All (IsResolved c.args.bytes.now (mentions_among ms)) (mentions_among ms)) c.deref.ensures.value c.in_ok-resolve.ensures.ok)

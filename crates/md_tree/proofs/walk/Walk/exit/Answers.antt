@@ -18,6 +18,6 @@ returns-in_err-mention-in-Some-outer-clause-refused c =
     let outer = c.in-Some-outer.outer in
     let open_node = c.in-Some.open_node in
     let refusal = c.in_err-mention-in-Some-outer.field-0.0 in
-    let inside = IsStopInside-same bytes names c.args.index refusal outer (place open_node.start c.args.point) self.state self.target (reverse left) (reverse self.open_nodes.items) self.notes.items self.notes.items c.in_err-mention-in-Some-outer.ensures.refused in
+    let inside = IsStopInside-same bytes names c.args.index refusal outer (place open_node.start c.args.point) self.state self.target (reverse left) (reverse self.open_nodes.items) c.args.index self.mentions.items c.in_err-mention-in-Some-outer.ensures.refused in
     rw (p.1, p.2)
-    (IsStop-inside bytes names c.args.index refusal (reverse left) open_node outer c.args.name c.args.point (course_of self) (ap reverse c.in-Some.ensures.items ∙ reverse-append left (open_node ∷ [])) (c.is_same_name.ensures.0 c.if-not-is_same_name.false) c.in-Some-outer.is inside)
+    (IsStop-inside bytes names c.args.index refusal (reverse left) open_node outer c.args.name c.args.point (course_of c.args.index self) (ap reverse c.in-Some.ensures.items ∙ reverse-append left (open_node ∷ [])) (c.is_same_name.ensures.0 c.if-not-is_same_name.false) c.in-Some-outer.is inside)

@@ -6,4 +6,4 @@ use Rattle.md_tree.proofs.walk.Walk.leave.Goals as goal
 
 pub returns-in-Some-clause-refused : goal.returns-in-Some-clause-refused
 returns-in-Some-clause-refused c =
-    (refl, StopsInside-broken c.args.source.bytes.now (name_table c.args.source.names.now) c.in-Some.rule c.args.outer c.args.position.start c.args.position.end (course_of c.args.self.now) (sym c.can_end.ensures ∙ c.if-not-can_end.false) (sym c.in_ok-rule.ensures ∙ c.in-Some.is))
+    (refl, StopsInside-broken c.args.source.bytes.now (name_table c.args.source.names.now) c.in-Some.rule c.args.outer c.args.position.start c.args.position.end (course_of c.args.index c.args.self.now) (sym c.can_end.ensures ∙ c.if-not-can_end.false) (sym c.in_ok-rule.ensures ∙ c.in-Some.is))
