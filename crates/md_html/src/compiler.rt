@@ -1,6 +1,6 @@
 //! Events to HTML.
 
-ghost use Rattle.std.specs.Prelude.{◌≡◌, ◌∷◌, [], OnOk, IfOk, IfErr, List, string_bytes, length, unwrap_or, option_copied, slice_get, Option, Some};
+ghost use Rattle.std.specs.Prelude.{◌≡◌, ◌∷◌, [], OnOk, IfOk, IfErr, List, string_bytes, length, unwrap_or, option_copied, slice_get, Option, Some, true, false};
 ghost use Rattle.md_base.specs.Reference.{name_table};
 ghost use Rattle.md_tree.specs.Tree.{Forest, flatten};
 ghost use Rattle.md_tree.specs.Grammar.{IsChecked, handed};
@@ -23,7 +23,7 @@ ghost use Rattle.md_meaning.specs.Printed.{is_captured};
 use md_base::{AlignKind, Event, Kind, Name, Point, Position};
 use md_facts::names::{is_captured, is_table};
 use md_meaning::CompileOptions;
-use md_print::close::close;
+use md_print::close::{close, close_captured};
 use md_print::facts::Exit;
 use md_print::open::open;
 use md_print::printer::Printer;
@@ -150,7 +150,7 @@ fn enter(
 ) -> Result<(), AllocError>
     ensures { OnOk result (printer.new ≡ machine.entered (given_of source.now) (machine.ahead_by place) loose columns.items (is_captured name) name start printer.old) }
 {
-    let around = printer.frame().around;
+    let around = printer.around();
     open(printer, source, around, place, name)?;
     printer.capture_if(alloc, is_captured(name))?;
     printer.open_frame(source.options, place, loose, name, start)?;
@@ -213,36 +213,76 @@ fn columns_of(
     }
 }
 
-/// Prints what a node prints after its children, and logs what it is seen for; `inner` is their page, where it was
-/// captured.
+/// Prints what a node whose children are captured prints after them, and logs what it is seen for; `inner` is their page,
+/// and `place` what its name reads in them.
 fn close_and_log(
     alloc: Global,
     printer: &mut Printer,
     source: &Source,
     exit: &Exit,
+    place: Option<Position>,
     inner: Sheet,
     name: Name,
 ) -> Result<(), AllocError>
+    requires { is_captured name ≡ true }
     ensures { OnOk result (printer.new ≡ machine.printing source.now.ending.now
-        (closing_at (given_of source.now) exit.now printer.old.log.called (steps.first_or [] printer.old.tables) inner name)
-        (machine.logging source.now.bytes.now (machine.ahead_by exit.now.frame.place) name inner printer.old)) }
+        (closing_at (given_of source.now) exit.now printer.old.log.called (steps.first_or [] printer.old.tables) (machine.ahead_by place) printer.old.frame.passed inner name)
+        (machine.logging source.now.bytes.now (machine.ahead_by place) name inner printer.old)) }
 {
     match name {
         Name::GfmFootnoteCall => {
-            close(alloc, printer, source, exit, inner, name)?;
-            printer.log_call(identifier_at(alloc, source.bytes, exit.frame.place)?)
+            close_captured(alloc, printer, source, exit, place, inner, name)?;
+            printer.log_call(identifier_at(alloc, source.bytes, place)?)
         }
         Name::GfmFootnoteDefinition => {
-            let identifier = identifier_at(alloc, source.bytes, exit.frame.place)?;
+            let identifier = identifier_at(alloc, source.bytes, place)?;
             printer.log_footnote(identifier, inner.into_text(alloc)?)
         }
         Name::Definition => {
-            let identifier = identifier_at(alloc, source.bytes, exit.frame.place)?;
+            let identifier = identifier_at(alloc, source.bytes, place)?;
             let target = inner.into_target();
             printer.log_definition(Defined { identifier, target })
         }
-        _ => close(alloc, printer, source, exit, inner, name),
+        _ => close_captured(alloc, printer, source, exit, place, inner, name),
     }
+}
+
+/// Exits a node whose children are captured.
+#[inline(never)]
+fn exit_captured(
+    alloc: Global,
+    printer: &mut Printer,
+    source: &Source,
+    is_last: bool,
+    name: Name,
+    end: Point,
+) -> Result<(), AllocError>
+    requires { is_captured name ≡ true }
+    ensures { OnOk result (printer.new ≡ machine.exited (given_of source.now) is_last true name end printer.old) }
+{
+    let exit = printer.exit(is_last, end);
+    let place = printer.place();
+    let inner = printer.release(alloc);
+    close_and_log(alloc, printer, source, &exit, place, inner, name)?;
+    printer.leave(name)
+}
+
+/// Exits a node whose children aren't captured.
+fn exit_streamed(
+    alloc: Global,
+    printer: &mut Printer,
+    source: &Source,
+    is_last: bool,
+    name: Name,
+    end: Point,
+) -> Result<(), AllocError>
+    requires { is_captured name ≡ false }
+    ensures { OnOk result (printer.new ≡ machine.exited (given_of source.now) is_last false name end printer.old) }
+{
+    let exit = printer.exit(is_last, end);
+    printer.leave_table_if(is_table(name));
+    close(alloc, printer, source, &exit, name)?;
+    printer.leave(name)
 }
 
 /// Exits a node; `is_last` says that nothing follows in the document.
@@ -256,19 +296,11 @@ fn exit(
 ) -> Result<(), AllocError>
     ensures { OnOk result (printer.new ≡ machine.exited (given_of source.now) is_last (is_captured name) name end printer.old) }
 {
-    let parent = printer.parent();
-    let exit = Exit {
-        around: parent.around,
-        previous: parent.passed.last,
-        spine: parent.passed.spine,
-        frame: printer.frame(),
-        is_last,
-        end,
-    };
-    let inner = printer.release_if(alloc, is_captured(name));
-    printer.leave_table_if(is_table(name));
-    close_and_log(alloc, printer, source, &exit, inner, name)?;
-    printer.leave(name)
+    if is_captured(name) {
+        exit_captured(alloc, printer, source, is_last, name, end)
+    } else {
+        exit_streamed(alloc, printer, source, is_last, name, end)
+    }
 }
 
 /// Goes one event further.

@@ -1,2 +1,3 @@
+pub mod Closings
 pub mod Machine
 pub mod Sources

@@ -1,5 +1,5 @@
 -- What the compiler has of a document and of a node that is exited, as the definitions name it.
-use Rattle.std.specs.Prelude.{◌≡◌, ℕ, List, Option, Some, slice_get}
+use Rattle.std.specs.Prelude.{◌≡◌, ℕ, Bool, List, Option, Some, slice_get}
 use Rattle.md_base.specs.Reference.{name_table}
 use Rattle.md_tree.specs.Tree.{Forest, flatten}
 use Rattle.md_tree.specs.Grammar.{Document}
@@ -8,13 +8,17 @@ use Rattle.md_print.specs.declared.source.Source.{Source}
 use Rattle.md_base.specs.declared.event.Name.{Name}
 use Rattle.md_print.specs.declared.facts.Exit.{Exit}
 use Rattle.md_print.specs.declared.facts.Frame.{Frame as FrameInside}
-use Rattle.md_print.specs.Machine.{Frame, ahead_by}
+use Rattle.md_print.specs.Machine.{Frame, State, ahead_by, document_frame}
+use Rattle.md_facts.specs.Steps.{first_or}
 use Rattle.md_meaning.specs.Piece.{Piece, Page}
 use Rattle.md_meaning.specs.Places.{Left}
+use Rattle.md_meaning.specs.declared.facts.Ahead.{Ahead}
+use Rattle.md_meaning.specs.declared.facts.Passed.{Passed}
 use Rattle.md_meaning.specs.Printed.{closing}
 use Rattle.md_meaning.specs.Given.{Given}
 use Rattle.md_meaning.specs.Calls.{Called}
 use Rattle.md_base.specs.declared.event.AlignKind.{AlignKind}
+use Rattle.md_base.specs.declared.event.Point.{Point}
 
 abbrev pub given_of : Source → Given
 given_of source = record {
@@ -35,20 +39,34 @@ frame_of frame = record {
   passed = frame.passed;
 }
 
+-- what the innermost node of a state is exited with
+abbrev pub exit_in : Bool → Point → State → Exit
+exit_in last end state =
+    let parent = first_or document_frame state.frames in
+    record {
+      around = parent.around;
+      previous = parent.passed.last;
+      spine = parent.passed.spine;
+      start = state.frame.start;
+      is_slurping = state.frame.is_slurping;
+      is_last = last;
+      end = end;
+    }
+
 -- what a node learns from what stands before it
 abbrev pub left_at : Exit → List Called → List AlignKind → Left
 left_at exit called columns = record {
   called = called;
-  is_slurping = exit.frame.is_slurping;
+  is_slurping = exit.is_slurping;
   previous = exit.previous;
   spine = exit.spine;
   columns = columns;
 }
 
--- what is printed where a node is exited
-abbrev pub closing_at : Given → Exit → List Called → List AlignKind → Page → Name → List Piece
-closing_at given exit called columns inner name =
-    closing given exit.around (left_at exit called columns) (ahead_by exit.frame.place) exit.frame.passed exit.is_last exit.frame.start exit.end inner name
+-- what is printed where a node is exited, whose children tell this ahead and so far
+abbrev pub closing_at : Given → Exit → List Called → List AlignKind → Ahead → Passed → Page → Name → List Piece
+closing_at given exit called columns ahead passed inner name =
+    closing given exit.around (left_at exit called columns) ahead passed exit.is_last exit.start exit.end inner name
 
 -- the event at an index enters a node with these children, or none, in the document that the events are
 abbrev pub IsToldAt : Document → ℕ → Option Forest → Type 0

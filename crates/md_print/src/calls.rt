@@ -10,6 +10,7 @@ ghost use Rattle.md_meaning.specs.Piece.{Text};
 use crate::facts::Exit;
 use crate::printer::Printer;
 use crate::source::{Source, identifier_at};
+use md_base::Position;
 use md_meaning::CompileOptions;
 use md_sheet::{call_id, footnote_id};
 use std::alloc::{AllocError, Global};
@@ -51,13 +52,14 @@ pub fn call(
     printer: &mut Printer,
     source: &Source,
     exit: &Exit,
+    place: Option<Position>,
 ) -> Result<(), AllocError>
-    ensures { OnOk result (printer.new ≡ printing [] (footnotes.call_pieces (given_of source.now) exit.now.around (left_at exit.now printer.old.log.called []) (ahead_by exit.now.frame.place)) printer.old) }
+    ensures { OnOk result (printer.new ≡ printing [] (footnotes.call_pieces (given_of source.now) exit.now.around (left_at exit.now printer.old.log.called []) (ahead_by place)) printer.old) }
 {
     if exit.around.in_image {
         return Ok(());
     }
-    let identifier = identifier_at(alloc, source.bytes, exit.frame.place)?;
+    let identifier = identifier_at(alloc, source.bytes, place)?;
     let number = printer.number(identifier.as_str());
     let before = printer.count_of(identifier.as_str());
     let occurrence = before.checked_add(1).ok_or(AllocError)?;

@@ -1,46 +1,54 @@
 //! What nodes print after their children.
 
-ghost use Rattle.std.specs.Prelude.{◌≡◌, ◌∷◌, [], ◌++◌, OnOk, codes, string_bytes, ◌||◌, ◌&&◌, not};
+ghost use Rattle.std.specs.Prelude.{◌≡◌, ◌∷◌, [], ◌++◌, OnOk, codes, string_bytes, ◌||◌, ◌&&◌, not, true, false};
 ghost use Rattle.md_print.specs.Machine.{printing, ahead_by};
+ghost use Rattle.md_print.specs.Closings.{group_of};
+ghost use Rattle.md_print.specs.declared.groups.Group.TheVariants as group;
 ghost use Rattle.md_facts.specs.Steps.{first_or};
-ghost use Rattle.md_meaning.specs.Piece.{Text, Needed, Forced};
+ghost use Rattle.md_meaning.specs.Piece.{Text, Needed, Forced, blank};
 ghost use Rattle.md_meaning.specs.Texts as texts;
 ghost use Rattle.md_meaning.specs.Texts.{said};
 ghost use Rattle.md_meaning.specs.Blocks as blocks;
 ghost use Rattle.md_meaning.specs.Printed as printed;
+ghost use Rattle.md_meaning.specs.Printed.{is_captured};
 ghost use Rattle.md_print.specs.Sources.{given_of, closing_at, left_at};
 
 use crate::calls::call;
 use crate::code::code_text;
 use crate::facts::Exit;
+use crate::groups::{Group, group_of};
 use crate::media::{autolink, image, is_plain, link};
 use crate::open::{is_tight, on_own_line, outside_images, rank_of};
 use crate::printer::Printer;
 use crate::source::{Source, serialized_of};
 use crate::tables::{close_cell, close_row};
 use crate::texts::{data, html, line_ending, reference};
-use md_base::Name;
+use md_base::{Name, Position};
 use md_facts::names::{is_fence, is_item_prefix, is_paragraph};
 use md_meaning::{Container, Passed, Surroundings};
 use md_sheet::Sheet;
 use md_text::encode;
 use std::alloc::{AllocError, Global};
 
-/// Prints what a node prints after its children; `inner` is their page, where it was captured.
+/// Prints what a node whose children aren't captured prints after them.
 pub fn close(
     alloc: Global,
     printer: &mut Printer,
     source: &Source,
     exit: &Exit,
-    inner: Sheet,
     name: Name,
 ) -> Result<(), AllocError>
-    ensures { OnOk result (printer.new ≡ printing source.now.ending.now (closing_at (given_of source.now) exit.now printer.old.log.called (first_or [] printer.old.tables) inner name) printer.old) }
+    requires { is_captured name ≡ false }
+    ensures { OnOk result (printer.new ≡ printing source.now.ending.now
+        (closing_at (given_of source.now) exit.now printer.old.log.called (first_or [] printer.old.tables) printer.old.frame.ahead printer.old.frame.passed blank name) printer.old) }
 {
-    close_text(alloc, printer, source, exit, &inner, name)?;
-    close_block(alloc, printer, source, exit, name)?;
-    close_gfm(alloc, printer, source, exit, &inner, name)?;
-    close_media(alloc, printer, source, exit, inner, name)
+    match group_of(name) {
+        Group::Text => close_text(alloc, printer, source, exit, name),
+        Group::Block => close_block(alloc, printer, source, exit, name),
+        Group::Autolink => close_autolink(alloc, printer, source, exit, name),
+        Group::Table => close_table(printer, source, exit, name),
+        Group::Silent | Group::Captured => Ok(()),
+    }
 }
 
 /// Prints what a text, a span or a break prints after its children.
@@ -49,11 +57,11 @@ fn close_text(
     printer: &mut Printer,
     source: &Source,
     exit: &Exit,
-    inner: &Sheet,
     name: Name,
 ) -> Result<(), AllocError>
+    requires { group_of name ≡ group.Text }
     ensures { OnOk result (printer.new ≡ printing source.now.ending.now
-        (printed.text_closing (given_of source.now) exit.now.around (left_at exit.now printer.old.log.called (first_or [] printer.old.tables)) exit.now.is_last exit.now.frame.start exit.now.end inner.now name) printer.old) }
+        (printed.text_closing (given_of source.now) exit.now.around (left_at exit.now printer.old.log.called (first_or [] printer.old.tables)) exit.now.is_last exit.now.start exit.now.end blank name) printer.old) }
 {
     match name {
         Name::LineEnding => line_ending(printer, source, exit),
@@ -65,11 +73,6 @@ fn close_text(
         Name::CharacterReferenceValue => reference(alloc, printer, source, exit),
         Name::HtmlFlowData => html(alloc, printer, source, exit),
         Name::HtmlTextData => html(alloc, printer, source, exit),
-        Name::CodeText => code(alloc, printer, exit.around, "<code>", inner),
-        Name::MathText => {
-            let tag = "<code class=\"language-math math-inline\">";
-            code(alloc, printer, exit.around, tag, inner)
-        }
         Name::Emphasis => outside_images(printer, exit.around, "</em>"),
         Name::Strong => outside_images(printer, exit.around, "</strong>"),
         Name::GfmStrikethrough => outside_images(printer, exit.around, "</del>"),
@@ -92,22 +95,20 @@ fn close_block(
     name: Name,
 ) -> Result<(), AllocError>
     ensures { OnOk result (printer.new ≡ printing source.now.ending.now
-        (printed.block_closing (given_of source.now) exit.now.around (left_at exit.now printer.old.log.called (first_or [] printer.old.tables)) (ahead_by exit.now.frame.place) exit.now.frame.passed exit.now.frame.start exit.now.end name) printer.old) }
+        (printed.block_closing (given_of source.now) exit.now.around (left_at exit.now printer.old.log.called (first_or [] printer.old.tables)) printer.old.frame.ahead printer.old.frame.passed exit.now.start exit.now.end name) printer.old) }
 {
     match name {
         Name::BlockQuote => on_own_line(printer, source.ending, "</blockquote>"),
         Name::ListOrdered => list(printer, source.ending, "</ol>"),
         Name::ListUnordered => list(printer, source.ending, "</ul>"),
-        Name::ListItem => item(printer, source.ending, exit),
+        Name::ListItem => item(printer, source.ending, exit.around),
         Name::Paragraph => paragraph(printer, exit.around),
         Name::ThematicBreak => on_own_line(printer, source.ending, "<hr />"),
-        Name::HeadingAtx => {
-            printer.put(heading_closing(rank_of(source.bytes, exit.frame.place)))
-        }
+        Name::HeadingAtx => heading(printer, source.bytes),
         Name::HeadingSetextUnderlineSequence => setext(printer, source, exit),
-        Name::CodeIndented => indented(printer, source.ending, exit),
-        Name::CodeFenced => fenced(printer, source.ending, exit),
-        Name::MathFlow => fenced(printer, source.ending, exit),
+        Name::CodeIndented => indented(printer, source.ending),
+        Name::CodeFenced => fenced(printer, source.ending, exit.around),
+        Name::MathFlow => fenced(printer, source.ending, exit.around),
         Name::CodeFencedFence => fence(printer, exit),
         Name::MathFlowFence => fence(printer, exit),
         Name::CodeFencedFenceInfo => printer.put("\""),
@@ -117,20 +118,84 @@ fn close_block(
     }
 }
 
-/// Prints or notes what links and what they refer to print or note after their children, and notes a heading
-/// whose underline comes later.
-fn close_media(
+/// Prints an autolink.
+fn close_autolink(
     alloc: Global,
     printer: &mut Printer,
     source: &Source,
     exit: &Exit,
+    name: Name,
+) -> Result<(), AllocError>
+    requires { group_of name ≡ group.Autolink }
+    ensures { OnOk result (printer.new ≡ printing source.now.ending.now
+        (printed.media_closing (given_of source.now) exit.now.around printer.old.frame.ahead exit.now.start exit.now.end blank name) printer.old) }
+{
+    let around = exit.around;
+    match name {
+        Name::AutolinkEmail => {
+            autolink(alloc, printer, source, exit, "mailto:", around.in_image)
+        }
+        Name::AutolinkProtocol => autolink(alloc, printer, source, exit, "", around.in_image),
+        Name::GfmAutolinkLiteralEmail => {
+            autolink(alloc, printer, source, exit, "mailto:", is_plain(around))
+        }
+        Name::GfmAutolinkLiteralMailto => {
+            autolink(alloc, printer, source, exit, "", is_plain(around))
+        }
+        Name::GfmAutolinkLiteralProtocol => {
+            autolink(alloc, printer, source, exit, "", is_plain(around))
+        }
+        Name::GfmAutolinkLiteralWww => {
+            autolink(alloc, printer, source, exit, "http://", is_plain(around))
+        }
+        Name::GfmAutolinkLiteralXmpp => {
+            autolink(alloc, printer, source, exit, "", is_plain(around))
+        }
+        _ => Ok(()),
+    }
+}
+
+/// Prints what a table or a part of it prints after its children.
+fn close_table(
+    printer: &mut Printer,
+    source: &Source,
+    exit: &Exit,
+    name: Name,
+) -> Result<(), AllocError>
+    requires { group_of name ≡ group.Table }
+    ensures { OnOk result (printer.new ≡ printing source.now.ending.now
+        (printed.gfm_closing (given_of source.now) exit.now.around (left_at exit.now printer.old.log.called (first_or [] printer.old.tables)) printer.old.frame.ahead printer.old.frame.passed blank name) printer.old) }
+{
+    match name {
+        Name::GfmTable => on_own_line(printer, source.ending, "</table>"),
+        Name::GfmTableHead => on_own_line(printer, source.ending, "</thead>"),
+        Name::GfmTableBody => on_own_line(printer, source.ending, "</tbody>"),
+        Name::GfmTableRow => close_row(printer, source.ending, exit),
+        _ => Ok(()),
+    }
+}
+
+/// Prints or notes what a node whose children are captured prints or notes after them; `inner` is their page, and
+/// `place` what its name reads in them.
+pub fn close_captured(
+    alloc: Global,
+    printer: &mut Printer,
+    source: &Source,
+    exit: &Exit,
+    place: Option<Position>,
     inner: Sheet,
     name: Name,
 ) -> Result<(), AllocError>
+    requires { is_captured name ≡ true }
     ensures { OnOk result (printer.new ≡ printing source.now.ending.now
-        (printed.media_closing (given_of source.now) exit.now.around (ahead_by exit.now.frame.place) exit.now.frame.start exit.now.end inner name) printer.old) }
+        (closing_at (given_of source.now) exit.now printer.old.log.called (first_or [] printer.old.tables) (ahead_by place) printer.old.frame.passed inner name) printer.old) }
 {
     match name {
+        Name::CodeText => code(alloc, printer, exit.around, "<code>", &inner),
+        Name::MathText => {
+            let tag = "<code class=\"language-math math-inline\">";
+            code(alloc, printer, exit.around, tag, &inner)
+        }
         Name::HeadingSetextText => {
             printer.note_heading(inner.into_text(alloc)?);
             Ok(())
@@ -155,73 +220,10 @@ fn close_media(
             printer.note_resource(inner.into_target());
             Ok(())
         }
-        Name::Link => link(alloc, printer, source, exit, inner),
-        Name::Image => image(alloc, printer, source, exit, inner),
-        Name::AutolinkEmail => {
-            autolink(
-                alloc,
-                printer,
-                source,
-                exit,
-                "mailto:",
-                exit.around.in_image,
-            )
-        }
-        Name::AutolinkProtocol => {
-            autolink(alloc, printer, source, exit, "", exit.around.in_image)
-        }
-        Name::GfmAutolinkLiteralEmail => {
-            autolink(
-                alloc,
-                printer,
-                source,
-                exit,
-                "mailto:",
-                is_plain(exit.around),
-            )
-        }
-        Name::GfmAutolinkLiteralMailto => {
-            autolink(alloc, printer, source, exit, "", is_plain(exit.around))
-        }
-        Name::GfmAutolinkLiteralProtocol => {
-            autolink(alloc, printer, source, exit, "", is_plain(exit.around))
-        }
-        Name::GfmAutolinkLiteralWww => {
-            autolink(
-                alloc,
-                printer,
-                source,
-                exit,
-                "http://",
-                is_plain(exit.around),
-            )
-        }
-        Name::GfmAutolinkLiteralXmpp => {
-            autolink(alloc, printer, source, exit, "", is_plain(exit.around))
-        }
-        _ => Ok(()),
-    }
-}
-
-/// Prints what tables and footnote calls print after their children.
-fn close_gfm(
-    alloc: Global,
-    printer: &mut Printer,
-    source: &Source,
-    exit: &Exit,
-    inner: &Sheet,
-    name: Name,
-) -> Result<(), AllocError>
-    ensures { OnOk result (printer.new ≡ printing source.now.ending.now
-        (printed.gfm_closing (given_of source.now) exit.now.around (left_at exit.now printer.old.log.called (first_or [] printer.old.tables)) (ahead_by exit.now.frame.place) exit.now.frame.passed inner.now name) printer.old) }
-{
-    match name {
-        Name::GfmTable => on_own_line(printer, source.ending, "</table>"),
-        Name::GfmTableHead => on_own_line(printer, source.ending, "</thead>"),
-        Name::GfmTableBody => on_own_line(printer, source.ending, "</tbody>"),
-        Name::GfmTableRow => close_row(printer, source.ending, exit),
-        Name::GfmTableCell => close_cell(alloc, printer, source.ending, exit, inner),
-        Name::GfmFootnoteCall => call(alloc, printer, source, exit),
+        Name::Link => link(alloc, printer, source, exit, place, inner),
+        Name::Image => image(alloc, printer, source, exit, place, inner),
+        Name::GfmFootnoteCall => call(alloc, printer, source, exit, place),
+        Name::GfmTableCell => close_cell(alloc, printer, source.ending, exit, &inner),
         _ => Ok(()),
     }
 }
@@ -245,11 +247,11 @@ fn list(printer: &mut Printer, ending: &str, tag: &str) -> Result<(), AllocError
 }
 
 /// An item's end stands on its own line, unless the item ends in its prefix, or in a paragraph of a tight list.
-fn item(printer: &mut Printer, ending: &str, exit: &Exit) -> Result<(), AllocError>
-    ensures { OnOk result (printer.new ≡ printing ending.now (blocks.item_closing exit.now.around exit.now.frame.passed) printer.old) }
+fn item(printer: &mut Printer, ending: &str, around: Surroundings) -> Result<(), AllocError>
+    ensures { OnOk result (printer.new ≡ printing ending.now (blocks.item_closing around printer.old.frame.passed) printer.old) }
 {
-    let tight = is_tight(exit.around.container);
-    let joins = match exit.frame.passed.contributing {
+    let tight = is_tight(around.container);
+    let joins = match printer.passed().contributing {
         Some(name) => joins_item_end(is_item_prefix(name), is_paragraph(name), tight),
         None => false,
     };
@@ -275,6 +277,14 @@ fn paragraph(printer: &mut Printer, around: Surroundings) -> Result<(), AllocErr
     }
 }
 
+/// Prints a heading's end, with the rank that its mark tells.
+fn heading(printer: &mut Printer, bytes: &[u8]) -> Result<(), AllocError>
+    ensures { OnOk result (printer.new ≡ printing [] (said (blocks.heading_closing (blocks.rank_of bytes.now printer.old.frame.ahead.mark))) printer.old) }
+{
+    let place = printer.place();
+    printer.put(heading_closing(rank_of(bytes, place)))
+}
+
 fn heading_closing(rank: usize) -> &'static str
     ensures { result.now ≡ blocks.heading_closing rank }
 {
@@ -291,9 +301,9 @@ fn heading_closing(rank: usize) -> &'static str
 
 /// Prints a setext heading, whose text was put aside, with the rank that its underline tells.
 fn setext(printer: &mut Printer, source: &Source, exit: &Exit) -> Result<(), AllocError>
-    ensures { OnOk result (printer.new ≡ printing source.now.ending.now (blocks.setext_pieces (given_of source.now) exit.now.frame.start) printer.old) }
+    ensures { OnOk result (printer.new ≡ printing source.now.ending.now (blocks.setext_pieces (given_of source.now) exit.now.start) printer.old) }
 {
-    let dashed = is_dash_at(source.bytes, exit.frame.start.index);
+    let dashed = is_dash_at(source.bytes, exit.start.index);
     on_own_line(printer, source.ending, if dashed { "<h2>" } else { "<h1>" })?;
     printer.recall()?;
     printer.put(if dashed { "</h2>" } else { "</h1>" })
@@ -308,10 +318,10 @@ fn is_dash_at(bytes: &[u8], index: usize) -> bool
     }
 }
 
-fn indented(printer: &mut Printer, ending: &str, exit: &Exit) -> Result<(), AllocError>
-    ensures { OnOk result (printer.new ≡ printing ending.now (blocks.indented_closing exit.now.frame.passed) printer.old) }
+fn indented(printer: &mut Printer, ending: &str) -> Result<(), AllocError>
+    ensures { OnOk result (printer.new ≡ printing ending.now (blocks.indented_closing printer.old.frame.passed) printer.old) }
 {
-    if exit.frame.passed.spine.has_chunk {
+    if printer.passed().spine.has_chunk {
         printer.need(ending)?;
     }
     printer.put("</code></pre>")
@@ -373,12 +383,12 @@ fn runs_out(around: Surroundings, passed: Passed, unclosed: bool) -> bool
     all_three(unclosed, is_contained(around.container), !behind_fence)
 }
 
-fn fenced(printer: &mut Printer, ending: &str, exit: &Exit) -> Result<(), AllocError>
-    ensures { OnOk result (printer.new ≡ printing ending.now (blocks.fenced_closing exit.now.around exit.now.frame.passed) printer.old) }
+fn fenced(printer: &mut Printer, ending: &str, around: Surroundings) -> Result<(), AllocError>
+    ensures { OnOk result (printer.new ≡ printing ending.now (blocks.fenced_closing around printer.old.frame.passed) printer.old) }
 {
-    let passed = exit.frame.passed;
+    let passed = printer.passed();
     let unclosed = unless(passed.spine.has_fence, passed.spine.has_second_fence);
-    force_if(printer, ending, runs_out(exit.around, passed, unclosed))?;
+    force_if(printer, ending, runs_out(around, passed, unclosed))?;
     need_if(printer, ending, passed.spine.has_chunk)?;
     printer.put("</code></pre>")?;
     need_if(printer, ending, unclosed)
@@ -390,9 +400,9 @@ fn chunk(
     source: &Source,
     exit: &Exit,
 ) -> Result<(), AllocError>
-    ensures { OnOk result (printer.new ≡ printing [] (blocks.chunk_pieces (given_of source.now) exit.now.frame.start exit.now.end) printer.old) }
+    ensures { OnOk result (printer.new ≡ printing [] (blocks.chunk_pieces (given_of source.now) exit.now.start exit.now.end) printer.old) }
 {
-    let text = serialized_of(alloc, source.bytes, exit.frame.start, exit.end)?;
+    let text = serialized_of(alloc, source.bytes, exit.start, exit.end)?;
     printer.put(encode(alloc, text.as_str(), true)?.as_str())
 }
 

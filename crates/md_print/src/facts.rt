@@ -27,8 +27,10 @@ pub struct Exit {
     pub previous: Option<Name>,
     /// The spine that it stands behind.
     pub spine: Spine,
-    /// What was known of it while it was open.
-    pub frame: Frame,
+    /// Where it starts.
+    pub start: Point,
+    /// A line ending is slurped where it starts.
+    pub is_slurping: bool,
     /// Nothing follows it in the document.
     pub is_last: bool,
     /// Where it ends.

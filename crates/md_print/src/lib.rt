@@ -5,6 +5,7 @@ mod calls;
 pub mod close;
 mod code;
 pub mod facts;
+pub mod groups;
 mod media;
 pub mod open;
 pub mod printer;

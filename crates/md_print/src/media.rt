@@ -146,15 +146,15 @@ pub fn link(
     printer: &mut Printer,
     source: &Source,
     exit: &Exit,
+    place: Option<Position>,
     inner: Sheet,
 ) -> Result<(), AllocError>
-    ensures { OnOk result (printer.new ≡ printing [] (media.link_pieces (given_of source.now) exit.now.around (ahead_by exit.now.frame.place) inner) printer.old) }
+    ensures { OnOk result (printer.new ≡ printing [] (media.link_pieces (given_of source.now) exit.now.around (ahead_by place) inner) printer.old) }
 {
     let (label, notes) = inner.into_parts();
     if exit.around.in_image {
         return printer.append(alloc, label);
     }
-    let place = exit.frame.place;
     let target = target_of(alloc, source.bytes, source.definitions, place, &notes)?;
     link_to(alloc, printer, source.options, target, label)
 }
@@ -198,15 +198,15 @@ pub fn image(
     printer: &mut Printer,
     source: &Source,
     exit: &Exit,
+    place: Option<Position>,
     inner: Sheet,
 ) -> Result<(), AllocError>
-    ensures { OnOk result (printer.new ≡ printing [] (media.image_pieces (given_of source.now) exit.now.around (ahead_by exit.now.frame.place) inner) printer.old) }
+    ensures { OnOk result (printer.new ≡ printing [] (media.image_pieces (given_of source.now) exit.now.around (ahead_by place) inner) printer.old) }
 {
     let (label, notes) = inner.into_parts();
     if exit.around.in_image {
         return printer.append(alloc, label);
     }
-    let place = exit.frame.place;
     let target = target_of(alloc, source.bytes, source.definitions, place, &notes)?;
     image_of(alloc, printer, source.options, target, label)
 }
@@ -229,9 +229,9 @@ pub fn autolink(
     prefix: &str,
     plain: bool,
 ) -> Result<(), AllocError>
-    ensures { OnOk result (printer.new ≡ printing [] (media.autolink_pieces (given_of source.now) prefix.now plain exit.now.frame.start exit.now.end) printer.old) }
+    ensures { OnOk result (printer.new ≡ printing [] (media.autolink_pieces (given_of source.now) prefix.now plain exit.now.start exit.now.end) printer.old) }
 {
-    let text = text_of(source.bytes, exit.frame.start, exit.end);
+    let text = text_of(source.bytes, exit.start, exit.end);
     let encoded = encode(alloc, text, true)?;
     if plain {
         return printer.put(encoded.as_str());

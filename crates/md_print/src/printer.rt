@@ -10,7 +10,7 @@ ghost use Rattle.md_meaning.specs.Footnotes.{section_pieces};
 ghost use Rattle.md_sheet.specs.Seen.{counted, noted};
 ghost use Rattle.md_meaning.specs.Texts.{said};
 
-use crate::facts::Frame;
+use crate::facts::{Exit, Frame};
 use md_base::{AlignKind, Name, Point, Position};
 use md_facts::surroundings::{NO_SPINE, inside, passing, slurps_behind, spine_inside};
 use md_meaning::{CompileOptions, Container, Passed, Surroundings};
@@ -43,7 +43,7 @@ impl Model for Printer {
 }
 
 impl Printer {
-    ghost use Rattle.md_print.specs.Sources.{frame_of};
+    ghost use Rattle.md_print.specs.Sources.{frame_of, exit_in};
 
     /// Prints a text.
     pub fn put(&mut self, text: &str) -> Result<(), AllocError>
@@ -186,6 +186,7 @@ impl Printer {
     }
 
     /// Begins a text of its own, to be released later.
+    #[cold]
     pub fn capture(&mut self, alloc: Global) -> Result<(), AllocError>
         ensures { OnOk result (self.new ≡ machine.capturing true self.old) }
     {
@@ -195,6 +196,7 @@ impl Printer {
     }
 
     /// Ends the page that was captured last, and goes on with the one below.
+    #[cold]
     pub fn release(&mut self, alloc: Global) -> Sheet
         ensures page { result ≡ self.old.page }
         ensures state { self.new ≡ machine.releasing true self.old }
@@ -203,27 +205,43 @@ impl Printer {
         std::mem::replace(&mut self.sheet, outer)
     }
 
-    /// The frame of the innermost node that is open.
-    pub fn frame(&self) -> Frame
-        ensures { frame_of result ≡ self.now.frame }
+    /// The surroundings of the children of the innermost node that is open.
+    pub fn around(&self) -> Surroundings
+        ensures { result ≡ self.now.frame.around }
     {
-        self.frame
+        self.frame.around
     }
 
-    /// A line ending is slurped here.
-    pub fn is_slurping(&self) -> bool
-        ensures { result ≡ self.now.is_slurping }
+    /// The place that the innermost node that is open reads in its children.
+    pub fn place(&self) -> Option<Position>
+        ensures { machine.ahead_by result ≡ self.now.frame.ahead }
     {
-        self.is_slurping
+        self.frame.place
     }
 
-    /// What the innermost node that is open learns from what stands before it.
-    pub fn parent(&self) -> Frame
-        ensures { frame_of result ≡ steps.first_or machine.document_frame self.now.frames }
+    /// What the children of the innermost node that is open tell so far.
+    pub fn passed(&self) -> Passed
+        ensures { result ≡ self.now.frame.passed }
     {
-        match self.frames.last() {
-            Some(frame) => *frame,
-            None => DOCUMENT_FRAME,
+        self.frame.passed
+    }
+
+    /// What the innermost node that is open is exited with.
+    pub fn exit(&self, is_last: bool, end: Point) -> Exit
+        ensures { result ≡ exit_in is_last end self.now }
+    {
+        let parent = match self.frames.last() {
+            Some(frame) => frame,
+            None => &DOCUMENT_FRAME,
+        };
+        Exit {
+            around: parent.around,
+            previous: parent.passed.last,
+            spine: parent.passed.spine,
+            start: self.frame.start,
+            is_slurping: self.frame.is_slurping,
+            is_last,
+            end,
         }
     }
 
@@ -235,18 +253,6 @@ impl Printer {
             self.capture(alloc)
         } else {
             Ok(())
-        }
-    }
-
-    /// Releases what was captured, if it was.
-    pub fn release_if(&mut self, alloc: Global, captured: bool) -> Sheet
-        ensures page { result ≡ (if captured then self.old.page else blank) }
-        ensures state { self.new ≡ machine.releasing captured self.old }
-    {
-        if captured {
-            self.release(alloc)
-        } else {
-            Sheet::new(alloc)
         }
     }
 

@@ -93,13 +93,9 @@ fn empty_cells(
 
 /// Prints the end of a row: empty cells for the columns that it has no cells for, and its tag.
 pub fn close_row(printer: &mut Printer, ending: &str, exit: &Exit) -> Result<(), AllocError>
-    ensures { OnOk result (printer.new ≡ printing ending.now (tables.row_closing exit.now.around (left_at exit.now [] (first_or [] printer.old.tables)) exit.now.frame.passed) printer.old) }
+    ensures { OnOk result (printer.new ≡ printing ending.now (tables.row_closing exit.now.around (left_at exit.now [] (first_or [] printer.old.tables)) printer.old.frame.passed) printer.old) }
 {
-    empty_cells(
-        printer,
-        ending,
-        exit.around.in_head,
-        exit.frame.passed.spine.cells,
-    )?;
+    let passed = printer.passed();
+    empty_cells(printer, ending, exit.around.in_head, passed.spine.cells)?;
     on_own_line(printer, ending, "</tr>")
 }

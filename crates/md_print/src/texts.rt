@@ -20,9 +20,9 @@ pub fn data(
     source: &Source,
     exit: &Exit,
 ) -> Result<(), AllocError>
-    ensures { OnOk result (printer.new ≡ printing [] (texts.data_pieces (given_of source.now) exit.now.around exit.now.frame.start exit.now.end) printer.old) }
+    ensures { OnOk result (printer.new ≡ printing [] (texts.data_pieces (given_of source.now) exit.now.around exit.now.start exit.now.end) printer.old) }
 {
-    let text = text_of(source.bytes, exit.frame.start, exit.end);
+    let text = text_of(source.bytes, exit.start, exit.end);
     printer.put(encode(alloc, text, exit.around.is_escaping)?.as_str())
 }
 
@@ -33,9 +33,9 @@ pub fn html(
     source: &Source,
     exit: &Exit,
 ) -> Result<(), AllocError>
-    ensures { OnOk result (printer.new ≡ printing [] (texts.html_pieces (given_of source.now) exit.now.around exit.now.frame.start exit.now.end) printer.old) }
+    ensures { OnOk result (printer.new ≡ printing [] (texts.html_pieces (given_of source.now) exit.now.around exit.now.start exit.now.end) printer.old) }
 {
-    let text = text_of(source.bytes, exit.frame.start, exit.end);
+    let text = text_of(source.bytes, exit.start, exit.end);
     let escaping = exit.around.is_escaping;
     if source.options.gfm_tagfilter && source.options.allow_dangerous_html {
         let filtered = gfm_tagfilter(alloc, text)?;
@@ -62,9 +62,9 @@ pub fn reference(
     source: &Source,
     exit: &Exit,
 ) -> Result<(), AllocError>
-    ensures { OnOk result (printer.new ≡ printing [] (texts.reference_pieces (given_of source.now) exit.now.around (left_at exit.now [] []) exit.now.frame.start exit.now.end) printer.old) }
+    ensures { OnOk result (printer.new ≡ printing [] (texts.reference_pieces (given_of source.now) exit.now.around (left_at exit.now [] []) exit.now.start exit.now.end) printer.old) }
 {
-    let value = text_of(source.bytes, exit.frame.start, exit.end);
+    let value = text_of(source.bytes, exit.start, exit.end);
     let marker = marker_of(exit.spine.last);
     let decoded = decode_character_reference(alloc, value, marker, source.names)?;
     let text = decoded.unwrap_or(String::new(alloc));
@@ -87,20 +87,20 @@ fn is_dropped(exit: &Exit) -> bool
     };
     is_dropped_when(
         exit.around.in_definition,
-        exit.frame.is_slurping,
+        exit.is_slurping,
         behind_definition,
     )
 }
 
 /// Prints a line ending: a space in code, else its own text unless it is dropped.
 pub fn line_ending(printer: &mut Printer, source: &Source, exit: &Exit) -> Result<(), AllocError>
-    ensures { OnOk result (printer.new ≡ printing [] (texts.line_ending_pieces (given_of source.now) exit.now.around (left_at exit.now [] []) exit.now.frame.start exit.now.end) printer.old) }
+    ensures { OnOk result (printer.new ≡ printing [] (texts.line_ending_pieces (given_of source.now) exit.now.around (left_at exit.now [] []) exit.now.start exit.now.end) printer.old) }
 {
     if exit.around.in_code {
         printer.put(" ")
     } else if is_dropped(exit) {
         Ok(())
     } else {
-        printer.put(text_of(source.bytes, exit.frame.start, exit.end))
+        printer.put(text_of(source.bytes, exit.start, exit.end))
     }
 }

@@ -1,5 +1,5 @@
 -- The first line ending of the document is that of the event that was found.
-use Rattle.std.proofs.Common.{◌≡◌, ℕ, List, [], ◌∙◌, ap, sym, subst}
+use Rattle.std.proofs.Common.{[], ◌∙◌, ap, sym, subst}
 use Rattle.std.specs.Prelude.{unwrap_or}
 use Rattle.md_tree.specs.Texts.{ExitsText}
 use Rattle.md_meaning.specs.Meaning.{ending_at}

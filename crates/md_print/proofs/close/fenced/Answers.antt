@@ -2,16 +2,17 @@
 use Rattle.std.proofs.Common.{◌≡◌, ◌∷◌, [], ◌++◌, List, Bool, OnOk, ap, sym, subst, ◌∙◌}
 use Rattle.md_print.specs.Machine.{State, printing}
 use Rattle.md_meaning.specs.Piece.{Piece, Needed, Forced}
+use Rattle.md_meaning.specs.declared.facts.Passed.{Passed}
 use Rattle.md_meaning.specs.Texts.{said}
-use Rattle.md_meaning.specs.Blocks.{when, is_unclosed, runs_out, code_end}
+use Rattle.md_meaning.specs.Blocks.{when, is_unclosed, runs_out, code_end, fenced_closing}
 use Rattle.md_print.proofs.Printing.{printing-append}
 use Rattle.md_print.proofs.close.fenced.Goals as goal
 
 pub returns : goal.returns
 returns c =
     let ending = c.args.ending.now in
-    let around = c.args.exit.now.around in
-    let passed = c.args.exit.now.frame.passed in
+    let around = c.args.around in
+    let passed : Passed = c.passed-passed.result in
     let forced : List Piece = when (runs_out around passed) (Forced ∷ []) in
     let needed : List Piece = when passed.spine.has_chunk (Needed ∷ []) in
     let end : List Piece = said code_end in
@@ -30,5 +31,6 @@ returns c =
     (c.in_ok-force_if.ensures ∙ ap F (c.runs_out.ensures c.unless-unclosed.ensures))))
     ∙ sym (printing-append ending forced (needed ++ (end ++ last)) start
     ∙ printing-append ending needed (end ++ last) (printing ending forced start)
-    ∙ printing-append ending end last (printing ending needed (printing ending forced start))))
+    ∙ printing-append ending end last (printing ending needed (printing ending forced start)))
+    ∙ ap (λ p. printing ending (fenced_closing around p) start) c.passed-passed.ensures)
     c.need_if-2.ensures

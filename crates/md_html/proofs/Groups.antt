@@ -1,0 +1,22 @@
+-- What names are, by whether their children are captured.
+use Rattle.std.proofs.Common.{◌≡◌, ℕ, true, false, List, refl, sym}
+use Rattle.std.proofs.lemmas.Bool.{false≢true}
+use Rattle.md_base.specs.declared.event.Name.{Name}
+use Rattle.md_base.specs.declared.event.Name.TheVariants.{GfmTable, GfmFootnoteCall, Definition, GfmFootnoteDefinition}
+use Rattle.md_tree.specs.NameTests.{is_table}
+use Rattle.md_meaning.specs.declared.facts.Ahead.{Ahead}
+use Rattle.md_meaning.specs.Piece.{Page}
+use Rattle.md_meaning.specs.Printed.{is_captured}
+use Rattle.md_print.specs.Machine.{State, logging}
+
+-- a table isn't captured
+pub no_table : (name : Name) → is_captured name ≡ true → is_table name ≡ false
+no_table GfmTable captured = absurd (false≢true captured)
+no_table _ captured = refl
+
+-- a node that isn't captured is seen for nothing
+pub unseen : (bytes : List ℕ) (ahead : Ahead) (name : Name) (inner : Page) (state : State) → is_captured name ≡ false → logging bytes ahead name inner state ≡ state
+unseen bytes ahead GfmFootnoteCall inner state streamed = absurd (false≢true (sym streamed))
+unseen bytes ahead Definition inner state streamed = absurd (false≢true (sym streamed))
+unseen bytes ahead GfmFootnoteDefinition inner state streamed = absurd (false≢true (sym streamed))
+unseen bytes ahead _ inner state streamed = refl

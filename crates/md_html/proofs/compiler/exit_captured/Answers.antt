@@ -1,0 +1,37 @@
+-- The frames that are read are the machine's, and each step is the machine's.
+use Rattle.std.proofs.Common.{◌≡◌, Bool, true, [], OnOk, ap, sym, subst, ◌∙◌}
+use Rattle.md_print.specs.declared.facts.Exit.{Exit}
+use Rattle.md_print.specs.Sources.{given_of, closing_at, exit_in}
+use Rattle.md_print.specs.Machine as machine
+use Rattle.md_print.specs.Machine.{State}
+use Rattle.md_facts.specs.Steps.{first_or}
+use Rattle.md_meaning.specs.declared.facts.Ahead.{Ahead}
+use Rattle.md_meaning.specs.Piece.{Page}
+use Rattle.md_html.proofs.Groups.{no_table}
+use Rattle.md_html.proofs.compiler.exit_captured.Goals as goal
+
+pub returns : goal.returns
+returns c =
+    let given = given_of c.args.source.now in
+    let start : State = c.args.printer.now in
+    let name = c.args.name in
+    let last = c.args.is_last in
+    let end = c.args.end in
+    let after : Exit → Ahead → Page → State → State = λ exit ahead inner s.
+    machine.leaving name
+    (machine.printing given.ending
+    (closing_at given exit s.log.called (first_or [] s.tables) ahead s.frame.passed inner name)
+    (machine.logging given.bytes ahead name inner s)) in
+    let tabled : Bool → State = λ b.
+    machine.leaving name
+    (machine.printing given.ending
+    (machine.closing_in given last name end start.page (machine.leaving_table b start))
+    (machine.logging given.bytes start.frame.ahead name start.page (machine.leaving_table b (machine.releasing true start)))) in
+    let whole : machine.leaving name c.close_and_log.new.printer ≡ machine.exited given last true name end start =
+    ap (λ s. machine.leaving name s) c.in_ok-close_and_log.ensures
+    ∙ ap (λ exit. after exit (machine.ahead_by c.place-place.result) c.release-inner.result c.release-inner.new.self) c.exit-exit.ensures
+    ∙ ap (λ ahead. after (exit_in last end start) ahead c.release-inner.result c.release-inner.new.self) c.place-place.ensures
+    ∙ ap (λ inner. after (exit_in last end start) start.frame.ahead inner c.release-inner.new.self) c.release-inner.ensures.page
+    ∙ ap (λ s. after (exit_in last end start) start.frame.ahead start.page s) c.release-inner.ensures.state
+    ∙ sym (ap (λ b. tabled b) (no_table name c.requires)) in
+    subst (λ s. OnOk c.leave.result (c.leave.new.self ≡ s)) whole c.leave.ensures

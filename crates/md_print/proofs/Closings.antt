@@ -1,0 +1,80 @@
+-- Each name prints in its group alone.
+use Rattle.std.proofs.Common.{◌≡◌, ℕ, Bool, List, ◌++◌, refl, sym, ap, ◌∙◌}
+use Rattle.std.proofs.lemmas.List.{append-nil}
+use Rattle.md_base.specs.declared.event.Name.{Name}
+use Rattle.md_base.specs.declared.event.Name.TheVariants.{LineEnding, BlankLineEnding, Emphasis, Strong, GfmStrikethrough, HardBreakEscape, HardBreakTrailing, GfmTaskListItemCheck, GfmTaskListItemValueChecked, ListItem, Paragraph, CodeIndented, CodeFenced, MathFlow, CodeFencedFence, MathFlowFence, AutolinkEmail, AutolinkProtocol, GfmAutolinkLiteralEmail, GfmAutolinkLiteralMailto, GfmAutolinkLiteralProtocol, GfmAutolinkLiteralWww, GfmAutolinkLiteralXmpp, CodeText}
+use Rattle.md_meaning.specs.Piece.{Piece, Page}
+use Rattle.md_base.specs.declared.event.Point.{Point}
+use Rattle.md_meaning.specs.Given.{Given}
+use Rattle.md_meaning.specs.Places.{Left}
+use Rattle.md_meaning.specs.declared.facts.Surroundings.{Surroundings}
+use Rattle.md_meaning.specs.declared.facts.Ahead.{Ahead}
+use Rattle.md_meaning.specs.declared.facts.Passed.{Passed}
+use Rattle.md_meaning.specs.Printed.{text_closing, block_closing, media_closing, gfm_closing, is_captured}
+use Rattle.md_print.specs.Machine.{State, printing}
+use Rattle.md_print.specs.declared.groups.Group.{Group}
+use Rattle.md_print.specs.Closings.{group_of, in_group, is_captured_group}
+
+-- what is handed to a table of closings
+pub record At : Type 0 where
+  pub given : Given
+  pub around : Surroundings
+  pub left : Left
+  pub ahead : Ahead
+  pub passed : Passed
+  pub last : Bool
+  pub start : Point
+  pub end : Point
+  pub inner : Page
+
+abbrev pub text : At → Name → List Piece
+text at name = text_closing at.given at.around at.left at.last at.start at.end at.inner name
+
+abbrev pub block : At → Name → List Piece
+block at name = block_closing at.given at.around at.left at.ahead at.passed at.start at.end name
+
+abbrev pub medium : At → Name → List Piece
+medium at name = media_closing at.given at.around at.ahead at.start at.end at.inner name
+
+abbrev pub table : At → Name → List Piece
+table at name = gfm_closing at.given at.around at.left at.ahead at.passed at.inner name
+
+-- what a node prints is what its group prints
+pub closing-group : (at : At) (name : Name) → text at name ++ (block at name ++ (medium at name ++ table at name)) ≡ in_group (group_of name) (text at name) (block at name) (medium at name) (table at name)
+closing-group at LineEnding = append-nil (text at LineEnding)
+closing-group at BlankLineEnding = append-nil (text at BlankLineEnding)
+closing-group at Emphasis = append-nil (text at Emphasis)
+closing-group at Strong = append-nil (text at Strong)
+closing-group at GfmStrikethrough = append-nil (text at GfmStrikethrough)
+closing-group at HardBreakEscape = append-nil (text at HardBreakEscape)
+closing-group at HardBreakTrailing = append-nil (text at HardBreakTrailing)
+closing-group at GfmTaskListItemCheck = append-nil (text at GfmTaskListItemCheck)
+closing-group at GfmTaskListItemValueChecked = append-nil (text at GfmTaskListItemValueChecked)
+closing-group at ListItem = append-nil (block at ListItem)
+closing-group at Paragraph = append-nil (block at Paragraph)
+closing-group at CodeIndented = append-nil (block at CodeIndented)
+closing-group at CodeFenced = append-nil (block at CodeFenced)
+closing-group at MathFlow = append-nil (block at MathFlow)
+closing-group at CodeFencedFence = append-nil (block at CodeFencedFence)
+closing-group at MathFlowFence = append-nil (block at MathFlowFence)
+closing-group at AutolinkEmail = append-nil (medium at AutolinkEmail)
+closing-group at AutolinkProtocol = append-nil (medium at AutolinkProtocol)
+closing-group at GfmAutolinkLiteralEmail = append-nil (medium at GfmAutolinkLiteralEmail)
+closing-group at GfmAutolinkLiteralMailto = append-nil (medium at GfmAutolinkLiteralMailto)
+closing-group at GfmAutolinkLiteralProtocol = append-nil (medium at GfmAutolinkLiteralProtocol)
+closing-group at GfmAutolinkLiteralWww = append-nil (medium at GfmAutolinkLiteralWww)
+closing-group at GfmAutolinkLiteralXmpp = append-nil (medium at GfmAutolinkLiteralXmpp)
+closing-group at _ = refl
+
+-- a captured name is of the group of these
+pub captured-group : (name : Name) → is_captured name ≡ is_captured_group (group_of name)
+captured-group CodeText = refl
+captured-group _ = refl
+
+-- what a node's group prints is what the node prints
+pub printing-group : (ending : List ℕ) (at : At) (name : Name) (group : Group) → group ≡ group_of name → (state : State) →
+    printing ending (in_group group (text at name) (block at name) (medium at name) (table at name)) state
+    ≡ printing ending (text at name ++ (block at name ++ (medium at name ++ table at name))) state
+printing-group ending at name group same state =
+    ap (λ g. printing ending (in_group g (text at name) (block at name) (medium at name) (table at name)) state) same
+    ∙ ap (λ pieces. printing ending pieces state) (sym (closing-group at name))

@@ -1,0 +1,95 @@
+//! Names by what prints their nodes after their children.
+
+ghost use Rattle.std.specs.Prelude.{◌≡◌};
+ghost use Rattle.md_print.specs.Closings as closings;
+
+use md_base::Name;
+
+/// What prints a node after its children.
+#[derive(Clone, Copy)]
+pub enum Group {
+    /// Nothing does.
+    Silent,
+    /// A text, a span or a break.
+    Text,
+    /// A block.
+    Block,
+    /// An autolink.
+    Autolink,
+    /// A part of a table.
+    Table,
+    /// A node whose children are laid out on a page of their own.
+    Captured,
+}
+
+/// The group of a name.
+pub fn group_of(name: Name) -> Group
+    ensures { result ≡ closings.group_of name }
+{
+    match name {
+        Name::LineEnding
+        | Name::BlankLineEnding
+        | Name::Data
+        | Name::CharacterEscapeValue
+        | Name::CodeTextData
+        | Name::MathTextData
+        | Name::CharacterReferenceValue
+        | Name::HtmlFlowData
+        | Name::HtmlTextData
+        | Name::Emphasis
+        | Name::Strong
+        | Name::GfmStrikethrough
+        | Name::HardBreakEscape
+        | Name::HardBreakTrailing
+        | Name::GfmTaskListItemCheck
+        | Name::GfmTaskListItemValueChecked => Group::Text,
+        Name::BlockQuote
+        | Name::ListOrdered
+        | Name::ListUnordered
+        | Name::ListItem
+        | Name::Paragraph
+        | Name::ThematicBreak
+        | Name::HeadingAtx
+        | Name::HeadingSetextUnderlineSequence
+        | Name::CodeIndented
+        | Name::CodeFenced
+        | Name::MathFlow
+        | Name::CodeFencedFence
+        | Name::MathFlowFence
+        | Name::CodeFencedFenceInfo
+        | Name::CodeFlowChunk
+        | Name::MathFlowChunk => Group::Block,
+        Name::AutolinkEmail
+        | Name::AutolinkProtocol
+        | Name::GfmAutolinkLiteralEmail
+        | Name::GfmAutolinkLiteralMailto
+        | Name::GfmAutolinkLiteralProtocol
+        | Name::GfmAutolinkLiteralWww
+        | Name::GfmAutolinkLiteralXmpp => Group::Autolink,
+        Name::GfmTable | Name::GfmTableHead | Name::GfmTableBody | Name::GfmTableRow => {
+            Group::Table
+        }
+        Name::CodeText
+        | Name::MathText
+        | Name::HeadingSetextText
+        | Name::CodeFencedFenceMeta
+        | Name::MathFlowFenceMeta
+        | Name::Frontmatter
+        | Name::Definition
+        | Name::DefinitionLabelString
+        | Name::DefinitionDestinationString
+        | Name::DefinitionTitleString
+        | Name::GfmFootnoteDefinition
+        | Name::GfmFootnoteDefinitionLabelString
+        | Name::Link
+        | Name::Image
+        | Name::Resource
+        | Name::ResourceDestinationString
+        | Name::ResourceTitleString
+        | Name::ReferenceString
+        | Name::GfmFootnoteCall
+        | Name::GfmTableCell
+        | Name::GfmTableDelimiterRow => Group::Captured,
+        _ => Group::Silent,
+    }
+}
