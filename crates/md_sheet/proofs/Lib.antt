@@ -1,5 +1,5 @@
 pub mod Tally
-pub mod Maps
+pub mod Placing
 pub mod LookUps
 pub mod Ropes
 pub mod Endings

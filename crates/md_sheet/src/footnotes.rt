@@ -1,26 +1,42 @@
 //! The footnotes that were seen, each with its identifier.
 
-ghost use Rattle.std.specs.Prelude.{◌≡◌, [], OnOk, string_bytes};
+ghost use Rattle.std.specs.Prelude.{◌≡◌, [], OnOk, string_bytes, slice_get};
+ghost use Rattle.std.specs.Option.{option_map_or};
 ghost use Rattle.md_meaning.specs.Footnotes.{footnote_text};
 ghost use Rattle.md_sheet.specs.Seen.{noted};
 
-use indexmap::IndexMap;
+use crate::places::{Places, place_of, put_last};
 use std::alloc::{AllocError, Global};
+use std::collections::BTreeMap;
 use std::marker::Model;
 
 /// The text of the first footnote with each identifier.
 #[derive(Drop)]
 pub struct Footnotes {
-    texts: IndexMap<String, String>,
+    texts: Vec<(String, String)>,
+    places: Places,
 }
 
 impl Model for Footnotes {
-    ghost use Rattle.std.specs.Prelude.{List, map, string_bytes};
+    ghost use Rattle.std.specs.Prelude.{List};
     ghost use Rattle.md_meaning.specs.Footnotes.{Footnote};
+    ghost use Rattle.md_sheet.specs.Seen.{footnotes_in, FindsPlaces};
 
     ghost Value = { List Footnote };
 
-    ghost view = { λ f. map (λ e. record { identifier = string_bytes e.0; text = string_bytes e.1 }) f.texts.entries };
+    ghost view = { λ f. footnotes_in f.texts.items };
+
+    ghost invariant = { λ f. FindsPlaces f.places f.texts.items };
+}
+
+/// The text at a place.
+fn text_at(texts: &[(String, String)], place: usize) -> &str
+    ensures { result.now ≡ option_map_or (λ e. string_bytes e.1) (slice_get texts.now place) [] }
+{
+    match texts.get(place) {
+        Some((_, text)) => text.as_str(),
+        None => "",
+    }
 }
 
 impl Footnotes {
@@ -29,7 +45,8 @@ impl Footnotes {
         ensures { result ≡ [] }
     {
         Footnotes {
-            texts: IndexMap::new(alloc),
+            texts: Vec::new(alloc),
+            places: BTreeMap::new(alloc),
         }
     }
 
@@ -41,19 +58,18 @@ impl Footnotes {
     pub fn note(&mut self, identifier: String, text: String) -> Result<(), AllocError>
         ensures { OnOk result (self.new ≡ noted self.old (record { identifier = string_bytes identifier; text = string_bytes text })) }
     {
-        if self.texts.contains_key(identifier.as_str()) {
-            return Ok(());
+        match place_of(&self.places, identifier.as_str()) {
+            Some(_) => Ok(()),
+            None => put_last(&mut self.texts, &mut self.places, identifier, text),
         }
-        self.texts.insert(identifier, text)?;
-        Ok(())
     }
 
     /// The text of the footnote with an identifier; nothing where there is none.
     pub fn text_of(&self, identifier: &str) -> &str
         ensures { result.now ≡ footnote_text self.now identifier.now }
     {
-        match self.texts.get(identifier) {
-            Some(text) => text.as_str(),
+        match place_of(&self.places, identifier) {
+            Some(place) => text_at(self.texts.as_slice(), place),
             None => "",
         }
     }

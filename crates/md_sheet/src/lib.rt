@@ -7,6 +7,7 @@ mod definitions;
 mod footnotes;
 mod ids;
 mod notes;
+mod places;
 mod rope;
 mod section;
 mod sheet;

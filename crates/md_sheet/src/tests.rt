@@ -1,14 +1,12 @@
 use super::*;
 use md_meaning::CompileOptions;
+use std::alloc::{AllocError, Global};
 use std::test::Fail;
 
 #[test]
 fn calls_are_counted(rt: HostRuntime) -> Result<(), Fail> {
-    let mut calls = Calls::new(rt.alloc());
-    assert!(rt; calls.is_empty());
-    for identifier in ["b", "a", "b"] {
-        calls.count(String::from_str(rt.alloc(), identifier)?)?;
-    }
+    assert!(rt; Calls::new(rt.alloc()).is_empty());
+    let calls = calls_of(rt.alloc(), &["b", "a", "b"])?;
     assert!(rt; !calls.is_empty());
     for (identifier, number, count) in [("b", 1, 2), ("a", 2, 1), ("c", 3, 0)] {
         assert_eq!(rt; calls.number(identifier), number, "at {identifier}");
@@ -22,13 +20,7 @@ fn calls_are_counted(rt: HostRuntime) -> Result<(), Fail> {
 
 #[test]
 fn the_first_footnote_with_an_identifier_is_kept(rt: HostRuntime) -> Result<(), Fail> {
-    let mut footnotes = Footnotes::new(rt.alloc());
-    for (identifier, text) in [("a", "x"), ("b", "y"), ("a", "z")] {
-        footnotes.note(
-            String::from_str(rt.alloc(), identifier)?,
-            String::from_str(rt.alloc(), text)?,
-        )?;
-    }
+    let footnotes = footnotes_of(rt.alloc(), &[("a", "x"), ("b", "y"), ("a", "z")])?;
     for (identifier, text) in [("a", "x"), ("b", "y"), ("c", "")] {
         assert_eq!(rt; footnotes.text_of(identifier), text, "at {identifier}");
     }
@@ -75,107 +67,94 @@ fn a_target_is_noted(rt: HostRuntime) -> Result<(), Fail> {
     Ok(())
 }
 
-#[test]
-fn a_section_has_each_footnote_that_is_called(rt: HostRuntime) -> Result<(), Fail> {
-    let mut calls = Calls::new(rt.alloc());
-    for identifier in ["a", "b", "a"] {
-        calls.count(String::from_str(rt.alloc(), identifier)?)?;
+/// The calls of some identifiers.
+fn calls_of(alloc: Global, identifiers: &[&str]) -> Result<Calls, AllocError> {
+    let mut calls = Calls::new(alloc);
+    for identifier in identifiers {
+        calls.count(String::from_str(alloc, *identifier)?)?;
     }
-    let mut footnotes = Footnotes::new(rt.alloc());
-    for (identifier, text) in [("b", "<hr />"), ("unused", "u"), ("a", "<p>A.</p>\n")] {
+    Ok(calls)
+}
+
+/// Footnotes with identifiers and texts.
+fn footnotes_of(alloc: Global, noted: &[(&str, &str)]) -> Result<Footnotes, AllocError> {
+    let mut footnotes = Footnotes::new(alloc);
+    for (identifier, text) in noted {
         footnotes.note(
-            String::from_str(rt.alloc(), identifier)?,
-            String::from_str(rt.alloc(), text)?,
+            String::from_str(alloc, *identifier)?,
+            String::from_str(alloc, *text)?,
         )?;
     }
-    let mut sheet = Sheet::new(rt.alloc());
-    sheet.put("<p>x</p>")?;
-    lay_section(
-        rt.alloc(),
-        &mut sheet,
-        &CompileOptions::default(),
-        "\n",
-        &calls,
-        &footnotes,
-    )?;
-    let expected = [
-        "<p>x</p>",
-        "<section data-footnotes=\"\" class=\"footnotes\"><h2 id=\"footnote-label\" class=\"sr-only\">Footnotes</h2>",
-        "<ol>",
-        "<li id=\"user-content-fn-a\">",
-        "<p>A. <a href=\"#user-content-fnref-a\" data-footnote-backref=\"\" aria-label=\"Back to content\" class=\"data-footnote-backref\">↩</a> <a href=\"#user-content-fnref-a-2\" data-footnote-backref=\"\" aria-label=\"Back to content\" class=\"data-footnote-backref\">↩<sup>2</sup></a></p>",
-        "</li>",
-        "<li id=\"user-content-fn-b\">",
-        "<hr />",
-        "<a href=\"#user-content-fnref-b\" data-footnote-backref=\"\" aria-label=\"Back to content\" class=\"data-footnote-backref\">↩</a>",
-        "</li>",
-        "</ol>",
-        "</section>",
-        "",
-    ];
-    let text = sheet.into_text(rt.alloc())?;
-    for (line, text) in text.as_str().split('\n').zip(expected) {
-        assert_eq!(rt; line, text);
-    }
-    assert_eq!(rt; text.as_str().split('\n').count(), expected.len());
-    Ok(())
+    Ok(footnotes)
+}
+
+/// The section behind a text, by options.
+fn section_behind(
+    alloc: Global,
+    text: &str,
+    options: &CompileOptions,
+    calls: &Calls,
+    footnotes: &Footnotes,
+) -> Result<String, AllocError> {
+    let mut sheet = Sheet::new(alloc);
+    sheet.put(text)?;
+    lay_section(alloc, &mut sheet, options, "\n", calls, footnotes)?;
+    sheet.into_text(alloc)
 }
 
 #[test]
-fn a_section_is_as_the_options_ask(rt: HostRuntime) -> Result<(), Fail> {
-    let options = CompileOptions {
-        gfm_footnote_back_label: Some(String::from_str(rt.alloc(), "<b>")?),
-        gfm_footnote_clobber_prefix: Some(String::from_str(rt.alloc(), "&-")?),
-        gfm_footnote_label: Some(String::from_str(rt.alloc(), "\"Notes\"")?),
-        gfm_footnote_label_attributes: Some(String::from_str(rt.alloc(), "class=\"x\"")?),
-        gfm_footnote_label_tag_name: Some(String::from_str(rt.alloc(), "h3")?),
-        ..CompileOptions::default()
-    };
-    let mut calls = Calls::new(rt.alloc());
-    calls.count(String::from_str(rt.alloc(), "é")?)?;
-    let mut footnotes = Footnotes::new(rt.alloc());
-    footnotes.note(
-        String::from_str(rt.alloc(), "é")?,
-        String::from_str(rt.alloc(), "<blockquote>\r\n<p>q</p>\r\n</blockquote>")?,
+fn a_section_has_each_footnote_that_is_called(rt: HostRuntime) -> Result<(), Fail> {
+    let calls = calls_of(rt.alloc(), &["a", "b", "a"])?;
+    let footnotes = footnotes_of(
+        rt.alloc(),
+        &[("b", "<hr />"), ("unused", "u"), ("a", "<p>A.</p>\n")],
     )?;
-    let mut sheet = Sheet::new(rt.alloc());
-    lay_section(rt.alloc(), &mut sheet, &options, "\r\n", &calls, &footnotes)?;
+    let text = section_behind(
+        rt.alloc(),
+        "<p>x</p>",
+        &CompileOptions::default(),
+        &calls,
+        &footnotes,
+    )?;
     assert_eq!(rt;
-        sheet.into_text(rt.alloc())?.as_str(),
-        "<section data-footnotes=\"\" class=\"footnotes\"><h3 id=\"footnote-label\" class=\"x\">&quot;Notes&quot;</h3>\r\n<ol>\r\n<li id=\"&amp;-fn-%C3%A9\">\r\n<blockquote>\r\n<p>q</p>\r\n</blockquote>\r\n<a href=\"#&amp;-fnref-%C3%A9\" data-footnote-backref=\"\" aria-label=\"&lt;b&gt;\" class=\"data-footnote-backref\">↩</a>\r\n</li>\r\n</ol>\r\n</section>\r\n"
-    );
-    assert_eq!(rt;
-        footnote_id(rt.alloc(), &options, "a b")?.as_str(),
-        "&amp;-fn-a%20b"
-    );
-    assert_eq!(rt;
-        call_id(rt.alloc(), &options, "a", 1)?.as_str(),
-        "&amp;-fnref-a"
-    );
-    assert_eq!(rt;
-        call_id(rt.alloc(), &options, "a", 3)?.as_str(),
-        "&amp;-fnref-a-3"
+        text.as_str(),
+        "<p>x</p>\n<section data-footnotes=\"\" class=\"footnotes\"><h2 id=\"footnote-label\" class=\"sr-only\">Footnotes</h2>\n<ol>\n<li id=\"user-content-fn-a\">\n<p>A. <a href=\"#user-content-fnref-a\" data-footnote-backref=\"\" aria-label=\"Back to content\" class=\"data-footnote-backref\">↩</a> <a href=\"#user-content-fnref-a-2\" data-footnote-backref=\"\" aria-label=\"Back to content\" class=\"data-footnote-backref\">↩<sup>2</sup></a></p>\n</li>\n<li id=\"user-content-fn-b\">\n<hr />\n<a href=\"#user-content-fnref-b\" data-footnote-backref=\"\" aria-label=\"Back to content\" class=\"data-footnote-backref\">↩</a>\n</li>\n</ol>\n</section>\n"
     );
     Ok(())
 }
 
 #[test]
 fn without_a_call_there_is_no_section(rt: HostRuntime) -> Result<(), Fail> {
-    let mut footnotes = Footnotes::new(rt.alloc());
-    footnotes.note(
-        String::from_str(rt.alloc(), "a")?,
-        String::from_str(rt.alloc(), "x")?,
-    )?;
-    let mut sheet = Sheet::new(rt.alloc());
-    lay_section(
+    let calls = Calls::new(rt.alloc());
+    let footnotes = footnotes_of(rt.alloc(), &[("a", "x")])?;
+    let text = section_behind(
         rt.alloc(),
-        &mut sheet,
+        "x",
         &CompileOptions::default(),
-        "\n",
-        &Calls::new(rt.alloc()),
+        &calls,
         &footnotes,
     )?;
-    assert_eq!(rt; sheet.into_text(rt.alloc())?.as_str(), "");
+    assert_eq!(rt; text.as_str(), "x");
+    Ok(())
+}
+
+/// The options but for a prefix of ids.
+fn with_prefix(prefix: String) -> CompileOptions {
+    CompileOptions {
+        gfm_footnote_clobber_prefix: Some(prefix),
+        ..CompileOptions::default()
+    }
+}
+
+#[test]
+fn ids_begin_with_the_prefix(rt: HostRuntime) -> Result<(), Fail> {
+    let options = with_prefix(String::from_str(rt.alloc(), "&-")?);
+    let id = footnote_id(rt.alloc(), &options, "a b")?;
+    assert_eq!(rt; id.as_str(), "&amp;-fn-a%20b");
+    for (occurrence, expected) in [(1, "&amp;-fnref-%C3%A9"), (3, "&amp;-fnref-%C3%A9-3")] {
+        let id = call_id(rt.alloc(), &options, "é", occurrence)?;
+        assert_eq!(rt; id.as_str(), expected);
+    }
     Ok(())
 }
 

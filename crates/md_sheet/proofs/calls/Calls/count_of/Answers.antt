@@ -1,17 +1,22 @@
+use Rattle.std.proofs.Common.{ap, sym, ◌∙◌}
+use Rattle.std.specs.Prelude.{slice_get}
+use Rattle.std.specs.Option.{option_map_or}
 use Rattle.md_meaning.specs.Calls.{count_among}
+use Rattle.md_sheet.proofs.Placing.{count-at}
 use Rattle.md_sheet.proofs.calls.Calls.count_of.Goals as goal
-use Rattle.std.proofs.Common.{ap, ◌∙◌}
-use Rattle.std.specs.Prelude.{unwrap_or}
-use Rattle.md_sheet.proofs.Maps.{count-lookup}
 
 pub returns-in-Some : goal.returns-in-Some
 returns-in-Some c =
-    ap (λ o. unwrap_or o 0) c.in-Some.ensures.value
-    ∙ count-lookup c.self.inside.counts.entries c.args.identifier.now
+    let entries = c.self.inside.counts.items in
+    c.count_at.ensures
+    ∙ ap (λ es. option_map_or (λ e. e.1) (slice_get es c.in-Some.place) 0) c.as_slice.ensures.value
+    ∙ ap (λ o. option_map_or (λ place. option_map_or (λ e. e.1) (slice_get entries place) 0) o 0) (sym (sym (c.self.invariant c.args.identifier.now) ∙ sym c.place_of.ensures ∙ c.in-Some.is))
+    ∙ count-at entries c.args.identifier.now
     ∙ ap (λ calls. count_among calls c.args.identifier.now) c.self.view_is
 
 pub returns-in-None : goal.returns-in-None
 returns-in-None c =
-    ap (λ o. unwrap_or o 0) c.in-None.ensures.value
-    ∙ count-lookup c.self.inside.counts.entries c.args.identifier.now
+    let entries = c.self.inside.counts.items in
+    ap (λ o. option_map_or (λ place. option_map_or (λ e. e.1) (slice_get entries place) 0) o 0) (sym (sym (c.self.invariant c.args.identifier.now) ∙ sym c.place_of.ensures ∙ c.in-None.is))
+    ∙ count-at entries c.args.identifier.now
     ∙ ap (λ calls. count_among calls c.args.identifier.now) c.self.view_is

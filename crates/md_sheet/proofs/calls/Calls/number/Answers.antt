@@ -1,18 +1,27 @@
-use Rattle.std.proofs.Common.{◌+◌}
+use Rattle.std.proofs.Common.{◌+◌, ap, sym, ◌∙◌, arith, length}
+use Rattle.std.specs.Option.{option_map_or}
 use Rattle.md_meaning.specs.Calls.{number_among}
+use Rattle.md_sheet.proofs.Placing.{place-below, number-at}
 use Rattle.md_sheet.proofs.calls.Calls.number.Goals as goal
-use Rattle.std.proofs.Common.{ap, sym, ◌∙◌}
-use Rattle.md_sheet.proofs.Maps.{named, number-place, place-found, place-missing}
-use Rattle.std.specs.Map.{keys_of}
+
+pub overflow_add-result : goal.overflow_add-result
+overflow_add-result c =
+    let below = place-below c.self.inside.counts.items c.args.identifier.now c.in-Some.place (sym (c.self.invariant c.args.identifier.now) ∙ sym c.place_of.ensures ∙ c.in-Some.is) in
+    let length_is = c.len-len.ensures ∙ c.self.inside.counts.ok.0 in
+    let fits = c.len-len.type_inv in
+    omega (arith, below, length_is, fits)
 
 pub returns-in-Some : goal.returns-in-Some
 returns-in-Some c =
-    ap (λ n. n + 1) (sym (place-found (named c.args.identifier.now) (keys_of c.self.inside.counts.entries) c.in-Some.index (sym c.in-Some.ensures.index)))
-    ∙ sym (number-place c.self.inside.counts.entries c.args.identifier.now)
+    let entries = c.self.inside.counts.items in
+    ap (λ o. option_map_or (λ place. place + 1) o (length entries + 1)) (sym (sym (c.self.invariant c.args.identifier.now) ∙ sym c.place_of.ensures ∙ c.in-Some.is))
+    ∙ number-at entries c.args.identifier.now
     ∙ ap (λ calls. number_among calls c.args.identifier.now) c.self.view_is
 
 pub returns-in-None : goal.returns-in-None
 returns-in-None c =
-    ap (λ n. n + 1) c.len-len.ensures.len
-    ∙ sym (place-missing c.self.inside.counts.entries c.args.identifier.now (sym c.in-None.ensures.found))
+    let entries = c.self.inside.counts.items in
+    ap (λ n. n + 1) (c.len-len.ensures ∙ c.self.inside.counts.ok.0)
+    ∙ ap (λ o. option_map_or (λ place. place + 1) o (length entries + 1)) (sym (sym (c.self.invariant c.args.identifier.now) ∙ sym c.place_of.ensures ∙ c.in-None.is))
+    ∙ number-at entries c.args.identifier.now
     ∙ ap (λ calls. number_among calls c.args.identifier.now) c.self.view_is

@@ -1,23 +1,27 @@
-use Rattle.std.proofs.Common.{string_bytes}
-use Rattle.md_sheet.specs.Seen.{noted}
-use Rattle.md_sheet.proofs.footnotes.Footnotes.note.Goals as goal
-use Rattle.std.proofs.Common.{ap, sym, ◌∙◌, is_some}
-use Rattle.std.specs.Map.{lookup}
+use Rattle.std.proofs.Common.{ap, sym, ◌∙◌, string_bytes}
+use Rattle.std.specs.BTreeMap.{get_by_text}
+use Rattle.std.proofs.lemmas.Result.{on_ok_weaker}
 use Rattle.md_meaning.specs.Footnotes.{Footnote}
-use Rattle.md_sheet.proofs.Maps.{named, noted-present, noted-new, footnotes_in}
+use Rattle.md_sheet.specs.Seen.{noted, footnotes_in}
+use Rattle.md_sheet.proofs.Placing.{noted-present, noted-new}
+use Rattle.md_sheet.proofs.footnotes.Footnotes.note.Goals as goal
 
-pub returns-then-contains_key : goal.returns-then-contains_key
-returns-then-contains_key c =
-    let told : Footnote = record { identifier = string_bytes c.args.identifier; text = string_bytes c.args.text } in
+pub returns-in-Some : goal.returns-in-Some
+returns-in-Some c =
+    let q = string_bytes c.args.identifier in
+    let told : Footnote = record { identifier = q; text = string_bytes c.args.text } in
     sym c.self.view_is
-    ∙ noted-present c.self.inside.texts.entries (string_bytes c.args.identifier) (string_bytes c.args.text)
-    (ap (λ q. is_some (lookup (named q) c.self.inside.texts.entries)) (sym c.as_str.ensures.value) ∙ sym c.contains_key.ensures ∙ c.if-contains_key.true)
+    ∙ noted-present c.self.inside.texts.items q (string_bytes c.args.text) c.in-Some.field-0
+    (sym (c.self.invariant q) ∙ ap (λ text. get_by_text c.self.inside.places text) (sym c.as_str.ensures.value) ∙ sym c.place_of.ensures ∙ c.in-Some.is)
     ∙ ap (λ fs. noted fs told) c.self.view_is
 
-pub returns : goal.returns
-returns c =
-    let told : Footnote = record { identifier = string_bytes c.args.identifier; text = string_bytes c.args.text } in
-    ap (λ entries. footnotes_in entries) c.in_ok-insert.ensures.entries
-    ∙ noted-new c.self.inside.texts.entries c.args.identifier c.args.text
-    (ap (λ q. is_some (lookup (named q) c.self.inside.texts.entries)) (sym c.as_str.ensures.value) ∙ sym c.contains_key.ensures ∙ c.if-contains_key.false)
-    ∙ ap (λ fs. noted fs told) c.self.view_is
+pub returns-in-None : goal.returns-in-None
+returns-in-None c =
+    let q = string_bytes c.args.identifier in
+    let told : Footnote = record { identifier = q; text = string_bytes c.args.text } in
+    on_ok_weaker c.put_last.result
+    (λ put. ap (λ es. footnotes_in es) put
+    ∙ noted-new c.self.inside.texts.items c.args.identifier c.args.text
+    (sym (c.self.invariant q) ∙ ap (λ text. get_by_text c.self.inside.places text) (sym c.as_str.ensures.value) ∙ sym c.place_of.ensures ∙ c.in-None.is)
+    ∙ ap (λ fs. noted fs told) c.self.view_is)
+    c.put_last.ensures.entries

@@ -1,19 +1,22 @@
-use Rattle.std.proofs.Common.{[], string_bytes}
-use Rattle.md_meaning.specs.Footnotes.{footnote_text}
-use Rattle.md_sheet.proofs.footnotes.Footnotes.text_of.Goals as goal
-use Rattle.std.proofs.Common.{ap, ◌∙◌}
+use Rattle.std.proofs.Common.{[], ap, sym, ◌∙◌, string_bytes}
+use Rattle.std.specs.Prelude.{slice_get}
 use Rattle.std.specs.Option.{option_map_or}
-use Rattle.md_sheet.proofs.Maps.{text-lookup}
+use Rattle.md_meaning.specs.Footnotes.{footnote_text}
+use Rattle.md_sheet.proofs.Placing.{text-at}
+use Rattle.md_sheet.proofs.footnotes.Footnotes.text_of.Goals as goal
 
 pub returns-in-Some : goal.returns-in-Some
 returns-in-Some c =
-    c.as_str.ensures.value
-    ∙ ap (λ o. option_map_or string_bytes o []) c.in-Some.ensures.value
-    ∙ text-lookup c.self.inside.texts.entries c.args.identifier.now
+    let entries = c.self.inside.texts.items in
+    c.text_at.ensures
+    ∙ ap (λ es. option_map_or (λ e. string_bytes e.1) (slice_get es c.in-Some.place) []) c.as_slice.ensures.value
+    ∙ ap (λ o. option_map_or (λ place. option_map_or (λ e. string_bytes e.1) (slice_get entries place) []) o []) (sym (sym (c.self.invariant c.args.identifier.now) ∙ sym c.place_of.ensures ∙ c.in-Some.is))
+    ∙ text-at entries c.args.identifier.now
     ∙ ap (λ fs. footnote_text fs c.args.identifier.now) c.self.view_is
 
 pub returns-in-None : goal.returns-in-None
 returns-in-None c =
-    ap (λ o. option_map_or string_bytes o []) c.in-None.ensures.value
-    ∙ text-lookup c.self.inside.texts.entries c.args.identifier.now
+    let entries = c.self.inside.texts.items in
+    ap (λ o. option_map_or (λ place. option_map_or (λ e. string_bytes e.1) (slice_get entries place) []) o []) (sym (sym (c.self.invariant c.args.identifier.now) ∙ sym c.place_of.ensures ∙ c.in-None.is))
+    ∙ text-at entries c.args.identifier.now
     ∙ ap (λ fs. footnote_text fs c.args.identifier.now) c.self.view_is

@@ -1,0 +1,41 @@
+//! Entries in the order in which they came, found by their identifiers in few steps, whoever chose these.
+
+ghost use Rattle.std.specs.Prelude.{◌≡◌, ◌∷◌, [], ◌++◌, OnOk, None, string_bytes};
+ghost use Rattle.std.specs.BTreeMap.{get_by_text};
+ghost use Rattle.md_sheet.specs.Seen.{place_among, FindsPlaces};
+
+use std::alloc::{AllocError, Global};
+use std::collections::BTreeMap;
+
+/// The place of each identifier among some entries.
+pub type Places = BTreeMap<String, usize>;
+
+/// The place of an identifier, if it has one.
+pub fn place_of(places: &Places, identifier: &str) -> Option<usize>
+    ensures { result ≡ get_by_text places.now identifier.now }
+{
+    places.get(identifier).copied()
+}
+
+/// Puts an entry with a new identifier behind all others.
+///
+/// # Errors
+///
+/// Only where memory runs out.
+pub fn put_last<V: Drop>(
+    entries: &mut Vec<(String, V)>,
+    places: &mut Places,
+    identifier: String,
+    value: V,
+) -> Result<(), AllocError>
+    requires new { place_among entries.old.items (string_bytes identifier) ≡ None }
+    requires found { FindsPlaces places.old entries.old.items }
+    ensures found { FindsPlaces places.new entries.new.items }
+    ensures entries { OnOk result (entries.new.items ≡ entries.old.items ++ (identifier, value) ∷ []) }
+{
+    entries.reserve(1)?;
+    let copy = identifier.clone()?;
+    places.insert(copy, entries.len())?;
+    entries.push_reserved((identifier, value));
+    Ok(())
+}
