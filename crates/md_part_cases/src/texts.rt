@@ -68,7 +68,9 @@ fn special_characters_are_encoded(rt: HostRuntime) -> Result<(), Fail> {
 fn urls_are_sanitized(rt: HostRuntime) -> Result<(), Fail> {
     for (value, url) in [
         ("%%41", "%25%41"),
-        ("%zz%", "%zz%25"),
+        ("%zz%", "%25zz%25"),
+        ("%4g", "%254g"),
+        ("%aF", "%aF"),
         ("https://a👍b.c/%20/%", "https://a%F0%9F%91%8Db.c/%20/%25"),
         ("a\"b[", "a%22b%5B"),
         ("%4", "%254"),

@@ -6,6 +6,7 @@ pub mod EncodeLaws
 pub mod FilterLaws
 pub mod UrlLaws
 pub mod UrlTwice
+pub mod UrlTriples
 pub mod ProtocolLemmas
 pub mod EscapedLemmas
 pub mod HtmlWriting

@@ -26,7 +26,7 @@ plain-stays : (b : ℕ) → b < 256 → is_triple_byte b ≡ true → stays_anyw
 plain-stays b l e = ap (λ t. not t || stays_anywhere b) (sym e) ∙ plain_or_not b l
 
 -- a percent triple stays one
-completes-normalized : (rest : List ℕ) → AreBytes rest → completes_triple rest ≡ true → completes_triple (normalized_url rest) ≡ true
+pub completes-normalized : (rest : List ℕ) → AreBytes rest → completes_triple rest ≡ true → completes_triple (normalized_url rest) ≡ true
 completes-normalized [] h e = cc
 completes-normalized (a ∷ []) h e = cc
 completes-normalized (a ∷ b ∷ rest) h e =

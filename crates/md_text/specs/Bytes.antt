@@ -11,10 +11,6 @@ is_between first last b = nat_le first b && nat_le b last
 abbrev pub is_letter : ℕ → Bool
 is_letter b = is_between 65 90 b || is_between 97 122 b
 
--- an ASCII letter or digit
-abbrev pub is_letter_or_digit : ℕ → Bool
-is_letter_or_digit b = is_letter b || is_between 48 57 b
-
 -- an ASCII letter lowered, every other byte as it is
 abbrev pub lower : ℕ → ℕ
 lower b = if is_between 65 90 b then b + 32 else b

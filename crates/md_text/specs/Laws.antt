@@ -1,5 +1,6 @@
 -- The words of the laws.
-use Rattle.std.specs.Prelude.{◌≡◌, ℕ, ◌⊎◌, ◌<◌, ◌||◌, ◌==◌, Bool, true, ◌&&◌, List, [], ◌∷◌, ◌++◌, All, codes}
+use Rattle.std.specs.Prelude.{◌≡◌, ℕ, ◌⊎◌, ◌<◌, ◌||◌, ◌==◌, Bool, true, not, ◌&&◌, List, [], ◌∷◌, ◌++◌, All, codes}
+use Rattle.md_text.specs.Url.{completes_triple}
 
 -- the second text is the first with some of its `<` changed into `&lt;`
 abbrev pub ChangesOnlyAngles : List ℕ → List ℕ → Type 0
@@ -20,3 +21,8 @@ AreAscii text = All (λ b. b < 128) text
 abbrev pub is_line_ends : List ℕ → Bool
 is_line_ends [] = true
 is_line_ends (b ∷ rest) = ((b == 13) || (b == 10)) && is_line_ends rest
+
+-- each `%` is followed by two hexadecimal digits
+abbrev pub percents_begin_triples : List ℕ → Bool
+percents_begin_triples [] = true
+percents_begin_triples (b ∷ rest) = (not (b == 37) || completes_triple rest) && percents_begin_triples rest

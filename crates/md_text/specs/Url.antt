@@ -1,7 +1,7 @@
 -- URLs: what stays of a text, which protocol it has, and which protocols are kept.
 use Rattle.std.specs.Prelude.{ℕ, ◌+◌, ◌/◌, ◌%◌, Bool, true, false, ◌&&◌, ◌||◌, ◌==◌, if◌then◌else◌, nat_lt, List, [], ◌∷◌, ◌++◌, Option, Some, None, option_map}
 use Rattle.std.specs.Option.{option_map_or}
-use Rattle.md_text.specs.Bytes.{is_between, is_letter_or_digit, lowered, is_one_of}
+use Rattle.md_text.specs.Bytes.{is_between, lowered, is_one_of}
 use Rattle.md_text.specs.Encode.{encoded}
 
 -- `!`, `#`, `$`, from `&` to `;`, `=`, from `?` to `Z`, `_`, a lower-case letter, `~`
@@ -9,9 +9,9 @@ abbrev pub stays_anywhere : ℕ → Bool
 stays_anywhere b =
     (b == 33) || (b == 35) || (b == 36) || is_between 38 59 b || (b == 61) || is_between 63 90 b || (b == 95) || is_between 97 122 b || (b == 126)
 
--- a byte that a percent triple may have after its `%`: an ASCII letter or digit
+-- a byte that a percent triple may have after its `%`: an ASCII hexadecimal digit of either case
 abbrev pub is_triple_byte : ℕ → Bool
-is_triple_byte b = is_letter_or_digit b
+is_triple_byte b = is_between 48 57 b || is_between 65 70 b || is_between 97 102 b
 
 -- what follows a `%` makes it the first byte of a percent triple: two such bytes
 abbrev pub completes_triple : List ℕ → Bool

@@ -9,7 +9,7 @@ ghost use Rattle.md_text.specs.Encode.{encoded};
 ghost use Rattle.md_text.specs.Filter.{tag_filtered};
 ghost use Rattle.md_text.specs.Html.{Attribute, Forest, Empty, Void, IsReading, HasReadingWith, HasOneReadingWith};
 ghost use Rattle.md_text.specs.Html.{all_pass, is_tag, elements, void_tags, written, opening_tag, closing_tag};
-ghost use Rattle.md_text.specs.Laws.{ChangesOnlyAngles, AreBytes, AreAscii, is_line_ends};
+ghost use Rattle.md_text.specs.Laws.{ChangesOnlyAngles, AreBytes, AreAscii, is_line_ends, percents_begin_triples};
 ghost use Rattle.md_text.specs.LineEnding.{ending_text, ending_of};
 ghost use Rattle.md_text.specs.References.{is_escaped, outside_references, read_back};
 ghost use Rattle.md_text.specs.Safe.{is_safe_value, link_protocols, image_protocols};
@@ -60,6 +60,11 @@ pub fn sanitize_is_ascii()
     ensures ascii { (x : List ℕ) → AreBytes x → AreAscii (sanitized x) }
     ensures twice_is_once { (x : List ℕ)
         → AreBytes x → All (λ b. b ≢ 38) x → sanitized (sanitized x) ≡ sanitized x }
+{}
+
+/// Each `%` in a sanitized URL is followed by two hexadecimal digits.
+pub fn percent_begins_a_triple()
+    ensures { (x : List ℕ) → AreBytes x → IsTrue (percents_begin_triples (sanitized x)) }
 {}
 
 /// A URL is kept whole, as [`crate::sanitize`] makes it, or dropped.

@@ -12,8 +12,8 @@ use std::alloc::{AllocError, Global};
 /// Makes a URL that may stand in HTML.
 ///
 /// Each character that may not stand in a URL becomes `%` and two hexadecimal digits for each of
-/// its bytes, and so does a `%` that isn't followed by two ASCII letters or digits. The text is
-/// then encoded for HTML.
+/// its bytes, and so does a `%` that isn't followed by two hexadecimal digits. The text is then
+/// encoded for HTML.
 ///
 /// # Errors
 ///
@@ -121,7 +121,7 @@ fn completes_triple(rest: &[u8]) -> bool
 fn is_triple_byte(byte: u8) -> bool
     ensures { result ≡ is_triple_byte byte }
 {
-    byte.is_ascii_alphanumeric()
+    byte.is_ascii_hexdigit()
 }
 
 /// Whether a URL has no protocol, or one of these.

@@ -155,3 +155,21 @@ fn www_autolink(rt: HostRuntime) -> Result<(), Fail> {
         "<a href=\"http://www.a\">www.a</a>",
     )
 }
+
+#[test]
+fn percent_before_no_hexadecimal_digits(rt: HostRuntime) -> Result<(), Fail> {
+    answers(
+        &rt,
+        b"+Link 0\n+Label 0\n+LabelText 1\n+Data 1\n-Data 2\n-LabelText 2\n-Label 3\n+Resource 3\n+ResourceDestinationString 4\n+Data 4\n-Data 10\n-ResourceDestinationString 10\n-Resource 11\n-Link 11\n--\n[a](%zz%4F)",
+        "<a href=\"%25zz%4F\">a</a>",
+    )
+}
+
+#[test]
+fn percent_in_the_id_of_a_footnote(rt: HostRuntime) -> Result<(), Fail> {
+    answers(
+        &rt,
+        b"+Paragraph 0\n+GfmFootnoteCall 0\n+Label 0\n+LabelText 2\n-LabelText 5\n-Label 6\n-GfmFootnoteCall 6\n-Paragraph 6\n+GfmFootnoteDefinition 6\n+GfmFootnoteDefinitionPrefix 6\n+GfmFootnoteDefinitionLabelString 8\n-GfmFootnoteDefinitionLabelString 11\n-GfmFootnoteDefinitionPrefix 13\n+Paragraph 13\n+Data 13\n-Data 14\n-Paragraph 14\n-GfmFootnoteDefinition 14\n--\n[^%zz][^%zz]:c",
+        "<p><sup><a href=\"#user-content-fn-%25zz\" id=\"user-content-fnref-%25zz\" data-footnote-ref=\"\" aria-describedby=\"footnote-label\">1</a></sup></p>\n<section data-footnotes=\"\" class=\"footnotes\"><h2 id=\"footnote-label\" class=\"sr-only\">Footnotes</h2>\n<ol>\n<li id=\"user-content-fn-%25zz\">\n<p>c <a href=\"#user-content-fnref-%25zz\" data-footnote-backref=\"\" aria-label=\"Back to content\" class=\"data-footnote-backref\">↩</a></p>\n</li>\n</ol>\n</section>\n",
+    )
+}
