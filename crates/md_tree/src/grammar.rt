@@ -64,26 +64,27 @@ fn walk_over(
     names: &[(&str, &str)],
 ) -> Result<Walk, CompileError>
     ensures walked { IfOk result
-        (λ walk. Runs (Unbroken bytes.now (name_table names.now)) events.now beginning (course_of (length events.now) walk)) }
+        (λ walk. Runs (Unbroken bytes.now (name_table names.now)) events.now beginning (course_of events.now (length events.now) walk)) }
     ensures refused { IfErr result (IsRefusal (handed events.now bytes.now names.now)) }
 {
     let texts = Texts::new(alloc, bytes)?;
     let source = Source {
+        events,
         bytes: &texts,
         names,
     };
-    walk_through(alloc, events, source)
+    walk_through(alloc, source)
 }
 
 /// Walks over all events.
-fn walk_through(alloc: Global, events: &[Event], source: Source) -> Result<Walk, CompileError>
+fn walk_through(alloc: Global, source: Source) -> Result<Walk, CompileError>
     ensures walked { IfOk result
-        (λ walk. Runs (Unbroken source.entry.bytes.now (name_table source.entry.names.now)) events.now beginning (course_of (length events.now) walk)) }
-    ensures refused { IfErr result (IsRefusal (handed events.now source.entry.bytes.now source.entry.names.now)) }
+        (λ walk. Runs (Unbroken source.entry.bytes.now (name_table source.entry.names.now)) source.entry.events.now beginning (course_of source.entry.events.now (length source.entry.events.now) walk)) }
+    ensures refused { IfErr result (IsRefusal (handed source.entry.events.now source.entry.bytes.now source.entry.names.now)) }
 {
     let mut walk = Walk::new(alloc);
-    for (index, event) in events.iter().enumerate() {
-        walk.step(alloc, source, index, *event)?;
+    for (index, event) in source.events.iter().enumerate() {
+        walk.step(alloc, source, index, event)?;
     }
     Ok(walk)
 }

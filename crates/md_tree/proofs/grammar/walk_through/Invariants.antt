@@ -6,4 +6,4 @@ use Rattle.md_tree.proofs.grammar.walk_through.Given as goal
 
 abbrev pub invariant-loop-index : goal.invariant-loop-index
 invariant-loop-index l =
-    Runs (Unbroken l.source.bytes.now (name_table l.source.names.now)) (take l.index l.events) beginning (course_of l.index l.walk)
+    Runs (Unbroken l.source.bytes.now (name_table l.source.names.now)) (take l.index l.source.events.now) beginning (course_of l.source.events.now l.index l.walk)
