@@ -18,8 +18,8 @@ use Rattle.md_tree.specs.declared.rule.Rule.{Rule}
 use Rattle.md_tree.specs.declared.rule.Rule.TheVariants as rule
 use Rattle.md_tree.specs.declared.rule.CompileError.{CompileError}
 use Rattle.md_tree.specs.declared.rule.CompileError.TheVariants as error
-use Rattle.md_tree.specs.declared.state.Open.{Open}
-use Rattle.md_tree.specs.declared.state.Outer.{Outer}
+use Rattle.md_tree.specs.Machine.{Open}
+use Rattle.md_tree.specs.Machine.{Outer}
 use Rattle.md_tree.specs.Mentions.{mentions_among, IsResolved}
 use Rattle.md_tree.specs.Grammar.{Document, IsGrammatical, IsReadAs, IsChecked}
 use Rattle.md_tree.specs.Refusal.{BeginNoTree, EndsBroken, EndsUnresolved, EntersMdx, IsOrder, IsMdx, IsBroken, IsLost, IsRefusal}

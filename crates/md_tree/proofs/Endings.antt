@@ -13,8 +13,8 @@ use Rattle.md_tree.specs.declared.kinds.Target.TheVariants.{Missing}
 use Rattle.md_tree.specs.declared.kinds.Mentioned.{Mentioned}
 use Rattle.md_tree.specs.declared.rule.Rule.{Rule}
 use Rattle.md_tree.specs.declared.state.State.{State}
-use Rattle.md_tree.specs.declared.state.Open.{Open}
-use Rattle.md_tree.specs.declared.state.Outer.{Outer}
+use Rattle.md_tree.specs.Machine.{Open}
+use Rattle.md_tree.specs.Machine.{Outer}
 use Rattle.md_tree.specs.Tree.{Forest, Empty, Node, flatten, entering, exiting}
 use Rattle.md_tree.specs.Standing.{standing_of}
 use Rattle.md_tree.specs.Spine.{spine}

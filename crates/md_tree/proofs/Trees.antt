@@ -15,7 +15,7 @@ use Rattle.md_tree.specs.declared.kinds.Target.{Target}
 use Rattle.md_tree.specs.declared.kinds.Target.TheVariants.{Missing}
 use Rattle.md_tree.specs.declared.kinds.Mentioned.{Mentioned}
 use Rattle.md_tree.specs.declared.state.State.{State}
-use Rattle.md_tree.specs.declared.state.Entry.{Entry}
+use Rattle.md_tree.specs.Machine.{Entry}
 use Rattle.md_tree.specs.Tree.{Forest, Empty, Node, flatten, exiting}
 use Rattle.md_tree.specs.Standing.{standing_of}
 use Rattle.md_tree.specs.Spine.{spine, shown, Matches}

@@ -15,9 +15,9 @@ use Rattle.md_tree.specs.declared.kinds.Target.TheVariants.{Missing}
 use Rattle.md_tree.specs.declared.rule.Rule.{Rule}
 use Rattle.md_tree.specs.declared.rule.Rule.TheVariants as rule
 use Rattle.md_tree.specs.declared.state.State.{State}
-use Rattle.md_tree.specs.declared.state.Entry.{Entry}
-use Rattle.md_tree.specs.declared.state.Open.{Open}
-use Rattle.md_tree.specs.declared.state.Outer.{Outer}
+use Rattle.md_tree.specs.Machine.{Entry}
+use Rattle.md_tree.specs.Machine.{Open}
+use Rattle.md_tree.specs.Machine.{Outer}
 use Rattle.md_tree.specs.Tree.{Forest, Empty, Node, flatten, entering}
 use Rattle.md_tree.specs.Standing.{standing_of}
 use Rattle.md_tree.specs.Spine.{spine, shown}

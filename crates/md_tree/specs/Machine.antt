@@ -23,14 +23,31 @@ use Rattle.md_tree.specs.declared.kinds.Mentioned.{Mentioned}
 use Rattle.md_tree.specs.declared.state.Stage.{Stage}
 use Rattle.md_tree.specs.declared.state.Stage.TheVariants.{Whole, Marker, Numeric, Hexadecimal, Setext}
 use Rattle.md_tree.specs.declared.state.State.{State}
-use Rattle.md_tree.specs.declared.state.Outer.{Outer}
-use Rattle.md_tree.specs.declared.state.Open.{Open}
-use Rattle.md_tree.specs.declared.state.Entry.{Entry}
 use Rattle.md_tree.specs.Standing.{standing_of}
 use Rattle.md_tree.specs.Pattern.{pattern_of, takes}
 use Rattle.md_tree.specs.Shape.{role_for}
 use Rattle.md_tree.specs.Rules.{place, target_at}
 use Rattle.md_tree.specs.Mentions.{mention_of, mentions_with}
+
+-- what waits for the end of a node that has a spine of its own: the spine around it with the node, the symbol before it,
+-- the target of the spine around so far, and what is read of the node
+pub record Outer : Type 0 where
+  pub state : State
+  pub before : Option Symbol
+  pub target : Target
+  pub reading : Reading
+
+-- a node that is open; nothing waits for the end of a transparent one
+pub record Open : Type 0 where
+  pub name : Name
+  pub start : Point
+  pub outer : Option Outer
+
+-- where a node's children begin
+pub record Entry : Type 0 where
+  pub state : State
+  pub target : Target
+  pub outer : Option Outer
 
 -- the group that a symbol begins
 abbrev pub begun_by : Symbol → Stage

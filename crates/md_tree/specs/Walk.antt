@@ -1,8 +1,9 @@
 -- How a walk over events stands, and why it stops.
-use Rattle.std.specs.Prelude.{◌≡◌, ℕ, false, Option, Some, None, List, [], ◌∷◌, reverse, IsTrue}
+use Rattle.std.specs.Prelude.{◌≡◌, ℕ, false, Option, Some, None, List, [], ◌∷◌, map, option_map, reverse, slice_get, IsTrue}
 use Rattle.md_base.specs.declared.event.Point.{Point}
 use Rattle.md_base.specs.declared.event.Position.{Position}
 use Rattle.md_base.specs.declared.event.Name.{Name}
+use Rattle.md_base.specs.declared.event.Event.{Event}
 use Rattle.md_base.specs.declared.event.Kind.{Kind}
 use Rattle.md_base.specs.declared.event.Kind.TheVariants.{Enter, Exit}
 use Rattle.md_tree.specs.declared.kinds.Standing.TheVariants as standing
@@ -10,21 +11,58 @@ use Rattle.md_tree.specs.declared.rule.Rule.{Rule}
 use Rattle.md_tree.specs.declared.rule.Rule.TheVariants as rule
 use Rattle.md_tree.specs.declared.rule.CompileError.{CompileError}
 use Rattle.md_tree.specs.declared.rule.CompileError.TheVariants as error
-use Rattle.md_tree.specs.declared.state.Open.{Open}
-use Rattle.md_tree.specs.declared.state.Outer.{Outer}
+use Rattle.md_tree.specs.declared.kinds.Target.{Target}
+use Rattle.md_tree.specs.declared.kinds.Target.TheVariants.{Missing, Resource, Label}
+use Rattle.md_tree.specs.declared.state.Aim.{Aim}
+use Rattle.md_tree.specs.declared.state.Aim.TheVariants as aim
+use Rattle.md_tree.specs.declared.state.Open.{Open as KeptOpen}
+use Rattle.md_tree.specs.declared.state.Outer.{Outer as KeptOuter}
+use Rattle.md_tree.specs.declared.state.Entry.{Entry as KeptEntry}
 use Rattle.md_tree.specs.declared.walk.Walk.{Walk}
 use Rattle.md_tree.specs.Standing.{standing_of}
-use Rattle.md_tree.specs.Rules.{broken_rule, target_at}
-use Rattle.md_tree.specs.Mentions.{mention_of}
-use Rattle.md_tree.specs.declared.kinds.Mention.{Mention}
-use Rattle.md_tree.specs.Machine.{Reads, Course, Enters, Exits, is_complete}
+use Rattle.md_tree.specs.Rules.{place, broken_rule}
+use Rattle.md_tree.specs.Machine.{Reads, Outer, Open, Entry, Course, Enters, Exits, is_complete}
 
--- the course of a walk over so many events, whose vector has the innermost open node last
-abbrev pub course_of : ℕ → Walk → Course
-course_of count walk = record {
+-- the point of the event at an index
+abbrev pub point_of : Option Event → Point
+point_of None = record { line = 0; column = 0; index = 0; vs = 0 }
+point_of (Some event) = event.point
+
+abbrev pub point_at : List Event → ℕ → Point
+point_at events index = point_of (slice_get events index)
+
+-- where a node lies that is entered and exited at two indices
+abbrev pub place_at : List Event → ℕ → ℕ → Position
+place_at events entry exit = place (point_at events entry) (point_at events exit)
+
+-- what a walk's records stand for, where these are the events
+abbrev pub target_seen : List Event → Aim → Target
+target_seen events aim.Missing = Missing
+target_seen events aim.Resource = Resource
+target_seen events (aim.Label entry exit) = Label (place_at events entry exit)
+
+abbrev pub outer_seen : List Event → KeptOuter → Outer
+outer_seen events outer =
+    record { state = outer.state; before = outer.before; target = target_seen events outer.target; reading = outer.reading }
+
+abbrev pub open_seen : List Event → KeptOpen → Open
+open_seen events open_node =
+    record { name = open_node.name; start = point_at events open_node.entry; outer = option_map (λ outer. outer_seen events outer) open_node.outer }
+
+abbrev pub entry_seen : List Event → KeptEntry → Entry
+entry_seen events entry =
+    record { state = entry.state; target = target_seen events entry.target; outer = option_map (λ outer. outer_seen events outer) entry.outer }
+
+-- the open nodes, of which the vector has the innermost last
+abbrev pub opens_seen : List Event → List KeptOpen → List Open
+opens_seen events open_nodes = reverse (map (λ open_node. open_seen events open_node) open_nodes)
+
+-- the course of a walk over so many of the events
+abbrev pub course_of : List Event → ℕ → Walk → Course
+course_of events count walk = record {
   state = walk.state;
-  target = walk.target;
-  open_nodes = reverse walk.open_nodes.items;
+  target = target_seen events walk.target;
+  open_nodes = opens_seen events walk.open_nodes.items;
   count = count;
   mentions = walk.mentions.items;
 }
@@ -73,13 +111,6 @@ abbrev pub IsStop : List ℕ → List (List ℕ × List ℕ) → ℕ → Kind �
 IsStop bytes names index kind name point course error.Memory = Unit {0}
 IsStop bytes names index kind name point course (error.Event named broken) =
     (named ≡ index) × StopsBy bytes names kind broken name point course
-
--- a node with a spine of its own is left, and mentions this
-abbrev pub Leaves : Reads → Outer → Position → Walk → Walk → Mention → Type 0
-Leaves holds outer position from to mention =
-    IsTrue (is_complete from.state) × holds outer.reading outer.state.role outer.before position.start position.end from.target
-    × (to ≡ record from { state = outer.state; target = target_at outer.reading outer.target from.target position })
-    × (mention ≡ mention_of outer.reading from.target)
 
 -- such a node may not end, or it breaks a rule
 abbrev pub StopsInside : List ℕ → List (List ℕ × List ℕ) → Rule → Outer → Position → Course → Type 0

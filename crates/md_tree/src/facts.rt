@@ -1,6 +1,6 @@
 //! The pass over the events from the first to the last, which finds what is read or inferred of each node.
 
-ghost use Rattle.std.specs.Prelude.{◌≡◌, OnOk, IfOk, map, set, not, ◌&&◌};
+ghost use Rattle.std.specs.Prelude.{◌≡◌, OnOk, map, set, not, ◌&&◌};
 ghost use Rattle.md_tree.specs.NameTests.{is_transparent};
 ghost use Rattle.md_tree.specs.Facts as spec;
 
@@ -171,7 +171,7 @@ pub struct Facts {
 
 /// What is found at the events so far.
 #[derive(Drop)]
-struct Pass {
+pub struct Pass {
     facts: Vec<Fact>,
     columns: Columns,
     /// The entries of the definitions that have ended.
@@ -192,7 +192,7 @@ impl Model for Pass {
 
 impl Pass {
     /// Before any event.
-    fn new(alloc: Global) -> Pass
+    pub fn new(alloc: Global) -> Pass
         ensures { result ≡ spec.nothing_passed }
     {
         Pass {
@@ -204,8 +204,8 @@ impl Pass {
         }
     }
 
-    /// The next event.
-    fn step(&mut self, alloc: Global, event: &Event) -> Result<(), AllocError>
+    /// Finds what the next event tells.
+    pub fn find(&mut self, alloc: Global, event: &Event) -> Result<(), AllocError>
         ensures { OnOk result (self.new ≡ spec.passed event.now.kind event.now.name self.old) }
     {
         match event.kind {
@@ -243,7 +243,7 @@ impl Pass {
     }
 
     /// What is found at each event.
-    fn into_facts(self) -> Facts
+    pub fn into_facts(self) -> Facts
         ensures facts { result.facts.items ≡ self.facts }
         ensures tables { map (λ t. t.items) result.tables.items ≡ self.columns.tables }
         ensures definitions { result.definitions.items ≡ self.definitions }
@@ -280,17 +280,4 @@ fn put(facts: &mut [Fact], index: usize, fact: Fact)
     if index < facts.len() {
         facts[index] = fact;
     }
-}
-
-/// What is found at each event.
-pub fn find_facts(alloc: Global, events: &[Event]) -> Result<Facts, AllocError>
-    ensures facts { IfOk result (λ found. found.facts.items ≡ spec.facts_at events.now) }
-    ensures tables { IfOk result (λ found. map (λ t. t.items) found.tables.items ≡ spec.tables_at events.now) }
-    ensures definitions { IfOk result (λ found. found.definitions.items ≡ spec.definitions_at events.now) }
-{
-    let mut pass = Pass::new(alloc);
-    for event in events {
-        pass.step(alloc, event)?;
-    }
-    Ok(pass.into_facts())
 }

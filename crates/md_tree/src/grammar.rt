@@ -1,12 +1,13 @@
-ghost use Rattle.std.specs.Prelude.{◌≡◌, [], true, false, length, IfOk, OnOk, IfErr};
+ghost use Rattle.std.specs.Prelude.{◌≡◌, [], true, false, length, map, IfOk, OnOk, IfErr};
 ghost use Rattle.md_base.specs.Reference.{name_table};
 ghost use Rattle.md_tree.specs.Grammar.{handed, IsChecked};
 ghost use Rattle.md_tree.specs.Refusal.{IsOrder, IsMdx, IsOfNode, IsLost, IsOutside, IsRefusal};
 ghost use Rattle.md_tree.specs.Machine.{Runs, beginning, is_complete};
 ghost use Rattle.md_tree.specs.Walk.{course_of, Unbroken};
+ghost use Rattle.md_tree.specs.Facts.{facts_at, tables_at, definitions_at};
 
 use crate::checked::Checked;
-use crate::facts::find_facts;
+use crate::facts::{Facts, Pass};
 use crate::judge::Source;
 use crate::resolve::resolve;
 use crate::rule::{CompileError, Rule};
@@ -38,54 +39,65 @@ pub fn check<'a>(
     ensures of_node { IfErr result (IsOfNode (handed events.now bytes.now names.now)) }
     ensures lost { IfErr result (IsLost (handed events.now bytes.now names.now)) }
 {
-    let walk = walk_over(alloc, events, bytes, names)?;
-    if !is_done(&walk) {
+    let read = read_document(alloc, events, bytes, names)?;
+    if !is_done(&read.walk) {
         return Err(CompileError::Event {
             index: events.len(),
             rule: Rule::Order,
         });
     }
-    let Walk {
-        state: _,
-        target: _,
-        open_nodes: _,
-        mentions,
-    } = walk;
-    resolve(alloc, bytes, &mentions)?;
-    let found = find_facts(alloc, events)?;
+    let Read { walk, found } = read;
+    resolve(alloc, bytes, &walk.mentions)?;
     Ok(Checked::new(events, bytes, names, found))
 }
 
-/// Walks over all events of a document, of which the texts are found first.
-fn walk_over(
+/// What is known of events that have been read.
+#[derive(Drop)]
+struct Read {
+    walk: Walk,
+    found: Facts,
+}
+
+/// Reads all events of a document, of which the texts are found first.
+fn read_document(
     alloc: Global,
     events: &[Event],
     bytes: &[u8],
     names: &[(&str, &str)],
-) -> Result<Walk, CompileError>
+) -> Result<Read, CompileError>
     ensures walked { IfOk result
-        (λ walk. Runs (Unbroken bytes.now (name_table names.now)) events.now beginning (course_of (length events.now) walk)) }
+        (λ read. Runs (Unbroken bytes.now (name_table names.now)) events.now beginning (course_of events.now (length events.now) read.walk)) }
+    ensures facts { IfOk result (λ read. read.found.facts.items ≡ facts_at events.now) }
+    ensures tables { IfOk result (λ read. map (λ t. t.items) read.found.tables.items ≡ tables_at events.now) }
+    ensures definitions { IfOk result (λ read. read.found.definitions.items ≡ definitions_at events.now) }
     ensures refused { IfErr result (IsRefusal (handed events.now bytes.now names.now)) }
 {
     let texts = Texts::new(alloc, bytes)?;
     let source = Source {
+        events,
         bytes: &texts,
         names,
     };
-    walk_through(alloc, events, source)
+    read_events(alloc, source)
 }
 
-/// Walks over all events.
-fn walk_through(alloc: Global, events: &[Event], source: Source) -> Result<Walk, CompileError>
+/// Reads all events, each by the walk and by the pass that finds what is read or inferred.
+fn read_events(alloc: Global, source: Source) -> Result<Read, CompileError>
     ensures walked { IfOk result
-        (λ walk. Runs (Unbroken source.entry.bytes.now (name_table source.entry.names.now)) events.now beginning (course_of (length events.now) walk)) }
-    ensures refused { IfErr result (IsRefusal (handed events.now source.entry.bytes.now source.entry.names.now)) }
+        (λ read. Runs (Unbroken source.entry.bytes.now (name_table source.entry.names.now)) source.entry.events.now beginning (course_of source.entry.events.now (length source.entry.events.now) read.walk)) }
+    ensures facts { IfOk result (λ read. read.found.facts.items ≡ facts_at source.entry.events.now) }
+    ensures tables { IfOk result (λ read. map (λ t. t.items) read.found.tables.items ≡ tables_at source.entry.events.now) }
+    ensures definitions { IfOk result (λ read. read.found.definitions.items ≡ definitions_at source.entry.events.now) }
+    ensures refused { IfErr result (IsRefusal (handed source.entry.events.now source.entry.bytes.now source.entry.names.now)) }
 {
     let mut walk = Walk::new(alloc);
-    for (index, event) in events.iter().enumerate() {
-        walk.step(alloc, source, index, *event)?;
+    let mut pass = Pass::new(alloc);
+    for (index, event) in source.events.iter().enumerate() {
+        walk.step(alloc, source, index, event)?;
+        pass.find(alloc, event)?;
     }
-    Ok(walk)
+    let found = pass.into_facts();
+    Ok(Read { walk, found })
 }
 
 /// Whether all nodes have ended, and the document's spine may end.

@@ -1,15 +1,18 @@
-ghost use Rattle.std.specs.Prelude.{◌≡◌, length, nat_lt, option_copied, IfOk, if◌then◌else◌};
+ghost use Rattle.std.specs.Prelude.{◌≡◌, List, length, nat_lt, option_copied, IfOk, if◌then◌else◌};
 ghost use Rattle.md_base.specs.Place.{fits, text_between, label_between};
 ghost use Rattle.md_base.specs.Reference.{name_table, is_number};
 ghost use Rattle.md_tree.specs.Rules.{is_line_ending, is_decodable, is_list_number, is_rank, marker_after, columns, unless, broken_by, broken_by_target, broken_rule, target_at};
 ghost use Rattle.md_tree.specs.Mentions.{mention_of};
+ghost use Rattle.md_tree.specs.Walk.{point_at, place_at, target_seen};
+ghost use Rattle.md_base.specs.declared.event.Event.{Event};
+ghost use Rattle.md_tree.specs.declared.kinds.Target.TheVariants.{Label};
 ghost use Rattle.md_tree.specs.declared.rule.Rule.TheVariants as rule;
 
-use crate::kinds::{Mention, Reading, Role, Symbol, Target};
+use crate::kinds::{Mention, Reading, Role, Symbol};
 use crate::rule::Rule;
-use crate::state::Outer;
+use crate::state::{Aim, Outer};
 use crate::texts::Texts;
-use md_base::{Point, Position, Slice, decode_character_reference};
+use md_base::{Event, Point, Position, Slice, decode_character_reference};
 use md_text::LineEnding;
 use std::alloc::{AllocError, Global};
 
@@ -160,34 +163,31 @@ fn broken_underline(bytes: &[u8], start: Point) -> Option<Rule>
 }
 
 /// The target of a link or an image.
-fn broken_target(target: Target) -> Option<Rule>
-    ensures { result ≡ broken_by_target target }
+fn broken_target(target: Aim) -> Option<Rule>
+    ensures { (events : List Event) → result ≡ broken_by_target (target_seen events target) }
 {
     match target {
-        Target::Missing => Some(Rule::Target),
-        Target::Resource | Target::Label(_) => None,
+        Aim::Missing => Some(Rule::Target),
+        Aim::Resource | Aim::Label(_, _) => None,
     }
 }
 
-/// What a node leaves as the target of the node around.
-pub fn target_left(reading: Reading, found: Target, inner: Target, position: Position) -> Target
-    ensures { result ≡ target_at reading found inner position }
+/// What a node, which is entered and exited at these indices, leaves as the target of the node around.
+pub fn target_left(reading: Reading, found: Aim, inner: Aim, entry: usize, exit: usize) -> Aim
+    ensures { (events : List Event) → target_seen events result ≡ target_at reading (target_seen events found) (target_seen events inner) (place_at events entry exit) }
 {
     match reading {
-        Reading::Identifier => Target::Label(position),
+        Reading::Identifier => Aim::Label(entry, exit),
         Reading::Holder => inner,
-        Reading::Resource => Target::Resource,
+        Reading::Resource => Aim::Resource,
         _ => found,
     }
 }
 
-/// What a node mentions.
-pub fn mention(reading: Reading, target: Target) -> Mention
-    ensures { result ≡ mention_of reading target }
+/// What a node mentions that has a label.
+pub fn mention(reading: Reading, label: Position) -> Mention
+    ensures { result ≡ mention_of reading (Label label) }
 {
-    let Target::Label(label) = target else {
-        return Mention::Nothing;
-    };
     match reading {
         Reading::Media => Mention::Reference(label),
         Reading::Call => Mention::Call(label),
@@ -197,9 +197,35 @@ pub fn mention(reading: Reading, target: Target) -> Mention
     }
 }
 
-/// A document's bytes, and the names of character references with their texts.
+/// The point of the event at an index.
+fn point_at(events: &[Event], index: usize) -> Point
+    ensures { result ≡ point_at events.now index }
+{
+    match events.get(index) {
+        None => Point {
+            line: 0,
+            column: 0,
+            index: 0,
+            vs: 0,
+        },
+        Some(event) => event.point,
+    }
+}
+
+/// Where a node lies that is entered and exited at two indices.
+pub fn place_at(events: &[Event], entry: usize, exit: usize) -> Position
+    ensures { result ≡ place_at events.now entry exit }
+{
+    Position {
+        start: point_at(events, entry),
+        end: point_at(events, exit),
+    }
+}
+
+/// A document's events and bytes, and the names of character references with their texts.
 #[derive(Clone, Copy)]
 pub struct Source<'t, 'a> {
+    pub events: &'a [Event],
     pub bytes: &'t Texts<'a>,
     pub names: &'a [(&'a str, &'a str)],
 }
@@ -210,25 +236,35 @@ pub fn broken(
     alloc: Global,
     source: Source,
     outer: &Outer,
-    position: &Position,
-    target: Target,
+    entry: usize,
+    exit: usize,
+    target: Aim,
 ) -> Result<Option<Rule>, AllocError>
     ensures { IfOk result
-        (λ broken. broken ≡ broken_rule source.entry.bytes.now (name_table source.entry.names.now) outer.now.reading outer.now.state.role outer.now.before position.now.start position.now.end target) }
+        (λ broken. broken ≡ broken_rule source.entry.bytes.now (name_table source.entry.names.now) outer.now.reading outer.now.state.role outer.now.before (point_at source.entry.events.now entry) (point_at source.entry.events.now exit) (target_seen source.entry.events.now target)) }
 {
     let around = outer.state.role;
     let bytes = source.bytes.bytes();
     match outer.reading {
-        Reading::Text => Ok(broken_text(text_at(bytes, position))),
-        Reading::LineEnding => Ok(broken_ending(text_at(bytes, position))),
-        Reading::Number => Ok(broken_number(around, outer.before, text_at(bytes, position))),
+        Reading::Text => Ok(broken_text(text_of(source, entry, exit))),
+        Reading::LineEnding => Ok(broken_ending(text_of(source, entry, exit))),
+        Reading::Number => {
+            let text = text_of(source, entry, exit);
+            Ok(broken_number(around, outer.before, text))
+        }
         Reading::Value => {
-            let text = text_at(bytes, position);
+            let text = text_of(source, entry, exit);
             broken_value(alloc, source.names, outer.before, text)
         }
-        Reading::Mark => Ok(broken_mark(bytes, around, outer.before, position)),
-        Reading::Underline => Ok(broken_underline(bytes, position.start)),
-        Reading::Identifier => Ok(broken_text(source.bytes.label_at(position))),
+        Reading::Mark => {
+            let position = place_at(source.events, entry, exit);
+            Ok(broken_mark(bytes, around, outer.before, &position))
+        }
+        Reading::Underline => Ok(broken_underline(bytes, point_at(source.events, entry))),
+        Reading::Identifier => {
+            let position = place_at(source.events, entry, exit);
+            Ok(broken_text(source.bytes.label_at(&position)))
+        }
         Reading::Media => Ok(broken_target(target)),
         Reading::Free
         | Reading::Holder
@@ -237,4 +273,11 @@ pub fn broken(
         | Reading::Definition
         | Reading::FootnoteDefinition => Ok(None),
     }
+}
+
+/// The text of a node that is entered and exited at two indices.
+fn text_of<'a>(source: Source<'_, 'a>, entry: usize, exit: usize) -> Option<&'a str>
+    ensures { option_copied result ≡ text_between source.entry.bytes.now (point_at source.entry.events.now entry) (point_at source.entry.events.now exit) }
+{
+    text_at(source.bytes.bytes(), &place_at(source.events, entry, exit))
 }

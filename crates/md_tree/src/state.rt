@@ -1,5 +1,5 @@
-use crate::kinds::{Reading, Role, Symbol, Target};
-use md_base::{Name, Point};
+use crate::kinds::{Reading, Role, Symbol};
+use md_base::Name;
 
 /// Which symbols of a group have been read.
 #[derive(Clone, Copy, Debug, PartialEq, Eq)]
@@ -28,6 +28,15 @@ pub struct State {
     pub stage: Stage,
 }
 
+/// What identifies a link, an image, a footnote call or a definition, as far as events have been read.
+#[derive(Clone, Copy, Debug, PartialEq, Eq)]
+pub enum Aim {
+    Missing,
+    Resource,
+    /// Its label, which is entered and exited at these indices.
+    Label(usize, usize),
+}
+
 /// What waits for the end of a node that has a spine of its own.
 #[derive(Clone, Copy, Debug, PartialEq, Eq)]
 pub struct Outer {
@@ -36,7 +45,7 @@ pub struct Outer {
     /// The symbol before the node.
     pub before: Option<Symbol>,
     /// The target of the spine around, so far.
-    pub target: Target,
+    pub target: Aim,
     /// What is read of the node.
     pub reading: Reading,
 }
@@ -45,7 +54,8 @@ pub struct Outer {
 #[derive(Clone, Copy, Debug, PartialEq, Eq)]
 pub struct Open {
     pub name: Name,
-    pub start: Point,
+    /// The index of the event that enters it.
+    pub entry: usize,
     /// None where the node is transparent.
     pub outer: Option<Outer>,
 }
@@ -54,6 +64,6 @@ pub struct Open {
 #[derive(Clone, Copy, Debug, PartialEq, Eq)]
 pub struct Entry {
     pub state: State,
-    pub target: Target,
+    pub target: Aim,
     pub outer: Option<Outer>,
 }

@@ -1,12 +1,14 @@
-ghost use Rattle.std.specs.Prelude.{◌≡◌, ◌<◌, ◌+◌, ◌^◌, drop};
+ghost use Rattle.std.specs.Prelude.{◌≡◌, ◌<◌, ◌+◌, ◌^◌, List, drop, option_map};
 ghost use Rattle.std.specs.List.{list_all};
 ghost use Rattle.md_tree.specs.Machine.{begun_by, continued, is_optional, after_item, seek, advance, is_complete, start_of, may_hold, entered};
-ghost use Rattle.md_tree.specs.declared.kinds.Target.TheVariants.{Missing};
+ghost use Rattle.md_base.specs.declared.event.Event.{Event};
+ghost use Rattle.md_tree.specs.Walk.{target_seen, entry_seen};
+ghost use Rattle.md_tree.specs.declared.state.Aim.TheVariants.{Missing};
 
-use crate::kinds::{Item, Reading, Role, Standing, Symbol, Target, Times};
+use crate::kinds::{Item, Reading, Role, Standing, Symbol, Times};
 use crate::pattern::{pattern, takes};
 use crate::shape::role_of;
-use crate::state::{Entry, Outer, Stage, State};
+use crate::state::{Aim, Entry, Outer, Stage, State};
 
 /// The group that a symbol begins.
 fn begun(symbol: Symbol) -> Stage
@@ -134,8 +136,8 @@ fn can_hold(role: Role) -> bool
 }
 
 /// Where the children of a node begin, if it may stand here.
-pub fn entry(standing: Standing, state: State, target: Target) -> Option<Entry>
-    ensures { result ≡ entered standing state target }
+pub fn entry(standing: Standing, state: State, target: Aim) -> Option<Entry>
+    ensures { (events : List Event) → option_map (λ entry. entry_seen events entry) result ≡ entered standing state (target_seen events target) }
 {
     if !can_hold(state.role) {
         return None;
@@ -157,7 +159,7 @@ pub fn entry(standing: Standing, state: State, target: Target) -> Option<Entry>
 }
 
 /// What waits for the end of a node, by the spine with and without it.
-fn outer(after: State, before: State, target: Target, reading: Reading) -> Outer
+fn outer(after: State, before: State, target: Aim, reading: Reading) -> Outer
     ensures { result ≡ record { state = after; before = before.before; target = target; reading = reading } }
 {
     Outer {
@@ -174,7 +176,7 @@ fn below(role: Role, outer: Outer) -> Entry
 {
     Entry {
         state: start(role),
-        target: Target::Missing,
+        target: Aim::Missing,
         outer: Some(outer),
     }
 }

@@ -1,13 +1,14 @@
 ghost use Rattle.std.specs.Prelude.{◌≡◌, OnOk};
-ghost use Rattle.md_tree.specs.Mentions.{mentions_with};
+ghost use Rattle.md_tree.specs.Mentions.{mention_of, mentions_with};
+ghost use Rattle.md_tree.specs.Walk.{target_seen};
 
-use crate::judge::{Source, broken, mention, target_left};
-use crate::kinds::{Mention, Mentioned, Role, Standing, Target};
+use crate::judge::{Source, broken, mention, place_at, target_left};
+use crate::kinds::{Mention, Mentioned, Reading, Role, Standing};
 use crate::rule::{CompileError, Rule};
 use crate::standing::standing;
-use crate::state::{Open, Outer, State};
+use crate::state::{Aim, Open, Outer, State};
 use crate::steps::{can_end, entry, start};
-use md_base::{Event, Kind, Name, Point, Position, is_same_name};
+use md_base::{Event, Kind, Name, is_same_name};
 use std::alloc::{AllocError, Global};
 
 /// How far events have been read.
@@ -16,7 +17,7 @@ pub struct Walk {
     /// The spine on which the next event stands.
     pub state: State,
     /// Its target so far.
-    pub target: Target,
+    pub target: Aim,
     /// The nodes that are open, the innermost last.
     pub open_nodes: Vec<Open>,
     /// What the nodes mention that have ended.
@@ -24,19 +25,20 @@ pub struct Walk {
 }
 
 impl Walk {
-    ghost use Rattle.std.specs.Prelude.{◌≡◌, ℕ, suc, [], reverse, IfErr, IfOk, OnOk};
+    ghost use Rattle.std.specs.Prelude.{◌≡◌, List, suc, [], Some, IfErr, OnOk};
     ghost use Rattle.md_base.specs.Reference.{name_table};
+    ghost use Rattle.md_base.specs.declared.event.Event.{Event};
     ghost use Rattle.md_base.specs.declared.event.Kind.TheVariants as kind;
-    ghost use Rattle.md_tree.specs.Machine.{Steps, Enters, Exits, beginning};
-    ghost use Rattle.md_tree.specs.Walk.{course_of, Unbroken, IsStop, Leaves, IsStopInside};
+    ghost use Rattle.md_tree.specs.Machine.{Steps, Enters, Exits, ExitsWhere, beginning};
+    ghost use Rattle.md_tree.specs.Walk.{point_at, place_at, outer_seen, opens_seen, course_of, Unbroken, IsStop, IsStopInside};
 
     /// Before any event.
     pub fn new(alloc: Global) -> Walk
-        ensures { course_of 0 result ≡ beginning }
+        ensures { (events : List Event) → course_of events 0 result ≡ beginning }
     {
         Walk {
             state: start(Role::Flow),
-            target: Target::Missing,
+            target: Aim::Missing,
             open_nodes: Vec::new(alloc),
             mentions: Vec::new(alloc),
         }
@@ -48,23 +50,26 @@ impl Walk {
         alloc: Global,
         source: Source,
         index: usize,
-        event: Event,
+        event: &Event,
     ) -> Result<(), CompileError>
+        requires { event.now.point ≡ point_at source.events.now index }
         ensures ok { OnOk result
-            (Steps (Unbroken source.entry.bytes.now (name_table source.entry.names.now)) event (course_of index self.old) (course_of (suc index) self.new)) }
+            (Steps (Unbroken source.entry.bytes.now (name_table source.entry.names.now)) event.now (course_of source.entry.events.now index self.old) (course_of source.entry.events.now (suc index) self.new)) }
         ensures refused { IfErr result
-            (IsStop source.entry.bytes.now (name_table source.entry.names.now) index event.kind event.name event.point (course_of index self.old)) }
+            (IsStop source.entry.bytes.now (name_table source.entry.names.now) index event.now.kind event.now.name event.now.point (course_of source.entry.events.now index self.old)) }
     {
         match event.kind {
-            Kind::Enter => self.enter(index, event.name, event.point),
-            Kind::Exit => self.exit(alloc, source, index, event.name, event.point),
+            Kind::Enter => self.enter(source, index, event.name),
+            Kind::Exit => self.exit(alloc, source, index, event.name),
         }
     }
 
     /// Enters a node.
-    fn enter(&mut self, index: usize, name: Name, point: Point) -> Result<(), CompileError>
-        ensures ok { OnOk result (Enters name point (course_of index self.old) (course_of (suc index) self.new)) }
-        ensures refused { IfErr result (IsStop [] [] index kind.Enter name point (course_of index self.old)) }
+    fn enter(&mut self, source: Source, index: usize, name: Name) -> Result<(), CompileError>
+        ensures ok { OnOk result
+            (Enters name (point_at source.entry.events.now index) (course_of source.entry.events.now index self.old) (course_of source.entry.events.now (suc index) self.new)) }
+        ensures refused { IfErr result
+            (IsStop source.entry.bytes.now (name_table source.entry.names.now) index kind.Enter name (point_at source.entry.events.now index) (course_of source.entry.events.now index self.old)) }
     {
         let standing = standing(name);
         if matches!(standing, Standing::Mdx) {
@@ -81,7 +86,7 @@ impl Walk {
         };
         self.open_nodes.push(Open {
             name,
-            start: point,
+            entry: index,
             outer: entry.outer,
         })?;
         self.state = entry.state;
@@ -96,12 +101,11 @@ impl Walk {
         source: Source,
         index: usize,
         name: Name,
-        point: Point,
     ) -> Result<(), CompileError>
         ensures ok { OnOk result
-            (Exits (Unbroken source.entry.bytes.now (name_table source.entry.names.now)) (reverse self.old.open_nodes.items) name point (course_of index self.old) (course_of (suc index) self.new)) }
+            (Exits (Unbroken source.entry.bytes.now (name_table source.entry.names.now)) (opens_seen source.entry.events.now self.old.open_nodes.items) name (point_at source.entry.events.now index) (course_of source.entry.events.now index self.old) (course_of source.entry.events.now (suc index) self.new)) }
         ensures refused { IfErr result
-            (IsStop source.entry.bytes.now (name_table source.entry.names.now) index kind.Exit name point (course_of index self.old)) }
+            (IsStop source.entry.bytes.now (name_table source.entry.names.now) index kind.Exit name (point_at source.entry.events.now index) (course_of source.entry.events.now index self.old)) }
     {
         let Some(open_node) = self.open_nodes.pop() else {
             return Err(CompileError::Event {
@@ -115,31 +119,25 @@ impl Walk {
                 rule: Rule::Order,
             });
         }
-        let position = Position {
-            start: open_node.start,
-            end: point,
-        };
-        let mention = match open_node.outer {
-            None => Mention::Nothing,
-            Some(outer) => self.leave(alloc, source, index, outer, position)?,
-        };
-        keep(&mut self.mentions, index, mention)?;
-        Ok(())
+        match open_node.outer {
+            None => Ok(()),
+            Some(outer) => self.leave(alloc, source, index, open_node.entry, outer),
+        }
     }
 
-    /// Leaves a node that has a spine of its own, and answers what it mentions.
+    /// Leaves a node that has a spine of its own, and was entered at an index.
     fn leave(
         &mut self,
         alloc: Global,
         source: Source,
         index: usize,
+        entry: usize,
         outer: Outer,
-        position: Position,
-    ) -> Result<Mention, CompileError>
-        ensures ok { IfOk result
-            (Leaves (Unbroken source.entry.bytes.now (name_table source.entry.names.now)) outer position self.old self.new) }
+    ) -> Result<(), CompileError>
+        ensures ok { OnOk result
+            (ExitsWhere (Unbroken source.entry.bytes.now (name_table source.entry.names.now)) (Some (outer_seen source.entry.events.now outer)) (point_at source.entry.events.now entry) (point_at source.entry.events.now index) (opens_seen source.entry.events.now self.old.open_nodes.items) (course_of source.entry.events.now index self.old) (course_of source.entry.events.now (suc index) self.new)) }
         ensures refused { IfErr result
-            (IsStopInside source.entry.bytes.now (name_table source.entry.names.now) index outer position (course_of index self.old)) }
+            (IsStopInside source.entry.bytes.now (name_table source.entry.names.now) index (outer_seen source.entry.events.now outer) (place_at source.entry.events.now entry index) (course_of source.entry.events.now index self.old)) }
     {
         if !can_end(self.state) {
             return Err(CompileError::Event {
@@ -147,21 +145,36 @@ impl Walk {
                 rule: Rule::Order,
             });
         }
-        if let Some(rule) = broken(alloc, source, &outer, &position, self.target)? {
+        if let Some(rule) = broken(alloc, source, &outer, entry, index, self.target)? {
             return Err(CompileError::Event { index, rule });
         }
-        let mention = mention(outer.reading, self.target);
-        self.target = target_left(outer.reading, outer.target, self.target, position);
+        keep(
+            &mut self.mentions,
+            source.events,
+            index,
+            outer.reading,
+            self.target,
+        )?;
+        self.target = target_left(outer.reading, outer.target, self.target, entry, index);
         self.state = outer.state;
-        Ok(mention)
+        Ok(())
     }
 }
 
 /// Keeps what a node mentions that exits at the index, if it mentions anything.
-fn keep(mentions: &mut Vec<Mentioned>, index: usize, mention: Mention) -> Result<(), AllocError>
-    ensures { OnOk result (mentions.new.items ≡ mentions_with index mention mentions.old.items) }
+fn keep(
+    mentions: &mut Vec<Mentioned>,
+    events: &[Event],
+    index: usize,
+    reading: Reading,
+    target: Aim,
+) -> Result<(), AllocError>
+    ensures { OnOk result (mentions.new.items ≡ mentions_with index (mention_of reading (target_seen events.now target)) mentions.old.items) }
 {
-    match mention {
+    let Aim::Label(entry, exit) = target else {
+        return Ok(());
+    };
+    match mention(reading, place_at(events, entry, exit)) {
         Mention::Nothing => Ok(()),
         mention => {
             mentions.push(Mentioned { index, mention })?;

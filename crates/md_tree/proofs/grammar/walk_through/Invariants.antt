@@ -1,9 +1,0 @@
-use Rattle.std.proofs.Common.{take}
-use Rattle.md_base.specs.Reference.{name_table}
-use Rattle.md_tree.specs.Machine.{Runs, beginning}
-use Rattle.md_tree.specs.Walk.{course_of, Unbroken}
-use Rattle.md_tree.proofs.grammar.walk_through.Given as goal
-
-abbrev pub invariant-loop-index : goal.invariant-loop-index
-invariant-loop-index l =
-    Runs (Unbroken l.source.bytes.now (name_table l.source.names.now)) (take l.index l.events) beginning (course_of l.index l.walk)
