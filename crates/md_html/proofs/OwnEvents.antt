@@ -35,7 +35,8 @@ use Rattle.md_meaning.specs.Given.{text_of}
 use Rattle.md_meaning.specs.Printed.{is_captured, printed_node, printed, definitions_of}
 use Rattle.md_print.specs.Machine.{State, run, beginning}
 use Rattle.md_html.proofs.Spines.{AllLetters, spine-all}
-use Rattle.md_html.proofs.Whole.{run-document}
+use Rattle.md_html.specs.OwnDefinitions.{defined_alone, own_definitions}
+use Rattle.md_html.proofs.Runs.{Knows, run-flatten}
 use Rattle.md_shape.proofs.Symbols.{Told, told}
 
 lie : {A : Type 0} → false ≡ true → A
@@ -170,19 +171,6 @@ printed-bare given (Node name start end children rest) around before r b shaped 
     ∙ ap node same)
     ∙ ap (λ ps. node (printed given round' inner' children) ++ ps)
     (printed-bare given rest around next _ _ shaped.2 parts.1 d ∙ sym (printed-bare given rest (bare around) next' _ _ shaped.2 parts.1 refl))
-
--- the definition that a node with these children is by itself
-abbrev pub defined_alone : Given → Forest → Defined
-defined_alone given children = record {
-  identifier = identifier_at given.bytes (ahead_of children).defined;
-  target = (lay given.ending blank (printed given (inside given.options (is_loose children) Definition outermost) (before_children Definition children nothing_before) children)).notes.target;
-}
-
--- the definitions among some nodes, in the order of their exits, each by itself
-abbrev pub own_definitions : Given → Forest → List Defined
-own_definitions given Empty = []
-own_definitions given (Node name start end children rest) =
-    own_definitions given children ++ ((if is_link_definition name then defined_alone given children ∷ [] else []) ++ own_definitions given rest)
 
 -- where a definition may stand, directly or deeper
 abbrev hosts : Name → Bool
@@ -337,13 +325,15 @@ none-defined given (Node name start end children rest) r b shaped all =
     ∙ none-defined given rest _ _ shaped.2 parts.1
 
 -- the machine over a definition's own events logs it, and nothing else
-pub definition-run : (given : Given) (start end : Point) (children : Forest) → AreShaped children role.Definition None → Matches role.Definition (spine children) →
-    (run given (flatten (Node Definition start end children Empty)) (children_of (Node Definition start end children Empty)) beginning).log.definitions ≡ defined_alone given children ∷ []
-definition-run given start end children shaped match =
+pub definition-run : (given : Given) (start end : Point) (children : Forest) (more : List (Option Forest)) → AreShaped children role.Definition None → Matches role.Definition (spine children) →
+    (run given (flatten (Node Definition start end children Empty)) (children_of (Node Definition start end children Empty) ++ more) beginning).log.definitions ≡ defined_alone given children ∷ []
+definition-run given start end children more shaped match =
     let node : Forest = Node Definition start end children Empty in
     let round : Surroundings = inside given.options (is_loose children) Definition outermost in
     let own : Before = before_children Definition children nothing_before in
+    let begins : Knows beginning nothing_before = record { calls = refl; slurping = refl; previous = refl; spine = refl; columns = refl } in
     let free : list_all hostless (spine children) ≡ true = spine-all hostless role.Definition role.Flow None (spine children) (record { behind = refl; later = refl; first = refl }) match in
-    ap (λ (s : State). s.log.definitions) (run-document given node)
+    ap (λ es. (run given es (children_of node ++ more) beginning).log.definitions) (sym (append-nil (flatten node)))
+    ∙ ap (λ (s : State). s.log.definitions) (run-flatten given node nothing_before [] more beginning begins refl)
     ∙ ap (λ ds. ds ++ defined_alone given children ∷ [])
     (definitions-own given children round own role.Definition None shaped (inr free) ∙ none-defined given children role.Definition None shaped free)

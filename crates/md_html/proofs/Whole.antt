@@ -32,7 +32,7 @@ given_with options names bytes ending definitions = record { bytes = bytes; name
 begins : Knows beginning nothing_before
 begins = record { calls = refl; slurping = refl; previous = refl; spine = refl; columns = refl }
 
-pub run-document : (given : Given) (document : Forest) → run given (flatten document) (children_of document) beginning ≡ after given nothing_before document beginning
+run-document : (given : Given) (document : Forest) → run given (flatten document) (children_of document) beginning ≡ after given nothing_before document beginning
 run-document given document =
     ap (λ es. run given es (children_of document) beginning) (sym (append-nil (flatten document)))
     ∙ ap (λ cs. run given (flatten document ++ []) cs beginning) (sym (append-nil (children_of document)))
