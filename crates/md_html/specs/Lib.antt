@@ -1,3 +1,4 @@
 pub mod Ending
 pub mod Safe
 pub mod SafeHtml
+pub mod OwnDefinitions

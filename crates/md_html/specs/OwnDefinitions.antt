@@ -1,0 +1,32 @@
+-- What definitions define by themselves. Only contracts of private functions speak of it.
+use Rattle.std.specs.Prelude.{ℕ, suc, if◌then◌else◌, List, [], ◌∷◌, ◌++◌}
+use Rattle.md_base.specs.declared.event.Name.TheVariants.{Definition}
+use Rattle.md_tree.specs.Tree.{Forest, Empty, Node}
+use Rattle.md_tree.specs.Partners.{behind}
+use Rattle.md_tree.specs.NameTests.{is_link_definition}
+use Rattle.md_tree.specs.Looseness.{is_loose}
+use Rattle.md_meaning.specs.Piece.{blank, lay}
+use Rattle.md_meaning.specs.Surroundings.{inside, outermost}
+use Rattle.md_meaning.specs.Given.{Given, Defined}
+use Rattle.md_meaning.specs.Places.{nothing_before, before_children, ahead_of, identifier_at}
+use Rattle.md_meaning.specs.Printed.{printed}
+
+-- the definition that a node with these children is by itself
+abbrev pub defined_alone : Given → Forest → Defined
+defined_alone given children = record {
+  identifier = identifier_at given.bytes (ahead_of children).defined;
+  target = (lay given.ending blank (printed given (inside given.options (is_loose children) Definition outermost) (before_children Definition children nothing_before) children)).notes.target;
+}
+
+-- the definitions among some nodes, in the order of their exits, each by itself
+abbrev pub own_definitions : Given → Forest → List Defined
+own_definitions given Empty = []
+own_definitions given (Node name start end children rest) =
+    own_definitions given children ++ ((if is_link_definition name then defined_alone given children ∷ [] else []) ++ own_definitions given rest)
+
+-- the indices of the events that enter them, where the first event has an index
+abbrev pub entries_of : ℕ → Forest → List ℕ
+entries_of index Empty = []
+entries_of index (Node name start end children rest) =
+    entries_of (suc index) children
+    ++ ((if is_link_definition name then index ∷ [] else []) ++ entries_of (suc (behind (suc index) children)) rest)
