@@ -14,7 +14,7 @@ use Rattle.md_tree.specs.Children.{or_else}
 use Rattle.md_tree.specs.NameTests.{is_line_ending}
 use Rattle.md_tree.specs.Texts.{positions_of, is_text_name, ExitsText}
 use Rattle.md_meaning.specs.Places.{first_ending}
-use Rattle.md_html.specs.Ending.{is_exit, ends_line, first_index}
+use Rattle.md_tree.specs.Ending.{is_exit, ends_line, first_index}
 
 -- there is none, or it is at an index, where its place is
 abbrev Outcome : List Event → List (Option Position) → Option Position → Type 0

@@ -1,4 +1,3 @@
-pub mod Ending
 pub mod Safe
 pub mod SafeHtml
 pub mod OwnDefinitions

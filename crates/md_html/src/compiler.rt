@@ -17,7 +17,7 @@ ghost use Rattle.md_text.specs.Safe.{is_safe_link, is_safe_image};
 ghost use Rattle.md_safe.specs.Options.{KeepsGrammar, KeepsLinks, KeepsImages};
 ghost use Rattle.md_print.specs.Sources.{given_of};
 ghost use Rattle.md_meaning.specs.Places.{first_ending as first_place};
-ghost use Rattle.md_html.specs.Ending.{ends_line, first_index};
+ghost use Rattle.md_tree.specs.Ending.{ends_line, first_index};
 ghost use Rattle.md_meaning.specs.Printed.{is_captured};
 
 use md_base::{AlignKind, Event, Kind, Name, Point, Position};

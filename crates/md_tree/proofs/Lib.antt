@@ -5,6 +5,7 @@ pub mod Endings
 pub mod EnteredTables
 pub mod Entering
 pub mod Passing
+pub mod FirstIndex
 pub mod Placing
 pub mod Telling
 pub mod Greedy

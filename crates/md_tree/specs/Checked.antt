@@ -1,17 +1,21 @@
 -- What a checked document keeps.
-use Rattle.std.specs.Prelude.{◌≡◌, map}
+use Rattle.std.specs.Prelude.{◌≡◌, map, length}
 use Rattle.md_tree.specs.declared.checked.Checked.TheInside.{Inside}
 use Rattle.md_tree.specs.Grammar.{Document, handed, IsChecked}
+use Rattle.md_tree.specs.Ending.{first_index}
 use Rattle.md_tree.specs.Facts.{facts_at, tables_at, definitions_at}
 
 -- what was handed in
 abbrev pub given_of : Inside → Document
 given_of inside = handed inside.events.now inside.bytes.now inside.names.now
 
--- the events are a document's of the grammar, each has what is found at it, and the tables and definitions are theirs
+-- the events are a document's of the grammar, each has what is found at it, the tables, the definitions and the first line
+-- ending are theirs, and each was visited once
 abbrev pub IsKept : Inside → Type 0
 IsKept inside =
     IsChecked (given_of inside)
     × (inside.facts.items ≡ facts_at inside.events.now)
     × (map (λ t. t.items) inside.tables.items ≡ tables_at inside.events.now)
     × (inside.definitions.items ≡ definitions_at inside.events.now)
+    × (inside.first_ending ≡ first_index inside.events.now)
+    × (inside.visits ≡ length inside.events.now)

@@ -25,6 +25,7 @@ pub mod Facts
 pub mod Found
 pub mod Seeking
 pub mod Told
+pub mod Ending
 pub mod Entered
 pub mod Laws
 pub mod Tables

@@ -21,6 +21,10 @@ pub struct Checked<'a> {
     tables: Vec<Vec<AlignKind>>,
     /// The entry of each definition.
     definitions: Vec<usize>,
+    /// The exit of the first line ending.
+    first_ending: Option<usize>,
+    /// How many events the check visited.
+    visits: usize,
 }
 
 impl<'a> Model for Checked<'a> {
@@ -44,6 +48,7 @@ impl<'a> Checked<'a> {
     ghost use Rattle.md_tree.specs.Alignments.{alignments};
     ghost use Rattle.md_tree.specs.Partners.{IsPartnerAt, AreDefinitions, last_contributing_at};
     ghost use Rattle.md_tree.specs.Facts.{facts_at, tables_at, definitions_at};
+    ghost use Rattle.md_tree.specs.Ending.{first_index};
     ghost use Rattle.md_tree.specs.Entered.{IsEnteredAt, EntersNode};
     ghost use Rattle.md_tree.specs.Found.{EntersSome, IsFactAt};
     ghost use Rattle.md_tree.specs.Reads.{IsReadAt, has_resource};
@@ -60,12 +65,16 @@ impl<'a> Checked<'a> {
         requires facts { found.facts.items ≡ facts_at events.now }
         requires tables { map (λ t. t.items) found.tables.items ≡ tables_at events.now }
         requires definitions { found.definitions.items ≡ definitions_at events.now }
+        requires first_ending { found.first_ending ≡ first_index events.now }
+        requires visits { found.visits ≡ length events.now }
         ensures { result ≡ handed events.entry.now bytes.entry.now names.entry.now }
     {
         let Facts {
             facts,
             tables,
             definitions,
+            first_ending,
+            visits,
         } = found;
         Checked {
             events,
@@ -74,6 +83,8 @@ impl<'a> Checked<'a> {
             facts,
             tables,
             definitions,
+            first_ending,
+            visits,
         }
     }
 
@@ -119,6 +130,20 @@ impl<'a> Checked<'a> {
         ensures { IsPartnerAt self.now index result }
     {
         partner_at(&self.facts, index)
+    }
+
+    /// The index of the event that exits the first line ending, blank or not; None where there is none.
+    pub fn first_ending(&self) -> Option<usize>
+        ensures { result ≡ first_index self.now.events }
+    {
+        self.first_ending
+    }
+
+    /// How many events the check visited: each one once.
+    pub fn visits(&self) -> usize
+        ensures { result ≡ length self.now.events }
+    {
+        self.visits
     }
 
     /// The indices of the events that enter definitions, in the order of their exits.

@@ -3,6 +3,7 @@
 ghost use Rattle.std.specs.Prelude.{◌≡◌, OnOk, map, set, not, ◌&&◌};
 ghost use Rattle.md_tree.specs.NameTests.{is_transparent};
 ghost use Rattle.md_tree.specs.Facts as spec;
+ghost use Rattle.md_tree.specs.Ending.{ends_line, ending_behind};
 
 use crate::columns::{Columns, collects_in};
 use crate::names::{is_item, is_link_definition, is_table, is_transparent};
@@ -161,12 +162,14 @@ fn partner_alone(partner: usize) -> Fact
 }
 
 /// What is found at each event, the alignments of the tables and the entries of the definitions, both in
-/// the order of their exits.
+/// the order of their exits, the exit of the first line ending, and how many events were visited for it.
 #[derive(Drop)]
 pub struct Facts {
     pub facts: Vec<Fact>,
     pub tables: Vec<Vec<AlignKind>>,
     pub definitions: Vec<usize>,
+    pub first_ending: Option<usize>,
+    pub visits: usize,
 }
 
 /// What is found at the events so far.
@@ -243,10 +246,12 @@ impl Pass {
     }
 
     /// What is found at each event.
-    pub fn into_facts(self) -> Facts
+    pub fn into_facts(self, first_ending: Option<usize>, visits: usize) -> Facts
         ensures facts { result.facts.items ≡ self.facts }
         ensures tables { map (λ t. t.items) result.tables.items ≡ self.columns.tables }
         ensures definitions { result.definitions.items ≡ self.definitions }
+        ensures first_ending { result.first_ending ≡ first_ending }
+        ensures visits { result.visits ≡ visits }
     {
         let Pass {
             facts,
@@ -259,8 +264,28 @@ impl Pass {
             facts,
             tables: columns.into_tables(),
             definitions,
+            first_ending,
+            visits,
         }
     }
+}
+
+/// The exit of the first line ending, blank or not, behind one more event.
+pub fn ending_behind(found: Option<usize>, index: usize, event: &Event) -> Option<usize>
+    ensures { result ≡ ending_behind found index event.now }
+{
+    match found {
+        Some(_) => found,
+        None => if ends_line(event) { Some(index) } else { None },
+    }
+}
+
+/// Whether an event exits a line ending, blank or not.
+fn ends_line(event: &Event) -> bool
+    ensures { result ≡ ends_line event.now }
+{
+    matches!(event.kind, Kind::Exit)
+        && matches!(event.name, Name::LineEnding | Name::BlankLineEnding)
 }
 
 /// Adds the entry of a node that exits, if it is a definition.

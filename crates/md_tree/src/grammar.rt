@@ -1,5 +1,6 @@
 ghost use Rattle.std.specs.Prelude.{◌≡◌, [], true, false, length, map, IfOk, OnOk, IfErr};
 ghost use Rattle.md_base.specs.Reference.{name_table};
+ghost use Rattle.md_tree.specs.Ending.{first_index};
 ghost use Rattle.md_tree.specs.Grammar.{handed, IsChecked};
 ghost use Rattle.md_tree.specs.Refusal.{IsOrder, IsMdx, IsOfNode, IsLost, IsOutside, IsRefusal};
 ghost use Rattle.md_tree.specs.Machine.{Runs, beginning, is_complete};
@@ -7,7 +8,7 @@ ghost use Rattle.md_tree.specs.Walk.{course_of, Unbroken};
 ghost use Rattle.md_tree.specs.Facts.{facts_at, tables_at, definitions_at};
 
 use crate::checked::Checked;
-use crate::facts::{Facts, Pass};
+use crate::facts::{Facts, Pass, ending_behind};
 use crate::judge::Source;
 use crate::resolve::resolve;
 use crate::rule::{CompileError, Rule};
@@ -70,6 +71,8 @@ fn read_document(
     ensures facts { IfOk result (λ read. read.found.facts.items ≡ facts_at events.now) }
     ensures tables { IfOk result (λ read. map (λ t. t.items) read.found.tables.items ≡ tables_at events.now) }
     ensures definitions { IfOk result (λ read. read.found.definitions.items ≡ definitions_at events.now) }
+    ensures first_ending { IfOk result (λ read. read.found.first_ending ≡ first_index events.now) }
+    ensures visits { IfOk result (λ read. read.found.visits ≡ length events.now) }
     ensures refused { IfErr result (IsRefusal (handed events.now bytes.now names.now)) }
 {
     let texts = Texts::new(alloc, bytes)?;
@@ -88,15 +91,22 @@ fn read_events(alloc: Global, source: Source) -> Result<Read, CompileError>
     ensures facts { IfOk result (λ read. read.found.facts.items ≡ facts_at source.entry.events.now) }
     ensures tables { IfOk result (λ read. map (λ t. t.items) read.found.tables.items ≡ tables_at source.entry.events.now) }
     ensures definitions { IfOk result (λ read. read.found.definitions.items ≡ definitions_at source.entry.events.now) }
+    ensures first_ending { IfOk result (λ read. read.found.first_ending ≡ first_index source.entry.events.now) }
+    ensures visits { IfOk result (λ read. read.found.visits ≡ length source.entry.events.now) }
     ensures refused { IfErr result (IsRefusal (handed source.entry.events.now source.entry.bytes.now source.entry.names.now)) }
 {
     let mut walk = Walk::new(alloc);
     let mut pass = Pass::new(alloc);
+    let mut first_ending = None;
+    let mut visits = 0;
+    // Each turn visits an event.
     for (index, event) in source.events.iter().enumerate() {
+        visits += 1;
         walk.step(alloc, source, index, event)?;
         pass.find(alloc, event)?;
+        first_ending = ending_behind(first_ending, index, event);
     }
-    let found = pass.into_facts();
+    let found = pass.into_facts(first_ending, visits);
     Ok(Read { walk, found })
 }
 

@@ -1,4 +1,4 @@
-use Rattle.std.proofs.Common.{suc, add-one, sym, ap}
+use Rattle.std.proofs.Common.{suc, ◌+◌, add-one, sym, ap, ◌∙◌}
 use Rattle.std.proofs.lemmas.Option.{slice_get-get_or}
 use Rattle.std.proofs.lemmas.Result.{err_from_is_err_and}
 use Rattle.md_base.specs.Reference.{name_table}
@@ -6,6 +6,7 @@ use Rattle.md_tree.specs.Grammar.{handed}
 use Rattle.md_tree.specs.Walk.{point_of, course_of, Unbroken}
 use Rattle.md_tree.specs.Facts.{nothing_passed}
 use Rattle.md_tree.proofs.Checking.{Runs-more, IsRefusal-stopped}
+use Rattle.md_tree.proofs.FirstIndex.{first_index-more}
 use Rattle.md_tree.proofs.Passing.{passed_more}
 use Rattle.md_tree.proofs.grammar.read_events.Goals as goal
 
@@ -25,4 +26,6 @@ loop-index-preserved c =
     let events = c.args.source.events.now in (
       rw add-one (Runs-more (Unbroken c.args.source.bytes.now (name_table c.args.source.names.now)) events c.loop-index.index _ (course_of events c.loop-index.index c.loop-index.walk) (course_of events (suc c.loop-index.index) c.step.new.self) c.loop-index-test.true c.loop-index.invariant.0 c.in_ok-step.ensures.ok),
       passed_more events c.loop-index.index _ c.loop-index.pass nothing_passed c.find.new.self c.loop-index-test.true c.loop-index.invariant.1 c.in_ok-find.ensures,
+      c.ending_behind-first_ending.ensures ∙ first_index-more events c.loop-index.index _ c.loop-index.first_ending c.loop-index-test.true c.loop-index.invariant.2,
+      ap (λ n. n + 1) c.loop-index.invariant.3,
     )
