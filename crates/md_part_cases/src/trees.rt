@@ -7,6 +7,7 @@ use md_base::Kind::{Enter, Exit};
 use md_base::{Event, Kind, Name, Point};
 use md_tree::{Checked, CompileError, Rule, check, gfm_table_align, list_item_loose, list_loose};
 use std::alloc::{AllocError, Global};
+use std::process::Abort;
 use std::test::Fail;
 
 fn event(kind: Kind, name: Name, index: usize, vs: usize) -> Event {
@@ -71,6 +72,52 @@ fn refusal_of(
     names: &[(&str, &str)],
 ) -> Option<CompileError> {
     check(alloc, events, bytes, names).err()
+}
+
+/// The events are refused, at the event with this index for this rule.
+fn refuses(
+    rt: &(impl Abort + AllocGlobal),
+    list: &[Plain],
+    bytes: &[u8],
+    names: &[(&str, &str)],
+    wanted: (usize, Rule),
+) {
+    is_refused(rt, refusal(rt.alloc(), list, bytes, names), wanted);
+}
+
+/// The same of events with virtual spaces.
+fn refuses_of(
+    rt: &(impl Abort + AllocGlobal),
+    events: &[Event],
+    bytes: &[u8],
+    names: &[(&str, &str)],
+    wanted: (usize, Rule),
+) {
+    is_refused(rt, refusal_of(rt.alloc(), events, bytes, names), wanted);
+}
+
+fn is_refused(rt: &impl Abort, refusal: Option<CompileError>, wanted: (usize, Rule)) {
+    let (index, rule) = wanted;
+    assert_eq!(rt; refusal, Some(CompileError::Event { index, rule }));
+}
+
+/// The events are a document.
+fn accepts(rt: &(impl Abort + AllocGlobal), list: &[Plain], bytes: &[u8], names: &[(&str, &str)]) {
+    is_accepted(rt, refusal(rt.alloc(), list, bytes, names));
+}
+
+/// The same of events with virtual spaces.
+fn accepts_of(
+    rt: &(impl Abort + AllocGlobal),
+    events: &[Event],
+    bytes: &[u8],
+    names: &[(&str, &str)],
+) {
+    is_accepted(rt, refusal_of(rt.alloc(), events, bytes, names));
+}
+
+fn is_accepted(rt: &impl Abort, refusal: Option<CompileError>) {
+    assert_eq!(rt; refusal, None);
 }
 
 #[test]

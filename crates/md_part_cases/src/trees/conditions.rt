@@ -2,663 +2,508 @@ use super::*;
 
 #[test]
 fn places_fit_and_are_texts(rt: HostRuntime) -> Result<(), Fail> {
-    assert_eq!(rt;
-        refusal(
-            rt.alloc(),
-            &[(Enter, Name::Data, 0), (Exit, Name::Data, 2)],
-            b"a",
-            &[]
-        ),
-        Some(CompileError::Event {
-            index: 1,
-            rule: Rule::Place
-        })
+    refuses(
+        &rt,
+        &[(Enter, Name::Data, 0), (Exit, Name::Data, 2)],
+        b"a",
+        &[],
+        (1, Rule::Place),
     );
-    assert_eq!(rt;
-        refusal(
-            rt.alloc(),
-            &[(Enter, Name::Data, 0), (Exit, Name::Data, 1)],
-            b"\xc3\xa9",
-            &[]
-        ),
-        Some(CompileError::Event {
-            index: 1,
-            rule: Rule::Place
-        })
+    refuses(
+        &rt,
+        &[(Enter, Name::Data, 0), (Exit, Name::Data, 1)],
+        b"\xc3\xa9",
+        &[],
+        (1, Rule::Place),
     );
-    assert_eq!(rt;
-        refusal(
-            rt.alloc(),
-            &[(Enter, Name::Data, 2), (Exit, Name::Data, 1)],
-            b"abc",
-            &[]
-        ),
-        Some(CompileError::Event {
-            index: 1,
-            rule: Rule::Place
-        })
+    refuses(
+        &rt,
+        &[(Enter, Name::Data, 2), (Exit, Name::Data, 1)],
+        b"abc",
+        &[],
+        (1, Rule::Place),
     );
-    assert_eq!(rt;
-        refusal(
-            rt.alloc(),
-            &[(Enter, Name::Data, 3), (Exit, Name::Data, 4)],
-            b"abc",
-            &[]
-        ),
-        Some(CompileError::Event {
-            index: 1,
-            rule: Rule::Place
-        })
+    refuses(
+        &rt,
+        &[(Enter, Name::Data, 3), (Exit, Name::Data, 4)],
+        b"abc",
+        &[],
+        (1, Rule::Place),
     );
-    assert_eq!(rt;
-        refusal_of(
-            rt.alloc(),
-            &[enter_at(Name::Data, 0, 5), exit(Name::Data, 1)],
-            b"abc",
-            &[]
-        ),
-        Some(CompileError::Event {
-            index: 1,
-            rule: Rule::Place
-        })
+    refuses_of(
+        &rt,
+        &[enter_at(Name::Data, 0, 5), exit(Name::Data, 1)],
+        b"abc",
+        &[],
+        (1, Rule::Place),
     );
-    assert_eq!(rt;
-        refusal_of(
-            rt.alloc(),
-            &[enter(Name::Data, 0), exit_at(Name::Data, 0, 5)],
-            b"abc",
-            &[]
-        ),
-        Some(CompileError::Event {
-            index: 1,
-            rule: Rule::Place
-        })
+    refuses_of(
+        &rt,
+        &[enter(Name::Data, 0), exit_at(Name::Data, 0, 5)],
+        b"abc",
+        &[],
+        (1, Rule::Place),
     );
-    assert_eq!(rt;
-        refusal_of(
-            rt.alloc(),
-            &[enter(Name::Data, 0), exit_at(Name::Data, 0, 4)],
-            b"abc",
-            &[]
-        ),
-        None
+    accepts_of(
+        &rt,
+        &[enter(Name::Data, 0), exit_at(Name::Data, 0, 4)],
+        b"abc",
+        &[],
     );
-    assert_eq!(rt;
-        refusal(
-            rt.alloc(),
-            &[(Enter, Name::Paragraph, 9), (Exit, Name::Paragraph, 3)],
-            b"",
-            &[]
-        ),
-        None
+    accepts(
+        &rt,
+        &[(Enter, Name::Paragraph, 9), (Exit, Name::Paragraph, 3)],
+        b"",
+        &[],
     );
-    assert_eq!(rt;
-        refusal(
-            rt.alloc(),
-            &[
-                (Enter, Name::Emphasis, 0),
-                (Enter, Name::CodeText, 0),
-                (Exit, Name::CodeText, 0),
-                (Exit, Name::Emphasis, 0)
-            ],
-            b"",
-            &[]
-        ),
-        None
+    accepts(
+        &rt,
+        &[
+            (Enter, Name::Emphasis, 0),
+            (Enter, Name::CodeText, 0),
+            (Exit, Name::CodeText, 0),
+            (Exit, Name::Emphasis, 0),
+        ],
+        b"",
+        &[],
     );
     Ok(())
 }
 
 #[test]
 fn line_endings_are_one_of_three(rt: HostRuntime) -> Result<(), Fail> {
-    assert_eq!(rt;
-        refusal(
-            rt.alloc(),
-            &[(Enter, Name::LineEnding, 0), (Exit, Name::LineEnding, 1)],
-            b"x",
-            &[]
-        ),
-        Some(CompileError::Event {
-            index: 1,
-            rule: Rule::LineEnding
-        })
+    refuses(
+        &rt,
+        &[(Enter, Name::LineEnding, 0), (Exit, Name::LineEnding, 1)],
+        b"x",
+        &[],
+        (1, Rule::LineEnding),
     );
-    assert_eq!(rt;
-        refusal(
-            rt.alloc(),
-            &[
-                (Enter, Name::BlankLineEnding, 0),
-                (Exit, Name::BlankLineEnding, 1)
-            ],
-            b"x",
-            &[]
-        ),
-        Some(CompileError::Event {
-            index: 1,
-            rule: Rule::LineEnding
-        })
+    refuses(
+        &rt,
+        &[
+            (Enter, Name::BlankLineEnding, 0),
+            (Exit, Name::BlankLineEnding, 1),
+        ],
+        b"x",
+        &[],
+        (1, Rule::LineEnding),
     );
-    assert_eq!(rt;
-        refusal(
-            rt.alloc(),
-            &[(Enter, Name::LineEnding, 0), (Exit, Name::LineEnding, 2)],
-            b"\r\n",
-            &[]
-        ),
-        None
+    accepts(
+        &rt,
+        &[(Enter, Name::LineEnding, 0), (Exit, Name::LineEnding, 2)],
+        b"\r\n",
+        &[],
     );
-    assert_eq!(rt;
-        refusal(
-            rt.alloc(),
-            &[(Enter, Name::LineEnding, 0), (Exit, Name::LineEnding, 2)],
-            b"\n\r",
-            &[]
-        ),
-        Some(CompileError::Event {
-            index: 1,
-            rule: Rule::LineEnding
-        })
+    refuses(
+        &rt,
+        &[(Enter, Name::LineEnding, 0), (Exit, Name::LineEnding, 2)],
+        b"\n\r",
+        &[],
+        (1, Rule::LineEnding),
     );
     Ok(())
 }
 
 #[test]
 fn heading_marks_have_one_to_six_columns(rt: HostRuntime) -> Result<(), Fail> {
-    assert_eq!(rt;
-        refusal(
-            rt.alloc(),
-            &[
-                (Enter, Name::HeadingAtx, 0),
-                (Enter, Name::HeadingAtxSequence, 0),
-                (Exit, Name::HeadingAtxSequence, 7),
-                (Exit, Name::HeadingAtx, 7)
-            ],
-            b"#######",
-            &[]
-        ),
-        Some(CompileError::Event {
-            index: 2,
-            rule: Rule::HeadingMark
-        })
+    refuses(
+        &rt,
+        &[
+            (Enter, Name::HeadingAtx, 0),
+            (Enter, Name::HeadingAtxSequence, 0),
+            (Exit, Name::HeadingAtxSequence, 7),
+            (Exit, Name::HeadingAtx, 7),
+        ],
+        b"#######",
+        &[],
+        (2, Rule::HeadingMark),
     );
-    assert_eq!(rt;
-        refusal(
-            rt.alloc(),
-            &[
-                (Enter, Name::HeadingAtx, 0),
-                (Enter, Name::HeadingAtxSequence, 0),
-                (Exit, Name::HeadingAtxSequence, 0),
-                (Exit, Name::HeadingAtx, 0)
-            ],
-            b"",
-            &[]
-        ),
-        Some(CompileError::Event {
-            index: 2,
-            rule: Rule::HeadingMark
-        })
+    refuses(
+        &rt,
+        &[
+            (Enter, Name::HeadingAtx, 0),
+            (Enter, Name::HeadingAtxSequence, 0),
+            (Exit, Name::HeadingAtxSequence, 0),
+            (Exit, Name::HeadingAtx, 0),
+        ],
+        b"",
+        &[],
+        (2, Rule::HeadingMark),
     );
-    assert_eq!(rt;
-        refusal(
-            rt.alloc(),
-            &[
-                (Enter, Name::HeadingAtx, 0),
-                (Enter, Name::HeadingAtxSequence, 0),
-                (Exit, Name::HeadingAtxSequence, 6),
-                (Exit, Name::HeadingAtx, 6)
-            ],
-            b"######",
-            &[]
-        ),
-        None
+    accepts(
+        &rt,
+        &[
+            (Enter, Name::HeadingAtx, 0),
+            (Enter, Name::HeadingAtxSequence, 0),
+            (Exit, Name::HeadingAtxSequence, 6),
+            (Exit, Name::HeadingAtx, 6),
+        ],
+        b"######",
+        &[],
     );
-    assert_eq!(rt;
-        refusal_of(
-            rt.alloc(),
-            &[
-                enter(Name::HeadingAtx, 0),
-                enter_at(Name::HeadingAtxSequence, 0, 1),
-                exit_at(Name::HeadingAtxSequence, 0, 4),
-                exit(Name::HeadingAtx, 1)
-            ],
-            b"#",
-            &[]
-        ),
-        None
+    accepts_of(
+        &rt,
+        &[
+            enter(Name::HeadingAtx, 0),
+            enter_at(Name::HeadingAtxSequence, 0, 1),
+            exit_at(Name::HeadingAtxSequence, 0, 4),
+            exit(Name::HeadingAtx, 1),
+        ],
+        b"#",
+        &[],
     );
-    assert_eq!(rt;
-        refusal(
-            rt.alloc(),
-            &[
-                (Enter, Name::HeadingAtx, 0),
-                (Enter, Name::HeadingAtxSequence, 0),
-                (Exit, Name::HeadingAtxSequence, 1),
-                (Enter, Name::HeadingAtxSequence, 1),
-                (Exit, Name::HeadingAtxSequence, 8),
-                (Exit, Name::HeadingAtx, 8)
-            ],
-            b"########",
-            &[]
-        ),
-        None
+    accepts(
+        &rt,
+        &[
+            (Enter, Name::HeadingAtx, 0),
+            (Enter, Name::HeadingAtxSequence, 0),
+            (Exit, Name::HeadingAtxSequence, 1),
+            (Enter, Name::HeadingAtxSequence, 1),
+            (Exit, Name::HeadingAtxSequence, 8),
+            (Exit, Name::HeadingAtx, 8),
+        ],
+        b"########",
+        &[],
     );
     Ok(())
 }
 
 #[test]
 fn list_numbers_fit(rt: HostRuntime) -> Result<(), Fail> {
-    assert_eq!(rt;
-        refusal(
-            rt.alloc(),
-            &[
-                (Enter, Name::ListOrdered, 0),
-                (Enter, Name::ListItem, 0),
-                (Enter, Name::ListItemPrefix, 0),
-                (Enter, Name::ListItemValue, 0),
-                (Exit, Name::ListItemValue, 10),
-                (Enter, Name::ListItemMarker, 10),
-                (Exit, Name::ListItemMarker, 11),
-                (Enter, Name::SpaceOrTab, 11),
-                (Exit, Name::SpaceOrTab, 12),
-                (Exit, Name::ListItemPrefix, 12),
-                (Enter, Name::Paragraph, 12),
-                (Enter, Name::Data, 12),
-                (Exit, Name::Data, 13),
-                (Exit, Name::Paragraph, 13),
-                (Exit, Name::ListItem, 13),
-                (Exit, Name::ListOrdered, 13)
-            ],
-            b"4294967296. a",
-            &[]
-        ),
-        Some(CompileError::Event {
-            index: 4,
-            rule: Rule::ListNumber
-        })
+    refuses(
+        &rt,
+        &[
+            (Enter, Name::ListOrdered, 0),
+            (Enter, Name::ListItem, 0),
+            (Enter, Name::ListItemPrefix, 0),
+            (Enter, Name::ListItemValue, 0),
+            (Exit, Name::ListItemValue, 10),
+            (Enter, Name::ListItemMarker, 10),
+            (Exit, Name::ListItemMarker, 11),
+            (Enter, Name::SpaceOrTab, 11),
+            (Exit, Name::SpaceOrTab, 12),
+            (Exit, Name::ListItemPrefix, 12),
+            (Enter, Name::Paragraph, 12),
+            (Enter, Name::Data, 12),
+            (Exit, Name::Data, 13),
+            (Exit, Name::Paragraph, 13),
+            (Exit, Name::ListItem, 13),
+            (Exit, Name::ListOrdered, 13),
+        ],
+        b"4294967296. a",
+        &[],
+        (4, Rule::ListNumber),
     );
-    assert_eq!(rt;
-        refusal(
-            rt.alloc(),
-            &[
-                (Enter, Name::ListOrdered, 0),
-                (Enter, Name::ListItem, 0),
-                (Enter, Name::ListItemPrefix, 0),
-                (Enter, Name::ListItemValue, 0),
-                (Exit, Name::ListItemValue, 2),
-                (Enter, Name::ListItemMarker, 2),
-                (Exit, Name::ListItemMarker, 2),
-                (Exit, Name::ListItemPrefix, 2),
-                (Exit, Name::ListItem, 2),
-                (Exit, Name::ListOrdered, 2)
-            ],
-            b"+1",
-            &[]
-        ),
-        Some(CompileError::Event {
-            index: 4,
-            rule: Rule::ListNumber
-        })
+    refuses(
+        &rt,
+        &[
+            (Enter, Name::ListOrdered, 0),
+            (Enter, Name::ListItem, 0),
+            (Enter, Name::ListItemPrefix, 0),
+            (Enter, Name::ListItemValue, 0),
+            (Exit, Name::ListItemValue, 2),
+            (Enter, Name::ListItemMarker, 2),
+            (Exit, Name::ListItemMarker, 2),
+            (Exit, Name::ListItemPrefix, 2),
+            (Exit, Name::ListItem, 2),
+            (Exit, Name::ListOrdered, 2),
+        ],
+        b"+1",
+        &[],
+        (4, Rule::ListNumber),
     );
-    assert_eq!(rt;
-        refusal(
-            rt.alloc(),
-            &[
-                (Enter, Name::ListOrdered, 0),
-                (Enter, Name::ListItem, 0),
-                (Enter, Name::ListItemPrefix, 0),
-                (Enter, Name::ListItemValue, 0),
-                (Exit, Name::ListItemValue, 3),
-                (Enter, Name::ListItemMarker, 3),
-                (Exit, Name::ListItemMarker, 3),
-                (Exit, Name::ListItemPrefix, 3),
-                (Exit, Name::ListItem, 3),
-                (Exit, Name::ListOrdered, 3)
-            ],
-            b"007",
-            &[]
-        ),
-        None
+    accepts(
+        &rt,
+        &[
+            (Enter, Name::ListOrdered, 0),
+            (Enter, Name::ListItem, 0),
+            (Enter, Name::ListItemPrefix, 0),
+            (Enter, Name::ListItemValue, 0),
+            (Exit, Name::ListItemValue, 3),
+            (Enter, Name::ListItemMarker, 3),
+            (Exit, Name::ListItemMarker, 3),
+            (Exit, Name::ListItemPrefix, 3),
+            (Exit, Name::ListItem, 3),
+            (Exit, Name::ListOrdered, 3),
+        ],
+        b"007",
+        &[],
     );
-    assert_eq!(rt;
-        refusal(
-            rt.alloc(),
-            &[
-                (Enter, Name::ListOrdered, 0),
-                (Enter, Name::ListItem, 0),
-                (Enter, Name::ListItemPrefix, 0),
-                (Enter, Name::ListItemValue, 0),
-                (Exit, Name::ListItemValue, 1),
-                (Enter, Name::ListItemMarker, 1),
-                (Exit, Name::ListItemMarker, 1),
-                (Exit, Name::ListItemPrefix, 1),
-                (Exit, Name::ListItem, 1),
-                (Enter, Name::ListItem, 1),
-                (Enter, Name::ListItemPrefix, 1),
-                (Enter, Name::ListItemValue, 1),
-                (Exit, Name::ListItemValue, 2),
-                (Enter, Name::ListItemMarker, 2),
-                (Exit, Name::ListItemMarker, 2),
-                (Exit, Name::ListItemPrefix, 2),
-                (Exit, Name::ListItem, 2),
-                (Exit, Name::ListOrdered, 2)
-            ],
-            b"2x",
-            &[]
-        ),
-        None
+    accepts(
+        &rt,
+        &[
+            (Enter, Name::ListOrdered, 0),
+            (Enter, Name::ListItem, 0),
+            (Enter, Name::ListItemPrefix, 0),
+            (Enter, Name::ListItemValue, 0),
+            (Exit, Name::ListItemValue, 1),
+            (Enter, Name::ListItemMarker, 1),
+            (Exit, Name::ListItemMarker, 1),
+            (Exit, Name::ListItemPrefix, 1),
+            (Exit, Name::ListItem, 1),
+            (Enter, Name::ListItem, 1),
+            (Enter, Name::ListItemPrefix, 1),
+            (Enter, Name::ListItemValue, 1),
+            (Exit, Name::ListItemValue, 2),
+            (Enter, Name::ListItemMarker, 2),
+            (Exit, Name::ListItemMarker, 2),
+            (Exit, Name::ListItemPrefix, 2),
+            (Exit, Name::ListItem, 2),
+            (Exit, Name::ListOrdered, 2),
+        ],
+        b"2x",
+        &[],
     );
-    assert_eq!(rt;
-        refusal(
-            rt.alloc(),
-            &[
-                (Enter, Name::ListUnordered, 0),
-                (Enter, Name::ListItem, 0),
-                (Enter, Name::ListItemPrefix, 0),
-                (Enter, Name::ListItemValue, 0),
-                (Exit, Name::ListItemValue, 1),
-                (Enter, Name::ListItemMarker, 1),
-                (Exit, Name::ListItemMarker, 1),
-                (Exit, Name::ListItemPrefix, 1),
-                (Exit, Name::ListItem, 1),
-                (Exit, Name::ListUnordered, 1)
-            ],
-            b"2",
-            &[]
-        ),
-        Some(CompileError::Event {
-            index: 3,
-            rule: Rule::Order
-        })
+    refuses(
+        &rt,
+        &[
+            (Enter, Name::ListUnordered, 0),
+            (Enter, Name::ListItem, 0),
+            (Enter, Name::ListItemPrefix, 0),
+            (Enter, Name::ListItemValue, 0),
+            (Exit, Name::ListItemValue, 1),
+            (Enter, Name::ListItemMarker, 1),
+            (Exit, Name::ListItemMarker, 1),
+            (Exit, Name::ListItemPrefix, 1),
+            (Exit, Name::ListItem, 1),
+            (Exit, Name::ListUnordered, 1),
+        ],
+        b"2",
+        &[],
+        (3, Rule::Order),
     );
     Ok(())
 }
 
 #[test]
 fn character_references_decode(rt: HostRuntime) -> Result<(), Fail> {
-    assert_eq!(rt;
-        refusal(
-            rt.alloc(),
-            &[
-                (Enter, Name::CharacterReferenceMarker, 0),
-                (Exit, Name::CharacterReferenceMarker, 1),
-                (Enter, Name::CharacterReferenceValue, 1),
-                (Exit, Name::CharacterReferenceValue, 2)
-            ],
-            b"&x;",
-            &[]
-        ),
-        Some(CompileError::Event {
-            index: 3,
-            rule: Rule::CharacterReference
-        })
+    refuses(
+        &rt,
+        &[
+            (Enter, Name::CharacterReferenceMarker, 0),
+            (Exit, Name::CharacterReferenceMarker, 1),
+            (Enter, Name::CharacterReferenceValue, 1),
+            (Exit, Name::CharacterReferenceValue, 2),
+        ],
+        b"&x;",
+        &[],
+        (3, Rule::CharacterReference),
     );
-    assert_eq!(rt;
-        refusal(
-            rt.alloc(),
-            &[
-                (Enter, Name::CharacterReferenceMarker, 0),
-                (Exit, Name::CharacterReferenceMarker, 1),
-                (Enter, Name::CharacterReferenceValue, 1),
-                (Exit, Name::CharacterReferenceValue, 2)
-            ],
-            b"&x;",
-            &[("x", "<")]
-        ),
-        None
+    accepts(
+        &rt,
+        &[
+            (Enter, Name::CharacterReferenceMarker, 0),
+            (Exit, Name::CharacterReferenceMarker, 1),
+            (Enter, Name::CharacterReferenceValue, 1),
+            (Exit, Name::CharacterReferenceValue, 2),
+        ],
+        b"&x;",
+        &[("x", "<")],
     );
-    assert_eq!(rt;
-        refusal(
-            rt.alloc(),
-            &[
-                (Enter, Name::CharacterReferenceMarker, 0),
-                (Exit, Name::CharacterReferenceMarker, 1),
-                (Enter, Name::CharacterReferenceMarkerNumeric, 1),
-                (Exit, Name::CharacterReferenceMarkerNumeric, 2),
-                (Enter, Name::CharacterReferenceValue, 2),
-                (Exit, Name::CharacterReferenceValue, 4)
-            ],
-            b"&#10;",
-            &[]
-        ),
-        None
+    accepts(
+        &rt,
+        &[
+            (Enter, Name::CharacterReferenceMarker, 0),
+            (Exit, Name::CharacterReferenceMarker, 1),
+            (Enter, Name::CharacterReferenceMarkerNumeric, 1),
+            (Exit, Name::CharacterReferenceMarkerNumeric, 2),
+            (Enter, Name::CharacterReferenceValue, 2),
+            (Exit, Name::CharacterReferenceValue, 4),
+        ],
+        b"&#10;",
+        &[],
     );
-    assert_eq!(rt;
-        refusal(
-            rt.alloc(),
-            &[
-                (Enter, Name::CharacterReferenceMarker, 0),
-                (Exit, Name::CharacterReferenceMarker, 1),
-                (Enter, Name::CharacterReferenceMarkerNumeric, 1),
-                (Exit, Name::CharacterReferenceMarkerNumeric, 2),
-                (Enter, Name::CharacterReferenceMarkerHexadecimal, 2),
-                (Exit, Name::CharacterReferenceMarkerHexadecimal, 3),
-                (Enter, Name::CharacterReferenceValue, 3),
-                (Exit, Name::CharacterReferenceValue, 4)
-            ],
-            b"&#xg;",
-            &[]
-        ),
-        Some(CompileError::Event {
-            index: 7,
-            rule: Rule::CharacterReference
-        })
+    refuses(
+        &rt,
+        &[
+            (Enter, Name::CharacterReferenceMarker, 0),
+            (Exit, Name::CharacterReferenceMarker, 1),
+            (Enter, Name::CharacterReferenceMarkerNumeric, 1),
+            (Exit, Name::CharacterReferenceMarkerNumeric, 2),
+            (Enter, Name::CharacterReferenceMarkerHexadecimal, 2),
+            (Exit, Name::CharacterReferenceMarkerHexadecimal, 3),
+            (Enter, Name::CharacterReferenceValue, 3),
+            (Exit, Name::CharacterReferenceValue, 4),
+        ],
+        b"&#xg;",
+        &[],
+        (7, Rule::CharacterReference),
     );
     Ok(())
 }
 
 #[test]
 fn references_need_a_definition(rt: HostRuntime) -> Result<(), Fail> {
-    assert_eq!(rt;
-        refusal(
-            rt.alloc(),
-            &[
-                (Enter, Name::Link, 0),
-                (Enter, Name::Label, 0),
-                (Enter, Name::LabelText, 1),
-                (Enter, Name::Data, 1),
-                (Exit, Name::Data, 2),
-                (Exit, Name::LabelText, 2),
-                (Exit, Name::Label, 3),
-                (Exit, Name::Link, 3)
-            ],
-            b"[a]",
-            &[]
-        ),
-        Some(CompileError::Event {
-            index: 7,
-            rule: Rule::Definition
-        })
+    refuses(
+        &rt,
+        &[
+            (Enter, Name::Link, 0),
+            (Enter, Name::Label, 0),
+            (Enter, Name::LabelText, 1),
+            (Enter, Name::Data, 1),
+            (Exit, Name::Data, 2),
+            (Exit, Name::LabelText, 2),
+            (Exit, Name::Label, 3),
+            (Exit, Name::Link, 3),
+        ],
+        b"[a]",
+        &[],
+        (7, Rule::Definition),
     );
-    assert_eq!(rt;
-        refusal(
-            rt.alloc(),
-            &[
-                (Enter, Name::Link, 0),
-                (Enter, Name::Label, 0),
-                (Enter, Name::LabelText, 1),
-                (Exit, Name::LabelText, 2),
-                (Exit, Name::Label, 3),
-                (Exit, Name::Link, 3),
-                (Enter, Name::Definition, 0),
-                (Enter, Name::DefinitionLabelString, 1),
-                (Exit, Name::DefinitionLabelString, 2),
-                (Exit, Name::Definition, 0)
-            ],
-            b"[a]",
-            &[]
-        ),
-        None
+    accepts(
+        &rt,
+        &[
+            (Enter, Name::Link, 0),
+            (Enter, Name::Label, 0),
+            (Enter, Name::LabelText, 1),
+            (Exit, Name::LabelText, 2),
+            (Exit, Name::Label, 3),
+            (Exit, Name::Link, 3),
+            (Enter, Name::Definition, 0),
+            (Enter, Name::DefinitionLabelString, 1),
+            (Exit, Name::DefinitionLabelString, 2),
+            (Exit, Name::Definition, 0),
+        ],
+        b"[a]",
+        &[],
     );
-    assert_eq!(rt;
-        refusal(
-            rt.alloc(),
-            &[
-                (Enter, Name::Link, 0),
-                (Enter, Name::Label, 0),
-                (Enter, Name::LabelText, 1),
-                (Exit, Name::LabelText, 2),
-                (Exit, Name::Label, 3),
-                (Enter, Name::ReferenceString, 0),
-                (Exit, Name::ReferenceString, 1),
-                (Exit, Name::Link, 3),
-                (Enter, Name::Definition, 0),
-                (Enter, Name::DefinitionLabelString, 1),
-                (Exit, Name::DefinitionLabelString, 2),
-                (Exit, Name::Definition, 0)
-            ],
-            b"[a]",
-            &[]
-        ),
-        Some(CompileError::Event {
-            index: 7,
-            rule: Rule::Definition
-        })
+    refuses(
+        &rt,
+        &[
+            (Enter, Name::Link, 0),
+            (Enter, Name::Label, 0),
+            (Enter, Name::LabelText, 1),
+            (Exit, Name::LabelText, 2),
+            (Exit, Name::Label, 3),
+            (Enter, Name::ReferenceString, 0),
+            (Exit, Name::ReferenceString, 1),
+            (Exit, Name::Link, 3),
+            (Enter, Name::Definition, 0),
+            (Enter, Name::DefinitionLabelString, 1),
+            (Exit, Name::DefinitionLabelString, 2),
+            (Exit, Name::Definition, 0),
+        ],
+        b"[a]",
+        &[],
+        (7, Rule::Definition),
     );
-    assert_eq!(rt;
-        refusal(
-            rt.alloc(),
-            &[
-                (Enter, Name::Link, 0),
-                (Enter, Name::Label, 0),
-                (Enter, Name::LabelText, 1),
-                (Exit, Name::LabelText, 2),
-                (Exit, Name::Label, 3),
-                (Exit, Name::Link, 3),
-                (Enter, Name::Definition, 0),
-                (Enter, Name::DefinitionLabelString, 0),
-                (Exit, Name::DefinitionLabelString, 1),
-                (Exit, Name::Definition, 0)
-            ],
-            b"AaA",
-            &[]
-        ),
-        None
+    accepts(
+        &rt,
+        &[
+            (Enter, Name::Link, 0),
+            (Enter, Name::Label, 0),
+            (Enter, Name::LabelText, 1),
+            (Exit, Name::LabelText, 2),
+            (Exit, Name::Label, 3),
+            (Exit, Name::Link, 3),
+            (Enter, Name::Definition, 0),
+            (Enter, Name::DefinitionLabelString, 0),
+            (Exit, Name::DefinitionLabelString, 1),
+            (Exit, Name::Definition, 0),
+        ],
+        b"AaA",
+        &[],
     );
     Ok(())
 }
 
 #[test]
 fn links_need_a_target(rt: HostRuntime) -> Result<(), Fail> {
-    assert_eq!(rt;
-        refusal(
-            rt.alloc(),
-            &[
-                (Enter, Name::Link, 0),
-                (Enter, Name::Label, 0),
-                (Exit, Name::Label, 2),
-                (Exit, Name::Link, 2)
-            ],
-            b"[]",
-            &[]
-        ),
-        Some(CompileError::Event {
-            index: 3,
-            rule: Rule::Target
-        })
+    refuses(
+        &rt,
+        &[
+            (Enter, Name::Link, 0),
+            (Enter, Name::Label, 0),
+            (Exit, Name::Label, 2),
+            (Exit, Name::Link, 2),
+        ],
+        b"[]",
+        &[],
+        (3, Rule::Target),
     );
-    assert_eq!(rt;
-        refusal(
-            rt.alloc(),
-            &[
-                (Enter, Name::Image, 0),
-                (Enter, Name::Label, 0),
-                (Exit, Name::Label, 2),
-                (Exit, Name::Image, 2)
-            ],
-            b"[]",
-            &[]
-        ),
-        Some(CompileError::Event {
-            index: 3,
-            rule: Rule::Target
-        })
+    refuses(
+        &rt,
+        &[
+            (Enter, Name::Image, 0),
+            (Enter, Name::Label, 0),
+            (Exit, Name::Label, 2),
+            (Exit, Name::Image, 2),
+        ],
+        b"[]",
+        &[],
+        (3, Rule::Target),
     );
-    assert_eq!(rt;
-        refusal(
-            rt.alloc(),
-            &[
-                (Enter, Name::Link, 0),
-                (Enter, Name::Label, 0),
-                (Exit, Name::Label, 2),
-                (Enter, Name::Resource, 2),
-                (Exit, Name::Resource, 2),
-                (Exit, Name::Link, 2)
-            ],
-            b"[]",
-            &[]
-        ),
-        None
+    accepts(
+        &rt,
+        &[
+            (Enter, Name::Link, 0),
+            (Enter, Name::Label, 0),
+            (Exit, Name::Label, 2),
+            (Enter, Name::Resource, 2),
+            (Exit, Name::Resource, 2),
+            (Exit, Name::Link, 2),
+        ],
+        b"[]",
+        &[],
     );
     Ok(())
 }
 
 #[test]
 fn footnote_calls_need_a_definition(rt: HostRuntime) -> Result<(), Fail> {
-    assert_eq!(rt;
-        refusal(
-            rt.alloc(),
-            &[
-                (Enter, Name::GfmFootnoteCall, 0),
-                (Enter, Name::Label, 0),
-                (Enter, Name::LabelText, 2),
-                (Enter, Name::Data, 2),
-                (Exit, Name::Data, 3),
-                (Exit, Name::LabelText, 3),
-                (Exit, Name::Label, 4),
-                (Exit, Name::GfmFootnoteCall, 4)
-            ],
-            b"[^b]",
-            &[]
-        ),
-        Some(CompileError::Event {
-            index: 7,
-            rule: Rule::Footnote
-        })
+    refuses(
+        &rt,
+        &[
+            (Enter, Name::GfmFootnoteCall, 0),
+            (Enter, Name::Label, 0),
+            (Enter, Name::LabelText, 2),
+            (Enter, Name::Data, 2),
+            (Exit, Name::Data, 3),
+            (Exit, Name::LabelText, 3),
+            (Exit, Name::Label, 4),
+            (Exit, Name::GfmFootnoteCall, 4),
+        ],
+        b"[^b]",
+        &[],
+        (7, Rule::Footnote),
     );
-    assert_eq!(rt;
-        refusal(
-            rt.alloc(),
-            &[
-                (Enter, Name::GfmFootnoteCall, 0),
-                (Enter, Name::Label, 0),
-                (Enter, Name::LabelText, 2),
-                (Exit, Name::LabelText, 3),
-                (Exit, Name::Label, 4),
-                (Exit, Name::GfmFootnoteCall, 4),
-                (Enter, Name::Definition, 0),
-                (Enter, Name::DefinitionLabelString, 2),
-                (Exit, Name::DefinitionLabelString, 3),
-                (Exit, Name::Definition, 0)
-            ],
-            b"[^b]",
-            &[]
-        ),
-        Some(CompileError::Event {
-            index: 5,
-            rule: Rule::Footnote
-        })
+    refuses(
+        &rt,
+        &[
+            (Enter, Name::GfmFootnoteCall, 0),
+            (Enter, Name::Label, 0),
+            (Enter, Name::LabelText, 2),
+            (Exit, Name::LabelText, 3),
+            (Exit, Name::Label, 4),
+            (Exit, Name::GfmFootnoteCall, 4),
+            (Enter, Name::Definition, 0),
+            (Enter, Name::DefinitionLabelString, 2),
+            (Exit, Name::DefinitionLabelString, 3),
+            (Exit, Name::Definition, 0),
+        ],
+        b"[^b]",
+        &[],
+        (5, Rule::Footnote),
     );
-    assert_eq!(rt;
-        refusal(
-            rt.alloc(),
-            &[
-                (Enter, Name::GfmFootnoteCall, 0),
-                (Enter, Name::Label, 0),
-                (Enter, Name::LabelText, 2),
-                (Exit, Name::LabelText, 3),
-                (Exit, Name::Label, 4),
-                (Exit, Name::GfmFootnoteCall, 4),
-                (Enter, Name::GfmFootnoteDefinition, 0),
-                (Enter, Name::GfmFootnoteDefinitionPrefix, 0),
-                (Enter, Name::GfmFootnoteDefinitionLabelString, 2),
-                (Exit, Name::GfmFootnoteDefinitionLabelString, 3),
-                (Exit, Name::GfmFootnoteDefinitionPrefix, 0),
-                (Exit, Name::GfmFootnoteDefinition, 0)
-            ],
-            b"[^b]",
-            &[]
-        ),
-        None
+    accepts(
+        &rt,
+        &[
+            (Enter, Name::GfmFootnoteCall, 0),
+            (Enter, Name::Label, 0),
+            (Enter, Name::LabelText, 2),
+            (Exit, Name::LabelText, 3),
+            (Exit, Name::Label, 4),
+            (Exit, Name::GfmFootnoteCall, 4),
+            (Enter, Name::GfmFootnoteDefinition, 0),
+            (Enter, Name::GfmFootnoteDefinitionPrefix, 0),
+            (Enter, Name::GfmFootnoteDefinitionLabelString, 2),
+            (Exit, Name::GfmFootnoteDefinitionLabelString, 3),
+            (Exit, Name::GfmFootnoteDefinitionPrefix, 0),
+            (Exit, Name::GfmFootnoteDefinition, 0),
+        ],
+        b"[^b]",
+        &[],
     );
     Ok(())
 }

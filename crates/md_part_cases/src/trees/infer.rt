@@ -34,6 +34,25 @@ fn columns(alloc: Global, list: &[Plain], bytes: &[u8]) -> Option<Vec<AlignKind>
     None
 }
 
+/// The list that the first event enters is loose or not, its items not looked at and looked at.
+fn is_loose(rt: &(impl Abort + AllocGlobal), list: &[Plain], bytes: &[u8], wanted: (bool, bool)) {
+    assert_eq!(rt; looseness(rt.alloc(), list, bytes), Some(wanted));
+}
+
+/// The item that the event at the index enters is loose or not.
+fn item_is_loose(
+    rt: &(impl Abort + AllocGlobal),
+    list: &[Plain],
+    bytes: &[u8],
+    index: usize,
+    wanted: bool,
+) {
+    assert_eq!(rt;
+        item_looseness(rt.alloc(), list, bytes, index),
+        Some(wanted)
+    );
+}
+
 #[test]
 fn a_list_with_no_blank_line_is_tight(rt: HostRuntime) -> Result<(), Fail> {
     let events = [
@@ -62,14 +81,8 @@ fn a_list_with_no_blank_line_is_tight(rt: HostRuntime) -> Result<(), Fail> {
         (Exit, Name::ListItem, 5),
         (Exit, Name::ListUnordered, 5),
     ];
-    assert_eq!(rt;
-        looseness(rt.alloc(), &events, b"*a\n*b"),
-        Some((false, false))
-    );
-    assert_eq!(rt;
-        item_looseness(rt.alloc(), &events, b"*a\n*b", 1),
-        Some(false)
-    );
+    is_loose(&rt, &events, b"*a\n*b", (false, false));
+    item_is_loose(&rt, &events, b"*a\n*b", 1, false);
     Ok(())
 }
 
@@ -101,14 +114,8 @@ fn a_blank_line_between_items_makes_a_list_loose(rt: HostRuntime) -> Result<(), 
         (Exit, Name::ListItem, 5),
         (Exit, Name::ListUnordered, 5),
     ];
-    assert_eq!(rt;
-        looseness(rt.alloc(), &events, b"*a\n*b"),
-        Some((true, true))
-    );
-    assert_eq!(rt;
-        item_looseness(rt.alloc(), &events, b"*a\n*b", 1),
-        Some(false)
-    );
+    is_loose(&rt, &events, b"*a\n*b", (true, true));
+    item_is_loose(&rt, &events, b"*a\n*b", 1, false);
     Ok(())
 }
 
@@ -148,14 +155,8 @@ fn a_blank_line_in_an_item_makes_it_and_the_list_loose(rt: HostRuntime) -> Resul
         (Exit, Name::ListItem, 8),
         (Exit, Name::ListUnordered, 8),
     ];
-    assert_eq!(rt;
-        looseness(rt.alloc(), &events, b"*a\n\nb\n*c"),
-        Some((false, true))
-    );
-    assert_eq!(rt;
-        item_looseness(rt.alloc(), &events, b"*a\n\nb\n*c", 1),
-        Some(true)
-    );
+    is_loose(&rt, &events, b"*a\n\nb\n*c", (false, true));
+    item_is_loose(&rt, &events, b"*a\n\nb\n*c", 1, true);
     Ok(())
 }
 
@@ -187,14 +188,8 @@ fn a_blank_line_behind_an_empty_item_leaves_a_list_tight(rt: HostRuntime) -> Res
         (Exit, Name::ListItem, 6),
         (Exit, Name::ListOrdered, 6),
     ];
-    assert_eq!(rt;
-        looseness(rt.alloc(), &events, b"1.\n2.a"),
-        Some((false, false))
-    );
-    assert_eq!(rt;
-        item_looseness(rt.alloc(), &events, b"1.\n2.a", 1),
-        Some(false)
-    );
+    is_loose(&rt, &events, b"1.\n2.a", (false, false));
+    item_is_loose(&rt, &events, b"1.\n2.a", 1, false);
     Ok(())
 }
 
@@ -228,10 +223,7 @@ fn a_blank_line_behind_a_quote_that_ends_in_its_prefix_leaves_a_list_tight(
         (Exit, Name::ListItem, 5),
         (Exit, Name::ListUnordered, 5),
     ];
-    assert_eq!(rt;
-        looseness(rt.alloc(), &events, b"*>\n*a"),
-        Some((false, false))
-    );
+    is_loose(&rt, &events, b"*>\n*a", (false, false));
     Ok(())
 }
 
@@ -261,14 +253,8 @@ fn a_blank_line_behind_an_items_prefix_leaves_it_tight(rt: HostRuntime) -> Resul
         (Exit, Name::ListItem, 4),
         (Exit, Name::ListUnordered, 4),
     ];
-    assert_eq!(rt;
-        looseness(rt.alloc(), &events, b"*\n*a"),
-        Some((false, false))
-    );
-    assert_eq!(rt;
-        item_looseness(rt.alloc(), &events, b"*\n*a", 1),
-        Some(false)
-    );
+    is_loose(&rt, &events, b"*\n*a", (false, false));
+    item_is_loose(&rt, &events, b"*\n*a", 1, false);
     Ok(())
 }
 
