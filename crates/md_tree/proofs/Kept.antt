@@ -1,11 +1,12 @@
 -- What is kept at the index of an event.
 use Rattle.std.proofs.Common.{◌≡◌, ℕ, ◌<◌, Bool, true, Option, Some, List, length, refl, sym, ap, ◌∙◌, subst}
 use Rattle.std.specs.Prelude.{map, slice_get}
+use Rattle.std.specs.List.{All}
 use Rattle.std.proofs.lemmas.List.{length-map}
 use Rattle.md_base.specs.declared.event.Point.{Point}
 use Rattle.md_base.specs.declared.event.Position.{Position}
 use Rattle.md_base.specs.declared.event.Name.{Name}
-use Rattle.md_base.specs.declared.event.Name.TheVariants.{GfmTable}
+use Rattle.md_base.specs.declared.event.Name.TheVariants.{Definition, GfmTable}
 use Rattle.md_tree.specs.declared.checked.Checked.TheInside.{Inside}
 use Rattle.md_tree.specs.declared.facts.Fact.{Fact}
 use Rattle.md_tree.specs.declared.kinds.Reading.{Reading}
@@ -19,6 +20,7 @@ use Rattle.md_tree.specs.Checked.{given_of, IsKept}
 use Rattle.md_tree.specs.Facts.{facts_at, tables_at, definitions_at, fact_at}
 use Rattle.md_tree.specs.Found.{EntersSome, IsFactAt, position_ended}
 use Rattle.md_tree.specs.Partners.{AreDefinitions}
+use Rattle.md_tree.proofs.Defining.{definitions-entered}
 use Rattle.md_tree.proofs.Passing.{definitions-flatten}
 use Rattle.md_tree.proofs.Indexed.{HaveText, EndedAt, EndedAt-checked}
 use Rattle.md_tree.proofs.Entering.{got_inside, EntersNode-entered, found-entered, facts_at-inside}
@@ -37,6 +39,10 @@ module _ (inside : Inside) (given : Document) (index : ℕ) (kept : IsKept insid
   pub definitions-kept : AreDefinitions given inside.definitions.items
   definitions-kept forest flattens =
       kept.3 ∙ ap (λ (g : Document). definitions_at g.events) same ∙ definitions-flatten forest given.events flattens
+
+  pub definitions-enter : All (λ i. EntersAt given.events i Definition) inside.definitions.items
+  definitions-enter =
+      subst (λ ds. All (λ i. EntersAt given.events i Definition) ds) (sym (definitions-kept kept.0.0 flattened)) (definitions-entered given.events kept.0.0 flattened)
 
   -- an exit
   pub ended-kept : (is : Reading → Bool) (text : Point → Point → Option (List ℕ)) (name : Name) → HaveText given.bytes given.names is text → ExitsAt given.events index name → has_reading is (standing_of name) ≡ true → EndedAt text given index

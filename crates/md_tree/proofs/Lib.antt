@@ -1,6 +1,7 @@
 pub mod Breaks
 pub mod Checking
 pub mod Contributing
+pub mod Defining
 pub mod Endings
 pub mod EnteredTables
 pub mod Entering

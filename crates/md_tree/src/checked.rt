@@ -49,6 +49,7 @@ impl<'a> Checked<'a> {
     ghost use Rattle.md_tree.specs.Partners.{IsPartnerAt, AreDefinitions, last_contributing_at};
     ghost use Rattle.md_tree.specs.Facts.{facts_at, tables_at, definitions_at};
     ghost use Rattle.md_tree.specs.Ending.{first_index};
+    ghost use Rattle.std.specs.List.{All};
     ghost use Rattle.md_tree.specs.Entered.{IsEnteredAt, EntersNode};
     ghost use Rattle.md_tree.specs.Found.{EntersSome, IsFactAt};
     ghost use Rattle.md_tree.specs.Reads.{IsReadAt, has_resource};
@@ -148,7 +149,8 @@ impl<'a> Checked<'a> {
 
     /// The indices of the events that enter definitions, in the order of their exits.
     pub fn definitions(&self) -> &[usize]
-        ensures { AreDefinitions self.now result.now }
+        ensures definitions { AreDefinitions self.now result.now }
+        ensures entered { All (λ index. EntersAt self.now.events index name.Definition) result.now }
     {
         self.definitions.as_slice()
     }

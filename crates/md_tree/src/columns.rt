@@ -19,6 +19,7 @@ enum Part {
     Value,
 }
 
+#[inline(always)]
 fn part_of(name: Name) -> Part
     ensures { result ≡ spec.part_of name }
 {

@@ -6,6 +6,7 @@ ghost use Rattle.md_tree.specs.NameTests as tests;
 use md_base::Name;
 
 /// A node that its parent's pattern looks through.
+#[inline(always)]
 pub fn is_transparent(name: Name) -> bool
     ensures { result ≡ tests.is_transparent name }
 {

@@ -19,12 +19,12 @@ pub enum Stage {
 /// How much of a spine has been read.
 #[derive(Clone, Copy, Debug, PartialEq, Eq)]
 pub struct State {
+    /// The item of the pattern from which on the next symbol may be taken.
+    pub position: usize,
     /// The role of the node whose spine it is.
     pub role: Role,
     /// The last symbol.
     pub before: Option<Symbol>,
-    /// The item of the pattern from which on the next symbol may be taken.
-    pub position: usize,
     pub stage: Stage,
 }
 
@@ -42,10 +42,10 @@ pub enum Aim {
 pub struct Outer {
     /// The spine around the node, the node included.
     pub state: State,
-    /// The symbol before the node.
-    pub before: Option<Symbol>,
     /// The target of the spine around, so far.
     pub target: Aim,
+    /// The symbol before the node.
+    pub before: Option<Symbol>,
     /// What is read of the node.
     pub reading: Reading,
 }
@@ -53,11 +53,11 @@ pub struct Outer {
 /// A node that is open.
 #[derive(Clone, Copy, Debug, PartialEq, Eq)]
 pub struct Open {
-    pub name: Name,
     /// The index of the event that enters it.
     pub entry: usize,
     /// None where the node is transparent.
     pub outer: Option<Outer>,
+    pub name: Name,
 }
 
 /// Where a node's children begin.
