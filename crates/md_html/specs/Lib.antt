@@ -1,3 +1,4 @@
 pub mod Safe
 pub mod SafeHtml
 pub mod OwnDefinitions
+pub mod Leaf

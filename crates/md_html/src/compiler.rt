@@ -1,6 +1,6 @@
 //! Events to HTML.
 
-ghost use Rattle.std.specs.Prelude.{◌≡◌, ◌∷◌, [], OnOk, IfOk, IfErr, List, string_bytes, length, unwrap_or, option_copied, slice_get, Option, Some, true, false};
+ghost use Rattle.std.specs.Prelude.{◌≡◌, ◌∷◌, ◌+◌, ◌≤◌, drop, Bool, [], OnOk, IfOk, IfErr, List, string_bytes, length, unwrap_or, option_copied, slice_get, Option, Some, true, false};
 ghost use Rattle.md_base.specs.Reference.{name_table};
 ghost use Rattle.md_tree.specs.Tree.{Forest, flatten};
 ghost use Rattle.md_tree.specs.Grammar.{IsChecked, handed};
@@ -10,7 +10,7 @@ ghost use Rattle.md_tree.specs.Entered.{children_of};
 ghost use Rattle.md_print.specs.Sources.{IsToldAt, closing_at};
 ghost use Rattle.md_tree.specs.Refusal.{IsOutside, IsOrder, IsMdx, IsOfNode, IsLost};
 ghost use Rattle.md_print.specs.Machine as machine;
-ghost use Rattle.md_facts.specs.Steps as steps;
+ghost use Rattle.md_print.specs.Steps as steps;
 ghost use Rattle.md_meaning.specs.Meaning.{meaning, ending_at};
 ghost use Rattle.md_text.specs.Html.{any_attribute, HasOneReadingWith};
 ghost use Rattle.md_text.specs.Safe.{is_safe_link, is_safe_image};
@@ -19,12 +19,18 @@ ghost use Rattle.md_print.specs.Sources.{given_of};
 ghost use Rattle.md_meaning.specs.Places.{first_ending as first_place};
 ghost use Rattle.md_tree.specs.Ending.{ends_line, first_index};
 ghost use Rattle.md_meaning.specs.Printed.{is_captured};
+ghost use Rattle.md_meaning.specs.declared.facts.Ahead.{Ahead};
+ghost use Rattle.md_print.specs.Closings.{group_of, is_light};
+ghost use Rattle.md_html.specs.Leaf.{IsLeaf};
+ghost use Rattle.std.specs.Bool.{OnTrue};
+ghost use Rattle.md_base.specs.declared.event.AlignKind.{AlignKind};
 
-use md_base::{AlignKind, Event, Kind, Name, Point, Position};
-use md_facts::names::{is_captured, is_table};
+use md_base::{AlignKind, Event, Kind, Name, Point, Position, is_same_name};
 use md_meaning::CompileOptions;
 use md_print::close::{close, close_captured};
 use md_print::facts::Exit;
+use md_print::groups::{group_of, is_light};
+use md_print::names::{is_captured, is_table};
 use md_print::open::open;
 use md_print::printer::Printer;
 use md_print::source::{Source, identifier_at};
@@ -337,6 +343,78 @@ fn step(
     }
 }
 
+/// Goes over a node without children that prints at its exit alone, if at all.
+fn leaf(
+    alloc: Global,
+    printer: &mut Printer,
+    source: &Source,
+    is_last: bool,
+    name: Name,
+    start: Point,
+    end: Point,
+) -> Result<(), AllocError>
+    requires { is_light (group_of name) ≡ true }
+    ensures { OnOk result ((ahead : Ahead) (loose : Bool) (columns : List AlignKind) → printer.new
+        ≡ machine.exited (given_of source.now) is_last false name end (machine.entered (given_of source.now) ahead loose columns false name start printer.old)) }
+{
+    let exit = printer.leaf(start, is_last, end);
+    close(alloc, printer, source, &exit, name)?;
+    printer.pass(name)
+}
+
+/// Two events enter and exit such a node.
+fn is_leaf(entry: &Event, exit: &Event) -> bool
+    ensures { OnTrue result (IsLeaf entry.now exit.now) }
+{
+    matches!(entry.kind, Kind::Enter)
+        && matches!(exit.kind, Kind::Exit)
+        && is_light(group_of(entry.name))
+        && is_same_name(entry.name, exit.name)
+}
+
+/// Goes one event further, or two where they enter and exit a node without children: then it answers 1, else 0.
+fn advance(
+    alloc: Global,
+    printer: &mut Printer,
+    source: &Source,
+    checked: &Checked,
+    index: usize,
+    event: &Event,
+    later: &[Event],
+) -> Result<usize, AllocError>
+    requires { event.now ∷ later.now ≡ drop index checked.now.events }
+    ensures within { IfOk result (λ more. more ≤ length later.now) }
+    ensures runs { IfOk result (λ more. (document : Forest) → flatten document ≡ checked.now.events
+        → machine.run (given_of source.now) (drop more later.now) (drop (index + (1 + more)) (children_of document)) printer.new
+        ≡ machine.run (given_of source.now) (event.now ∷ later.now) (drop index (children_of document)) printer.old) }
+{
+    if let Some((exit, beyond)) = later.split_first() {
+        if is_leaf(event, exit) {
+            let is_last = beyond.is_empty();
+            leaf(
+                alloc,
+                printer,
+                source,
+                is_last,
+                event.name,
+                event.point,
+                exit.point,
+            )?;
+            return Ok(1);
+        }
+    }
+    step(
+        alloc,
+        printer,
+        source,
+        checked,
+        index,
+        *event,
+        later.is_empty(),
+    )?;
+    Ok(0)
+}
+
 /// Prints the events, one after another.
 fn run(alloc: Global, source: &Source, checked: &Checked) -> Result<Printer, AllocError>
     ensures { IfOk result (λ printer. (document : Forest) → flatten document ≡ checked.now.events
@@ -346,10 +424,9 @@ fn run(alloc: Global, source: &Source, checked: &Checked) -> Result<Printer, All
     let mut rest = checked.events();
     let mut index = 0;
     while let Some((event, later)) = rest.split_first() {
-        let is_last = later.is_empty();
-        step(alloc, &mut printer, source, checked, index, *event, is_last)?;
-        rest = later;
-        index += 1;
+        let more = advance(alloc, &mut printer, source, checked, index, event, later)?;
+        rest = &later[more..];
+        index += 1 + more;
     }
     Ok(printer)
 }

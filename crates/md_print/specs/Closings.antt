@@ -1,10 +1,10 @@
 -- Names by what prints their nodes after their children. Only contracts of private functions speak of them.
 use Rattle.std.specs.Prelude.{Bool, true, false, List, [], ◌++◌}
 use Rattle.md_base.specs.declared.event.Name.{Name}
-use Rattle.md_base.specs.declared.event.Name.TheVariants.{LineEnding, BlankLineEnding, Data, CharacterEscapeValue, CodeTextData, MathTextData, CharacterReferenceValue, HtmlFlowData, HtmlTextData, Emphasis, Strong, GfmStrikethrough, HardBreakEscape, HardBreakTrailing, GfmTaskListItemCheck, GfmTaskListItemValueChecked, BlockQuote, ListOrdered, ListUnordered, ListItem, Paragraph, ThematicBreak, HeadingAtx, HeadingSetextUnderlineSequence, CodeIndented, CodeFenced, MathFlow, CodeFencedFence, MathFlowFence, CodeFencedFenceInfo, CodeFlowChunk, MathFlowChunk, AutolinkEmail, AutolinkProtocol, GfmAutolinkLiteralEmail, GfmAutolinkLiteralMailto, GfmAutolinkLiteralProtocol, GfmAutolinkLiteralWww, GfmAutolinkLiteralXmpp, GfmTable, GfmTableHead, GfmTableBody, GfmTableRow, CodeText, MathText, HeadingSetextText, CodeFencedFenceMeta, MathFlowFenceMeta, Frontmatter, Definition, DefinitionLabelString, DefinitionDestinationString, DefinitionTitleString, GfmFootnoteDefinition, GfmFootnoteDefinitionLabelString, Link, Image, Resource, ResourceDestinationString, ResourceTitleString, ReferenceString, GfmFootnoteCall, GfmTableCell, GfmTableDelimiterRow}
+use Rattle.md_base.specs.declared.event.Name.TheVariants.{LineEnding, BlankLineEnding, Data, CharacterEscapeValue, CodeTextData, MathTextData, CharacterReferenceValue, HtmlFlowData, HtmlTextData, Emphasis, Strong, GfmStrikethrough, HardBreakEscape, HardBreakTrailing, GfmTaskListItemCheck, GfmTaskListItemValueChecked, BlockQuote, ListOrdered, ListUnordered, ListItem, Paragraph, ThematicBreak, HeadingAtx, HeadingSetextUnderlineSequence, CodeIndented, CodeFenced, MathFlow, CodeFencedFence, MathFlowFence, CodeFencedFenceInfo, CodeFlowChunk, MathFlowChunk, HtmlFlow, AutolinkEmail, AutolinkProtocol, GfmAutolinkLiteralEmail, GfmAutolinkLiteralMailto, GfmAutolinkLiteralProtocol, GfmAutolinkLiteralWww, GfmAutolinkLiteralXmpp, GfmTable, GfmTableHead, GfmTableBody, GfmTableRow, CodeText, MathText, HeadingSetextText, CodeFencedFenceMeta, MathFlowFenceMeta, Frontmatter, Definition, DefinitionLabelString, DefinitionDestinationString, DefinitionTitleString, GfmFootnoteDefinition, GfmFootnoteDefinitionLabelString, Link, Image, Resource, ResourceDestinationString, ResourceTitleString, ReferenceString, GfmFootnoteCall, GfmTableCell, GfmTableDelimiterRow}
 use Rattle.md_meaning.specs.Piece.{Piece}
 use Rattle.md_print.specs.declared.groups.Group.{Group}
-use Rattle.md_print.specs.declared.groups.Group.TheVariants.{Silent, Text, Block, Autolink, Table, Captured}
+use Rattle.md_print.specs.declared.groups.Group.TheVariants.{Silent, Text, Span, Block, Autolink, Table, Captured}
 
 -- the group of a name
 abbrev pub group_of : Name → Group
@@ -17,12 +17,12 @@ group_of MathTextData = Text
 group_of CharacterReferenceValue = Text
 group_of HtmlFlowData = Text
 group_of HtmlTextData = Text
-group_of Emphasis = Text
-group_of Strong = Text
-group_of GfmStrikethrough = Text
+group_of Emphasis = Span
+group_of Strong = Span
+group_of GfmStrikethrough = Span
 group_of HardBreakEscape = Text
 group_of HardBreakTrailing = Text
-group_of GfmTaskListItemCheck = Text
+group_of GfmTaskListItemCheck = Span
 group_of GfmTaskListItemValueChecked = Text
 group_of BlockQuote = Block
 group_of ListOrdered = Block
@@ -40,6 +40,7 @@ group_of MathFlowFence = Block
 group_of CodeFencedFenceInfo = Block
 group_of CodeFlowChunk = Block
 group_of MathFlowChunk = Block
+group_of HtmlFlow = Block
 group_of AutolinkEmail = Autolink
 group_of AutolinkProtocol = Autolink
 group_of GfmAutolinkLiteralEmail = Autolink
@@ -79,10 +80,17 @@ abbrev pub is_captured_group : Group → Bool
 is_captured_group Captured = true
 is_captured_group _ = false
 
+-- a group whose nodes print at their exits alone, if at all, and without a page of their own
+abbrev pub is_light : Group → Bool
+is_light Silent = true
+is_light Text = true
+is_light _ = false
+
 -- of what a node prints as a text, a block, a medium or a part of a table, what its group prints
 abbrev pub in_group : Group → List Piece → List Piece → List Piece → List Piece → List Piece
 in_group Silent text block medium table = []
 in_group Text text block medium table = text
+in_group Span text block medium table = text
 in_group Block text block medium table = block
 in_group Autolink text block medium table = medium
 in_group Table text block medium table = table

@@ -1,3 +1,4 @@
 pub mod Closings
 pub mod Machine
 pub mod Sources
+pub mod Steps

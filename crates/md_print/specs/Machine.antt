@@ -21,10 +21,11 @@ use Rattle.md_tree.specs.NameTests.{is_call, is_table, is_link_definition, is_fo
 use Rattle.md_meaning.specs.declared.facts.Ahead.{Ahead}
 use Rattle.md_meaning.specs.declared.facts.Surroundings.{Surroundings}
 use Rattle.md_meaning.specs.declared.facts.Passed.{Passed}
+use Rattle.md_meaning.specs.declared.facts.Spine.{Spine}
 use Rattle.md_meaning.specs.declared.options.CompileOptions.{CompileOptions}
 use Rattle.md_meaning.specs.Piece.{Piece, Page, blank, lay}
 use Rattle.md_meaning.specs.Surroundings.{own_marks, inside, outermost}
-use Rattle.md_facts.specs.Steps.{first_or, others_of, no_spine, nothing_passed, passing, slurps_behind}
+use Rattle.md_print.specs.Steps.{first_or, others_of, no_spine, nothing_passed, passing, slurps_behind}
 use Rattle.md_meaning.specs.Given.{Given, Defined}
 use Rattle.md_meaning.specs.Places.{Left, identifier_at}
 use Rattle.md_meaning.specs.Printed.{opening, closing, is_captured}
@@ -127,15 +128,21 @@ entered given ahead loose columns captured name start state =
     (opening_frame given.options ahead loose name start
     (capturing captured (printing given.ending (opening given state.frame.around ahead name) state)))
 
+-- a child of the innermost node is passed, which has passed its own children
+abbrev pub passing_child : Name → Spine → State → State
+passing_child name inner state = record state {
+  is_slurping = slurps_behind (own_marks state.frame.around state.frame.passed.spine name) state.is_slurping;
+  frame = record state.frame { passed = passing name inner state.frame.passed };
+}
+
+-- a child without children is passed
+abbrev pub passing_leaf : Name → State → State
+passing_leaf name state = passing_child name (if is_transparent name then state.frame.passed.spine else no_spine) state
+
 -- the innermost node is left
 abbrev pub leaving : Name → State → State
 leaving name state =
-    let parent = first_or document_frame state.frames in
-    record state {
-      is_slurping = slurps_behind (own_marks parent.around parent.passed.spine name) state.is_slurping;
-      frame = record parent { passed = passing name state.frame.passed.spine parent.passed };
-      frames = others_of state.frames;
-    }
+    passing_child name state.frame.passed.spine (record state { frame = first_or document_frame state.frames; frames = others_of state.frames })
 
 -- what the innermost node learns from what stands before it
 abbrev pub left_in : State → Left

@@ -9,7 +9,7 @@ use Rattle.md_base.specs.declared.event.Name.{Name}
 use Rattle.md_print.specs.declared.facts.Exit.{Exit}
 use Rattle.md_print.specs.declared.facts.Frame.{Frame as FrameInside}
 use Rattle.md_print.specs.Machine.{Frame, State, ahead_by, document_frame}
-use Rattle.md_facts.specs.Steps.{first_or}
+use Rattle.md_print.specs.Steps.{first_or}
 use Rattle.md_meaning.specs.Piece.{Piece, Page}
 use Rattle.md_meaning.specs.Places.{Left}
 use Rattle.md_meaning.specs.declared.facts.Ahead.{Ahead}
@@ -52,6 +52,18 @@ exit_in last end state =
       is_last = last;
       end = end;
     }
+
+-- what a node without children is exited with, which starts where a state stands
+abbrev pub leaf_in : Point → Bool → Point → State → Exit
+leaf_in start last end state = record {
+  around = state.frame.around;
+  previous = state.frame.passed.last;
+  spine = state.frame.passed.spine;
+  start = start;
+  is_slurping = state.is_slurping;
+  is_last = last;
+  end = end;
+}
 
 -- what a node learns from what stands before it
 abbrev pub left_at : Exit → List Called → List AlignKind → Left

@@ -4,7 +4,7 @@ ghost use Rattle.std.specs.Prelude.{◌≡◌, ◌∷◌, [], ◌++◌, OnOk, co
 ghost use Rattle.md_print.specs.Machine.{printing, ahead_by};
 ghost use Rattle.md_print.specs.Closings.{group_of};
 ghost use Rattle.md_print.specs.declared.groups.Group.TheVariants as group;
-ghost use Rattle.md_facts.specs.Steps.{first_or};
+ghost use Rattle.md_print.specs.Steps.{first_or};
 ghost use Rattle.md_meaning.specs.Piece.{Text, Needed, Forced, blank};
 ghost use Rattle.md_meaning.specs.Texts as texts;
 ghost use Rattle.md_meaning.specs.Texts.{said};
@@ -18,13 +18,13 @@ use crate::code::code_text;
 use crate::facts::Exit;
 use crate::groups::{Group, group_of};
 use crate::media::{autolink, image, is_plain, link};
+use crate::names::{is_fence, is_item_prefix, is_paragraph};
 use crate::open::{is_tight, on_own_line, outside_images, rank_of};
 use crate::printer::Printer;
 use crate::source::{Source, serialized_of};
 use crate::tables::{close_cell, close_row};
 use crate::texts::{data, html, line_ending, reference};
 use md_base::{Name, Position};
-use md_facts::names::{is_fence, is_item_prefix, is_paragraph};
 use md_meaning::{Container, Passed, Surroundings};
 use md_sheet::Sheet;
 use md_text::encode;
@@ -44,6 +44,7 @@ pub fn close(
 {
     match group_of(name) {
         Group::Text => close_text(alloc, printer, source, exit, name),
+        Group::Span => close_span(printer, source, exit, name),
         Group::Block => close_block(alloc, printer, source, exit, name),
         Group::Autolink => close_autolink(alloc, printer, source, exit, name),
         Group::Table => close_table(printer, source, exit, name),
@@ -51,7 +52,7 @@ pub fn close(
     }
 }
 
-/// Prints what a text, a span or a break prints after its children.
+/// Prints what a text or a break prints after its children.
 fn close_text(
     alloc: Global,
     printer: &mut Printer,
@@ -73,15 +74,31 @@ fn close_text(
         Name::CharacterReferenceValue => reference(alloc, printer, source, exit),
         Name::HtmlFlowData => html(alloc, printer, source, exit),
         Name::HtmlTextData => html(alloc, printer, source, exit),
-        Name::Emphasis => outside_images(printer, exit.around, "</em>"),
-        Name::Strong => outside_images(printer, exit.around, "</strong>"),
-        Name::GfmStrikethrough => outside_images(printer, exit.around, "</del>"),
         Name::HardBreakEscape => outside_images(printer, exit.around, "<br />"),
         Name::HardBreakTrailing => outside_images(printer, exit.around, "<br />"),
-        Name::GfmTaskListItemCheck => outside_images(printer, exit.around, "/>"),
         Name::GfmTaskListItemValueChecked => {
             outside_images(printer, exit.around, "checked=\"\" ")
         }
+        _ => Ok(()),
+    }
+}
+
+/// Prints what a span prints after its children.
+fn close_span(
+    printer: &mut Printer,
+    source: &Source,
+    exit: &Exit,
+    name: Name,
+) -> Result<(), AllocError>
+    requires { group_of name ≡ group.Span }
+    ensures { OnOk result (printer.new ≡ printing source.now.ending.now
+        (printed.text_closing (given_of source.now) exit.now.around (left_at exit.now printer.old.log.called (first_or [] printer.old.tables)) exit.now.is_last exit.now.start exit.now.end blank name) printer.old) }
+{
+    match name {
+        Name::Emphasis => outside_images(printer, exit.around, "</em>"),
+        Name::Strong => outside_images(printer, exit.around, "</strong>"),
+        Name::GfmStrikethrough => outside_images(printer, exit.around, "</del>"),
+        Name::GfmTaskListItemCheck => outside_images(printer, exit.around, "/>"),
         _ => Ok(()),
     }
 }

@@ -10,8 +10,10 @@ use md_base::Name;
 pub enum Group {
     /// Nothing does.
     Silent,
-    /// A text, a span or a break.
+    /// A text or a break, which prints nothing before its children.
     Text,
+    /// A span.
+    Span,
     /// A block.
     Block,
     /// An autolink.
@@ -36,13 +38,11 @@ pub fn group_of(name: Name) -> Group
         | Name::CharacterReferenceValue
         | Name::HtmlFlowData
         | Name::HtmlTextData
-        | Name::Emphasis
-        | Name::Strong
-        | Name::GfmStrikethrough
         | Name::HardBreakEscape
         | Name::HardBreakTrailing
-        | Name::GfmTaskListItemCheck
         | Name::GfmTaskListItemValueChecked => Group::Text,
+        Name::Emphasis | Name::Strong | Name::GfmStrikethrough | Name::GfmTaskListItemCheck =>
+            Group::Span,
         Name::BlockQuote
         | Name::ListOrdered
         | Name::ListUnordered
@@ -58,7 +58,8 @@ pub fn group_of(name: Name) -> Group
         | Name::MathFlowFence
         | Name::CodeFencedFenceInfo
         | Name::CodeFlowChunk
-        | Name::MathFlowChunk => Group::Block,
+        | Name::MathFlowChunk
+        | Name::HtmlFlow => Group::Block,
         Name::AutolinkEmail
         | Name::AutolinkProtocol
         | Name::GfmAutolinkLiteralEmail
@@ -92,4 +93,11 @@ pub fn group_of(name: Name) -> Group
         | Name::GfmTableDelimiterRow => Group::Captured,
         _ => Group::Silent,
     }
+}
+
+/// A group whose nodes print at their exits alone, if at all, and without a page of their own.
+pub fn is_light(group: Group) -> bool
+    ensures { result ≡ closings.is_light group }
+{
+    matches!(group, Group::Silent | Group::Text)
 }

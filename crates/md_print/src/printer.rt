@@ -2,7 +2,7 @@
 
 ghost use Rattle.std.specs.Prelude.{◌≡◌, ◌∷◌, ◌++◌, ◌+◌, ◌<◌, ◌^◌, slice_get, IfOk, IfSome, OnOk, string_bytes, [], true, if◌then◌else◌};
 ghost use Rattle.md_print.specs.Machine as machine;
-ghost use Rattle.md_facts.specs.Steps as steps;
+ghost use Rattle.md_print.specs.Steps as steps;
 ghost use Rattle.md_meaning.specs.Piece as piece;
 ghost use Rattle.md_meaning.specs.Piece.{Text, Needed, Forced, Noted, Recalled, blank, lay};
 ghost use Rattle.md_meaning.specs.Calls.{number_among, count_among};
@@ -11,9 +11,9 @@ ghost use Rattle.md_sheet.specs.Seen.{counted, noted};
 ghost use Rattle.md_meaning.specs.Texts.{said};
 
 use crate::facts::{Exit, Frame};
+use crate::surroundings::{NO_SPINE, inside, pass, slurps_behind, spine_inside};
 use md_base::{AlignKind, Name, Point, Position};
-use md_facts::surroundings::{NO_SPINE, inside, passing, slurps_behind, spine_inside};
-use md_meaning::{CompileOptions, Container, Passed, Surroundings};
+use md_meaning::{CompileOptions, Container, Passed, Spine, Surroundings};
 use md_sheet::{Calls, Defined, Footnotes, Rope, Sheet, Target, lay_section};
 use std::alloc::{AllocError, Global};
 use std::marker::Model;
@@ -43,7 +43,7 @@ impl Model for Printer {
 }
 
 impl Printer {
-    ghost use Rattle.md_print.specs.Sources.{frame_of, exit_in};
+    ghost use Rattle.md_print.specs.Sources.{frame_of, exit_in, leaf_in};
 
     /// Prints a text.
     pub fn put(&mut self, text: &str) -> Result<(), AllocError>
@@ -245,6 +245,21 @@ impl Printer {
         }
     }
 
+    /// What a node without children is exited with, which starts here.
+    pub fn leaf(&self, start: Point, is_last: bool, end: Point) -> Exit
+        ensures { result ≡ leaf_in start is_last end self.now }
+    {
+        Exit {
+            around: self.frame.around,
+            previous: self.frame.passed.last,
+            spine: self.frame.passed.spine,
+            start,
+            is_slurping: self.is_slurping,
+            is_last,
+            end,
+        }
+    }
+
     /// Captures what follows, if it is to be captured.
     pub fn capture_if(&mut self, alloc: Global, captured: bool) -> Result<(), AllocError>
         ensures { OnOk result (self.new ≡ machine.capturing captured self.old) }
@@ -287,16 +302,33 @@ impl Printer {
     pub fn leave(&mut self, name: Name) -> Result<(), AllocError>
         ensures { OnOk result (self.new ≡ machine.leaving name self.old) }
     {
-        let parent = self.frames.pop().unwrap_or(DOCUMENT_FRAME);
-        let passed = passing(name, self.frame.passed.spine, parent.passed)?;
+        let inner = self.frame.passed.spine;
+        self.frame = match self.frames.pop() {
+            Some(parent) => parent,
+            None => DOCUMENT_FRAME,
+        };
+        self.pass_child(name, inner)
+    }
+
+    /// Passes a node without children.
+    pub fn pass(&mut self, name: Name) -> Result<(), AllocError>
+        ensures { OnOk result (self.new ≡ machine.passing_leaf name self.old) }
+    {
+        let inner = spine_inside(name, self.frame.passed.spine);
+        self.pass_child(name, inner)
+    }
+
+    /// Passes a child of the innermost node, which has passed its own children.
+    fn pass_child(&mut self, name: Name, inner: Spine) -> Result<(), AllocError>
+        ensures { OnOk result (self.new ≡ machine.passing_child name inner self.old) }
+    {
         self.is_slurping = slurps_behind(
-            parent.around,
-            parent.passed.spine,
+            self.frame.around,
+            self.frame.passed.spine,
             name,
             self.is_slurping,
         );
-        self.frame = Frame { passed, ..parent };
-        Ok(())
+        pass(&mut self.frame.passed, name, inner)
     }
 
     /// The definitions that were seen.

@@ -6,10 +6,10 @@ ghost use Rattle.md_meaning.specs.Texts as texts;
 ghost use Rattle.md_print.specs.Sources.{given_of, left_at};
 
 use crate::facts::Exit;
+use crate::names::is_definition;
 use crate::printer::Printer;
 use crate::source::{Source, text_of};
 use md_base::{Name, decode_character_reference};
-use md_facts::names::is_definition;
 use md_text::{encode, gfm_tagfilter};
 use std::alloc::{AllocError, Global};
 

@@ -1,8 +1,8 @@
 -- A name prints in its group alone.
 use Rattle.std.proofs.Common.{◌≡◌, [], OnOk, sym, subst, ◌∙◌}
 use Rattle.md_print.specs.Machine.{State}
-use Rattle.md_print.specs.declared.groups.Group.TheVariants.{Text, Block, Autolink, Table}
-use Rattle.md_facts.specs.Steps.{first_or}
+use Rattle.md_print.specs.declared.groups.Group.TheVariants.{Text, Span, Block, Autolink, Table}
+use Rattle.md_print.specs.Steps.{first_or}
 use Rattle.md_meaning.specs.Piece.{blank}
 use Rattle.md_print.specs.Sources.{given_of, left_at}
 use Rattle.md_print.proofs.Closings.{At, printing-group}
@@ -24,6 +24,23 @@ returns-in-Text c =
       inner = blank;
     } in
     subst (λ s. OnOk c.close_text.result (c.close_text.new.printer ≡ s)) (printing-group c.args.source.now.ending.now at c.args.name Text (sym c.in-Text.is ∙ c.group_of.ensures) start) c.close_text.ensures
+
+pub returns-in-Span : goal.returns-in-Span
+returns-in-Span c =
+    let exit = c.args.exit.now in
+    let start : State = c.args.printer.now in
+    let at : At = record {
+      given = given_of c.args.source.now;
+      around = exit.around;
+      left = left_at exit start.log.called (first_or [] start.tables);
+      ahead = start.frame.ahead;
+      passed = start.frame.passed;
+      last = exit.is_last;
+      start = exit.start;
+      end = exit.end;
+      inner = blank;
+    } in
+    subst (λ s. OnOk c.close_span.result (c.close_span.new.printer ≡ s)) (printing-group c.args.source.now.ending.now at c.args.name Span (sym c.in-Span.is ∙ c.group_of.ensures) start) c.close_span.ensures
 
 pub returns-in-Block : goal.returns-in-Block
 returns-in-Block c =

@@ -1,9 +1,9 @@
 //! What a node knows of the nodes round it and before it.
 
-ghost use Rattle.std.specs.Prelude.{◌≡◌, ◌+◌, IfOk, ◌||◌, ◌&&◌, if◌then◌else◌};
+ghost use Rattle.std.specs.Prelude.{◌≡◌, ◌+◌, IfOk, OnOk, ◌||◌, ◌&&◌, if◌then◌else◌, Some};
 ghost use Rattle.md_meaning.specs.Surroundings as spec;
-ghost use Rattle.md_facts.specs.Steps as machine;
-ghost use Rattle.md_tree.specs.NameTests.{is_transparent};
+ghost use Rattle.md_print.specs.Steps as machine;
+ghost use Rattle.md_tree.specs.NameTests.{is_transparent, is_cell, contributes};
 
 use crate::names::{contributes, is_cell, is_chunk, is_fence, is_transparent};
 use md_base::{Name, Point};
@@ -113,75 +113,66 @@ pub const NO_SPINE: Spine = Spine {
     last: None,
 };
 
-fn either(a: bool, b: bool) -> bool
-    ensures { result ≡ (a || b) }
+/// How many cells there are behind one more name; more than memory can hold are refused.
+fn cells_behind(name: Name, cells: usize) -> Result<usize, AllocError>
+    ensures { IfOk result (λ sum. sum ≡ cells + (if is_cell name then 1 else 0)) }
 {
-    a || b
-}
-
-fn either_or_both(a: bool, b: bool, c: bool) -> bool
-    ensures { result ≡ (a || b && c) }
-{
-    a || b && c
-}
-
-/// One more, if there is one; more than memory can hold are refused.
-fn plus(count: usize, more: bool) -> Result<usize, AllocError>
-    ensures { IfOk result (λ sum. sum ≡ count + (if more then 1 else 0)) }
-{
-    if more {
-        count.checked_add(1).ok_or(AllocError)
+    if is_cell(name) {
+        cells.checked_add(1).ok_or(AllocError)
     } else {
-        Ok(count)
+        Ok(cells)
     }
 }
 
-/// A spine with one more name.
-fn with_name(name: Name, spine: Spine) -> Result<Spine, AllocError>
-    ensures { IfOk result (λ more. more ≡ machine.with_name name spine) }
+/// Adds a name to a spine.
+fn add_name(spine: &mut Spine, name: Name) -> Result<(), AllocError>
+    ensures { OnOk result (spine.new ≡ machine.with_name name spine.old) }
 {
     let fence = is_fence(name);
-    let cells = plus(spine.cells, is_cell(name))?;
-    Ok(Spine {
-        has_fence: either(spine.has_fence, fence),
-        has_second_fence: either_or_both(spine.has_second_fence, spine.has_fence, fence),
-        has_chunk: either(spine.has_chunk, is_chunk(name)),
-        cells,
-        last: Some(name),
-    })
+    spine.cells = cells_behind(name, spine.cells)?;
+    spine.has_second_fence |= spine.has_fence & fence;
+    spine.has_fence |= fence;
+    spine.has_chunk |= is_chunk(name);
+    spine.last = Some(name);
+    Ok(())
 }
 
-fn choose_name(test: bool, name: Name, other: Option<Name>) -> Option<Name>
-    ensures { result ≡ (if test then Some name else other) }
+/// The last child that an item's end looks at, behind one more.
+fn contributing_behind(name: Name, before: Option<Name>) -> Option<Name>
+    ensures { result ≡ (if contributes name then Some name else before) }
 {
-    if test { Some(name) } else { other }
+    if contributes(name) {
+        Some(name)
+    } else {
+        before
+    }
 }
 
-fn choose_spine(test: bool, a: Spine, b: Spine) -> Spine
-    ensures { result ≡ (if test then a else b) }
-{
-    if test { a } else { b }
-}
-
-/// What is passed with one more child, which has passed its own children.
+/// Passes one more child, which has passed its own children.
 ///
 /// # Errors
 ///
 /// Only where a count passes what memory can hold.
-pub fn passing(name: Name, inner: Spine, passed: Passed) -> Result<Passed, AllocError>
-    ensures { IfOk result (λ more. more ≡ machine.passing name inner passed) }
+pub fn pass(passed: &mut Passed, name: Name, inner: Spine) -> Result<(), AllocError>
+    ensures { OnOk result (passed.new ≡ machine.passing name inner passed.old) }
 {
-    let longer = with_name(name, passed.spine)?;
-    Ok(Passed {
-        last: Some(name),
-        contributing: choose_name(contributes(name), name, passed.contributing),
-        spine: choose_spine(is_transparent(name), inner, longer),
-    })
+    passed.last = Some(name);
+    passed.contributing = contributing_behind(name, passed.contributing);
+    if is_transparent(name) {
+        passed.spine = inner;
+        Ok(())
+    } else {
+        add_name(&mut passed.spine, name)
+    }
 }
 
 /// The spine that a node's children begin behind.
 pub fn spine_inside(name: Name, spine: Spine) -> Spine
     ensures { result ≡ (if is_transparent name then spine else machine.no_spine) }
 {
-    choose_spine(is_transparent(name), spine, NO_SPINE)
+    if is_transparent(name) {
+        spine
+    } else {
+        NO_SPINE
+    }
 }

@@ -1,13 +1,10 @@
 -- What is known behind an event, step by step. Only contracts of private functions speak of it.
-use Rattle.std.specs.Prelude.{◌+◌, Bool, true, false, ◌&&◌, ◌||◌, if◌then◌else◌, List, [], ◌∷◌, ◌++◌, Some, None}
+use Rattle.std.specs.Prelude.{◌+◌, Bool, true, false, ◌&&◌, ◌||◌, if◌then◌else◌, List, [], ◌∷◌, Some, None}
 use Rattle.md_base.specs.declared.event.Name.{Name}
-use Rattle.md_tree.specs.Tree.{Forest, Empty, Node}
 use Rattle.md_tree.specs.NameTests.{is_cell, is_transparent, contributes, is_fence, is_chunk}
 use Rattle.md_meaning.specs.declared.facts.Spine.{Spine}
-use Rattle.md_meaning.specs.declared.facts.Ahead.{Ahead}
 use Rattle.md_meaning.specs.declared.facts.Passed.{Passed}
 use Rattle.md_meaning.specs.Surroundings.{Mark, Sets, Clears}
-use Rattle.md_meaning.specs.Places.{ahead_of}
 
 -- the first, or a default
 abbrev pub first_or : {A : Type 0} → A → List A → A

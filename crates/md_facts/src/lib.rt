@@ -1,5 +1,0 @@
-//! What is known of a node before it is printed, by what stands round it and before it.
-#![tactic(auto)]
-
-pub mod names;
-pub mod surroundings;

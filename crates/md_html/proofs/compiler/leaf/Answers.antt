@@ -1,0 +1,34 @@
+-- The node is exited where it is entered.
+use Rattle.std.proofs.Common.{◌≡◌, Bool, false, List, [], ap, ◌∙◌}
+use Rattle.md_base.specs.declared.event.AlignKind.{AlignKind}
+use Rattle.md_meaning.specs.declared.facts.Ahead.{Ahead}
+use Rattle.md_meaning.specs.Piece.{blank}
+use Rattle.md_print.specs.declared.facts.Exit.{Exit}
+use Rattle.md_print.specs.Sources.{given_of, closing_at}
+use Rattle.md_print.specs.Machine as machine
+use Rattle.md_print.specs.Machine.{State}
+use Rattle.md_print.specs.Steps.{first_or}
+use Rattle.md_html.proofs.Leaves.{leaf-steps, streamed}
+use Rattle.md_html.proofs.Walks.{on_answer}
+use Rattle.md_html.proofs.compiler.leaf.Goals as goal
+
+pub close-requires : goal.close-requires
+close-requires c = streamed c.args.name c.requires
+
+pub returns : goal.returns
+returns c =
+    let given = given_of c.args.source.now in
+    let before : State = c.args.printer.now in
+    let name = c.args.name in
+    let after : Exit → State = λ exit.
+    machine.passing_leaf name
+    (machine.printing given.ending (closing_at given exit before.log.called (first_or [] before.tables) before.frame.ahead before.frame.passed blank name) before) in
+    on_answer (λ _. c.pass.new.self ≡ machine.passing_leaf name c.close.new.printer)
+    (λ _. (ahead : Ahead) (loose : Bool) (columns : List AlignKind) →
+    c.pass.new.self ≡ machine.exited given c.args.is_last false name c.args.end (machine.entered given ahead loose columns false name c.args.start before))
+    (λ _ passed ahead loose columns.
+    passed
+    ∙ ap (λ s. machine.passing_leaf name s) c.in_ok-close.ensures
+    ∙ ap after c.leaf-exit.ensures
+    ∙ leaf-steps given ahead before.frame.ahead before.frame.passed loose columns c.args.is_last name c.args.start c.args.end before c.requires)
+    c.pass.result c.pass.ensures
