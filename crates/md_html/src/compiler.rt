@@ -272,7 +272,7 @@ fn exit(
 }
 
 /// Goes one event further.
-fn step(
+pub(crate) fn step(
     alloc: Global,
     printer: &mut Printer,
     source: &Source,

@@ -3,6 +3,7 @@
 
 mod compiler;
 pub mod laws;
+mod own_events;
 
 pub use compiler::{compile, compile_checked};
 pub use md_base::{
