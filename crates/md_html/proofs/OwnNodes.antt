@@ -1,11 +1,11 @@
 -- The definitions of a document, each with where its own events stand.
-use Rattle.std.proofs.Common.{◌≡◌, ℕ, ◌+◌, ◌-◌, zero, suc, Bool, true, false, List, [], ◌∷◌, ◌++◌, map, length, take, drop, refl, ap, sym, ◌∙◌, Option, Some, None, append_assoc, append-nil, subst, arith, unwrap_or}
+use Rattle.std.proofs.Common.{◌≡◌, ◌≤◌, ℕ, ◌+◌, ◌-◌, zero, suc, Bool, true, false, List, [], ◌∷◌, ◌++◌, map, length, take, drop, refl, ap, sym, ◌∙◌, Option, Some, None, append_assoc, append-nil, subst, arith, unwrap_or}
 use Rattle.std.specs.Prelude.{if◌then◌else◌, slice_get}
-use Rattle.std.specs.Option.{option_map_or}
+use Rattle.std.specs.Option.{option_map_or, option_to_list}
 use Rattle.std.proofs.lemmas.Option.{none-some}
-use Rattle.std.proofs.lemmas.List.{length-append}
+use Rattle.std.proofs.lemmas.List.{length-append, take-append-drop}
 use Rattle.md_base.specs.declared.event.Name.{Name}
-use Rattle.md_base.specs.declared.event.Name.TheVariants.{Definition}
+use Rattle.md_base.specs.declared.event.Name.TheVariants.{Definition, GfmTable}
 use Rattle.md_base.specs.declared.event.Point.{Point}
 use Rattle.md_base.specs.declared.event.Event.{Event}
 use Rattle.md_tree.specs.declared.kinds.Symbol.{Symbol}
@@ -14,12 +14,14 @@ use Rattle.md_tree.specs.declared.kinds.Role.TheVariants as role
 use Rattle.md_tree.specs.Spine.{spine, Matches}
 use Rattle.md_tree.specs.Shape.{AreShaped, IsShaped}
 use Rattle.md_tree.specs.Tree.{Forest, Empty, Node, flatten, entering, exiting}
-use Rattle.md_tree.specs.Partners.{behind, partners_of}
+use Rattle.md_tree.specs.Partners.{behind, partners_of, IsPartnerAt}
+use Rattle.md_tree.specs.Grammar.{Document}
+use Rattle.md_tree.proofs.Indexed.{flatten_one}
 use Rattle.md_tree.specs.Entered.{children_of}
 use Rattle.md_tree.specs.NameTests.{is_link_definition}
 use Rattle.md_meaning.specs.Given.{Given, Defined}
 use Rattle.md_print.specs.Machine.{run, beginning}
-use Rattle.md_html.specs.OwnDefinitions.{defined_alone, own_definitions, entries_of}
+use Rattle.md_html.specs.OwnDefinitions.{defined_alone, own_definitions, entries_of, events_at}
 use Rattle.md_html.proofs.Walks.{drop-first, drop-later}
 use Rattle.md_html.proofs.OwnEvents.{definition-run}
 
@@ -201,10 +203,6 @@ alone-length n =
     count : (i p a c : ℕ) → p ≡ suc i + a → c ≡ a + 1 → suc p - i ≡ suc c
     count i p a c h e = omega (arith, h, e)
 
--- the events from an entry up to the other event of its node
-abbrev pub events_at : List Event → ℕ → Option ℕ → List Event
-events_at events entry partner = option_map_or (λ exit. take (suc exit - entry) (drop entry events)) partner []
-
 stands-run : (given : Given) (document : Forest) (n : OwnNode) → Stands (flatten document) (children_of document) (partners_of 0 document) n →
     (run given (events_at (flatten document) n.index (slice_get (partners_of 0 document) n.index)) (drop n.index (children_of document)) beginning).log.definitions ≡ defined_alone given n.children ∷ []
 stands-run given document n stands =
@@ -233,3 +231,61 @@ own-run given document place entry shaped h =
       ap (λ xs. slice_get xs place) (sym (nodes-defined given document 0)) ∙ map-got (λ m. defined_alone given m.children) (own_nodes 0 document) place n found.3,
       subst logs found.2 (stands-run given document n found.1),
     )
+
+-- as many as entries
+map-length : {B : Type 0} (f : OwnNode → B) (xs : List OwnNode) → length (map f xs) ≡ length xs
+map-length f [] = refl
+map-length f (x ∷ xs) = ap (λ n. suc n) (map-length f xs)
+
+own-length : (given : Given) (document : Forest) → length (entries_of 0 document) ≡ length (own_definitions given document)
+own-length given document =
+    ap (λ xs. length xs) (sym (nodes-entries document 0))
+    ∙ map-length (λ n. n.index) (own_nodes 0 document)
+    ∙ sym (map-length (λ n. defined_alone given n.children) (own_nodes 0 document))
+    ∙ ap (λ xs. length xs) (nodes-defined given document 0)
+
+-- the first of a list, one more of them, and all
+pub take-none : {A : Type 0} (xs : List A) → [] ≡ take 0 xs
+take-none [] = refl
+take-none (x ∷ xs) = refl
+
+take-later : {A : Type 0} (xs : List A) (i : ℕ) → take (suc i) xs ≡ take i xs ++ option_to_list (slice_get xs i)
+take-later [] zero = refl
+take-later [] (suc i) = refl
+take-later (x ∷ xs) zero = ap (λ ys. x ∷ ys) (sym (take-none xs))
+take-later (x ∷ xs) (suc i) = ap (λ ys. x ∷ ys) (take-later xs i)
+
+pub take-next : {A : Type 0} (xs : List A) (i : ℕ) → take i xs ++ option_to_list (slice_get xs i) ≡ take (i + 1) xs
+take-next xs i = sym (take-later xs i) ∙ ap (λ n. take n xs) (next i)
+  where
+    next : (n : ℕ) → suc n ≡ n + 1
+    next n = omega arith
+
+take-whole : {A : Type 0} (xs : List A) (i : ℕ) → length xs ≤ i → take i xs ≡ xs
+take-whole [] zero h = refl
+take-whole [] (suc i) h = refl
+take-whole (x ∷ xs) zero h = absurd (none_left (length xs) h)
+  where
+    none_left : (n : ℕ) → suc n ≤ 0 → ⊥
+    none_left n l = omega (arith, l)
+take-whole (x ∷ xs) (suc i) h = ap (λ ys. x ∷ ys) (take-whole xs i (lower (length xs) i h))
+  where
+    lower : (a b : ℕ) → suc a ≤ suc b → a ≤ b
+    lower a b l = omega (arith, l)
+
+pub take-own-all : (given : Given) (document : Forest) (entries : List ℕ) (i : ℕ) → entries ≡ entries_of 0 document → length entries ≤ i → take i (own_definitions given document) ≡ own_definitions given document
+take-own-all given document entries i are h =
+    take-whole (own_definitions given document) i (within (length entries) (length (own_definitions given document)) (ap (λ es. length es) are ∙ own-length given document) h)
+  where
+    within : (a b : ℕ) → a ≡ b → a ≤ i → b ≤ i
+    within a b e l = omega (arith, e, l)
+
+-- the events of a node are followed by others
+pub events-part : (events : List Event) (entry : ℕ) (partner : Option ℕ) → (later : List Event) × (drop entry events ≡ events_at events entry partner ++ later)
+events-part events entry None = (drop entry events, refl)
+events-part events entry (Some exit) = (drop (suc exit - entry) (drop entry events), sym (take-append-drop (suc exit - entry) (drop entry events)))
+
+-- the other event of a node, in any document with these events
+pub partner-at : (given : Document) (entry : ℕ) (partner : Option ℕ) (document : Forest) → IsPartnerAt given entry partner → flatten document ≡ given.events → partner ≡ slice_get (partners_of 0 document) entry
+partner-at given entry partner document is flat =
+    is.2 ∙ ap (λ f. slice_get (partners_of 0 f) entry) (flatten_one GfmTable (record { line = 0; column = 0; index = 0; vs = 0 }) is.0 document (is.1 ∙ sym flat))

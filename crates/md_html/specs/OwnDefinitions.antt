@@ -1,5 +1,7 @@
 -- What definitions define by themselves. Only contracts of private functions speak of it.
-use Rattle.std.specs.Prelude.{ℕ, suc, if◌then◌else◌, List, [], ◌∷◌, ◌++◌}
+use Rattle.std.specs.Prelude.{ℕ, ◌-◌, suc, if◌then◌else◌, List, [], ◌∷◌, ◌++◌, take, drop, Option}
+use Rattle.std.specs.Option.{option_map_or}
+use Rattle.md_base.specs.declared.event.Event.{Event}
 use Rattle.md_base.specs.declared.event.Name.TheVariants.{Definition}
 use Rattle.md_tree.specs.Tree.{Forest, Empty, Node}
 use Rattle.md_tree.specs.Partners.{behind}
@@ -30,3 +32,7 @@ entries_of index Empty = []
 entries_of index (Node name start end children rest) =
     entries_of (suc index) children
     ++ ((if is_link_definition name then index ∷ [] else []) ++ entries_of (suc (behind (suc index) children)) rest)
+
+-- the events from an entry up to the other event of its node
+abbrev pub events_at : List Event → ℕ → Option ℕ → List Event
+events_at events entry partner = option_map_or (λ exit. take (suc exit - entry) (drop entry events)) partner []

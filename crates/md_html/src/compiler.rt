@@ -17,7 +17,6 @@ ghost use Rattle.md_text.specs.Safe.{is_safe_link, is_safe_image};
 ghost use Rattle.md_safe.specs.Options.{KeepsGrammar, KeepsLinks, KeepsImages};
 ghost use Rattle.md_print.specs.Sources.{given_of};
 ghost use Rattle.md_meaning.specs.Places.{first_ending as first_place};
-ghost use Rattle.md_tree.specs.Ending.{ends_line, first_index};
 ghost use Rattle.md_meaning.specs.Printed.{is_captured};
 ghost use Rattle.md_meaning.specs.declared.facts.Ahead.{Ahead};
 ghost use Rattle.md_print.specs.Closings.{group_of, is_light};
@@ -107,36 +106,12 @@ pub fn compile_checked(
     second.into_text(alloc, options, source.ending)
 }
 
-/// Whether an event exits a line ending, blank or not.
-fn ends_line(event: &Event) -> bool
-    ensures { result ≡ ends_line event.now }
-{
-    matches!(event.kind, Kind::Exit)
-        && matches!(event.name, Name::LineEnding | Name::BlankLineEnding)
-}
-
-/// The index of the event that exits the first line ending, if there is one.
-fn first_ending(events: &[Event]) -> Option<usize>
-    ensures { result ≡ first_index events.now }
-{
-    let mut rest = events;
-    let mut index = 0;
-    while let Some((event, later)) = rest.split_first() {
-        if ends_line(event) {
-            return Some(index);
-        }
-        rest = later;
-        index += 1;
-    }
-    None
-}
-
 /// The line ending that is used: the text of the document's first, else that of the options.
 fn ending_of<'a>(checked: &Checked<'a>, options: &'a CompileOptions) -> &'a str
     ensures ending { (document : Forest) → flatten document ≡ checked.now.events → result.now ≡ ending_at options.now checked.now.bytes (first_place document) }
     ensures grammatical { IsChecked checked.now }
 {
-    match first_ending(checked.events()) {
+    match checked.first_ending() {
         Some(index) => checked.text(index),
         None => options.default_line_ending.as_str(),
     }
@@ -310,7 +285,7 @@ fn exit(
 }
 
 /// Goes one event further.
-fn step(
+pub(crate) fn step(
     alloc: Global,
     printer: &mut Printer,
     source: &Source,

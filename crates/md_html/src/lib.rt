@@ -4,6 +4,7 @@
 mod compiler;
 pub mod laws;
 mod safe_html;
+mod own_events;
 
 pub use compiler::{compile, compile_checked};
 pub use md_base::{

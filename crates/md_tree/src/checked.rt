@@ -135,7 +135,8 @@ impl<'a> Checked<'a> {
 
     /// The index of the event that exits the first line ending, blank or not; None where there is none.
     pub fn first_ending(&self) -> Option<usize>
-        ensures { result ≡ first_index self.now.events }
+        ensures index { result ≡ first_index self.now.events }
+        ensures grammatical { IsChecked self.now }
     {
         self.first_ending
     }

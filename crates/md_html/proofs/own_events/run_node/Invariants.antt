@@ -1,0 +1,21 @@
+-- Running what is left from the present state is as running all of the node's events.
+use Rattle.std.proofs.Common.{◌≡◌, ◌++◌, List, length, drop}
+use Rattle.std.specs.Prelude.{slice_get}
+use Rattle.md_base.specs.declared.event.Event.{Event}
+use Rattle.md_tree.specs.Tree.{Forest, flatten}
+use Rattle.md_tree.specs.Entered.{children_of}
+use Rattle.md_tree.specs.Partners.{partners_of}
+use Rattle.md_print.specs.Machine.{run, beginning}
+use Rattle.md_print.specs.Sources.{given_of}
+use Rattle.md_html.specs.OwnDefinitions.{events_at}
+use Rattle.md_html.proofs.own_events.run_node.Given as goal
+
+abbrev pub invariant-loop-event : goal.invariant-loop-event
+invariant-loop-event l =
+    ((later : List Event) × (drop l.index l.checked.events ≡ l.rest ++ later))
+    × ((document : Forest) → flatten document ≡ l.checked.events
+    → run (given_of l.source) l.rest (drop l.index (children_of document)) l.printer
+    ≡ run (given_of l.source) (events_at l.checked.events l.entry (slice_get (partners_of 0 document) l.entry)) (drop l.entry (children_of document)) beginning)
+
+abbrev pub decreases-loop-event : goal.decreases-loop-event
+decreases-loop-event l = length l.rest

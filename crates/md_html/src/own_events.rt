@@ -1,0 +1,126 @@
+//! Definitions, each compiled from its own events alone.
+
+ghost use Rattle.std.specs.Prelude.{◌≡◌, ◌++◌, ℕ, List, IfOk, OnOk, Some, take, drop, slice_get};
+ghost use Rattle.std.specs.Option.{option_to_list};
+ghost use Rattle.md_tree.specs.Tree.{Forest, flatten};
+ghost use Rattle.md_tree.specs.Grammar.{IsChecked};
+ghost use Rattle.md_tree.specs.Entered.{children_of};
+ghost use Rattle.md_tree.specs.Partners.{partners_of};
+ghost use Rattle.md_print.specs.Machine as machine;
+ghost use Rattle.md_print.specs.Sources.{given_of};
+ghost use Rattle.md_html.specs.OwnDefinitions.{own_definitions, entries_of, events_at};
+
+use crate::compiler::step;
+use md_base::Event;
+use md_print::printer::Printer;
+use md_print::source::Source;
+use md_sheet::Defined;
+use md_tree::Checked;
+use std::alloc::{AllocError, Global};
+
+/// The events from an index on.
+fn from_index(events: &[Event], index: usize) -> &[Event]
+    ensures { result.now ≡ drop index events.now }
+{
+    if index < events.len() {
+        &events[index..]
+    } else {
+        &[]
+    }
+}
+
+/// So many events at most.
+fn up_to(events: &[Event], count: usize) -> &[Event]
+    ensures { result.now ≡ take count events.now }
+{
+    if count < events.len() {
+        &events[..count]
+    } else {
+        events
+    }
+}
+
+/// The events from an entry up to the other event of its node.
+fn node_events(events: &[Event], entry: usize, partner: Option<usize>) -> &[Event]
+    ensures { result.now ≡ events_at events.now entry partner }
+{
+    match partner {
+        Some(exit) => up_to(
+            from_index(events, entry),
+            exit.saturating_add(1).saturating_sub(entry),
+        ),
+        None => &[],
+    }
+}
+
+/// Prints the events of the node that is entered at an index, as if nothing stood before it and round it.
+fn run_node(
+    alloc: Global,
+    source: &Source,
+    checked: &Checked,
+    entry: usize,
+) -> Result<Printer, AllocError>
+    ensures grammatical { IsChecked checked.now }
+    ensures printed { IfOk result (λ printer. (document : Forest) → flatten document ≡ checked.now.events
+        → printer ≡ machine.run (given_of source.now) (events_at checked.now.events entry (slice_get (partners_of 0 document) entry))
+        (drop entry (children_of document)) machine.beginning) }
+{
+    let events = checked.events();
+    let mut printer = Printer::new(alloc);
+    let mut rest = node_events(events, entry, checked.partner(entry));
+    let mut index = entry;
+    while let Some((event, later)) = rest.split_first() {
+        let is_last = later.is_empty();
+        step(alloc, &mut printer, source, checked, index, *event, is_last)?;
+        rest = later;
+        index += 1;
+    }
+    Ok(printer)
+}
+
+/// What the definition whose entry is at an index defines.
+fn defined_at(
+    alloc: Global,
+    source: &Source,
+    checked: &Checked,
+    entry: usize,
+) -> Result<Option<Defined>, AllocError>
+    ensures { IfOk result (λ defined. (document : Forest) → flatten document ≡ checked.now.events → (place : ℕ)
+        → slice_get (entries_of 0 document) place ≡ Some entry → defined ≡ slice_get (own_definitions (given_of source.now) document) place) }
+{
+    let printer = run_node(alloc, source, checked, entry)?;
+    let mut logged = printer.into_definitions();
+    Ok(logged.pop())
+}
+
+/// One more at the end, where there is one.
+fn push_found(found: &mut Vec<Defined>, defined: Option<Defined>) -> Result<(), AllocError>
+    ensures { OnOk result (found.new.items ≡ found.old.items ++ option_to_list defined) }
+{
+    if let Some(defined) = defined {
+        found.push(defined)?;
+    }
+    Ok(())
+}
+
+/// What the definitions whose entries are at these indices define, one after another.
+///
+/// # Errors
+///
+/// Only where memory runs out.
+pub(crate) fn definitions_at(
+    alloc: Global,
+    source: &Source,
+    checked: &Checked,
+    entries: &[usize],
+) -> Result<Vec<Defined>, AllocError>
+    ensures { IfOk result (λ found. (document : Forest) → flatten document ≡ checked.now.events → entries.now ≡ entries_of 0 document
+        → found.items ≡ own_definitions (given_of source.now) document) }
+{
+    let mut found = Vec::new(alloc);
+    for entry in entries {
+        let defined = defined_at(alloc, source, checked, *entry)?;
+        push_found(&mut found, defined)?;
+    }
+    Ok(found)
+}
