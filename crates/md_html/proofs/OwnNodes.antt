@@ -21,7 +21,8 @@ use Rattle.md_tree.specs.Entered.{children_of}
 use Rattle.md_tree.specs.NameTests.{is_link_definition}
 use Rattle.md_meaning.specs.Given.{Given, Defined}
 use Rattle.md_print.specs.Machine.{run, beginning}
-use Rattle.md_html.specs.OwnDefinitions.{defined_alone, own_definitions, entries_of, events_at}
+use Rattle.md_html.specs.OwnDefinitions.{defined_alone, own_definitions, events_at}
+use Rattle.md_tree.specs.Partners.{definitions_of as entries_of}
 use Rattle.md_html.proofs.Walks.{drop-first, drop-later}
 use Rattle.md_html.proofs.OwnEvents.{definition-run}
 

@@ -107,10 +107,10 @@ finished-document given document =
     ∙ ap (λ section. (lay given.ending page section).text) (section-noted given.options (fold noted [] footnotes) footnotes (tally (calls_of given.bytes document)) (noted-found [] footnotes))
     ∙ ap (λ p. p.text) (sym (lay-append given.ending blank pieces (section_pieces given.options footnotes (tally (calls_of given.bytes document)))))
 
--- two runs: in the definitions that the second has the same is found as in those that the first saw
+-- one run: in the definitions that it has the same is found as in those of the document
 pub text-run : (options : CompileOptions) (names : List (List ℕ × List ℕ)) (bytes : List ℕ) (events : List Event) (ending : List ℕ) (known : List Defined) (document : Forest) →
     flatten document ≡ events → ending ≡ ending_at options bytes (first_ending document) →
-    FindAlike known (run (given_with options names bytes ending []) events (children_of document) beginning).log.definitions →
+    FindAlike known (definitions_of (given_with options names bytes ending []) outermost nothing_before document) →
     (finished (given_with options names bytes ending known) (run (given_with options names bytes ending known) events (children_of document) beginning)).text ≡ meaning options names bytes document
 text-run options names bytes events ending known document flat ends alike =
     let given : List ℕ → List Defined → Given = λ e ds. given_with options names bytes e ds in
@@ -119,7 +119,7 @@ text-run options names bytes events ending known document flat ends alike =
     let whole : List ℕ → List ℕ = λ e.
     layout e (printed (given e (seen_first e)) outermost nothing_before document ++ section (footnotes_of (given e (seen_first e)) outermost nothing_before document))
     in
-    let same : FindAlike known (seen_first ending) = λ identifier. alike identifier ∙ ap (λ s. defined_target s.log.definitions identifier) (run-events (given ending []) events document flat) in
+    let same : FindAlike known (seen_first ending) = alike in
     ap (λ s. (finished (given ending known) s).text) (run-events (given ending known) events document flat)
     ∙ finished-document (given ending known) document
     ∙ ap (λ ps. layout ending (ps ++ section (footnotes_of (given ending known) outermost nothing_before document)))

@@ -26,13 +26,6 @@ own_definitions given Empty = []
 own_definitions given (Node name start end children rest) =
     own_definitions given children ++ ((if is_link_definition name then defined_alone given children ∷ [] else []) ++ own_definitions given rest)
 
--- the indices of the events that enter them, where the first event has an index
-abbrev pub entries_of : ℕ → Forest → List ℕ
-entries_of index Empty = []
-entries_of index (Node name start end children rest) =
-    entries_of (suc index) children
-    ++ ((if is_link_definition name then index ∷ [] else []) ++ entries_of (suc (behind (suc index) children)) rest)
-
 -- the events from an entry up to the other event of its node
 abbrev pub events_at : List Event → ℕ → Option ℕ → List Event
 events_at events entry partner = option_map_or (λ exit. take (suc exit - entry) (drop entry events)) partner []

@@ -24,6 +24,7 @@ ghost use Rattle.md_html.specs.Leaf.{IsLeaf};
 ghost use Rattle.std.specs.Bool.{OnTrue};
 ghost use Rattle.md_base.specs.declared.event.AlignKind.{AlignKind};
 
+use crate::own_events::definitions_at;
 use md_base::{AlignKind, Event, Kind, Name, Point, Position, is_same_name};
 use md_meaning::CompileOptions;
 use md_print::close::{close, close_captured};
@@ -96,14 +97,14 @@ pub fn compile_checked(
         ending: ending_of(checked, options),
         definitions: &none,
     };
-    let first = run(alloc, &alone, checked)?;
-    let definitions = Definitions::first_of(alloc, first.into_definitions())?;
+    let found = definitions_at(alloc, &alone, checked, checked.definitions())?;
+    let definitions = Definitions::first_of(alloc, found)?;
     let source = Source {
         definitions: &definitions,
         ..alone
     };
-    let second = run(alloc, &source, checked)?;
-    second.into_text(alloc, options, source.ending)
+    let printer = run(alloc, &source, checked)?;
+    printer.into_text(alloc, options, source.ending)
 }
 
 /// The line ending that is used: the text of the document's first, else that of the options.

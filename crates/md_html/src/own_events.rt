@@ -8,7 +8,8 @@ ghost use Rattle.md_tree.specs.Entered.{children_of};
 ghost use Rattle.md_tree.specs.Partners.{partners_of};
 ghost use Rattle.md_print.specs.Machine as machine;
 ghost use Rattle.md_print.specs.Sources.{given_of};
-ghost use Rattle.md_html.specs.OwnDefinitions.{own_definitions, entries_of, events_at};
+ghost use Rattle.md_html.specs.OwnDefinitions.{own_definitions, events_at};
+ghost use Rattle.md_tree.specs.Partners.{definitions_of as entries_of};
 
 use crate::compiler::step;
 use md_base::Event;

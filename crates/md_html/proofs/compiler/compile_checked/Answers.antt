@@ -1,4 +1,4 @@
--- The second run over the events is the meaning of each document that they flatten.
+-- The run over the events, with the document's definitions, is the meaning of each document that they flatten.
 use Rattle.std.proofs.Common.{◌≡◌, List, ℕ, ap, sym, ◌∙◌, subst, string_bytes, String, Global, IfOk}
 use Rattle.md_text.specs.Html.{any_attribute, HasOneReadingWith}
 use Rattle.md_text.specs.Safe.{is_safe_link, is_safe_image}
@@ -10,8 +10,10 @@ use Rattle.md_base.specs.Reference.{name_table}
 use Rattle.md_tree.specs.Tree.{Forest, flatten}
 use Rattle.md_meaning.specs.Given.{Given, Defined}
 use Rattle.md_base.specs.declared.event.Event.{Event}
-use Rattle.md_tree.specs.Entered.{children_of}
-use Rattle.md_print.specs.Machine.{State, run, beginning, finished}
+use Rattle.md_print.specs.Machine.{finished}
+use Rattle.md_tree.specs.Shape.{IsShaped}
+use Rattle.md_html.specs.OwnDefinitions.{own_definitions}
+use Rattle.md_html.proofs.OwnEvents.{document-definitions}
 use Rattle.md_html.proofs.Walks.{on_answer}
 use Rattle.md_meaning.specs.Meaning.{meaning, ending_at}
 use Rattle.md_meaning.specs.Whole.{printed_meaning}
@@ -34,8 +36,10 @@ returns c =
     let given : List ℕ → List Defined → Given = λ e ds. given_with options names bytes e ds in
     let ending : List ℕ = c.ending_of.result.now in
     let known : List Defined = c.in_ok-definitions.definitions in
-    let ran : Forest → List Defined → State = λ document ds. run (given ending ds) given_events (children_of document) beginning in
     let read = c.ending_of.ensures.grammatical in
+    let shaped : (document : Forest) → flatten document ≡ checked.events → IsShaped document = λ document flat.
+    subst IsShaped (flatten_one GfmTable (record { line = 0; column = 0; index = 0; vs = 0 }) read.0 document (read.1.flattened ∙ sym flat)) read.1.grammatical.shape
+    in
     let built : IsBuilt checked.bytes Blocks read.0 = grammatical-built checked.bytes checked.names read.0 read.1.grammatical in
     let Printed : String Global → Type 0 = λ text. (document : Forest) → flatten document ≡ checked.events → string_bytes text ≡ printed_meaning options checked.names checked.bytes document in
     let Meant : String Global → Type 0 = λ text. (document : Forest) → flatten document ≡ checked.events → string_bytes text ≡ meaning options checked.names checked.bytes document in
@@ -43,15 +47,15 @@ returns c =
     on_answer (λ text. string_bytes text ≡ _) (λ text. (document : Forest) → flatten document ≡ given_events → string_bytes text ≡ printed_meaning options c.args.checked.now.names c.args.checked.now.bytes document)
     (λ text laid document flat.
     laid
-    ∙ ap (λ s. (finished (given ending known) s).text) (c.in_ok-second.ensures document flat)
+    ∙ ap (λ s. (finished (given ending known) s).text) (c.in_ok-printer.ensures document flat)
     ∙ text-run options names bytes given_events ending known document flat
     (c.ending_of.ensures.ending document flat ∙ ap (λ b. ending_at options b (first_ending document)) (sym c.bytes.ensures))
     (λ identifier.
     c.in_ok-definitions.ensures identifier
     ∙ ap (λ ds. defined_target ds identifier)
-    (c.into_definitions.ensures
-    ∙ ap (λ s. s.log.definitions) (c.in_ok-first.ensures document flat)
-    ∙ ap (λ ds. (ran document ds).log.definitions) c.new-none.ensures))
+    (c.in_ok-found.ensures document flat (c.definitions.ensures.definitions document flat)
+    ∙ ap (λ ds. own_definitions (given ending ds) document) c.new-none.ensures
+    ∙ sym (document-definitions (given ending []) document (shaped document flat))))
     ∙ ap (λ n. printed_meaning options n bytes document) c.names.ensures
     ∙ ap (λ b. printed_meaning options c.args.checked.now.names b document) c.bytes.ensures)
     c.into_text.result c.into_text.ensures

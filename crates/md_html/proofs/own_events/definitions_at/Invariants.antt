@@ -2,7 +2,8 @@
 use Rattle.std.proofs.Common.{◌≡◌, take}
 use Rattle.md_tree.specs.Tree.{Forest, flatten}
 use Rattle.md_print.specs.Sources.{given_of}
-use Rattle.md_html.specs.OwnDefinitions.{own_definitions, entries_of}
+use Rattle.md_html.specs.OwnDefinitions.{own_definitions}
+use Rattle.md_tree.specs.Partners.{definitions_of as entries_of}
 use Rattle.md_html.proofs.own_events.definitions_at.Given as goal
 
 abbrev pub invariant-loop-entry : goal.invariant-loop-entry
