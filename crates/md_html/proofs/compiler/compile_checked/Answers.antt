@@ -1,5 +1,5 @@
 -- The run over the events, with the document's definitions, is the meaning of each document that they flatten.
-use Rattle.std.proofs.Common.{◌≡◌, List, ℕ, ap, sym, ◌∙◌, subst, string_bytes, String, Global, IfOk}
+use Rattle.std.proofs.Common.{◌≡◌, List, [], ℕ, ap, sym, ◌∙◌, subst, string_bytes, String, Global, IfOk}
 use Rattle.md_text.specs.Html.{any_attribute, HasOneReadingWith}
 use Rattle.md_text.specs.Safe.{is_safe_link, is_safe_image}
 use Rattle.md_shape.specs.Built.{IsBuilt, Blocks}
