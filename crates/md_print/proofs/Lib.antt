@@ -1,3 +1,4 @@
 pub mod Printing
 pub mod Pipes
 pub mod Closings
+pub mod Escaping

@@ -15,6 +15,7 @@ ghost use Rattle.md_print.specs.Sources.{given_of, closing_at, left_at};
 
 use crate::calls::call;
 use crate::code::code_text;
+use crate::escape::put_encoded;
 use crate::facts::Exit;
 use crate::groups::{Group, group_of};
 use crate::media::{autolink, image, is_plain, link};
@@ -27,7 +28,6 @@ use crate::texts::{data, html, line_ending, reference};
 use md_base::{Name, Position};
 use md_meaning::{Container, Passed, Surroundings};
 use md_sheet::Sheet;
-use md_text::encode;
 use std::alloc::{AllocError, Global};
 
 /// Prints what a node whose children aren't captured prints after them.
@@ -67,10 +67,10 @@ fn close_text(
     match name {
         Name::LineEnding => line_ending(printer, source, exit),
         Name::BlankLineEnding => blank_line_ending(printer, source.ending, exit.is_last),
-        Name::Data => data(alloc, printer, source, exit),
-        Name::CharacterEscapeValue => data(alloc, printer, source, exit),
-        Name::CodeTextData => data(alloc, printer, source, exit),
-        Name::MathTextData => data(alloc, printer, source, exit),
+        Name::Data => data(printer, source, exit),
+        Name::CharacterEscapeValue => data(printer, source, exit),
+        Name::CodeTextData => data(printer, source, exit),
+        Name::MathTextData => data(printer, source, exit),
         Name::CharacterReferenceValue => reference(alloc, printer, source, exit),
         Name::HtmlFlowData => html(alloc, printer, source, exit),
         Name::HtmlTextData => html(alloc, printer, source, exit),
@@ -420,7 +420,7 @@ fn chunk(
     ensures { OnOk result (printer.new ≡ printing [] (blocks.chunk_pieces (given_of source.now) exit.now.start exit.now.end) printer.old) }
 {
     let text = serialized_of(alloc, source.bytes, exit.start, exit.end)?;
-    printer.put(encode(alloc, text.as_str(), true)?.as_str())
+    put_encoded(printer, text.as_str(), true)
 }
 
 fn code(

@@ -4,6 +4,7 @@
 mod calls;
 pub mod close;
 mod code;
+mod escape;
 pub mod facts;
 pub mod groups;
 mod media;

@@ -5,25 +5,21 @@ ghost use Rattle.md_print.specs.Machine.{printing};
 ghost use Rattle.md_meaning.specs.Texts as texts;
 ghost use Rattle.md_print.specs.Sources.{given_of, left_at};
 
+use crate::escape::put_encoded;
 use crate::facts::Exit;
 use crate::names::is_definition;
 use crate::printer::Printer;
 use crate::source::{Source, text_of};
 use md_base::{Name, decode_character_reference};
-use md_text::{encode, gfm_tagfilter};
+use md_text::gfm_tagfilter;
 use std::alloc::{AllocError, Global};
 
 /// Prints a node's text, escaped where its surroundings say so.
-pub fn data(
-    alloc: Global,
-    printer: &mut Printer,
-    source: &Source,
-    exit: &Exit,
-) -> Result<(), AllocError>
+pub fn data(printer: &mut Printer, source: &Source, exit: &Exit) -> Result<(), AllocError>
     ensures { OnOk result (printer.new ≡ printing [] (texts.data_pieces (given_of source.now) exit.now.around exit.now.start exit.now.end) printer.old) }
 {
     let text = text_of(source.bytes, exit.start, exit.end);
-    printer.put(encode(alloc, text, exit.around.is_escaping)?.as_str())
+    put_encoded(printer, text, exit.around.is_escaping)
 }
 
 /// Prints HTML, disarmed by the tag filter where HTML may stand.
@@ -39,9 +35,9 @@ pub fn html(
     let escaping = exit.around.is_escaping;
     if source.options.gfm_tagfilter && source.options.allow_dangerous_html {
         let filtered = gfm_tagfilter(alloc, text)?;
-        return printer.put(encode(alloc, filtered.as_str(), escaping)?.as_str());
+        return put_encoded(printer, filtered.as_str(), escaping);
     }
-    printer.put(encode(alloc, text, escaping)?.as_str())
+    put_encoded(printer, text, escaping)
 }
 
 /// The marker of a reference, by the name before its value.
@@ -68,7 +64,7 @@ pub fn reference(
     let marker = marker_of(exit.spine.last);
     let decoded = decode_character_reference(alloc, value, marker, source.names)?;
     let text = decoded.unwrap_or(String::new(alloc));
-    printer.put(encode(alloc, text.as_str(), exit.around.is_escaping)?.as_str())
+    put_encoded(printer, text.as_str(), exit.around.is_escaping)
 }
 
 fn is_dropped_when(in_definition: bool, slurping: bool, behind_definition: bool) -> bool
