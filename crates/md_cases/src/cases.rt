@@ -20,9 +20,9 @@ mod scale;
 mod tables;
 mod texts;
 
-use md_html::{CompileError, Rule, check, compile, compile_checked};
+use md_html::{CompileError, Rule, check, compile, compile_checked, compile_counted};
 use md_script::{RunError, run};
-use reading::read;
+use reading::{Script, read};
 use std::process::Abort;
 use std::test::Fail;
 
@@ -53,9 +53,29 @@ fn answers(rt: &(impl Abort + AllocGlobal), script: &[u8], expected: &str) -> Re
         &REFERENCE_NAMES,
     )?;
     assert_eq!(rt; whole.as_str(), expected);
+    visits_each(rt, &read, expected)?;
     let checked = check(rt.alloc(), events, read.document, &REFERENCE_NAMES)?;
     let again = compile_checked(rt.alloc(), &checked, &read.options)?;
     assert_eq!(rt; again.as_str(), expected);
+    Ok(())
+}
+
+/// The text is counted: each event is visited once at least, and three times at most.
+fn visits_each(
+    rt: &(impl Abort + AllocGlobal),
+    read: &Script<'_>,
+    expected: &str,
+) -> Result<(), Fail> {
+    let events = read.events.as_slice();
+    let counted = compile_counted(
+        rt.alloc(),
+        events,
+        read.document,
+        &read.options,
+        &REFERENCE_NAMES,
+    )?;
+    assert_eq!(rt; counted.text.as_str(), expected);
+    assert!(rt; events.len() <= counted.visits && counted.visits / 3 <= events.len());
     Ok(())
 }
 

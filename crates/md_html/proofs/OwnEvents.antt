@@ -337,3 +337,9 @@ definition-run given start end children more shaped match =
     ∙ ap (λ (s : State). s.log.definitions) (run-flatten given node nothing_before [] more beginning begins refl)
     ∙ ap (λ ds. ds ++ defined_alone given children ∷ [])
     (definitions-own given children round own role.Definition None shaped (inr free) ∙ none-defined given children role.Definition None shaped free)
+
+-- no definition stands in a definition
+pub none-inside : (given : Given) (children : Forest) → AreShaped children role.Definition None → Matches role.Definition (spine children) → own_definitions given children ≡ []
+none-inside given children shaped match =
+    none-defined given children role.Definition None shaped
+    (spine-all hostless role.Definition role.Flow None (spine children) (record { behind = refl; later = refl; first = refl }) match)

@@ -27,28 +27,28 @@ use Rattle.md_html.proofs.Walks.{drop-first, drop-later}
 use Rattle.md_html.proofs.OwnEvents.{definition-run}
 
 -- a definition: the index of its entry, its start and end, its children
-record OwnNode : Type 0 where
-  index : ℕ
-  start : Point
-  end : Point
-  children : Forest
+pub record OwnNode : Type 0 where
+  pub index : ℕ
+  pub start : Point
+  pub end : Point
+  pub children : Forest
 
 -- it alone
-abbrev alone : OwnNode → Forest
+abbrev pub alone : OwnNode → Forest
 alone n = Node Definition n.start n.end n.children Empty
 
-abbrev node_where : Bool → OwnNode → List OwnNode
+abbrev pub node_where : Bool → OwnNode → List OwnNode
 node_where is n = if is then n ∷ [] else []
 
 -- the definitions among some nodes, in the order of their exits
-abbrev own_nodes : ℕ → Forest → List OwnNode
+abbrev pub own_nodes : ℕ → Forest → List OwnNode
 own_nodes index Empty = []
 own_nodes index (Node name start end children rest) =
     own_nodes (suc index) children
     ++ (node_where (is_link_definition name) (record { index = index; start = start; end = end; children = children })
     ++ own_nodes (suc (behind (suc index) children)) rest)
 
-map-append : {A B : Type 0} (f : A → B) (xs ys : List A) → map f (xs ++ ys) ≡ map f xs ++ map f ys
+pub map-append : {A B : Type 0} (f : A → B) (xs ys : List A) → map f (xs ++ ys) ≡ map f xs ++ map f ys
 map-append f [] ys = refl
 map-append f (x ∷ xs) ys = ap (λ zs. f x ∷ zs) (map-append f xs ys)
 
@@ -56,7 +56,7 @@ map-where : {B : Type 0} (f : OwnNode → B) (is : Bool) (n : OwnNode) → map f
 map-where f true n = refl
 map-where f false n = refl
 
-nodes-entries : (forest : Forest) (index : ℕ) → map (λ n. n.index) (own_nodes index forest) ≡ entries_of index forest
+pub nodes-entries : (forest : Forest) (index : ℕ) → map (λ n. n.index) (own_nodes index forest) ≡ entries_of index forest
 nodes-entries Empty index = refl
 nodes-entries (Node name start end children rest) index =
     let f : OwnNode → ℕ = λ n. n.index in
@@ -68,7 +68,7 @@ nodes-entries (Node name start end children rest) index =
     ∙ ap (λ xs. entries_of (suc index) children ++ (xs ++ map f later)) (map-where f (is_link_definition name) (record { index = index; start = start; end = end; children = children }))
     ∙ ap (λ xs. entries_of (suc index) children ++ ((if is_link_definition name then index ∷ [] else []) ++ xs)) (nodes-entries rest (suc (behind (suc index) children)))
 
-nodes-defined : (given : Given) (forest : Forest) (index : ℕ) → map (λ n. defined_alone given n.children) (own_nodes index forest) ≡ own_definitions given forest
+pub nodes-defined : (given : Given) (forest : Forest) (index : ℕ) → map (λ n. defined_alone given n.children) (own_nodes index forest) ≡ own_definitions given forest
 nodes-defined given Empty index = refl
 nodes-defined given (Node name start end children rest) index =
     let f : OwnNode → Defined = λ n. defined_alone given n.children in
@@ -114,16 +114,16 @@ partners-behind (Node name start end children rest) i ps tail h =
     (drop-past ps i _ ((partners_of (suc i) children ++ i ∷ later) ++ tail) h ∙ append_assoc (partners_of (suc i) children) (i ∷ later) tail)))
 
 -- a definition stands at its index among events, with what is told of them
-record Stands (es : List Event) (ns : List (Option Forest)) (ps : List ℕ) (n : OwnNode) : Type 0 where
-  later : List Event
-  more : List (Option Forest)
-  events : drop n.index es ≡ flatten (alone n) ++ later
-  nodes : drop n.index ns ≡ children_of (alone n) ++ more
-  partner : slice_get ps n.index ≡ Some (behind (suc n.index) n.children)
-  shaped : AreShaped n.children role.Definition None
-  match : Matches role.Definition (spine n.children)
+pub record Stands (es : List Event) (ns : List (Option Forest)) (ps : List ℕ) (n : OwnNode) : Type 0 where
+  pub later : List Event
+  pub more : List (Option Forest)
+  pub events : drop n.index es ≡ flatten (alone n) ++ later
+  pub nodes : drop n.index ns ≡ children_of (alone n) ++ more
+  pub partner : slice_get ps n.index ≡ Some (behind (suc n.index) n.children)
+  pub shaped : AreShaped n.children role.Definition None
+  pub match : Matches role.Definition (spine n.children)
 
-abbrev Each : (OwnNode → Type 0) → List OwnNode → Type 0
+abbrev pub Each : (OwnNode → Type 0) → List OwnNode → Type 0
 Each holds [] = Unit {0}
 Each holds (n ∷ nodes) = holds n × Each holds nodes
 
@@ -140,7 +140,7 @@ one_stands Definition start end children i r b es ns ps later more shaped events
     (record { later = later; more = more; events = events; nodes = nodes; partner = partner; shaped = shaped.1; match = shaped.0.1 }, tt)
 one_stands _ start end children i r b es ns ps later more shaped events nodes partner = tt
 
-all_stand : (forest : Forest) (i : ℕ) (r : Role) (b : Option Symbol) (es tail : List Event) (ns untold : List (Option Forest)) (ps others : List ℕ) → AreShaped forest r b →
+pub all_stand : (forest : Forest) (i : ℕ) (r : Role) (b : Option Symbol) (es tail : List Event) (ns untold : List (Option Forest)) (ps others : List ℕ) → AreShaped forest r b →
     drop i es ≡ flatten forest ++ tail → drop i ns ≡ children_of forest ++ untold → drop i ps ≡ partners_of i forest ++ others → Each (Stands es ns ps) (own_nodes i forest)
 all_stand Empty i r b es tail ns untold ps others shaped events nodes partners = tt
 all_stand (Node name start end children rest) i r b es tail ns untold ps others shaped events nodes partners =
@@ -168,13 +168,13 @@ all_stand (Node name start end children rest) i r b es tail ns untold ps others 
     (all_stand rest (suc past) _ _ es tail ns untold ps others shaped.2 e2 n2 p2))
 
 -- what is found at a place of such nodes
-each-get : (holds : OwnNode → Type 0) (xs : List OwnNode) (place entry : ℕ) → Each holds xs → slice_get (map (λ n. n.index) xs) place ≡ Some entry →
+pub each-get : (holds : OwnNode → Type 0) (xs : List OwnNode) (place entry : ℕ) → Each holds xs → slice_get (map (λ n. n.index) xs) place ≡ Some entry →
     (n : OwnNode) × holds n × (n.index ≡ entry) × (slice_get xs place ≡ Some n)
 each-get holds [] place entry all h = absurd (none-some entry h)
 each-get holds (x ∷ xs) zero entry all h = (x, all.0, ap (λ o. unwrap_or o 0) h, refl)
 each-get holds (x ∷ xs) (suc place) entry all h = each-get holds xs place entry all.1 h
 
-map-got : {B : Type 0} (f : OwnNode → B) (xs : List OwnNode) (place : ℕ) (n : OwnNode) → slice_get xs place ≡ Some n → slice_get (map f xs) place ≡ Some (f n)
+pub map-got : {B : Type 0} (f : OwnNode → B) (xs : List OwnNode) (place : ℕ) (n : OwnNode) → slice_get xs place ≡ Some n → slice_get (map f xs) place ≡ Some (f n)
 map-got f [] place n h = absurd (none-some n h)
 map-got f (x ∷ xs) zero n h = ap (λ o. Some (f (unwrap_or o x))) h
 map-got f (x ∷ xs) (suc place) n h = map-got f xs place n h
@@ -191,12 +191,12 @@ behind-length (Node name start end children rest) i =
     sum : (p q a b c : ℕ) → p ≡ suc i + a → q ≡ suc p + b → c ≡ a + suc b → q ≡ i + suc c
     sum p q a b c h g e = omega (arith, h, g, e)
 
-take-own : {A : Type 0} (xs ys : List A) → take (length xs) (xs ++ ys) ≡ xs
+pub take-own : {A : Type 0} (xs ys : List A) → take (length xs) (xs ++ ys) ≡ xs
 take-own [] ys = refl
 take-own (x ∷ xs) ys = ap (λ zs. x ∷ zs) (take-own xs ys)
 
 -- the events of a node are so many
-alone-length : (n : OwnNode) → suc (behind (suc n.index) n.children) - n.index ≡ length (flatten (alone n))
+pub alone-length : (n : OwnNode) → suc (behind (suc n.index) n.children) - n.index ≡ length (flatten (alone n))
 alone-length n =
     let all = length-append (flatten n.children) (exiting Definition n.end ∷ []) in
     count n.index (behind (suc n.index) n.children) (length (flatten n.children)) (length (flatten n.children ++ exiting Definition n.end ∷ [])) (behind-length n.children (suc n.index)) all
@@ -234,7 +234,7 @@ own-run given document place entry shaped h =
     )
 
 -- as many as entries
-map-length : {B : Type 0} (f : OwnNode → B) (xs : List OwnNode) → length (map f xs) ≡ length xs
+pub map-length : {B : Type 0} (f : OwnNode → B) (xs : List OwnNode) → length (map f xs) ≡ length xs
 map-length f [] = refl
 map-length f (x ∷ xs) = ap (λ n. suc n) (map-length f xs)
 

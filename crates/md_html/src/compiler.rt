@@ -1,6 +1,6 @@
 //! Events to HTML.
 
-ghost use Rattle.std.specs.Prelude.{◌≡◌, ◌∷◌, ◌+◌, ◌≤◌, drop, Bool, [], OnOk, IfOk, IfErr, List, string_bytes, length, unwrap_or, option_copied, slice_get, Option, Some, true, false};
+ghost use Rattle.std.specs.Prelude.{◌≡◌, ◌∷◌, ◌+◌, ◌≤◌, drop, Bool, [], OnOk, IfOk, IfErr, List, string_bytes, length, ◌*◌, unwrap_or, option_copied, slice_get, Option, Some, true, false};
 ghost use Rattle.md_base.specs.Reference.{name_table};
 ghost use Rattle.md_tree.specs.Tree.{Forest, flatten};
 ghost use Rattle.md_tree.specs.Grammar.{IsChecked, handed};
@@ -38,6 +38,15 @@ use md_sheet::{Defined, Definitions, Sheet};
 use md_tree::{Checked, CompileError, check, gfm_table_align, list_loose};
 use std::alloc::{AllocError, Global};
 
+/// A text, and how many events were visited for it.
+#[derive(Drop)]
+pub struct Counted {
+    /// The text.
+    pub text: String,
+    /// How often an event was visited: each at least once, and at most three times.
+    pub visits: usize,
+}
+
 /// The HTML of a list of Markdown events over a document's bytes: the meaning of the document that the list is.
 ///
 /// `names` is the table of named character references. Nothing is assumed of events, bytes, options or names. Where HTML isn't
@@ -69,8 +78,43 @@ pub fn compile(
     ensures of_node { IfErr result (IsOfNode (handed events.now bytes.now names.now)) }
     ensures lost { IfErr result (IsLost (handed events.now bytes.now names.now)) }
 {
+    let counted = compile_counted(alloc, events, bytes, options, names)?;
+    Ok(counted.text)
+}
+
+/// As [`compile`], with the count of events that were visited for the text.
+///
+/// # Errors
+///
+/// Those of [`compile`].
+pub fn compile_counted(
+    alloc: Global,
+    events: &[Event],
+    bytes: &[u8],
+    options: &CompileOptions,
+    names: &[(&str, &str)],
+) -> Result<Counted, CompileError>
+    ensures grammatical { OnOk result (IsChecked (handed events.now bytes.now names.now)) }
+    ensures meaning { IfOk result (λ counted. (document : Forest) → flatten document ≡ events.now →
+        string_bytes counted.text ≡ meaning options.now (name_table names.now) bytes.now document) }
+    ensures one_reading { IfOk result (λ counted. KeepsGrammar options.now → HasOneReadingWith any_attribute (string_bytes counted.text)) }
+    ensures safe_links { IfOk result (λ counted. KeepsLinks options.now → HasOneReadingWith is_safe_link (string_bytes counted.text)) }
+    ensures safe_images { IfOk result (λ counted. KeepsImages options.now → HasOneReadingWith is_safe_image (string_bytes counted.text)) }
+    ensures least { IfOk result (λ counted. length events.now ≤ counted.visits) }
+    ensures most { IfOk result (λ counted. counted.visits ≤ 3 * length events.now) }
+
+    ensures outside { IfErr result (IsOutside (handed events.now bytes.now names.now)) }
+    ensures order { IfErr result (IsOrder (handed events.now bytes.now names.now)) }
+    ensures mdx { IfErr result (IsMdx (handed events.now bytes.now names.now)) }
+    ensures of_node { IfErr result (IsOfNode (handed events.now bytes.now names.now)) }
+    ensures lost { IfErr result (IsLost (handed events.now bytes.now names.now)) }
+{
     let checked = check(alloc, events, bytes, names)?;
-    Ok(compile_checked(alloc, &checked, options)?)
+    let counted = count_checked(alloc, &checked, options)?;
+    Ok(Counted {
+        text: counted.text,
+        visits: counted.visits.saturating_add(checked.visits()),
+    })
 }
 
 /// The HTML of events that have passed a check: the meaning of the document that they are.
@@ -89,6 +133,23 @@ pub fn compile_checked(
     ensures safe_links { IfOk result (λ text. KeepsLinks options.now → HasOneReadingWith is_safe_link (string_bytes text)) }
     ensures safe_images { IfOk result (λ text. KeepsImages options.now → HasOneReadingWith is_safe_image (string_bytes text)) }
 {
+    let counted = count_checked(alloc, checked, options)?;
+    Ok(counted.text)
+}
+
+/// The HTML of events that have passed a check, and how many events were visited for it.
+fn count_checked(
+    alloc: Global,
+    checked: &Checked,
+    options: &CompileOptions,
+) -> Result<Counted, AllocError>
+    ensures meaning { IfOk result (λ counted. (document : Forest) → flatten document ≡ checked.now.events →
+        string_bytes counted.text ≡ meaning options.now checked.now.names checked.now.bytes document) }
+    ensures one_reading { IfOk result (λ counted. KeepsGrammar options.now → HasOneReadingWith any_attribute (string_bytes counted.text)) }
+    ensures safe_links { IfOk result (λ counted. KeepsLinks options.now → HasOneReadingWith is_safe_link (string_bytes counted.text)) }
+    ensures safe_images { IfOk result (λ counted. KeepsImages options.now → HasOneReadingWith is_safe_image (string_bytes counted.text)) }
+    ensures most { IfOk result (λ counted. counted.visits ≤ 2 * length checked.now.events) }
+{
     let none = Definitions::new(alloc);
     let alone = Source {
         bytes: checked.bytes(),
@@ -97,14 +158,17 @@ pub fn compile_checked(
         ending: ending_of(checked, options),
         definitions: &none,
     };
-    let found = definitions_at(alloc, &alone, checked, checked.definitions())?;
-    let definitions = Definitions::first_of(alloc, found)?;
+    let own = definitions_at(alloc, &alone, checked, checked.definitions())?;
+    let visits = own.visits;
+    let definitions = Definitions::first_of(alloc, own.definitions)?;
     let source = Source {
         definitions: &definitions,
         ..alone
     };
-    let printer = run(alloc, &source, checked)?;
-    printer.into_text(alloc, options, source.ending)
+    let ran = run(alloc, &source, checked)?;
+    let visits = visits.saturating_add(ran.visits);
+    let text = ran.printer.into_text(alloc, options, source.ending)?;
+    Ok(Counted { text, visits })
 }
 
 /// The line ending that is used: the text of the document's first, else that of the options.
@@ -391,10 +455,18 @@ fn advance(
     Ok(0)
 }
 
+/// What was printed, and how many events were visited for it.
+#[derive(Drop)]
+struct Ran {
+    printer: Printer,
+    visits: usize,
+}
+
 /// Prints the events, one after another.
-fn run(alloc: Global, source: &Source, checked: &Checked) -> Result<Printer, AllocError>
-    ensures { IfOk result (λ printer. (document : Forest) → flatten document ≡ checked.now.events
-        → printer ≡ machine.run (given_of source.now) checked.now.events (children_of document) machine.beginning) }
+fn run(alloc: Global, source: &Source, checked: &Checked) -> Result<Ran, AllocError>
+    ensures printed { IfOk result (λ ran. (document : Forest) → flatten document ≡ checked.now.events
+        → ran.printer ≡ machine.run (given_of source.now) checked.now.events (children_of document) machine.beginning) }
+    ensures visits { IfOk result (λ ran. ran.visits ≤ length checked.now.events) }
 {
     let mut printer = Printer::new(alloc);
     let mut rest = checked.events();
@@ -402,7 +474,9 @@ fn run(alloc: Global, source: &Source, checked: &Checked) -> Result<Printer, All
     while let Some((event, later)) = rest.split_first() {
         let more = advance(alloc, &mut printer, source, checked, index, event, later)?;
         rest = &later[more..];
+        // Each turn visits an event, or an entry and its own exit.
         index += 1 + more;
     }
-    Ok(printer)
+    let visits = index;
+    Ok(Ran { printer, visits })
 }

@@ -3,10 +3,10 @@
 
 mod compiler;
 pub mod laws;
-mod safe_html;
 mod own_events;
+mod safe_html;
 
-pub use compiler::{compile, compile_checked};
+pub use compiler::{Counted, compile, compile_checked, compile_counted};
 pub use md_base::{
     AlignKind, Event, GFM_HTML_TAGFILTER_NAMES, Kind, Name, Point, Position, SAFE_PROTOCOL_HREF,
     SAFE_PROTOCOL_SRC, Slice, decode_character_reference, is_same_name, normalize_identifier,

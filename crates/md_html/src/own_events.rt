@@ -1,9 +1,10 @@
 //! Definitions, each compiled from its own events alone.
 
-ghost use Rattle.std.specs.Prelude.{◌≡◌, ◌++◌, ℕ, List, IfOk, OnOk, Some, take, drop, slice_get};
+ghost use Rattle.std.specs.Prelude.{◌≡◌, ◌++◌, ℕ, List, IfOk, OnOk, Some, take, drop, slice_get, length, ◌≤◌};
 ghost use Rattle.std.specs.Option.{option_to_list};
 ghost use Rattle.md_tree.specs.Tree.{Forest, flatten};
 ghost use Rattle.md_tree.specs.Grammar.{IsChecked};
+ghost use Rattle.md_tree.specs.Shape.{IsShaped};
 ghost use Rattle.md_tree.specs.Entered.{children_of};
 ghost use Rattle.md_tree.specs.Partners.{partners_of};
 ghost use Rattle.md_print.specs.Machine as machine;
@@ -104,6 +105,21 @@ fn push_found(found: &mut Vec<Defined>, defined: Option<Defined>) -> Result<(), 
     Ok(())
 }
 
+/// How many events the node has that is entered at an index, each of which [`run_node`] visits once.
+fn visits_at(checked: &Checked, entry: usize) -> usize
+    ensures { (document : Forest) → flatten document ≡ checked.now.events
+        → result ≡ length (events_at checked.now.events entry (slice_get (partners_of 0 document) entry)) }
+{
+    node_events(checked.events(), entry, checked.partner(entry)).len()
+}
+
+/// What a document's definitions define, and how many events were visited for it.
+#[derive(Drop)]
+pub(crate) struct Own {
+    pub(crate) definitions: Vec<Defined>,
+    pub(crate) visits: usize,
+}
+
 /// What the definitions whose entries are at these indices define, one after another.
 ///
 /// # Errors
@@ -114,14 +130,22 @@ pub(crate) fn definitions_at(
     source: &Source,
     checked: &Checked,
     entries: &[usize],
-) -> Result<Vec<Defined>, AllocError>
-    ensures { IfOk result (λ found. (document : Forest) → flatten document ≡ checked.now.events → entries.now ≡ entries_of 0 document
-        → found.items ≡ own_definitions (given_of source.now) document) }
+) -> Result<Own, AllocError>
+    ensures definitions { IfOk result (λ own. (document : Forest) → flatten document ≡ checked.now.events → entries.now ≡ entries_of 0 document
+        → own.definitions.items ≡ own_definitions (given_of source.now) document) }
+    ensures visits { IfOk result (λ own. (document : Forest) → IsShaped document → flatten document ≡ checked.now.events
+        → entries.now ≡ entries_of 0 document → own.visits ≤ length checked.now.events) }
 {
-    let mut found = Vec::new(alloc);
+    let mut definitions = Vec::new(alloc);
+    let mut visits: usize = 0;
     for entry in entries {
+        // Each event of the definition is visited once.
+        visits = visits.saturating_add(visits_at(checked, *entry));
         let defined = defined_at(alloc, source, checked, *entry)?;
-        push_found(&mut found, defined)?;
+        push_found(&mut definitions, defined)?;
     }
-    Ok(found)
+    Ok(Own {
+        definitions,
+        visits,
+    })
 }

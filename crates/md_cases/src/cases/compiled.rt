@@ -2,7 +2,7 @@
 
 use md_html::{
     CompileError, CompileOptions, Event, Kind, LineEnding, Name, Point, check, compile,
-    compile_checked,
+    compile_checked, compile_counted,
 };
 use std::alloc::Global;
 use std::process::Abort;
@@ -101,4 +101,31 @@ fn leaves_all_unset(rt: &impl Abort, options: &CompileOptions, tagfilter: bool) 
 fn default_and_gfm_options(rt: HostRuntime) {
     leaves_all_unset(&rt, &CompileOptions::default(), false);
     leaves_all_unset(&rt, &CompileOptions::gfm(), true);
+}
+
+#[test]
+fn no_events_are_visited_never(rt: HostRuntime) -> Result<(), Fail> {
+    let options = CompileOptions::default();
+    let counted = compile_counted(rt.alloc(), &[], b"", &options, &NAMES)?;
+    assert_eq!(rt; counted.text.as_str(), "");
+    assert_eq!(rt; counted.visits, 0);
+    Ok(())
+}
+
+/// Checked once and printed once; the events of a definition are gone over by themselves besides.
+#[test]
+fn visits_of_a_definition(rt: HostRuntime) -> Result<(), Fail> {
+    let options = CompileOptions::default();
+    let events = [
+        event(Kind::Enter, Name::ThematicBreak, 0),
+        event(Kind::Exit, Name::ThematicBreak, 3),
+        event(Kind::Enter, Name::Definition, 3),
+        event(Kind::Enter, Name::DefinitionLabelString, 4),
+        event(Kind::Exit, Name::DefinitionLabelString, 5),
+        event(Kind::Exit, Name::Definition, 7),
+    ];
+    let counted = compile_counted(rt.alloc(), &events, b"***[a]:", &options, &NAMES)?;
+    assert_eq!(rt; counted.text.as_str(), "<hr />");
+    assert_eq!(rt; counted.visits, 16);
+    Ok(())
 }

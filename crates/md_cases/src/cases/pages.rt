@@ -1,6 +1,7 @@
 //! Pages round safe texts, and the options that are refused.
 
-use super::{REFERENCE_NAMES, reading::read};
+use super::REFERENCE_NAMES;
+use super::reading::read;
 use md_html::{
     CompileError, CompileOptions, Event, Kind, Name, Point, Rule, SafeError, SafeHtml, compile_safe,
 };
@@ -12,7 +13,13 @@ use std::test::Fail;
 fn safe(alloc: Global, script: &[u8]) -> Result<SafeHtml, Fail> {
     let read = read(alloc, script)?;
     let events = read.events.as_slice();
-    match compile_safe(alloc, events, read.document, &read.options, &REFERENCE_NAMES) {
+    match compile_safe(
+        alloc,
+        events,
+        read.document,
+        &read.options,
+        &REFERENCE_NAMES,
+    ) {
         Ok(html) => Ok(html),
         Err(_) => Err("the script has a safe text")?,
     }
@@ -94,7 +101,11 @@ fn options_are_looked_at_first(rt: HostRuntime) -> Result<(), Fail> {
                 options.gfm_footnote_label_attributes = Some(usual);
             }
         }
-        assert_eq!(rt; refusal(rt.alloc(), &options)?, SafeError::Options, "at {changed}");
+        assert_eq!(rt;
+            refusal(rt.alloc(), &options)?,
+            SafeError::Options,
+            "at {changed}"
+        );
     }
     Ok(())
 }
@@ -116,7 +127,10 @@ fn other_options_are_safe(rt: HostRuntime) -> Result<(), Fail> {
 
 #[test]
 fn safe_errors_print(rt: HostRuntime) -> Result<(), Fail> {
-    assert_eq!(rt; SafeError::Options.to_string(rt.alloc())?.as_str(), "unsafe options");
+    assert_eq!(rt;
+        SafeError::Options.to_string(rt.alloc())?.as_str(),
+        "unsafe options"
+    );
     let refused = refusal(rt.alloc(), &CompileOptions::default())?;
     assert_eq!(rt; refused.to_string(rt.alloc())?.as_str(), "event 0: Order");
     Ok(())

@@ -1,5 +1,5 @@
 -- The run over the events, with the document's definitions, is the meaning of each document that they flatten.
-use Rattle.std.proofs.Common.{◌≡◌, List, [], ℕ, ap, sym, ◌∙◌, subst, string_bytes, String, Global, IfOk}
+use Rattle.std.proofs.Common.{◌≡◌, List, [], ℕ, ap, sym, ◌∙◌, subst, string_bytes, length, ◌≤◌, arith}
 use Rattle.md_text.specs.Html.{any_attribute, HasOneReadingWith}
 use Rattle.md_text.specs.Safe.{is_safe_link, is_safe_image}
 use Rattle.md_shape.specs.Built.{IsBuilt, Blocks}
@@ -14,7 +14,6 @@ use Rattle.md_print.specs.Machine.{finished}
 use Rattle.md_tree.specs.Shape.{IsShaped}
 use Rattle.md_html.specs.OwnDefinitions.{own_definitions}
 use Rattle.md_html.proofs.OwnEvents.{document-definitions}
-use Rattle.md_html.proofs.Walks.{on_answer}
 use Rattle.md_meaning.specs.Meaning.{meaning, ending_at}
 use Rattle.md_meaning.specs.Whole.{printed_meaning}
 use Rattle.md_tie.proofs.Whole.{printed-is-meant}
@@ -24,7 +23,7 @@ use Rattle.md_base.specs.declared.event.Name.TheVariants.{GfmTable}
 use Rattle.md_meaning.specs.Media.{defined_target}
 use Rattle.md_meaning.specs.Places.{first_ending}
 use Rattle.md_html.proofs.Whole.{given_with, text-run}
-use Rattle.md_html.proofs.compiler.compile_checked.Goals as goal
+use Rattle.md_html.proofs.compiler.count_checked.Goals as goal
 
 pub returns : goal.returns
 returns c =
@@ -41,43 +40,28 @@ returns c =
     subst IsShaped (flatten_one GfmTable (record { line = 0; column = 0; index = 0; vs = 0 }) read.0 document (read.1.flattened ∙ sym flat)) read.1.grammatical.shape
     in
     let built : IsBuilt checked.bytes Blocks read.0 = grammatical-built checked.bytes checked.names read.0 read.1.grammatical in
-    let Printed : String Global → Type 0 = λ text. (document : Forest) → flatten document ≡ checked.events → string_bytes text ≡ printed_meaning options checked.names checked.bytes document in
-    let Meant : String Global → Type 0 = λ text. (document : Forest) → flatten document ≡ checked.events → string_bytes text ≡ meaning options checked.names checked.bytes document in
-    let printed : IfOk c.into_text.result Printed =
-    on_answer (λ text. string_bytes text ≡ _) (λ text. (document : Forest) → flatten document ≡ given_events → string_bytes text ≡ printed_meaning options c.args.checked.now.names c.args.checked.now.bytes document)
-    (λ text laid document flat.
-    laid
-    ∙ ap (λ s. (finished (given ending known) s).text) (c.in_ok-printer.ensures document flat)
+    let printed : (document : Forest) → flatten document ≡ checked.events → string_bytes c.in_ok-text.text ≡ printed_meaning options checked.names checked.bytes document = λ document flat.
+    c.in_ok-text.ensures
+    ∙ ap (λ s. (finished (given ending known) s).text) (c.in_ok-ran.ensures.printed document flat)
     ∙ text-run options names bytes given_events ending known document flat
     (c.ending_of.ensures.ending document flat ∙ ap (λ b. ending_at options b (first_ending document)) (sym c.bytes.ensures))
     (λ identifier.
     c.in_ok-definitions.ensures identifier
     ∙ ap (λ ds. defined_target ds identifier)
-    (c.in_ok-found.ensures document flat (c.definitions.ensures.definitions document flat)
+    (c.in_ok-own.ensures.definitions document flat (c.definitions.ensures.definitions document flat)
     ∙ ap (λ ds. own_definitions (given ending ds) document) c.new-none.ensures
     ∙ sym (document-definitions (given ending []) document (shaped document flat))))
     ∙ ap (λ n. printed_meaning options n bytes document) c.names.ensures
-    ∙ ap (λ b. printed_meaning options c.args.checked.now.names b document) c.bytes.ensures)
-    c.into_text.result c.into_text.ensures
+    ∙ ap (λ b. printed_meaning options c.args.checked.now.names b document) c.bytes.ensures
     in
+    let own = c.in_ok-own.ensures.visits read.0 (shaped read.0 read.1.flattened) read.1.flattened (c.definitions.ensures.definitions read.0 read.1.flattened) in
     record {
-      meaning =
-          on_answer Printed Meant
-          (λ text is document flat.
-          is document flat
+      meaning = λ document flat.
+          printed document flat
           ∙ printed-is-meant options checked.names checked.bytes document
-          (subst (λ forest. IsGrammatical checked.bytes checked.names forest) (flatten_one GfmTable (record { line = 0; column = 0; index = 0; vs = 0 }) read.0 document (read.1.flattened ∙ sym flat)) read.1.grammatical))
-          c.into_text.result printed;
-      one_reading =
-          on_answer Printed (λ text. KeepsGrammar options → HasOneReadingWith any_attribute (string_bytes text))
-          (λ text is keeps. subst (λ t. HasOneReadingWith any_attribute t) (sym (is read.0 read.1.flattened)) (one-reading checked.bytes checked.names options read.0 built keeps))
-          c.into_text.result printed;
-      safe_links =
-          on_answer Printed (λ text. KeepsLinks options → HasOneReadingWith is_safe_link (string_bytes text))
-          (λ text is keeps. subst (λ t. HasOneReadingWith is_safe_link t) (sym (is read.0 read.1.flattened)) (safe-links checked.bytes checked.names options read.0 built keeps))
-          c.into_text.result printed;
-      safe_images =
-          on_answer Printed (λ text. KeepsImages options → HasOneReadingWith is_safe_image (string_bytes text))
-          (λ text is keeps. subst (λ t. HasOneReadingWith is_safe_image t) (sym (is read.0 read.1.flattened)) (safe-images checked.bytes checked.names options read.0 built keeps))
-          c.into_text.result printed;
+          (subst (λ forest. IsGrammatical checked.bytes checked.names forest) (flatten_one GfmTable (record { line = 0; column = 0; index = 0; vs = 0 }) read.0 document (read.1.flattened ∙ sym flat)) read.1.grammatical);
+      one_reading = λ keeps. subst (λ t. HasOneReadingWith any_attribute t) (sym (printed read.0 read.1.flattened)) (one-reading checked.bytes checked.names options read.0 built keeps);
+      safe_links = λ keeps. subst (λ t. HasOneReadingWith is_safe_link t) (sym (printed read.0 read.1.flattened)) (safe-links checked.bytes checked.names options read.0 built keeps);
+      safe_images = λ keeps. subst (λ t. HasOneReadingWith is_safe_image t) (sym (printed read.0 read.1.flattened)) (safe-images checked.bytes checked.names options read.0 built keeps);
+      most = omega (arith, own, c.in_ok-ran.ensures.visits, c.saturating_add-visits.ensures);
     }

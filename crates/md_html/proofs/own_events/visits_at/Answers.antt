@@ -1,0 +1,11 @@
+use Rattle.std.proofs.Common.{◌≡◌, length, ap, ◌∙◌}
+use Rattle.std.specs.Prelude.{slice_get}
+use Rattle.md_html.specs.OwnDefinitions.{events_at}
+use Rattle.md_html.proofs.OwnNodes.{partner-at}
+use Rattle.md_html.proofs.own_events.visits_at.Goals as goal
+
+pub returns : goal.returns
+returns c = λ document flat.
+    ap (λ es. length es) c.node_events.ensures
+    ∙ ap (λ es. length (events_at es c.args.entry c.partner.result)) c.events.ensures.events
+    ∙ ap (λ p. length (events_at c.args.checked.now.events c.args.entry p)) (partner-at c.args.checked.now c.args.entry c.partner.result document c.partner.ensures flat)
