@@ -11,8 +11,6 @@ mod places;
 mod rope;
 mod section;
 mod sheet;
-#[cfg(test)]
-mod tests;
 mod ways_back;
 
 pub use calls::Calls;

@@ -1,5 +1,7 @@
-use super::*;
 use md_meaning::CompileOptions;
+use md_sheet::{
+    Calls, Defined, Definitions, Footnotes, Rope, Sheet, Target, call_id, footnote_id, lay_section,
+};
 use std::alloc::{AllocError, Global};
 use std::test::Fail;
 
