@@ -2,14 +2,25 @@
 use Rattle.std.specs.Prelude.{ℕ, List, codes}
 use Rattle.md_script.specs.Error.{message_of, status_of}
 use Rattle.mdevents.specs.declared.failure.Failure.{Failure}
-use Rattle.mdevents.specs.declared.failure.Failure.TheVariants.{Run, InputOutput}
+use Rattle.mdevents.specs.declared.failure.Failure.TheVariants.{Run, Options, Usage, InputOutput}
+use Rattle.md_script.specs.declared.error.SafeRunError.{SafeRunError}
+use Rattle.md_script.specs.declared.error.SafeRunError.TheVariants as safe
 
 -- the line on standard error
 abbrev pub line_of : Failure → List ℕ
 line_of (Run error) = message_of error
 line_of InputOutput = codes "input or output failed"
+line_of Options = codes "unsafe options"
+line_of Usage = codes "usage: mdevents [--page TITLE]"
 
 -- the status
 abbrev pub status_behind : Failure → ℕ
 status_behind (Run error) = status_of error
 status_behind InputOutput = 4
+status_behind Options = 5
+status_behind Usage = 64
+
+-- why a script gives no safe text, as the program tells it
+abbrev pub failure_of : SafeRunError → Failure
+failure_of safe.Options = Options
+failure_of (safe.Run error) = Run error

@@ -1,6 +1,6 @@
 //! Why nothing was written, and what is said of it.
 
-use md_script::RunError;
+use md_script::{RunError, SafeRunError};
 use std::alloc::AllocError;
 use std::{fmt, io};
 
@@ -9,6 +9,10 @@ use std::{fmt, io};
 pub enum Failure {
     /// The script gives no text.
     Run(RunError),
+    /// A page is asked for, and the script's options aren't safe.
+    Options,
+    /// The arguments ask for nothing that there is.
+    Usage,
     /// Reading or writing failed.
     InputOutput,
 }
@@ -17,13 +21,16 @@ impl Failure {
     ghost use Rattle.std.specs.Prelude.{◌≡◌};
     ghost use Rattle.mdevents.specs.Failure.{status_behind};
 
-    /// The status with which the program ends: that of the script's error, or 4.
+    /// The status with which the program ends: that of the script's error, 4 where reading or writing failed, 5 for unsafe
+    /// options, 64 for other arguments.
     pub fn status(&self) -> u8
         ensures { result ≡ status_behind self.now }
     {
         match self {
             Failure::Run(error) => error.status(),
             Failure::InputOutput => 4,
+            Failure::Options => 5,
+            Failure::Usage => 64,
         }
     }
 }
@@ -38,6 +45,8 @@ impl fmt::Display for Failure {
         match self {
             Failure::Run(error) => write!(f, "{error}"),
             Failure::InputOutput => write!(f, "input or output failed"),
+            Failure::Options => write!(f, "unsafe options"),
+            Failure::Usage => write!(f, "usage: mdevents [--page TITLE]"),
         }
     }
 }
@@ -50,6 +59,20 @@ impl From<RunError> for Failure {
 
     fn from(error: RunError) -> Failure {
         Failure::Run(error)
+    }
+}
+
+impl From<SafeRunError> for Failure {
+    ghost use Rattle.std.specs.Prelude.{◌≡◌};
+    ghost use Rattle.mdevents.specs.Failure.{failure_of};
+
+    ghost from_gives = { λ error failure. failure ≡ failure_of error };
+
+    fn from(error: SafeRunError) -> Failure {
+        match error {
+            SafeRunError::Options => Failure::Options,
+            SafeRunError::Run(error) => Failure::Run(error),
+        }
     }
 }
 
