@@ -326,6 +326,10 @@ def calls_of_footnotes(script, n):
     uses_and_definitions(script, n, "note", call, partial(footnote, text="a"))
 
 
+def calls_of_like_footnotes(script, n):
+    uses_and_definitions(script, n, "k" * 60, call, partial(footnote, text="a"))
+
+
 def calls_of_one_footnote(script, n):
     with script.node("Paragraph"):
         for _ in range(n):
@@ -395,6 +399,7 @@ SHAPES = [
     ("nested images", doubled(to=100_000, times=3), partial(nested_media, "Image")),
     ("links, each to a definition of its own", doubled(to=80_000, times=3), links_to_definitions),
     ("calls, each of a footnote of its own", doubled(to=80_000, times=3), calls_of_footnotes),
+    ("the same, their identifiers alike in sixty bytes", doubled(to=80_000, times=2), calls_of_like_footnotes),
     ("calls of one footnote", doubled(to=80_000, times=3), calls_of_one_footnote),
     ("n columns and n empty rows", doubled(to=4_000, times=2), empty_rows),
     ("n links to one destination of n bytes", doubled(to=10_000, times=2), long_destination),
