@@ -79,6 +79,15 @@ fn visits_each(
     Ok(())
 }
 
+/// The text and the count of visits are refused alike.
+fn refuses_alike(rt: &(impl Abort + AllocGlobal), read: &Script<'_>) {
+    let events = read.events.as_slice();
+    let (document, options) = (read.document, &read.options);
+    let whole = compile(rt.alloc(), events, document, options, &REFERENCE_NAMES);
+    let counted = compile_counted(rt.alloc(), events, document, options, &REFERENCE_NAMES);
+    assert_eq!(rt; counted.err(), whole.err());
+}
+
 /// A script is refused by `run` and by `compile`, each time for one of these: an event and its rule.
 fn refuses(
     rt: &(impl Abort + AllocGlobal),
@@ -105,6 +114,7 @@ fn refuses(
         }
         other => assert!(rt; false, "{other:?}"),
     }
+    refuses_alike(rt, &read);
     Ok(())
 }
 

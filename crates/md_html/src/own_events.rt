@@ -71,6 +71,7 @@ fn run_node(
     let mut printer = Printer::new(alloc);
     let mut rest = node_events(events, entry, checked.partner(entry));
     let mut index = entry;
+    // Each turn visits an event, which `visits_at` counts.
     while let Some((event, later)) = rest.split_first() {
         let is_last = later.is_empty();
         step(alloc, &mut printer, source, checked, index, *event, is_last)?;
