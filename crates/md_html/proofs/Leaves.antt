@@ -20,7 +20,7 @@ use Rattle.md_print.specs.declared.groups.Group.{Group}
 use Rattle.md_print.specs.declared.groups.Group.TheVariants.{Silent, Text, Span, Block, Autolink, Table, Captured}
 use Rattle.md_print.specs.Closings.{group_of, in_group, is_light, is_captured_group}
 use Rattle.md_print.specs.Machine.{State, printing, opening_frame, entering_table, leaving_table, entered, exited, leaving, logging, closing_in, passing_leaf, ahead_told, loose_told, columns_told, is_nil, stepped, run}
-use Rattle.md_print.specs.Steps.{first_or}
+use Rattle.md_around.specs.Steps.{first_or}
 use Rattle.md_print.proofs.Closings.{At, closing-group, captured-group, text, block, medium, table}
 use Rattle.md_sheet.proofs.Lists.{drop-found}
 use Rattle.md_html.specs.Leaf.{IsLeaf}

@@ -31,7 +31,7 @@ use Rattle.md_sheet.proofs.Tally.{fold-tally}
 use Rattle.md_meaning.specs.Calls.{Called, tally}
 use Rattle.md_meaning.specs.Footnotes.{Footnote}
 use Rattle.md_print.specs.Machine.{State, Log, ahead_by, ahead_told, columns_told, loose_told, entering_table, leaving_table, entered, exited, is_nil, run, beginning}
-use Rattle.md_print.specs.Steps.{first_or, others_of, no_spine, with_name, passing, slurps_behind}
+use Rattle.md_around.specs.Steps.{first_or, others_of, no_spine, with_name, passing, slurps_behind}
 
 -- marks before marks
 pub is_slurping-append : (marks before : List Mark) → is_slurping (marks ++ before) ≡ slurps_behind marks (is_slurping before)

@@ -1,4 +1,3 @@
 pub mod Closings
 pub mod Machine
 pub mod Sources
-pub mod Steps

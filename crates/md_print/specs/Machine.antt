@@ -25,7 +25,7 @@ use Rattle.md_meaning.specs.declared.facts.Spine.{Spine}
 use Rattle.md_meaning.specs.declared.options.CompileOptions.{CompileOptions}
 use Rattle.md_meaning.specs.Piece.{Piece, Page, blank, lay}
 use Rattle.md_meaning.specs.Surroundings.{own_marks, inside, outermost}
-use Rattle.md_print.specs.Steps.{first_or, others_of, no_spine, nothing_passed, passing, slurps_behind}
+use Rattle.md_around.specs.Steps.{first_or, others_of, no_spine, nothing_passed, passing, slurps_behind}
 use Rattle.md_meaning.specs.Given.{Given, Defined}
 use Rattle.md_meaning.specs.Places.{Left, identifier_at}
 use Rattle.md_meaning.specs.Printed.{opening, closing, is_captured}

@@ -9,7 +9,7 @@ use Rattle.md_base.specs.declared.event.Name.{Name}
 use Rattle.md_print.specs.declared.facts.Exit.{Exit}
 use Rattle.md_print.specs.declared.facts.Frame.{Frame as FrameInside}
 use Rattle.md_print.specs.Machine.{Frame, State, ahead_by, document_frame}
-use Rattle.md_print.specs.Steps.{first_or}
+use Rattle.md_around.specs.Steps.{first_or}
 use Rattle.md_meaning.specs.Piece.{Piece, Page}
 use Rattle.md_meaning.specs.Places.{Left}
 use Rattle.md_meaning.specs.declared.facts.Ahead.{Ahead}

@@ -2,7 +2,7 @@
 
 ghost use Rattle.std.specs.Prelude.{◌≡◌, ◌∷◌, [], codes, OnOk};
 ghost use Rattle.md_print.specs.Machine.{printing, ahead_by};
-ghost use Rattle.md_print.specs.Steps.{first_or};
+ghost use Rattle.md_around.specs.Steps.{first_or};
 ghost use Rattle.md_print.specs.Sources.{given_of, left_at};
 ghost use Rattle.md_meaning.specs.Footnotes as footnotes;
 ghost use Rattle.md_meaning.specs.Piece.{Text};

@@ -2,7 +2,7 @@
 
 ghost use Rattle.std.specs.Prelude.{◌≡◌, ◌∷◌, ◌++◌, ◌+◌, ◌<◌, ◌^◌, slice_get, IfOk, IfSome, OnOk, string_bytes, [], true, if◌then◌else◌};
 ghost use Rattle.md_print.specs.Machine as machine;
-ghost use Rattle.md_print.specs.Steps as steps;
+ghost use Rattle.md_around.specs.Steps as steps;
 ghost use Rattle.md_meaning.specs.Piece as piece;
 ghost use Rattle.md_meaning.specs.Piece.{Text, Needed, Forced, Noted, Recalled, blank, lay};
 ghost use Rattle.md_meaning.specs.Calls.{number_among, count_among};
@@ -11,7 +11,7 @@ ghost use Rattle.md_sheet.specs.Seen.{counted, noted};
 ghost use Rattle.md_meaning.specs.Texts.{said};
 
 use crate::facts::{Exit, Frame};
-use crate::surroundings::{NO_SPINE, inside, pass, slurps_behind, spine_inside};
+use md_around::surroundings::{NO_SPINE, inside, pass, slurps_behind, spine_inside};
 use md_base::{AlignKind, Name, Point, Position};
 use md_meaning::{CompileOptions, Container, Passed, Spine, Surroundings};
 use md_sheet::{Calls, Defined, Footnotes, Rope, Sheet, Target, lay_section};

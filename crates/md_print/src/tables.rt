@@ -2,7 +2,7 @@
 
 ghost use Rattle.std.specs.Prelude.{◌≡◌, [], OnOk, drop, slice_get};
 ghost use Rattle.md_print.specs.Machine.{printing};
-ghost use Rattle.md_print.specs.Steps.{first_or};
+ghost use Rattle.md_around.specs.Steps.{first_or};
 ghost use Rattle.md_print.specs.Sources.{left_at};
 ghost use Rattle.md_meaning.specs.Tables as tables;
 

@@ -7,9 +7,9 @@ ghost use Rattle.md_print.specs.Sources.{given_of, left_at};
 
 use crate::escape::put_encoded;
 use crate::facts::Exit;
-use crate::names::is_definition;
 use crate::printer::Printer;
 use crate::source::{Source, text_of};
+use md_around::names::is_definition;
 use md_base::{Name, decode_character_reference};
 use md_text::gfm_tagfilter;
 use std::alloc::{AllocError, Global};

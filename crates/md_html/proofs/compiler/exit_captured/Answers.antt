@@ -4,7 +4,7 @@ use Rattle.md_print.specs.declared.facts.Exit.{Exit}
 use Rattle.md_print.specs.Sources.{given_of, closing_at, exit_in}
 use Rattle.md_print.specs.Machine as machine
 use Rattle.md_print.specs.Machine.{State}
-use Rattle.md_print.specs.Steps.{first_or}
+use Rattle.md_around.specs.Steps.{first_or}
 use Rattle.md_meaning.specs.declared.facts.Ahead.{Ahead}
 use Rattle.md_meaning.specs.Piece.{Page}
 use Rattle.md_html.proofs.Groups.{no_table}

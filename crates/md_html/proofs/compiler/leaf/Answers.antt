@@ -7,7 +7,7 @@ use Rattle.md_print.specs.declared.facts.Exit.{Exit}
 use Rattle.md_print.specs.Sources.{given_of, closing_at}
 use Rattle.md_print.specs.Machine as machine
 use Rattle.md_print.specs.Machine.{State}
-use Rattle.md_print.specs.Steps.{first_or}
+use Rattle.md_around.specs.Steps.{first_or}
 use Rattle.md_html.proofs.Leaves.{leaf-steps, streamed}
 use Rattle.md_html.proofs.Walks.{on_answer}
 use Rattle.md_html.proofs.compiler.leaf.Goals as goal

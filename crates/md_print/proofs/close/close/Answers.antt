@@ -2,7 +2,7 @@
 use Rattle.std.proofs.Common.{◌≡◌, [], OnOk, sym, subst, ◌∙◌}
 use Rattle.md_print.specs.Machine.{State}
 use Rattle.md_print.specs.declared.groups.Group.TheVariants.{Text, Span, Block, Autolink, Table}
-use Rattle.md_print.specs.Steps.{first_or}
+use Rattle.md_around.specs.Steps.{first_or}
 use Rattle.md_meaning.specs.Piece.{blank}
 use Rattle.md_print.specs.Sources.{given_of, left_at}
 use Rattle.md_print.proofs.Closings.{At, printing-group}

@@ -8,7 +8,7 @@ use Rattle.md_meaning.specs.Piece.{Piece, Text}
 use Rattle.md_meaning.specs.Texts.{said, code_pieces, code_text}
 use Rattle.md_print.specs.Sources.{given_of, closing_at}
 use Rattle.md_print.specs.declared.facts.Exit.{Exit}
-use Rattle.md_print.specs.Steps.{first_or}
+use Rattle.md_around.specs.Steps.{first_or}
 use Rattle.std.proofs.lemmas.List.{append-nil}
 use Rattle.std.proofs.Common.{codes}
 use Rattle.md_print.proofs.close.close_captured.Goals as goal

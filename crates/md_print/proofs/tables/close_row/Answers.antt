@@ -1,7 +1,7 @@
 use Rattle.std.proofs.Common.{◌≡◌, [], ◌∷◌, ◌++◌, drop, List, codes, ap, sym, ◌∙◌, subst, OnOk}
 use Rattle.md_meaning.specs.Piece.{Piece, Text, Needed}
 use Rattle.md_print.specs.Machine.{State, printing}
-use Rattle.md_print.specs.Steps.{first_or}
+use Rattle.md_around.specs.Steps.{first_or}
 use Rattle.md_meaning.specs.declared.facts.Passed.{Passed}
 use Rattle.md_meaning.specs.Tables as tables
 use Rattle.md_print.proofs.Printing.{printing-append}

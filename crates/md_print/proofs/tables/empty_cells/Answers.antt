@@ -2,7 +2,7 @@ use Rattle.std.proofs.Common.{[], ◌+◌, drop, List, ap, sym, ◌∙◌}
 use Rattle.md_base.specs.declared.event.AlignKind.{AlignKind}
 use Rattle.md_meaning.specs.Piece.{Piece}
 use Rattle.md_print.specs.Machine.{State, printing}
-use Rattle.md_print.specs.Steps.{first_or}
+use Rattle.md_around.specs.Steps.{first_or}
 use Rattle.md_meaning.specs.Tables as tables
 use Rattle.md_sheet.proofs.Lists.{drop-found, drop-missing}
 use Rattle.md_print.proofs.Printing.{printing-append}

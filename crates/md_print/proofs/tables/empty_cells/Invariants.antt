@@ -1,7 +1,7 @@
 use Rattle.std.proofs.Common.{◌≡◌, ◌-◌, length, drop, []}
 use Rattle.md_meaning.specs.Tables as tables
 use Rattle.md_print.specs.Machine.{printing}
-use Rattle.md_print.specs.Steps.{first_or}
+use Rattle.md_around.specs.Steps.{first_or}
 use Rattle.md_print.proofs.tables.empty_cells.Given as goal
 
 -- the columns stay, and what is left comes behind what is printed

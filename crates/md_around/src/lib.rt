@@ -1,0 +1,5 @@
+//! What is known of a node before it is printed, by what stands round it and before it.
+#![tactic(auto)]
+
+pub mod names;
+pub mod surroundings;
