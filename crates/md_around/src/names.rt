@@ -1,7 +1,7 @@
 //! Tests on names.
 
 ghost use Rattle.std.specs.Prelude.{◌≡◌};
-ghost use Rattle.md_tree.specs.NameTests as tests;
+ghost use Rattle.md_base.specs.NameTests as tests;
 ghost use Rattle.md_meaning.specs.Printed as printed;
 
 use md_base::Name;

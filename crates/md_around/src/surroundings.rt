@@ -3,7 +3,7 @@
 ghost use Rattle.std.specs.Prelude.{◌≡◌, ◌+◌, IfOk, OnOk, ◌||◌, ◌&&◌, if◌then◌else◌, Some};
 ghost use Rattle.md_meaning.specs.Surroundings as spec;
 ghost use Rattle.md_around.specs.Steps as machine;
-ghost use Rattle.md_tree.specs.NameTests.{is_transparent, is_cell, contributes};
+ghost use Rattle.md_base.specs.NameTests.{is_transparent, is_cell, contributes};
 
 use crate::names::{contributes, is_cell, is_chunk, is_fence, is_transparent};
 use md_base::{Name, Point};

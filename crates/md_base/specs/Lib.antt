@@ -1,3 +1,6 @@
 pub mod Identifier
 pub mod Place
 pub mod Reference
+pub mod Tree
+pub mod NameTests
+pub mod Children

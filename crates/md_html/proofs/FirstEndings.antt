@@ -9,12 +9,12 @@ use Rattle.md_base.specs.declared.event.Kind.TheVariants.{Enter, Exit}
 use Rattle.md_base.specs.declared.event.Point.{Point}
 use Rattle.md_base.specs.declared.event.Position.{Position}
 use Rattle.md_base.specs.declared.event.Event.{Event}
-use Rattle.md_tree.specs.Tree.{Forest, Empty, Node, flatten, entering, exiting}
-use Rattle.md_tree.specs.Children.{or_else}
-use Rattle.md_tree.specs.NameTests.{is_line_ending}
+use Rattle.md_base.specs.Tree.{Forest, Empty, Node, flatten, entering, exiting}
+use Rattle.md_base.specs.Children.{or_else}
+use Rattle.md_base.specs.NameTests.{is_line_ending}
 use Rattle.md_tree.specs.Texts.{positions_of, is_text_name, ExitsText}
 use Rattle.md_meaning.specs.Places.{first_ending}
-use Rattle.md_tree.specs.Ending.{is_exit, ends_line, first_index}
+use Rattle.md_infer.specs.Ending.{is_exit, ends_line, first_index}
 
 -- there is none, or it is at an index, where its place is
 abbrev Outcome : List Event → List (Option Position) → Option Position → Type 0

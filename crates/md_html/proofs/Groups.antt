@@ -3,11 +3,11 @@ use Rattle.std.proofs.Common.{◌≡◌, ℕ, true, false, List, refl, sym}
 use Rattle.std.proofs.lemmas.Bool.{false≢true}
 use Rattle.md_base.specs.declared.event.Name.{Name}
 use Rattle.md_base.specs.declared.event.Name.TheVariants.{GfmTable, GfmFootnoteCall, Definition, GfmFootnoteDefinition}
-use Rattle.md_tree.specs.NameTests.{is_table}
+use Rattle.md_base.specs.NameTests.{is_table}
 use Rattle.md_meaning.specs.declared.facts.Ahead.{Ahead}
 use Rattle.md_meaning.specs.Piece.{Page}
 use Rattle.md_meaning.specs.Printed.{is_captured}
-use Rattle.md_print.specs.Machine.{State, logging}
+use Rattle.md_printer.specs.Machine.{State, logging}
 
 -- a table isn't captured
 pub no_table : (name : Name) → is_captured name ≡ true → is_table name ≡ false

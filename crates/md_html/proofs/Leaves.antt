@@ -6,9 +6,9 @@ use Rattle.md_base.specs.declared.event.Name.{Name}
 use Rattle.md_base.specs.declared.event.Name.TheVariants.{BlockQuote, ListOrdered, ListUnordered, ListItem, Paragraph, HeadingAtx, CodeIndented, CodeFenced, MathFlow, CodeFencedFenceInfo, HtmlFlow, Emphasis, Strong, GfmStrikethrough, GfmTaskListItemCheck, GfmTable, GfmTableHead, GfmTableBody, GfmTableRow}
 use Rattle.md_base.specs.declared.event.Point.{Point}
 use Rattle.md_base.specs.declared.event.Event.{Event}
-use Rattle.md_tree.specs.Tree.{Forest, flatten}
+use Rattle.md_base.specs.Tree.{Forest, flatten}
 use Rattle.md_tree.specs.Entered.{children_of}
-use Rattle.md_tree.specs.NameTests.{is_table}
+use Rattle.md_base.specs.NameTests.{is_table}
 use Rattle.md_meaning.specs.declared.facts.Ahead.{Ahead}
 use Rattle.md_meaning.specs.declared.facts.Passed.{Passed}
 use Rattle.md_meaning.specs.declared.facts.Surroundings.{Surroundings}
@@ -19,7 +19,7 @@ use Rattle.md_meaning.specs.Printed.{opening, closing, is_captured}
 use Rattle.md_print.specs.declared.groups.Group.{Group}
 use Rattle.md_print.specs.declared.groups.Group.TheVariants.{Silent, Text, Span, Block, Autolink, Table, Captured}
 use Rattle.md_print.specs.Closings.{group_of, in_group, is_light, is_captured_group}
-use Rattle.md_print.specs.Machine.{State, printing, opening_frame, entering_table, leaving_table, entered, exited, leaving, logging, closing_in, passing_leaf, ahead_told, loose_told, columns_told, is_nil, stepped, run}
+use Rattle.md_printer.specs.Machine.{State, printing, opening_frame, entering_table, leaving_table, entered, exited, leaving, logging, closing_in, passing_leaf, ahead_told, loose_told, columns_told, is_nil, stepped, run}
 use Rattle.md_around.specs.Steps.{first_or}
 use Rattle.md_print.proofs.Closings.{At, closing-group, captured-group, text, block, medium, table}
 use Rattle.md_sheet.proofs.Lists.{drop-found}

@@ -4,10 +4,10 @@ use Rattle.std.specs.Prelude.{if◌then◌else◌}
 use Rattle.md_base.specs.declared.event.Name.{Name}
 use Rattle.md_base.specs.declared.event.Name.TheVariants.{BlockQuote, Link, Image}
 use Rattle.md_base.specs.declared.event.Point.{Point}
-use Rattle.md_tree.specs.Tree.{Forest, Empty, Node}
-use Rattle.md_tree.specs.Children.{is_empty}
-use Rattle.md_tree.specs.Looseness.{is_loose}
-use Rattle.md_tree.specs.NameTests.{is_footnote_definition}
+use Rattle.md_base.specs.Tree.{Forest, Empty, Node}
+use Rattle.md_base.specs.Children.{is_empty}
+use Rattle.md_infer.specs.Looseness.{is_loose}
+use Rattle.md_base.specs.NameTests.{is_footnote_definition}
 use Rattle.md_meaning.specs.declared.facts.Surroundings.{Surroundings}
 use Rattle.md_meaning.specs.declared.facts.Ahead.{Ahead}
 use Rattle.md_meaning.specs.declared.facts.Passed.{Passed}

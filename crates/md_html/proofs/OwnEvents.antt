@@ -8,20 +8,20 @@ use Rattle.std.proofs.lemmas.List.Folds.{list_all-append}
 use Rattle.md_base.specs.declared.event.Name.{Name}
 use Rattle.md_base.specs.declared.event.Name.TheVariants.{LineEnding, BlockQuote, BlockQuotePrefix, ListOrdered, ListUnordered, ListItem, GfmFootnoteDefinition, Data, CharacterEscapeValue, CharacterReferenceMarker, CharacterReferenceMarkerNumeric, CharacterReferenceMarkerHexadecimal, CharacterReferenceValue, Definition, DefinitionLabelString, DefinitionDestinationString, DefinitionTitleString, HeadingSetextUnderlineSequence, SpaceOrTab, Other, MdxEsm, MdxFlowExpression, MdxTextExpression, MdxJsxFlowTag, MdxJsxTextTag}
 use Rattle.md_base.specs.declared.event.Point.{Point}
-use Rattle.md_tree.specs.declared.kinds.Symbol.{Symbol}
-use Rattle.md_tree.specs.declared.kinds.Symbol.TheVariants as symbol
-use Rattle.md_tree.specs.declared.kinds.Role.{Role}
-use Rattle.md_tree.specs.declared.kinds.Role.TheVariants as role
-use Rattle.md_tree.specs.declared.kinds.Standing.{Standing}
-use Rattle.md_tree.specs.declared.kinds.Standing.TheVariants.{Through, Space, Solid, Mdx}
-use Rattle.md_tree.specs.Standing.{standing_of}
-use Rattle.md_tree.specs.Spine.{spine, shown, Matches}
-use Rattle.md_tree.specs.Shape.{AreShaped, IsStanding, IsShaped, inner_role, inner_before}
-use Rattle.md_tree.specs.Tree.{Forest, Empty, Node, flatten}
+use Rattle.md_pattern.specs.declared.kinds.Symbol.{Symbol}
+use Rattle.md_pattern.specs.declared.kinds.Symbol.TheVariants as symbol
+use Rattle.md_pattern.specs.declared.kinds.Role.{Role}
+use Rattle.md_pattern.specs.declared.kinds.Role.TheVariants as role
+use Rattle.md_pattern.specs.declared.kinds.Standing.{Standing}
+use Rattle.md_pattern.specs.declared.kinds.Standing.TheVariants.{Through, Space, Solid, Mdx}
+use Rattle.md_pattern.specs.Standing.{standing_of}
+use Rattle.md_pattern.specs.Spine.{spine, shown, Matches}
+use Rattle.md_pattern.specs.Shape.{AreShaped, IsStanding, IsShaped, inner_role, inner_before}
+use Rattle.md_base.specs.Tree.{Forest, Empty, Node, flatten}
 use Rattle.md_tree.specs.Entered.{children_of}
-use Rattle.md_tree.specs.Children.{is_empty}
-use Rattle.md_tree.specs.NameTests.{is_definition, is_link_definition, is_transparent}
-use Rattle.md_tree.specs.Looseness.{is_loose}
+use Rattle.md_base.specs.Children.{is_empty}
+use Rattle.md_base.specs.NameTests.{is_definition, is_link_definition, is_transparent}
+use Rattle.md_infer.specs.Looseness.{is_loose}
 use Rattle.md_meaning.specs.declared.options.CompileOptions.{CompileOptions}
 use Rattle.md_meaning.specs.declared.facts.Surroundings.{Surroundings}
 use Rattle.md_meaning.specs.declared.facts.Ahead.{Ahead}
@@ -33,7 +33,7 @@ use Rattle.md_meaning.specs.Places.{Before, nothing_before, before_children, bef
 use Rattle.md_meaning.specs.Texts.{said, is_slurped}
 use Rattle.md_meaning.specs.Given.{text_of}
 use Rattle.md_meaning.specs.Printed.{is_captured, printed_node, printed, definitions_of}
-use Rattle.md_print.specs.Machine.{State, run, beginning}
+use Rattle.md_printer.specs.Machine.{State, run, beginning}
 use Rattle.md_html.proofs.Spines.{AllLetters, spine-all}
 use Rattle.md_html.specs.OwnDefinitions.{defined_alone, own_definitions}
 use Rattle.md_html.proofs.Runs.{Knows, run-flatten}

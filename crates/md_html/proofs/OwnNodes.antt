@@ -8,21 +8,22 @@ use Rattle.md_base.specs.declared.event.Name.{Name}
 use Rattle.md_base.specs.declared.event.Name.TheVariants.{Definition, GfmTable}
 use Rattle.md_base.specs.declared.event.Point.{Point}
 use Rattle.md_base.specs.declared.event.Event.{Event}
-use Rattle.md_tree.specs.declared.kinds.Symbol.{Symbol}
-use Rattle.md_tree.specs.declared.kinds.Role.{Role}
-use Rattle.md_tree.specs.declared.kinds.Role.TheVariants as role
-use Rattle.md_tree.specs.Spine.{spine, Matches}
-use Rattle.md_tree.specs.Shape.{AreShaped, IsShaped}
-use Rattle.md_tree.specs.Tree.{Forest, Empty, Node, flatten, entering, exiting}
-use Rattle.md_tree.specs.Partners.{behind, partners_of, IsPartnerAt}
+use Rattle.md_pattern.specs.declared.kinds.Symbol.{Symbol}
+use Rattle.md_pattern.specs.declared.kinds.Role.{Role}
+use Rattle.md_pattern.specs.declared.kinds.Role.TheVariants as role
+use Rattle.md_pattern.specs.Spine.{spine, Matches}
+use Rattle.md_pattern.specs.Shape.{AreShaped, IsShaped}
+use Rattle.md_base.specs.Tree.{Forest, Empty, Node, flatten, entering, exiting}
+use Rattle.md_infer.specs.Partners.{behind, partners_of}
+use Rattle.md_tree.specs.Indices.{IsPartnerAt}
 use Rattle.md_tree.specs.Grammar.{Document}
 use Rattle.md_tree.proofs.Indexed.{flatten_one}
 use Rattle.md_tree.specs.Entered.{children_of}
-use Rattle.md_tree.specs.NameTests.{is_link_definition}
+use Rattle.md_base.specs.NameTests.{is_link_definition}
 use Rattle.md_meaning.specs.Given.{Given, Defined}
-use Rattle.md_print.specs.Machine.{run, beginning}
+use Rattle.md_printer.specs.Machine.{run, beginning}
 use Rattle.md_html.specs.OwnDefinitions.{defined_alone, own_definitions, events_at}
-use Rattle.md_tree.specs.Partners.{definitions_of as entries_of}
+use Rattle.md_infer.specs.Partners.{definitions_of as entries_of}
 use Rattle.md_html.proofs.Walks.{drop-first, drop-later}
 use Rattle.md_html.proofs.OwnEvents.{definition-run}
 

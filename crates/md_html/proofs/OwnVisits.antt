@@ -7,14 +7,14 @@ use Rattle.md_base.specs.declared.event.Name.{Name}
 use Rattle.md_base.specs.declared.event.Name.TheVariants.{Definition}
 use Rattle.md_base.specs.declared.event.Point.{Point}
 use Rattle.md_base.specs.declared.event.Event.{Event}
-use Rattle.md_tree.specs.declared.kinds.Symbol.{Symbol}
-use Rattle.md_tree.specs.declared.kinds.Role.{Role}
-use Rattle.md_tree.specs.declared.kinds.Role.TheVariants as role
-use Rattle.md_tree.specs.Shape.{AreShaped, IsShaped}
-use Rattle.md_tree.specs.Tree.{Forest, Empty, Node, flatten, exiting}
-use Rattle.md_tree.specs.Partners.{behind, partners_of, definitions_of as entries_of}
+use Rattle.md_pattern.specs.declared.kinds.Symbol.{Symbol}
+use Rattle.md_pattern.specs.declared.kinds.Role.{Role}
+use Rattle.md_pattern.specs.declared.kinds.Role.TheVariants as role
+use Rattle.md_pattern.specs.Shape.{AreShaped, IsShaped}
+use Rattle.md_base.specs.Tree.{Forest, Empty, Node, flatten, exiting}
+use Rattle.md_infer.specs.Partners.{behind, partners_of, definitions_of as entries_of}
 use Rattle.md_tree.specs.Entered.{children_of}
-use Rattle.md_tree.specs.NameTests.{is_link_definition}
+use Rattle.md_base.specs.NameTests.{is_link_definition}
 use Rattle.md_meaning.specs.Given.{Given}
 use Rattle.md_html.specs.OwnDefinitions.{defined_alone, events_at}
 use Rattle.md_html.proofs.OwnEvents.{none-inside}

@@ -3,7 +3,7 @@ use Rattle.std.proofs.Common.{◌≡◌, ℕ, ◌+◌, Bool, true, false, ◌&&�
 use Rattle.std.specs.Prelude.{if◌then◌else◌, unwrap_or, count_by, fold}
 use Rattle.std.proofs.lemmas.List.Sums.{sum_by-append, fold-append}
 use Rattle.md_base.specs.declared.event.AlignKind.{AlignKind}
-use Rattle.md_tree.specs.Alignments.{alignments}
+use Rattle.md_infer.specs.Alignments.{alignments}
 use Rattle.md_tree.specs.Entered.{children_of}
 use Rattle.std.specs.List.{list_any}
 use Rattle.md_base.specs.declared.event.Name.{Name}
@@ -11,10 +11,10 @@ use Rattle.md_base.specs.declared.event.Name.TheVariants.{BlockQuote, ListOrdere
 use Rattle.md_base.specs.declared.event.Point.{Point}
 use Rattle.md_base.specs.declared.event.Position.{Position}
 use Rattle.md_base.specs.declared.event.Event.{Event}
-use Rattle.md_tree.specs.Tree.{Forest, Empty, Node, flatten, exiting}
-use Rattle.md_tree.specs.NameTests.{is_call, is_table, is_cell, is_link_definition, is_footnote_definition, is_transparent, contributes, is_fence, is_chunk}
-use Rattle.md_tree.specs.Children.{spine_names, is_empty, last_name, last_contributing, or_else}
-use Rattle.md_tree.specs.Looseness.{is_loose}
+use Rattle.md_base.specs.Tree.{Forest, Empty, Node, flatten, exiting}
+use Rattle.md_base.specs.NameTests.{is_call, is_table, is_cell, is_link_definition, is_footnote_definition, is_transparent, contributes, is_fence, is_chunk}
+use Rattle.md_base.specs.Children.{spine_names, is_empty, last_name, last_contributing, or_else}
+use Rattle.md_infer.specs.Looseness.{is_loose}
 use Rattle.md_meaning.specs.declared.options.CompileOptions.{CompileOptions}
 use Rattle.md_meaning.specs.declared.facts.Surroundings.{Surroundings}
 use Rattle.md_meaning.specs.declared.facts.Spine.{Spine}
@@ -30,7 +30,7 @@ use Rattle.md_sheet.proofs.Lists.{lay-append}
 use Rattle.md_sheet.proofs.Tally.{fold-tally}
 use Rattle.md_meaning.specs.Calls.{Called, tally}
 use Rattle.md_meaning.specs.Footnotes.{Footnote}
-use Rattle.md_print.specs.Machine.{State, Log, ahead_by, ahead_told, columns_told, loose_told, entering_table, leaving_table, entered, exited, is_nil, run, beginning}
+use Rattle.md_printer.specs.Machine.{State, Log, ahead_by, ahead_told, columns_told, loose_told, entering_table, leaving_table, entered, exited, is_nil, run, beginning}
 use Rattle.md_around.specs.Steps.{first_or, others_of, no_spine, with_name, passing, slurps_behind}
 
 -- marks before marks

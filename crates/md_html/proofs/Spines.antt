@@ -4,14 +4,14 @@ use Rattle.std.specs.Prelude.{replicate}
 use Rattle.std.specs.List.{list_all}
 use Rattle.std.proofs.lemmas.Bool.{and_parts, and_from}
 use Rattle.std.proofs.lemmas.List.Folds.{list_all-append}
-use Rattle.md_tree.specs.declared.kinds.Symbol.{Symbol}
-use Rattle.md_tree.specs.declared.kinds.Symbol.TheVariants.{ReferenceMarker, ReferenceNumeric, ReferenceHexadecimal, ReferenceValue, SetextText, SetextUnderline, LineEnding}
-use Rattle.md_tree.specs.declared.kinds.Role.{Role}
-use Rattle.md_tree.specs.declared.kinds.Item.{Item}
-use Rattle.md_tree.specs.declared.kinds.Class.{Class}
-use Rattle.md_tree.specs.Pattern.{Fits, pattern_of, members, takes}
-use Rattle.md_tree.specs.Spine.{IsTail, IsGrouped, Matches}
-use Rattle.md_tree.specs.Shape.{role_for}
+use Rattle.md_pattern.specs.declared.kinds.Symbol.{Symbol}
+use Rattle.md_pattern.specs.declared.kinds.Symbol.TheVariants.{ReferenceMarker, ReferenceNumeric, ReferenceHexadecimal, ReferenceValue, SetextText, SetextUnderline, LineEnding}
+use Rattle.md_pattern.specs.declared.kinds.Role.{Role}
+use Rattle.md_pattern.specs.declared.kinds.Item.{Item}
+use Rattle.md_pattern.specs.declared.kinds.Class.{Class}
+use Rattle.md_pattern.specs.Pattern.{Fits, pattern_of, members, takes}
+use Rattle.md_pattern.specs.Spine.{IsTail, IsGrouped, Matches}
+use Rattle.md_pattern.specs.Shape.{role_for}
 use Rattle.md_shape.proofs.Admitted.{taken}
 use Rattle.md_shape.proofs.Symbols.{roles_for}
 use Rattle.md_shape.proofs.Spots.{role_listed}

@@ -9,11 +9,11 @@ use Rattle.md_base.specs.declared.event.Event.{Event}
 use Rattle.md_base.specs.declared.event.Name.TheVariants.{GfmTable}
 use Rattle.md_base.specs.declared.event.Point.{Point}
 use Rattle.md_tree.specs.Grammar.{Document}
-use Rattle.md_tree.specs.Tree.{Forest, Empty, Node, flatten}
+use Rattle.md_base.specs.Tree.{Forest, Empty, Node, flatten}
 use Rattle.md_tree.specs.Entered.{children_of, IsEnteredAt}
 use Rattle.md_tree.proofs.Indexed.{flatten_one}
-use Rattle.md_print.specs.Sources.{IsToldAt}
-use Rattle.md_print.specs.Machine.{is_nil}
+use Rattle.md_printer.specs.Sources.{IsToldAt}
+use Rattle.md_printer.specs.Machine.{is_nil}
 
 -- a fact of an answer from another
 pub on_answer : {A E : Type 0} (P Q : A → Type 0) → ((a : A) → P a → Q a) → (result : Result A E) → IfOk result P → IfOk result Q

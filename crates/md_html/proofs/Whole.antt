@@ -4,13 +4,13 @@ use Rattle.std.specs.Prelude.{if◌then◌else◌, find}
 use Rattle.std.specs.Option.{option_map_or}
 use Rattle.std.proofs.lemmas.Slice.Eq.{bytes_eq-Decides}
 use Rattle.md_base.specs.declared.event.Event.{Event}
-use Rattle.md_tree.specs.Tree.{Forest, flatten}
+use Rattle.md_base.specs.Tree.{Forest, flatten}
 use Rattle.md_meaning.specs.declared.options.CompileOptions.{CompileOptions}
 use Rattle.md_meaning.specs.Given.{Given, Defined}
 use Rattle.md_meaning.specs.Places.{nothing_before, calls_of, first_ending}
 use Rattle.md_meaning.specs.Meaning.{ending_at}
 use Rattle.md_meaning.specs.Whole.{printed_meaning as meaning}
-use Rattle.md_print.specs.Machine.{run, beginning, finished}
+use Rattle.md_printer.specs.Machine.{run, beginning, finished}
 use Rattle.md_tree.specs.Entered.{children_of}
 use Rattle.md_meaning.specs.Piece.{Piece, Page, blank, lay, layout}
 use Rattle.md_meaning.specs.Surroundings.{outermost}

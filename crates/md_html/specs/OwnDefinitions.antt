@@ -3,10 +3,10 @@ use Rattle.std.specs.Prelude.{ℕ, ◌-◌, suc, if◌then◌else◌, List, [], 
 use Rattle.std.specs.Option.{option_map_or}
 use Rattle.md_base.specs.declared.event.Event.{Event}
 use Rattle.md_base.specs.declared.event.Name.TheVariants.{Definition}
-use Rattle.md_tree.specs.Tree.{Forest, Empty, Node}
-use Rattle.md_tree.specs.Partners.{behind}
-use Rattle.md_tree.specs.NameTests.{is_link_definition}
-use Rattle.md_tree.specs.Looseness.{is_loose}
+use Rattle.md_base.specs.Tree.{Forest, Empty, Node}
+use Rattle.md_infer.specs.Partners.{behind}
+use Rattle.md_base.specs.NameTests.{is_link_definition}
+use Rattle.md_infer.specs.Looseness.{is_loose}
 use Rattle.md_meaning.specs.Piece.{blank, lay}
 use Rattle.md_meaning.specs.Surroundings.{inside, outermost}
 use Rattle.md_meaning.specs.Given.{Given, Defined}

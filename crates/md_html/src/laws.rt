@@ -1,7 +1,7 @@
 //! What holds of the meaning of every document, as the contracts of functions that do nothing.
 
 ghost use Rattle.std.specs.Prelude.{◌≡◌, ℕ, Bool, false, List};
-ghost use Rattle.md_tree.specs.Tree.{Forest};
+ghost use Rattle.md_base.specs.Tree.{Forest};
 ghost use Rattle.md_meaning.specs.declared.options.CompileOptions.{CompileOptions};
 ghost use Rattle.md_meaning.specs.Meaning.{meaning};
 

@@ -2,20 +2,20 @@
 
 ghost use Rattle.std.specs.Prelude.{◌≡◌, ◌++◌, ℕ, List, IfOk, OnOk, Some, take, drop, slice_get, length, ◌≤◌};
 ghost use Rattle.std.specs.Option.{option_to_list};
-ghost use Rattle.md_tree.specs.Tree.{Forest, flatten};
+ghost use Rattle.md_base.specs.Tree.{Forest, flatten};
 ghost use Rattle.md_tree.specs.Grammar.{IsChecked};
-ghost use Rattle.md_tree.specs.Shape.{IsShaped};
+ghost use Rattle.md_pattern.specs.Shape.{IsShaped};
 ghost use Rattle.md_tree.specs.Entered.{children_of};
-ghost use Rattle.md_tree.specs.Partners.{partners_of};
-ghost use Rattle.md_print.specs.Machine as machine;
-ghost use Rattle.md_print.specs.Sources.{given_of};
+ghost use Rattle.md_infer.specs.Partners.{partners_of};
+ghost use Rattle.md_printer.specs.Machine as machine;
+ghost use Rattle.md_printer.specs.Sources.{given_of};
 ghost use Rattle.md_html.specs.OwnDefinitions.{own_definitions, events_at};
-ghost use Rattle.md_tree.specs.Partners.{definitions_of as entries_of};
+ghost use Rattle.md_infer.specs.Partners.{definitions_of as entries_of};
 
 use crate::compiler::step;
 use md_base::Event;
-use md_print::printer::Printer;
-use md_print::source::Source;
+use md_printer::printer::Printer;
+use md_printer::source::Source;
 use md_sheet::Defined;
 use md_tree::Checked;
 use std::alloc::{AllocError, Global};

@@ -4,7 +4,7 @@ use Rattle.std.specs.Option.{option_map_or}
 use Rattle.md_base.specs.declared.event.Point.{Point}
 use Rattle.md_base.specs.declared.event.Position.{Position}
 use Rattle.md_text.specs.Encode.{encoded}
-use Rattle.md_tree.specs.NameTests.{is_fence, is_item_prefix, is_paragraph}
+use Rattle.md_base.specs.NameTests.{is_fence, is_item_prefix, is_paragraph}
 use Rattle.md_meaning.specs.Piece.{Piece, Text, Needed, Forced, Recalled}
 use Rattle.md_meaning.specs.declared.facts.Container.{Container}
 use Rattle.md_meaning.specs.declared.facts.Container.TheVariants.{Nothing, TightList}

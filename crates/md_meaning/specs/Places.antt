@@ -6,11 +6,11 @@ use Rattle.md_base.specs.declared.event.Point.{Point}
 use Rattle.md_base.specs.declared.event.Position.{Position}
 use Rattle.md_base.specs.Identifier.{normalized}
 use Rattle.md_base.specs.Place.{fits, byte_index, spaces_before, spaces_after}
-use Rattle.md_tree.specs.Tree.{Forest, Empty, Node}
-use Rattle.md_tree.specs.NameTests.{is_line_ending, is_label, is_label_text, is_reference, is_definition_label, is_footnote_prefix, is_footnote_label, is_call, is_heading_mark, is_item, is_item_prefix, is_item_value, is_table}
-use Rattle.md_tree.specs.Children.{or_else, first_on_spine, spine_names, last_name, last_contributing}
-use Rattle.md_tree.specs.Looseness.{is_loose}
-use Rattle.md_tree.specs.Alignments.{alignments}
+use Rattle.md_base.specs.Tree.{Forest, Empty, Node}
+use Rattle.md_base.specs.NameTests.{is_line_ending, is_label, is_label_text, is_reference, is_definition_label, is_footnote_prefix, is_footnote_label, is_call, is_heading_mark, is_item, is_item_prefix, is_item_value, is_table}
+use Rattle.md_base.specs.Children.{or_else, first_on_spine, spine_names, last_name, last_contributing}
+use Rattle.md_infer.specs.Looseness.{is_loose}
+use Rattle.md_infer.specs.Alignments.{alignments}
 use Rattle.md_base.specs.declared.event.AlignKind.{AlignKind}
 use Rattle.md_meaning.specs.Surroundings.{Mark, is_slurping, told_by, spine_inside, spine_behind, own_marks, marks_of, inside}
 use Rattle.md_meaning.specs.declared.facts.Surroundings.{Surroundings}

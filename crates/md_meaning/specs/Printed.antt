@@ -3,10 +3,10 @@ use Rattle.std.specs.Prelude.{Bool, true, false, ◌&&◌, ◌||◌, if◌then�
 use Rattle.md_base.specs.declared.event.Name.{Name}
 use Rattle.md_base.specs.declared.event.Name.TheVariants.{LineEnding, BlankLineEnding, BlockQuote, ListOrdered, ListUnordered, ListItem, Data, CharacterEscapeValue, CharacterReferenceValue, CodeIndented, AutolinkEmail, AutolinkProtocol, GfmAutolinkLiteralEmail, GfmAutolinkLiteralMailto, GfmAutolinkLiteralProtocol, GfmAutolinkLiteralWww, GfmAutolinkLiteralXmpp, GfmFootnoteDefinition, GfmFootnoteDefinitionLabelString, GfmFootnoteCall, Definition, DefinitionLabelString, DefinitionDestinationString, DefinitionTitleString, Link, Image, Resource, ResourceDestinationString, ResourceTitleString, ReferenceString, CodeFenced, CodeFencedFence, CodeFencedFenceInfo, CodeFencedFenceMeta, CodeFlowChunk, MathFlow, MathFlowFence, MathFlowFenceMeta, MathFlowChunk, CodeText, CodeTextData, MathText, MathTextData, HtmlFlow, HtmlFlowData, HtmlTextData, GfmTable, GfmTableHead, GfmTableBody, GfmTableRow, GfmTableCell, GfmTableDelimiterRow, HeadingAtx, HeadingSetextText, HeadingSetextUnderlineSequence, Emphasis, Strong, GfmStrikethrough, GfmTaskListItemCheck, GfmTaskListItemValueChecked, HardBreakEscape, HardBreakTrailing, Paragraph, ThematicBreak, Frontmatter}
 use Rattle.md_base.specs.declared.event.Point.{Point}
-use Rattle.md_tree.specs.Tree.{Forest, Empty, Node}
-use Rattle.md_tree.specs.Children.{is_empty}
-use Rattle.md_tree.specs.NameTests.{is_link_definition, is_footnote_definition}
-use Rattle.md_tree.specs.Looseness.{is_loose}
+use Rattle.md_base.specs.Tree.{Forest, Empty, Node}
+use Rattle.md_base.specs.Children.{is_empty}
+use Rattle.md_base.specs.NameTests.{is_link_definition, is_footnote_definition}
+use Rattle.md_infer.specs.Looseness.{is_loose}
 use Rattle.md_meaning.specs.Piece.{Piece, Text, Needed, Forced, Noted, Heading, Destination, Title, Page, blank, lay}
 use Rattle.md_meaning.specs.Piece.{Resource as noted_resource}
 use Rattle.md_meaning.specs.declared.facts.Surroundings.{Surroundings}

@@ -4,10 +4,10 @@ use Rattle.std.specs.Prelude.{Bool, true, false, not, ◌&&◌, ◌||◌, if◌t
 use Rattle.std.specs.List.{list_any}
 use Rattle.md_base.specs.declared.event.Name.{Name}
 use Rattle.md_base.specs.declared.event.Name.TheVariants.{LineEnding, BlankLineEnding, BlockQuote, ListOrdered, ListUnordered, ListItem, GfmFootnoteDefinition, CodeIndented, CodeFenced, CodeFencedFence, MathFlow, MathFlowFence, CodeText, MathText, HtmlFlow, HtmlText, Definition, DefinitionDestinationString, Link, Image, ResourceDestinationString, HeadingSetextText, GfmTable, GfmTableHead, Paragraph, Frontmatter}
-use Rattle.md_tree.specs.Tree.{Forest, Empty, Node}
-use Rattle.md_tree.specs.NameTests.{is_transparent, is_fence, is_chunk, is_cell}
-use Rattle.md_tree.specs.Children.{spine_names}
-use Rattle.md_tree.specs.Looseness.{is_loose}
+use Rattle.md_base.specs.Tree.{Forest, Empty, Node}
+use Rattle.md_base.specs.NameTests.{is_transparent, is_fence, is_chunk, is_cell}
+use Rattle.md_base.specs.Children.{spine_names}
+use Rattle.md_infer.specs.Looseness.{is_loose}
 use Rattle.md_meaning.specs.declared.facts.Container.{Container}
 use Rattle.md_meaning.specs.declared.facts.Container.TheVariants.{Nothing, TightList, Another}
 use Rattle.md_meaning.specs.declared.facts.Surroundings.{Surroundings}

@@ -8,7 +8,7 @@ use Rattle.md_base.specs.declared.event.Point.{Point}
 use Rattle.md_base.specs.Reference.{decoded}
 use Rattle.md_text.specs.Encode.{encoded}
 use Rattle.md_text.specs.Filter.{tag_filtered}
-use Rattle.md_tree.specs.NameTests.{is_definition}
+use Rattle.md_base.specs.NameTests.{is_definition}
 use Rattle.md_meaning.specs.Piece.{Piece, Text, Needed}
 use Rattle.md_meaning.specs.declared.facts.Surroundings.{Surroundings}
 use Rattle.md_meaning.specs.Given.{Given, text_of}

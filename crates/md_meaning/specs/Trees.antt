@@ -10,7 +10,7 @@ pub mod Footnotes
 pub mod Endings
 use Rattle.std.specs.Prelude.{◌≡◌, ℕ, List, []}
 use Rattle.md_base.specs.declared.event.Point.{Point}
-use Rattle.md_tree.specs.Tree.{Forest}
+use Rattle.md_base.specs.Tree.{Forest}
 use Rattle.md_meaning.specs.Defaults.{default_options}
 use Rattle.md_meaning.specs.declared.options.CompileOptions.{CompileOptions}
 use Rattle.md_meaning.specs.Meaning.{meaning}

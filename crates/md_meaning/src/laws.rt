@@ -1,7 +1,7 @@
 //! The meanings of worked trees, computed: each is the contract of a function that does nothing.
 
 ghost use Rattle.std.specs.Prelude.{◌≡◌, []};
-ghost use Rattle.md_tree.specs.Tree.{Empty};
+ghost use Rattle.md_base.specs.Tree.{Empty};
 ghost use Rattle.md_meaning.specs.Meaning.{meaning};
 ghost use Rattle.md_meaning.specs.Trees.Blocks as blocks;
 ghost use Rattle.md_meaning.specs.Trees.Endings as endings;

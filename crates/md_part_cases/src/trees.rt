@@ -74,18 +74,25 @@ fn refusal_of(
     check(alloc, events, bytes, names).err()
 }
 
-/// The events are refused, at the event with this index for this rule.
-fn refuses(
-    rt: &(impl Abort + AllocGlobal),
-    list: &[Plain],
-    bytes: &[u8],
-    names: &[(&str, &str)],
-    wanted: (usize, Rule),
-) {
-    is_refused(rt, refusal(rt.alloc(), list, bytes, names), wanted);
+/// A list of events by what it shows, over bytes and names: the event and the rule of its refusal, None where it is a document.
+type Case = (
+    &'static str,
+    &'static [Plain],
+    &'static [u8],
+    &'static [(&'static str, &'static str)],
+    Option<(usize, Rule)>,
+);
+
+/// Each list is refused as it should be, or is a document.
+fn decide_each(rt: &(impl Abort + AllocGlobal), cases: &[Case]) {
+    for (name, list, bytes, names, wanted) in cases {
+        let found = refusal(rt.alloc(), list, bytes, names);
+        let wanted = wanted.map(|(index, rule)| CompileError::Event { index, rule });
+        assert_eq!(rt; found, wanted, "{name}");
+    }
 }
 
-/// The same of events with virtual spaces.
+/// The events, with virtual spaces, are refused at the event with this index for this rule.
 fn refuses_of(
     rt: &(impl Abort + AllocGlobal),
     events: &[Event],
@@ -101,12 +108,7 @@ fn is_refused(rt: &impl Abort, refusal: Option<CompileError>, wanted: (usize, Ru
     assert_eq!(rt; refusal, Some(CompileError::Event { index, rule }));
 }
 
-/// The events are a document.
-fn accepts(rt: &(impl Abort + AllocGlobal), list: &[Plain], bytes: &[u8], names: &[(&str, &str)]) {
-    is_accepted(rt, refusal(rt.alloc(), list, bytes, names));
-}
-
-/// The same of events with virtual spaces.
+/// The events, with virtual spaces, are a document.
 fn accepts_of(
     rt: &(impl Abort + AllocGlobal),
     events: &[Event],

@@ -11,7 +11,7 @@ use Rattle.md_meaning.specs.declared.facts.Surroundings.{Surroundings}
 use Rattle.md_meaning.specs.declared.facts.Ahead.{Ahead}
 use Rattle.md_meaning.specs.declared.facts.Passed.{Passed}
 use Rattle.md_meaning.specs.Printed.{text_closing, block_closing, media_closing, gfm_closing, is_captured}
-use Rattle.md_print.specs.Machine.{State, printing}
+use Rattle.md_printer.specs.Machine.{State, printing}
 use Rattle.md_print.specs.declared.groups.Group.{Group}
 use Rattle.md_print.specs.Closings.{group_of, in_group, is_captured_group}
 

@@ -1,4 +1,1 @@
-pub mod Printing
-pub mod Pipes
 pub mod Closings
-pub mod Escaping

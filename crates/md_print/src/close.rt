@@ -1,7 +1,7 @@
 //! What nodes print after their children.
 
 ghost use Rattle.std.specs.Prelude.{◌≡◌, ◌∷◌, [], ◌++◌, OnOk, codes, string_bytes, ◌||◌, ◌&&◌, not, true, false};
-ghost use Rattle.md_print.specs.Machine.{printing, ahead_by};
+ghost use Rattle.md_printer.specs.Machine.{printing, ahead_by};
 ghost use Rattle.md_print.specs.Closings.{group_of};
 ghost use Rattle.md_print.specs.declared.groups.Group.TheVariants as group;
 ghost use Rattle.md_around.specs.Steps.{first_or};
@@ -11,22 +11,23 @@ ghost use Rattle.md_meaning.specs.Texts.{said};
 ghost use Rattle.md_meaning.specs.Blocks as blocks;
 ghost use Rattle.md_meaning.specs.Printed as printed;
 ghost use Rattle.md_meaning.specs.Printed.{is_captured};
-ghost use Rattle.md_print.specs.Sources.{given_of, closing_at, left_at};
+ghost use Rattle.md_printer.specs.Sources.{given_of, closing_at, left_at};
 
-use crate::calls::call;
-use crate::code::code_text;
-use crate::escape::put_encoded;
-use crate::facts::Exit;
 use crate::groups::{Group, group_of};
-use crate::media::{autolink, image, is_plain, link};
-use crate::open::{is_tight, on_own_line, outside_images, rank_of};
-use crate::printer::Printer;
-use crate::source::{Source, serialized_of};
-use crate::tables::{close_cell, close_row};
-use crate::texts::{data, html, line_ending, reference};
+use crate::open::{is_tight, outside_images, rank_of};
 use md_around::names::{is_fence, is_item_prefix, is_paragraph};
 use md_base::{Name, Position};
 use md_meaning::{Container, Passed, Surroundings};
+use md_pieces::calls::call;
+use md_pieces::code::code_text;
+use md_pieces::media::{autolink, image, is_plain, link};
+use md_pieces::tables::{close_cell, close_row};
+use md_pieces::texts::{data, html, line_ending, reference};
+use md_printer::escape::put_encoded;
+use md_printer::facts::Exit;
+use md_printer::lines::on_own_line;
+use md_printer::printer::Printer;
+use md_printer::source::{Source, serialized_of};
 use md_sheet::Sheet;
 use std::alloc::{AllocError, Global};
 

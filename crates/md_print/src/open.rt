@@ -1,18 +1,19 @@
 //! What nodes print before their children.
 
 ghost use Rattle.std.specs.Prelude.{◌≡◌, ◌∷◌, [], ◌++◌, OnOk, codes};
-ghost use Rattle.md_print.specs.Machine.{printing, ahead_by};
+ghost use Rattle.md_printer.specs.Machine.{printing, ahead_by};
 ghost use Rattle.md_meaning.specs.Piece.{Text, Needed};
 ghost use Rattle.md_meaning.specs.Texts as texts;
 ghost use Rattle.md_meaning.specs.Texts.{said, outside_images};
 ghost use Rattle.md_meaning.specs.Blocks as blocks;
 ghost use Rattle.md_meaning.specs.Printed as printed;
-ghost use Rattle.md_print.specs.Sources.{given_of};
+ghost use Rattle.md_printer.specs.Sources.{given_of};
 
-use crate::printer::Printer;
-use crate::source::{Source, length_of, text_of, without_zeros};
 use md_base::{Name, Position};
 use md_meaning::{Container, Surroundings};
+use md_printer::lines::on_own_line;
+use md_printer::printer::Printer;
+use md_printer::source::{Source, length_of, text_of, without_zeros};
 use std::alloc::AllocError;
 
 /// Prints what a node prints before its children.
@@ -59,14 +60,6 @@ pub fn open(
         Name::GfmTableRow => on_own_line(printer, source.ending, "<tr>"),
         _ => Ok(()),
     }
-}
-
-/// Prints a tag on a line of its own.
-pub fn on_own_line(printer: &mut Printer, ending: &str, tag: &str) -> Result<(), AllocError>
-    ensures { OnOk result (printer.new ≡ printing ending.now (blocks.on_own_line tag.now) printer.old) }
-{
-    printer.need(ending)?;
-    printer.put(tag)
 }
 
 /// Prints a tag, but in an image.

@@ -10,7 +10,7 @@ use Rattle.md_text.specs.Html.{HasReadingWith}
 use Rattle.md_text.proofs.EncodeLaws.{is_escaped-encoded}
 use Rattle.md_text.proofs.EscapedLemmas.{escaped-append}
 use Rattle.md_text.proofs.HtmlJoin.{nothing, text, join}
-use Rattle.md_tree.specs.NameTests.{is_transparent}
+use Rattle.md_base.specs.NameTests.{is_transparent}
 use Rattle.md_meaning.specs.declared.facts.Surroundings.{Surroundings}
 use Rattle.md_meaning.specs.declared.facts.Passed.{Passed}
 use Rattle.md_meaning.specs.Piece.{Piece, Text, Needed, Forced, Heading, Destination, Title}

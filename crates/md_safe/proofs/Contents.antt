@@ -7,10 +7,10 @@ use Rattle.md_base.specs.declared.event.Name.TheVariants.{LineEnding, BlankLineE
 use Rattle.md_base.specs.declared.event.Point.{Point}
 use Rattle.md_text.specs.Html.{Attribute, HasReadingWith}
 use Rattle.md_text.proofs.HtmlJoin.{nothing}
-use Rattle.md_tree.specs.Tree.{Forest, Empty, Node}
-use Rattle.md_tree.specs.NameTests.{is_transparent}
-use Rattle.md_tree.specs.NameTests.{is_fence as fence_name}
-use Rattle.md_tree.specs.Children.{spine_names}
+use Rattle.md_base.specs.Tree.{Forest, Empty, Node}
+use Rattle.md_base.specs.NameTests.{is_transparent}
+use Rattle.md_base.specs.NameTests.{is_fence as fence_name}
+use Rattle.md_base.specs.Children.{spine_names}
 use Rattle.md_meaning.specs.declared.options.CompileOptions.{CompileOptions}
 use Rattle.md_meaning.specs.declared.facts.Surroundings.{Surroundings}
 use Rattle.md_meaning.specs.Surroundings.{inside, spine_behind}

@@ -5,10 +5,10 @@ use Rattle.md_base.specs.declared.event.Name.{Name}
 use Rattle.md_base.specs.declared.event.Name.TheVariants.{Other, BlockQuotePrefix, SpaceOrTab, Definition, GfmFootnoteDefinition}
 use Rattle.md_base.specs.declared.event.Point.{Point}
 use Rattle.md_text.specs.Html.{HasReadingWith}
-use Rattle.md_tree.specs.Tree.{Forest, Empty, Node}
-use Rattle.md_tree.specs.NameTests.{is_transparent, is_link_definition, is_footnote_definition}
-use Rattle.md_tree.specs.Children.{is_empty}
-use Rattle.md_tree.specs.Looseness.{is_loose}
+use Rattle.md_base.specs.Tree.{Forest, Empty, Node}
+use Rattle.md_base.specs.NameTests.{is_transparent, is_link_definition, is_footnote_definition}
+use Rattle.md_base.specs.Children.{is_empty}
+use Rattle.md_infer.specs.Looseness.{is_loose}
 use Rattle.md_meaning.specs.declared.options.CompileOptions.{CompileOptions}
 use Rattle.md_meaning.specs.declared.facts.Surroundings.{Surroundings}
 use Rattle.md_meaning.specs.Piece.{Piece, blank, lay}

@@ -7,9 +7,9 @@ use Rattle.md_base.specs.declared.event.Name.TheVariants.{Other, BlockQuotePrefi
 use Rattle.md_text.specs.Encode.{encoded}
 use Rattle.md_text.proofs.EncodeLaws.{is_escaped-encoded}
 use Rattle.md_text.proofs.EscapedLemmas.{escaped-append}
-use Rattle.md_tree.specs.NameTests.{is_transparent}
-use Rattle.md_tree.specs.NameTests.{is_fence as fence_name}
-use Rattle.md_tree.specs.Looseness.{is_loose}
+use Rattle.md_base.specs.NameTests.{is_transparent}
+use Rattle.md_base.specs.NameTests.{is_fence as fence_name}
+use Rattle.md_infer.specs.Looseness.{is_loose}
 use Rattle.md_meaning.specs.Piece.{Piece, Text, Needed}
 use Rattle.md_meaning.specs.Given.{serialized_of}
 use Rattle.md_meaning.specs.Surroundings.{inside}

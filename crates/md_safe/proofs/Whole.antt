@@ -17,9 +17,9 @@ use Rattle.md_text.specs.Safe.{is_safe_link, is_safe_image, is_safe_value, link_
 use Rattle.md_text.specs.Url.{sanitized, sanitized_with}
 use Rattle.md_text.proofs.HtmlReading.{only_reading}
 use Rattle.md_text.proofs.ProtocolLemmas.{kept-link, kept-image}
-use Rattle.md_tree.specs.Tree.{Forest, Empty, Node}
-use Rattle.md_tree.specs.Children.{or_else}
-use Rattle.md_tree.specs.NameTests.{is_line_ending}
+use Rattle.md_base.specs.Tree.{Forest, Empty, Node}
+use Rattle.md_base.specs.Children.{or_else}
+use Rattle.md_base.specs.NameTests.{is_line_ending}
 use Rattle.md_meaning.specs.declared.options.CompileOptions.{CompileOptions}
 use Rattle.md_meaning.specs.Piece.{Piece, blank, lay}
 use Rattle.md_meaning.specs.Surroundings.{outermost}

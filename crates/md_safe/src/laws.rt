@@ -3,7 +3,7 @@
 ghost use Rattle.std.specs.Prelude.{ℕ, List};
 ghost use Rattle.md_text.specs.Html.{any_attribute, HasOneReadingWith};
 ghost use Rattle.md_text.specs.Safe.{is_safe_link, is_safe_image};
-ghost use Rattle.md_tree.specs.Tree.{Forest};
+ghost use Rattle.md_base.specs.Tree.{Forest};
 ghost use Rattle.md_meaning.specs.declared.options.CompileOptions.{CompileOptions};
 ghost use Rattle.md_meaning.specs.Whole.{printed_meaning as meaning};
 ghost use Rattle.md_shape.specs.Built.{Blocks, IsBuilt};

@@ -9,3 +9,4 @@ pub mod SafeRun
 pub mod Script
 pub mod Setting
 pub mod Table
+pub mod Serve

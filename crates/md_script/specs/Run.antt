@@ -3,7 +3,7 @@ use Rattle.std.specs.Prelude.{◌≡◌, ℕ, List, [], ◌∷◌, codes}
 use Rattle.md_base.specs.declared.event.Event.{Event}
 use Rattle.md_tree.specs.declared.rule.Rule.{Rule}
 use Rattle.md_tree.specs.declared.rule.CompileError.TheVariants as refusal
-use Rattle.md_tree.specs.Tree.{Forest, flatten}
+use Rattle.md_base.specs.Tree.{Forest, flatten}
 use Rattle.md_tree.specs.Grammar.{Document, IsChecked}
 use Rattle.md_tree.specs.Refusal.{IsRefusal}
 use Rattle.md_meaning.specs.declared.options.CompileOptions.{CompileOptions}
@@ -22,7 +22,7 @@ reference_names =
 abbrev pub document_of : List Event → List ℕ → Document
 document_of events bytes = record { events = events; bytes = bytes; names = reference_names }
 
--- the events are of the grammar over the bytes, and the text is the meaning of their document, where that is served
+-- the events are of the grammar over the bytes, and the text is the meaning of their document
 pub record IsCompiled (events : List Event) (bytes : List ℕ) (options : CompileOptions) (text : List ℕ) : Type 0 where
   pub grammatical : IsChecked (document_of events bytes)
   pub means : (document : Forest) → flatten document ≡ events → text ≡ meaning options reference_names bytes document

@@ -3,16 +3,16 @@ use Rattle.std.proofs.Common.{◌≡◌, inl, inr, ℕ, zero, suc, Bool, true, f
 use Rattle.std.specs.List.{list_all, list_any}
 use Rattle.std.proofs.lemmas.Bool.{and_parts, and_from, false≢true}
 use denote.Enum.Bare.{same_true}
-use Rattle.md_tree.specs.contracts.kinds.Symbol.{the_type}
-use Rattle.md_tree.specs.declared.kinds.Symbol.{Symbol}
-use Rattle.md_tree.specs.declared.kinds.Symbol.TheVariants.{ReferenceMarker, ReferenceNumeric, ReferenceHexadecimal, ReferenceValue, SetextText, SetextUnderline, LineEnding}
-use Rattle.md_tree.specs.declared.kinds.Role.{Role}
-use Rattle.md_tree.specs.declared.kinds.Times.{Times}
-use Rattle.md_tree.specs.declared.kinds.Times.TheVariants.{Once, Maybe, Many}
-use Rattle.md_tree.specs.declared.kinds.Class.{Class}
-use Rattle.md_tree.specs.declared.kinds.Item.{Item}
-use Rattle.md_tree.specs.Pattern.{members, takes, same_symbol, pattern_of, Fits, IsCount}
-use Rattle.md_tree.specs.Spine.{IsTail, IsGrouped, Matches}
+use Rattle.md_pattern.specs.contracts.kinds.Symbol.{the_type}
+use Rattle.md_pattern.specs.declared.kinds.Symbol.{Symbol}
+use Rattle.md_pattern.specs.declared.kinds.Symbol.TheVariants.{ReferenceMarker, ReferenceNumeric, ReferenceHexadecimal, ReferenceValue, SetextText, SetextUnderline, LineEnding}
+use Rattle.md_pattern.specs.declared.kinds.Role.{Role}
+use Rattle.md_pattern.specs.declared.kinds.Times.{Times}
+use Rattle.md_pattern.specs.declared.kinds.Times.TheVariants.{Once, Maybe, Many}
+use Rattle.md_pattern.specs.declared.kinds.Class.{Class}
+use Rattle.md_pattern.specs.declared.kinds.Item.{Item}
+use Rattle.md_pattern.specs.Pattern.{members, takes, same_symbol, pattern_of, Fits, IsCount}
+use Rattle.md_pattern.specs.Spine.{IsTail, IsGrouped, Matches}
 use Rattle.md_shape.specs.Built.{Content, Blocks, Spans, Strings, FirstFence, FirstMathFence, Chunks, InfoAndMeta, MetaAlone, Done, Nothing}
 use Rattle.md_shape.proofs.Symbols.{may_show, past, admits, same_content, item_admits, pattern_admits}
 

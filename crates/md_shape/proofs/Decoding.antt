@@ -9,26 +9,26 @@ use Rattle.md_base.specs.declared.event.Name.TheVariants as name
 use Rattle.md_base.specs.declared.event.Point.{Point}
 use Rattle.md_base.specs.Place.{text_between}
 use Rattle.md_base.specs.Reference.{decoded}
-use Rattle.md_tree.specs.declared.kinds.Symbol.{Symbol}
-use Rattle.md_tree.specs.declared.kinds.Symbol.TheVariants as symbol
-use Rattle.md_tree.specs.declared.kinds.Role.{Role}
-use Rattle.md_tree.specs.declared.kinds.Role.TheVariants as role
-use Rattle.md_tree.specs.declared.kinds.Class.{Class}
-use Rattle.md_tree.specs.declared.kinds.Item.{Item}
-use Rattle.md_tree.specs.declared.kinds.Standing.{Standing}
-use Rattle.md_tree.specs.declared.kinds.Standing.TheVariants.{Through, Space, Solid, Mdx}
+use Rattle.md_pattern.specs.declared.kinds.Symbol.{Symbol}
+use Rattle.md_pattern.specs.declared.kinds.Symbol.TheVariants as symbol
+use Rattle.md_pattern.specs.declared.kinds.Role.{Role}
+use Rattle.md_pattern.specs.declared.kinds.Role.TheVariants as role
+use Rattle.md_pattern.specs.declared.kinds.Class.{Class}
+use Rattle.md_pattern.specs.declared.kinds.Item.{Item}
+use Rattle.md_pattern.specs.declared.kinds.Standing.{Standing}
+use Rattle.md_pattern.specs.declared.kinds.Standing.TheVariants.{Through, Space, Solid, Mdx}
 use Rattle.md_tree.specs.declared.rule.Rule.{Rule}
 use Rattle.md_tree.specs.declared.rule.Rule.TheVariants as rule
-use Rattle.md_tree.specs.Tree.{Forest, Empty, Node}
-use Rattle.md_tree.specs.Standing.{standing_of}
-use Rattle.md_tree.specs.Pattern.{members, takes, pattern_of, Fits}
-use Rattle.md_tree.specs.Spine.{spine, shown, IsTail, IsGrouped, Matches}
-use Rattle.md_tree.specs.Shape.{IsStanding, AreShaped, role_for, last_symbol, inner_role, inner_before}
+use Rattle.md_base.specs.Tree.{Forest, Empty, Node}
+use Rattle.md_pattern.specs.Standing.{standing_of}
+use Rattle.md_pattern.specs.Pattern.{members, takes, pattern_of, Fits}
+use Rattle.md_pattern.specs.Spine.{spine, shown, IsTail, IsGrouped, Matches}
+use Rattle.md_pattern.specs.Shape.{IsStanding, AreShaped, role_for, last_symbol, inner_role, inner_before}
 use Rattle.md_tree.specs.Rules.{broken_by, unless, is_decodable, marker_after}
 use Rattle.md_tree.specs.Laws.{symbols_of}
 use Rattle.md_tree.specs.Grammar.{IsGrammatical}
-use Rattle.md_tree.specs.NameTests.{is_transparent}
-use Rattle.md_tree.specs.Children.{spine_names}
+use Rattle.md_base.specs.NameTests.{is_transparent}
+use Rattle.md_base.specs.Children.{spine_names}
 use Rattle.md_tree.proofs.Spines.{spine-names}
 use Rattle.md_meaning.specs.Surroundings.{last_of, spine_inside, spine_behind}
 use Rattle.md_meaning.specs.Meaning.Spans.{marker}

@@ -4,20 +4,20 @@ use Rattle.std.specs.List.{list_all, list_any}
 use Rattle.std.proofs.lemmas.Bool.{and_parts, false≢true}
 use Rattle.md_base.specs.declared.event.Name.{Name}
 use Rattle.md_base.specs.declared.event.Point.{Point}
-use Rattle.md_tree.specs.declared.kinds.Symbol.{Symbol}
-use Rattle.md_tree.specs.declared.kinds.Role.{Role}
-use Rattle.md_tree.specs.declared.kinds.Class.{Class}
-use Rattle.md_tree.specs.declared.kinds.Item.{Item}
-use Rattle.md_tree.specs.declared.kinds.Standing.{Standing}
-use Rattle.md_tree.specs.declared.kinds.Standing.TheVariants.{Through, Space, Solid, Mdx}
-use Rattle.md_tree.specs.Tree.{Forest, Empty, Node}
-use Rattle.md_tree.specs.Standing.{standing_of}
-use Rattle.md_tree.specs.Pattern.{members, takes, once, pattern_of, Fits}
-use Rattle.md_tree.specs.Spine.{spine, shown, IsGrouped, Matches}
-use Rattle.md_tree.specs.Shape.{Claim, EachNode, IsShapedNode, IsStanding, AreShaped, inner_role, inner_before, last_symbol}
+use Rattle.md_pattern.specs.declared.kinds.Symbol.{Symbol}
+use Rattle.md_pattern.specs.declared.kinds.Role.{Role}
+use Rattle.md_pattern.specs.declared.kinds.Class.{Class}
+use Rattle.md_pattern.specs.declared.kinds.Item.{Item}
+use Rattle.md_pattern.specs.declared.kinds.Standing.{Standing}
+use Rattle.md_pattern.specs.declared.kinds.Standing.TheVariants.{Through, Space, Solid, Mdx}
+use Rattle.md_base.specs.Tree.{Forest, Empty, Node}
+use Rattle.md_pattern.specs.Standing.{standing_of}
+use Rattle.md_pattern.specs.Pattern.{members, takes, once, pattern_of, Fits}
+use Rattle.md_pattern.specs.Spine.{spine, shown, IsGrouped, Matches}
+use Rattle.md_pattern.specs.Shape.{Claim, EachNode, IsShapedNode, IsStanding, AreShaped, inner_role, inner_before, last_symbol}
 use Rattle.md_tree.specs.Rules.{MeetsRules, MeetRules}
-use Rattle.md_tree.specs.NameTests.{is_transparent}
-use Rattle.md_tree.specs.Children.{or_else, first_on_spine}
+use Rattle.md_base.specs.NameTests.{is_transparent}
+use Rattle.md_base.specs.Children.{or_else, first_on_spine}
 use Rattle.md_shape.proofs.Symbols.{Told, told}
 use Rattle.md_shape.proofs.Admitted.{taken}
 

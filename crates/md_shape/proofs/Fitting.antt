@@ -16,23 +16,23 @@ use Rattle.md_base.specs.Place.{fits, text_between}
 use Rattle.md_base.specs.Reference.{is_number}
 use Rattle.md_text.specs.Laws.{is_line_ends}
 use Rattle.md_text.specs.Bytes.{same_text}
-use Rattle.md_tree.specs.declared.kinds.Symbol.{Symbol}
-use Rattle.md_tree.specs.declared.kinds.Symbol.TheVariants as symbol
-use Rattle.md_tree.specs.declared.kinds.Role.{Role}
-use Rattle.md_tree.specs.declared.kinds.Role.TheVariants as role
-use Rattle.md_tree.specs.declared.kinds.Class.TheVariants.{Only}
-use Rattle.md_tree.specs.declared.kinds.Standing.{Standing}
-use Rattle.md_tree.specs.declared.kinds.Standing.TheVariants.{Through, Space, Solid, Mdx}
+use Rattle.md_pattern.specs.declared.kinds.Symbol.{Symbol}
+use Rattle.md_pattern.specs.declared.kinds.Symbol.TheVariants as symbol
+use Rattle.md_pattern.specs.declared.kinds.Role.{Role}
+use Rattle.md_pattern.specs.declared.kinds.Role.TheVariants as role
+use Rattle.md_pattern.specs.declared.kinds.Class.TheVariants.{Only}
+use Rattle.md_pattern.specs.declared.kinds.Standing.{Standing}
+use Rattle.md_pattern.specs.declared.kinds.Standing.TheVariants.{Through, Space, Solid, Mdx}
 use Rattle.md_tree.specs.declared.rule.Rule.{Rule}
 use Rattle.md_tree.specs.declared.rule.Rule.TheVariants as rule
-use Rattle.md_tree.specs.Tree.{Forest, Empty, Node}
-use Rattle.md_tree.specs.Standing.{standing_of}
-use Rattle.md_tree.specs.Pattern.{members, takes, once, Fits}
-use Rattle.md_tree.specs.Spine.{spine, shown, IsGrouped, Matches}
-use Rattle.md_tree.specs.Shape.{IsStanding, inner_role, inner_before}
+use Rattle.md_base.specs.Tree.{Forest, Empty, Node}
+use Rattle.md_pattern.specs.Standing.{standing_of}
+use Rattle.md_pattern.specs.Pattern.{members, takes, once, Fits}
+use Rattle.md_pattern.specs.Spine.{spine, shown, IsGrouped, Matches}
+use Rattle.md_pattern.specs.Shape.{IsStanding, inner_role, inner_before}
 use Rattle.md_tree.specs.Rules.{is_line_ending, is_rank, columns, unless, broken_by, MeetsRules}
-use Rattle.md_tree.specs.NameTests.{is_transparent, is_heading_mark, is_item, is_item_prefix, is_item_value}
-use Rattle.md_tree.specs.Children.{first_on_spine, spine_names}
+use Rattle.md_base.specs.NameTests.{is_transparent, is_heading_mark, is_item, is_item_prefix, is_item_value}
+use Rattle.md_base.specs.Children.{first_on_spine, spine_names}
 use Rattle.md_meaning.specs.Given.{text_of}
 use Rattle.md_meaning.specs.Places.{position, number_in_prefix, number_in_item, ahead_of}
 use Rattle.md_meaning.specs.Blocks.{rank_of}

@@ -1,11 +1,11 @@
 -- Each document of the grammar is built of what may stand where it is.
 use Rattle.std.proofs.Common.{◌≡◌, ℕ, true, Option, None, is_some, List}
-use Rattle.md_tree.specs.declared.kinds.Symbol.{Symbol}
-use Rattle.md_tree.specs.declared.kinds.Role.{Role}
-use Rattle.md_tree.specs.declared.kinds.Role.TheVariants as role
-use Rattle.md_tree.specs.Tree.{Forest, Empty, Node}
-use Rattle.md_tree.specs.Standing.{standing_of}
-use Rattle.md_tree.specs.Spine.{spine}
+use Rattle.md_pattern.specs.declared.kinds.Symbol.{Symbol}
+use Rattle.md_pattern.specs.declared.kinds.Role.{Role}
+use Rattle.md_pattern.specs.declared.kinds.Role.TheVariants as role
+use Rattle.md_base.specs.Tree.{Forest, Empty, Node}
+use Rattle.md_pattern.specs.Standing.{standing_of}
+use Rattle.md_pattern.specs.Spine.{spine}
 use Rattle.std.proofs.Common.{refl}
 use Rattle.md_tree.specs.Grammar.{IsGrammatical}
 use Rattle.md_shape.specs.Built.{Content, Blocks, content_inside, content_behind, IsBuilt}

@@ -8,26 +8,26 @@ use Rattle.md_base.specs.declared.event.Name.TheVariants as name
 use Rattle.md_base.specs.declared.event.Point.{Point}
 use Rattle.md_base.specs.declared.event.Position.{Position}
 use denote.Enum.Bare.{same_true}
-use Rattle.md_tree.specs.contracts.kinds.Symbol.{the_type}
-use Rattle.md_tree.specs.declared.kinds.Symbol.{Symbol}
-use Rattle.md_tree.specs.declared.kinds.Symbol.TheVariants as symbol
-use Rattle.md_tree.specs.declared.kinds.Class.TheVariants.{Phrasing, Flow, Only, Either}
-use Rattle.md_tree.specs.declared.kinds.Class.{Class}
-use Rattle.md_tree.specs.declared.kinds.Item.{Item}
-use Rattle.md_tree.specs.declared.kinds.Role.{Role}
-use Rattle.md_tree.specs.declared.kinds.Role.TheVariants as role
-use Rattle.md_tree.specs.declared.kinds.Standing.{Standing}
-use Rattle.md_tree.specs.declared.kinds.Standing.TheVariants.{Through, Space, Solid, Mdx}
-use Rattle.md_tree.specs.declared.kinds.Target.{Target}
-use Rattle.md_tree.specs.declared.kinds.Target.TheVariants.{Missing, Label, Resource}
-use Rattle.md_tree.specs.Tree.{Forest, Empty, Node}
-use Rattle.md_tree.specs.Standing.{standing_of}
-use Rattle.md_tree.specs.Pattern.{members, takes, maybe, many, same_symbol, Fits}
-use Rattle.md_tree.specs.Spine.{spine, shown, IsTail, IsGrouped, Matches}
-use Rattle.md_tree.specs.Shape.{IsStanding, AreShaped, role_for, label_in, inner_role, inner_before, last_symbol}
+use Rattle.md_pattern.specs.contracts.kinds.Symbol.{the_type}
+use Rattle.md_pattern.specs.declared.kinds.Symbol.{Symbol}
+use Rattle.md_pattern.specs.declared.kinds.Symbol.TheVariants as symbol
+use Rattle.md_pattern.specs.declared.kinds.Class.TheVariants.{Phrasing, Flow, Only, Either}
+use Rattle.md_pattern.specs.declared.kinds.Class.{Class}
+use Rattle.md_pattern.specs.declared.kinds.Item.{Item}
+use Rattle.md_pattern.specs.declared.kinds.Role.{Role}
+use Rattle.md_pattern.specs.declared.kinds.Role.TheVariants as role
+use Rattle.md_pattern.specs.declared.kinds.Standing.{Standing}
+use Rattle.md_pattern.specs.declared.kinds.Standing.TheVariants.{Through, Space, Solid, Mdx}
+use Rattle.md_tree.specs.declared.mention.Target.{Target}
+use Rattle.md_tree.specs.declared.mention.Target.TheVariants.{Missing, Label, Resource}
+use Rattle.md_base.specs.Tree.{Forest, Empty, Node}
+use Rattle.md_pattern.specs.Standing.{standing_of}
+use Rattle.md_pattern.specs.Pattern.{members, takes, maybe, many, same_symbol, Fits}
+use Rattle.md_pattern.specs.Spine.{spine, shown, IsTail, IsGrouped, Matches}
+use Rattle.md_pattern.specs.Shape.{IsStanding, AreShaped, role_for, label_in, inner_role, inner_before, last_symbol}
 use Rattle.md_tree.specs.Rules.{place, target_of}
-use Rattle.md_tree.specs.NameTests.{is_label, is_label_text, is_reference, is_definition_label, is_footnote_prefix, is_footnote_label}
-use Rattle.md_tree.specs.Children.{first_on_spine}
+use Rattle.md_base.specs.NameTests.{is_label, is_label_text, is_reference, is_definition_label, is_footnote_prefix, is_footnote_label}
+use Rattle.md_base.specs.Children.{first_on_spine}
 use Rattle.md_meaning.specs.Places.{position, text_in_label, label_in_prefix}
 use Rattle.md_meaning.specs.Meaning.Finds.{label_in_node, referring_in, footnote_label}
 use Rattle.md_shape.specs.Leads.{label_target}

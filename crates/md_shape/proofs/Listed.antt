@@ -2,10 +2,10 @@
 use Rattle.std.proofs.Common.{◌≡◌, ℕ, Bool, true, false, List, [], ◌∷◌, ◌++◌, refl, ap, ◌∙◌, append_assoc}
 use Rattle.std.specs.Prelude.{map, if◌then◌else◌, ◌&&◌}
 use Rattle.std.proofs.lemmas.List.{map-append}
-use Rattle.md_tree.specs.Tree.{Forest, Empty, Node}
-use Rattle.md_tree.specs.Children.{is_empty}
-use Rattle.md_tree.specs.Looseness.{is_loose}
-use Rattle.md_tree.specs.NameTests.{is_link_definition, is_footnote_definition, is_definition_label}
+use Rattle.md_base.specs.Tree.{Forest, Empty, Node}
+use Rattle.md_base.specs.Children.{is_empty}
+use Rattle.md_infer.specs.Looseness.{is_loose}
+use Rattle.md_base.specs.NameTests.{is_link_definition, is_footnote_definition, is_definition_label}
 use Rattle.md_meaning.specs.declared.facts.Surroundings.{Surroundings}
 use Rattle.md_meaning.specs.Surroundings.{inside}
 use Rattle.md_meaning.specs.Places.{identifier_at}

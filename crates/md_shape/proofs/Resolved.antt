@@ -12,28 +12,28 @@ use Rattle.md_base.specs.Place.{fits, spaces_before, spaces_after, bytes_between
 use Rattle.md_base.proofs.SpaceLemmas.{is_utf8-padded}
 use Rattle.std.specs.Str.{is_utf8}
 use Rattle.md_base.specs.Identifier.{normalized}
-use Rattle.md_tree.specs.declared.kinds.Symbol.{Symbol}
-use Rattle.md_tree.specs.declared.kinds.Role.{Role}
-use Rattle.md_tree.specs.declared.kinds.Role.TheVariants as role
-use Rattle.md_tree.specs.declared.kinds.Reading.TheVariants as reading
-use Rattle.md_tree.specs.declared.kinds.Standing.{Standing}
-use Rattle.md_tree.specs.declared.kinds.Standing.TheVariants.{Solid}
-use Rattle.md_tree.specs.declared.kinds.Target.{Target}
-use Rattle.md_tree.specs.declared.kinds.Target.TheVariants.{Missing, Label, Resource}
-use Rattle.md_tree.specs.declared.kinds.Mention.{Mention}
-use Rattle.md_tree.specs.declared.kinds.Mention.TheVariants as mention
-use Rattle.md_tree.specs.declared.kinds.Note.{Note}
+use Rattle.md_pattern.specs.declared.kinds.Symbol.{Symbol}
+use Rattle.md_pattern.specs.declared.kinds.Role.{Role}
+use Rattle.md_pattern.specs.declared.kinds.Role.TheVariants as role
+use Rattle.md_pattern.specs.declared.kinds.Reading.TheVariants as reading
+use Rattle.md_pattern.specs.declared.kinds.Standing.{Standing}
+use Rattle.md_pattern.specs.declared.kinds.Standing.TheVariants.{Solid}
+use Rattle.md_tree.specs.declared.mention.Target.{Target}
+use Rattle.md_tree.specs.declared.mention.Target.TheVariants.{Missing, Label, Resource}
+use Rattle.md_tree.specs.declared.mention.Mention.{Mention}
+use Rattle.md_tree.specs.declared.mention.Mention.TheVariants as mention
+use Rattle.md_tree.specs.declared.mention.Note.{Note}
 use Rattle.md_tree.specs.declared.rule.Rule.{Rule}
 use Rattle.md_tree.specs.declared.rule.Rule.TheVariants as rule
-use Rattle.md_tree.specs.Tree.{Forest, Empty, Node}
-use Rattle.md_tree.specs.Standing.{standing_of}
-use Rattle.md_tree.specs.Shape.{IsShapedNode, AreShaped, inner_role, inner_before}
+use Rattle.md_base.specs.Tree.{Forest, Empty, Node}
+use Rattle.md_pattern.specs.Standing.{standing_of}
+use Rattle.md_pattern.specs.Shape.{IsShapedNode, AreShaped, inner_role, inner_before}
 use Rattle.md_tree.specs.Rules.{broken_by, broken_by_target, broken_where, target_of}
 use Rattle.md_tree.specs.Texts.{has_reading, is_text, is_identifier}
 use Rattle.md_tree.specs.Mentions.{mention_of, mention_where, mentions_in, notes_of, note, defined, defined_by, footnoted, footnoted_by, IsResolved}
 use Rattle.md_tree.specs.Mentions.{identifier_at as label_identifier}
 use Rattle.md_tree.specs.Grammar.{IsGrammatical}
-use Rattle.md_tree.specs.NameTests.{is_link_definition, is_footnote_definition, is_definition_label}
+use Rattle.md_base.specs.NameTests.{is_link_definition, is_footnote_definition, is_definition_label}
 use Rattle.md_meaning.specs.Places.{identifier_at}
 use Rattle.md_meaning.specs.Meaning.Finds.{first, label_in_node, referring_in, footnote_label}
 use Rattle.md_shape.specs.Leads.{Everywhere, HasItsText, HasItsLabel, label_target, RefersAlike, defined_in, footnotes_in, LeadsSomewhere}

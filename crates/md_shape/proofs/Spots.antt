@@ -3,17 +3,17 @@ use Rattle.std.proofs.Common.{◌≡◌, Bool, true, false, ◌&&◌, ◌||◌, 
 use Rattle.std.specs.List.{list_all}
 use Rattle.std.proofs.lemmas.Bool.{and_parts}
 use Rattle.md_base.specs.declared.event.Name.{Name}
-use Rattle.md_tree.specs.declared.kinds.Symbol.{Symbol}
-use Rattle.md_tree.specs.declared.kinds.Role.{Role}
-use Rattle.md_tree.specs.declared.kinds.Role.TheVariants as role
-use Rattle.md_tree.specs.declared.kinds.Standing.{Standing}
-use Rattle.md_tree.specs.declared.kinds.Standing.TheVariants.{Through, Space, Solid, Mdx}
-use Rattle.md_tree.specs.Tree.{Forest, Empty, Node}
-use Rattle.md_tree.specs.Standing.{standing_of}
-use Rattle.md_tree.specs.Pattern.{pattern_of}
-use Rattle.md_tree.specs.Spine.{spine, shown}
-use Rattle.md_tree.specs.Shape.{AreShaped, IsStanding, role_for, item_in, prefix_in, label_in, inner_before, last_symbol}
-use Rattle.md_tree.specs.NameTests.{is_transparent}
+use Rattle.md_pattern.specs.declared.kinds.Symbol.{Symbol}
+use Rattle.md_pattern.specs.declared.kinds.Role.{Role}
+use Rattle.md_pattern.specs.declared.kinds.Role.TheVariants as role
+use Rattle.md_pattern.specs.declared.kinds.Standing.{Standing}
+use Rattle.md_pattern.specs.declared.kinds.Standing.TheVariants.{Through, Space, Solid, Mdx}
+use Rattle.md_base.specs.Tree.{Forest, Empty, Node}
+use Rattle.md_pattern.specs.Standing.{standing_of}
+use Rattle.md_pattern.specs.Pattern.{pattern_of}
+use Rattle.md_pattern.specs.Spine.{spine, shown}
+use Rattle.md_pattern.specs.Shape.{AreShaped, IsStanding, role_for, item_in, prefix_in, label_in, inner_before, last_symbol}
+use Rattle.md_base.specs.NameTests.{is_transparent}
 use Rattle.md_shape.specs.Built.{Content, may_stand, content_of, content_inside, content_past, content_after, content_behind}
 use Rattle.md_shape.proofs.Symbols.{may_by, past_by, may_by-names, past_by-names, may_show, past, admits, pattern_admits, each_content, roles_for, implies, holds_patterns, Told, told}
 use Rattle.md_shape.proofs.Admitted.{shown_behind, matches_admitted}

@@ -7,9 +7,9 @@ use Rattle.md_base.specs.declared.event.Name.{Name}
 use Rattle.md_base.specs.declared.event.Name.TheVariants.{LineEnding, BlankLineEnding, Data, CharacterEscapeValue, CharacterReferenceMarker, CharacterReferenceMarkerNumeric, CharacterReferenceMarkerHexadecimal, CharacterReferenceValue, CodeText, CodeTextData, MathText, MathTextData, HtmlText, HtmlTextData, Emphasis, Strong, GfmStrikethrough, Link, Image, Label, LabelText, Resource, ResourceDestinationString, ResourceTitleString, ReferenceString, GfmFootnoteCall, AutolinkEmail, AutolinkProtocol, GfmAutolinkLiteralEmail, GfmAutolinkLiteralMailto, GfmAutolinkLiteralProtocol, GfmAutolinkLiteralWww, GfmAutolinkLiteralXmpp, HardBreakEscape, HardBreakTrailing, GfmTaskListItemCheck, GfmTaskListItemValueChecked, CodeFenced, CodeFencedFence, CodeFencedFenceInfo, CodeFencedFenceMeta, CodeFlowChunk, MathFlow, MathFlowFence, MathFlowFenceMeta, MathFlowChunk, DefinitionLabelString, DefinitionDestinationString, DefinitionTitleString, GfmFootnoteDefinitionLabelString, HeadingAtx, ListOrdered}
 use Rattle.md_base.specs.declared.event.Point.{Point}
 use Rattle.md_text.specs.Laws.{is_line_ends}
-use Rattle.md_tree.specs.Tree.{Forest, Empty, Node}
-use Rattle.md_tree.specs.NameTests.{is_transparent}
-use Rattle.md_tree.specs.Children.{spine_names}
+use Rattle.md_base.specs.Tree.{Forest, Empty, Node}
+use Rattle.md_base.specs.NameTests.{is_transparent}
+use Rattle.md_base.specs.Children.{spine_names}
 use Rattle.md_meaning.specs.Given.{text_of}
 use Rattle.md_meaning.specs.Places.{ahead_of}
 use Rattle.md_meaning.specs.Blocks.{rank_of}

@@ -10,12 +10,12 @@ use Rattle.std.specs.Option.{option_map_or}
 use Rattle.md_meaning.specs.Given.{text_of}
 use Rattle.md_meaning.specs.Surroundings.{last_of, spine_inside, spine_behind}
 use Rattle.md_meaning.specs.Meaning.Spans.{marker}
-use Rattle.md_tree.specs.declared.kinds.Target.{Target}
-use Rattle.md_tree.specs.declared.kinds.Target.TheVariants.{Missing, Label, Resource}
-use Rattle.md_tree.specs.Tree.{Forest, Empty, Node}
+use Rattle.md_tree.specs.declared.mention.Target.{Target}
+use Rattle.md_tree.specs.declared.mention.Target.TheVariants.{Missing, Label, Resource}
+use Rattle.md_base.specs.Tree.{Forest, Empty, Node}
 use Rattle.md_tree.specs.Rules.{target_of}
 use Rattle.md_tree.specs.Texts.{is_text_name, is_identifier_name}
-use Rattle.md_tree.specs.NameTests.{is_link_definition, is_footnote_definition, is_definition_label}
+use Rattle.md_base.specs.NameTests.{is_link_definition, is_footnote_definition, is_definition_label}
 use Rattle.md_meaning.specs.Places.{identifier_at}
 use Rattle.md_meaning.specs.Meaning.Finds.{first, label_in_node, referring_in, footnote_label}
 

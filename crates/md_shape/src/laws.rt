@@ -1,7 +1,7 @@
 //! What holds of every document of the grammar, as the contracts of functions that do nothing.
 
 ghost use Rattle.std.specs.Prelude.{◌≡◌, ℕ, List, [], map};
-ghost use Rattle.md_tree.specs.Tree.{Forest};
+ghost use Rattle.md_base.specs.Tree.{Forest};
 ghost use Rattle.md_tree.specs.Grammar.{IsGrammatical};
 ghost use Rattle.md_meaning.specs.declared.facts.Surroundings.{Surroundings};
 ghost use Rattle.md_meaning.specs.Meaning.At.{Given, Before};

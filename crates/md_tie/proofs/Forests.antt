@@ -4,18 +4,18 @@ use Rattle.std.specs.Prelude.{if◌then◌else◌, unwrap_or}
 use Rattle.std.proofs.lemmas.Bool.{true≢false}
 use Rattle.md_base.specs.declared.event.Name.{Name}
 use Rattle.md_base.specs.declared.event.Name.TheVariants.{Definition, GfmFootnoteDefinition}
-use Rattle.md_tree.specs.declared.kinds.Symbol.{Symbol}
-use Rattle.md_tree.specs.declared.kinds.Role.{Role}
-use Rattle.md_tree.specs.declared.kinds.Standing.{Standing}
-use Rattle.md_tree.specs.declared.kinds.Standing.TheVariants.{Through, Space, Solid, Mdx}
-use Rattle.md_tree.specs.Standing.{standing_of}
-use Rattle.md_tree.specs.Tree.{Forest, Empty, Node}
-use Rattle.md_tree.specs.Spine.{spine, shown}
-use Rattle.md_tree.specs.Shape.{AreShaped, IsStanding, inner_role, inner_before}
-use Rattle.md_tree.specs.Children.{is_empty, or_else}
+use Rattle.md_pattern.specs.declared.kinds.Symbol.{Symbol}
+use Rattle.md_pattern.specs.declared.kinds.Role.{Role}
+use Rattle.md_pattern.specs.declared.kinds.Standing.{Standing}
+use Rattle.md_pattern.specs.declared.kinds.Standing.TheVariants.{Through, Space, Solid, Mdx}
+use Rattle.md_pattern.specs.Standing.{standing_of}
+use Rattle.md_base.specs.Tree.{Forest, Empty, Node}
+use Rattle.md_pattern.specs.Spine.{spine, shown}
+use Rattle.md_pattern.specs.Shape.{AreShaped, IsStanding, inner_role, inner_before}
+use Rattle.md_base.specs.Children.{is_empty, or_else}
 use Rattle.md_tie.proofs.Reading.{noted_after}
-use Rattle.md_tree.specs.NameTests.{is_transparent, is_call, is_definition_label, is_link_definition, is_footnote_definition}
-use Rattle.md_tree.specs.Looseness.{is_loose}
+use Rattle.md_base.specs.NameTests.{is_transparent, is_call, is_definition_label, is_link_definition, is_footnote_definition}
+use Rattle.md_infer.specs.Looseness.{is_loose}
 use Rattle.md_shape.specs.Built.{Content, IsBuilt, IsFit, content_inside}
 use Rattle.md_shape.proofs.Symbols.{Told, told}
 use Rattle.md_meaning.specs.declared.facts.Surroundings.{Surroundings}

@@ -3,10 +3,10 @@ use Rattle.std.proofs.Common.{◌≡◌, ℕ, Bool, true, false, not, List, [], 
 use Rattle.std.specs.Prelude.{if◌then◌else◌}
 use Rattle.md_base.specs.declared.event.Name.{Name}
 use Rattle.md_base.specs.declared.event.Name.TheVariants.{CodeFencedFence, MathFlowFence, Paragraph}
-use Rattle.md_tree.specs.Tree.{Forest, Empty, Node}
+use Rattle.md_base.specs.Tree.{Forest, Empty, Node}
 use Rattle.std.specs.List.{list_any}
-use Rattle.md_tree.specs.NameTests.{is_fence}
-use Rattle.md_tree.specs.Looseness.{is_loose}
+use Rattle.md_base.specs.NameTests.{is_fence}
+use Rattle.md_infer.specs.Looseness.{is_loose}
 use Rattle.md_meaning.specs.declared.facts.Surroundings.{Surroundings}
 use Rattle.md_meaning.specs.declared.facts.Container.{Container}
 use Rattle.md_meaning.specs.declared.facts.Container.TheVariants.{TightList}

@@ -4,12 +4,12 @@ use Rattle.std.specs.Prelude.{if◌then◌else◌, unwrap_or}
 use Rattle.std.proofs.lemmas.Bool.{true≢false, and_parts}
 use Rattle.md_base.specs.declared.event.Name.{Name}
 use Rattle.md_base.specs.declared.event.Name.TheVariants.{HeadingSetextText, Resource, DefinitionDestinationString, DefinitionTitleString, ResourceDestinationString, ResourceTitleString, BlockQuotePrefix, SpaceOrTab, Other, LineEnding, HeadingSetextUnderlineSequence, MdxEsm, MdxFlowExpression, MdxTextExpression, MdxJsxFlowTag, MdxJsxTextTag}
-use Rattle.md_tree.specs.declared.kinds.Symbol.{Symbol}
-use Rattle.md_tree.specs.declared.kinds.Standing.TheVariants.{Mdx}
-use Rattle.md_tree.specs.Standing.{standing_of}
-use Rattle.md_tree.specs.Spine.{shown}
-use Rattle.md_tree.specs.Children.{or_else}
-use Rattle.md_tree.specs.NameTests.{is_transparent}
+use Rattle.md_pattern.specs.declared.kinds.Symbol.{Symbol}
+use Rattle.md_pattern.specs.declared.kinds.Standing.TheVariants.{Mdx}
+use Rattle.md_pattern.specs.Standing.{standing_of}
+use Rattle.md_pattern.specs.Spine.{shown}
+use Rattle.md_base.specs.Children.{or_else}
+use Rattle.md_base.specs.NameTests.{is_transparent}
 use Rattle.md_meaning.specs.Printed.{is_captured}
 use Rattle.md_meaning.specs.Piece.{Page, Notes, Target, blank, no_notes, lay}
 use Rattle.md_meaning.specs.Piece.{Piece as Printed}

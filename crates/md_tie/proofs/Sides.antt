@@ -12,12 +12,12 @@ use Rattle.md_base.specs.Reference.{decoded}
 use Rattle.md_meaning.specs.declared.facts.Container.{Container}
 use Rattle.md_text.specs.Encode.{encoded}
 use Rattle.md_text.specs.Filter.{tag_filtered}
-use Rattle.md_tree.specs.declared.kinds.Role.TheVariants as role
-use Rattle.md_tree.specs.declared.kinds.Standing.{Standing}
-use Rattle.md_tree.specs.declared.kinds.Standing.TheVariants.{Solid}
-use Rattle.md_tree.specs.Standing.{standing_of}
-use Rattle.md_tree.specs.Children.{spine_names, last_contributing, last_name}
-use Rattle.md_tree.specs.NameTests.{is_heading_mark, is_fence, is_chunk, is_cell, is_item_prefix, is_paragraph}
+use Rattle.md_pattern.specs.declared.kinds.Role.TheVariants as role
+use Rattle.md_pattern.specs.declared.kinds.Standing.{Standing}
+use Rattle.md_pattern.specs.declared.kinds.Standing.TheVariants.{Solid}
+use Rattle.md_pattern.specs.Standing.{standing_of}
+use Rattle.md_base.specs.Children.{spine_names, last_contributing, last_name}
+use Rattle.md_base.specs.NameTests.{is_heading_mark, is_fence, is_chunk, is_cell, is_item_prefix, is_paragraph}
 use Rattle.md_shape.specs.Built.{IsFit}
 use Rattle.md_meaning.specs.Surroundings.{spine_inside, last_of, two_pass}
 use Rattle.md_meaning.specs.Given.{text_of}

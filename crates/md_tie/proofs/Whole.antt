@@ -1,9 +1,9 @@
 -- What is printed for a document of the grammar is what it means.
 use Rattle.std.proofs.Common.{◌≡◌, ℕ, List, [], ◌++◌, ap, sym, ◌∙◌, None, false, append-nil}
 use Rattle.std.proofs.lemmas.Bool.{true≢false}
-use Rattle.md_tree.specs.declared.kinds.Role.TheVariants as role
-use Rattle.md_tree.specs.Tree.{Forest}
-use Rattle.md_tree.specs.Spine.{spine}
+use Rattle.md_pattern.specs.declared.kinds.Role.TheVariants as role
+use Rattle.md_base.specs.Tree.{Forest}
+use Rattle.md_pattern.specs.Spine.{spine}
 use Rattle.md_tree.specs.Grammar.{IsGrammatical}
 use Rattle.md_shape.specs.Built.{Blocks}
 use Rattle.md_shape.proofs.Grammatical.{grammatical-built}

@@ -1,7 +1,7 @@
 //! That what is printed is what is meant, as the contract of a function that does nothing.
 
 ghost use Rattle.std.specs.Prelude.{◌≡◌, ℕ, List};
-ghost use Rattle.md_tree.specs.Tree.{Forest};
+ghost use Rattle.md_base.specs.Tree.{Forest};
 ghost use Rattle.md_tree.specs.Grammar.{IsGrammatical};
 ghost use Rattle.md_meaning.specs.declared.options.CompileOptions.{CompileOptions};
 ghost use Rattle.md_meaning.specs.Meaning.{meaning};

@@ -4,18 +4,18 @@ use Rattle.md_base.specs.declared.event.Point.{Point}
 use Rattle.md_base.specs.declared.event.Name.{Name}
 use Rattle.md_base.specs.declared.event.Kind.TheVariants.{Exit}
 use Rattle.md_base.specs.Place.{fits, text_between, label_between}
-use Rattle.md_tree.specs.declared.kinds.Symbol.{Symbol}
-use Rattle.md_tree.specs.declared.kinds.Role.{Role}
-use Rattle.md_tree.specs.declared.kinds.Reading.{Reading}
-use Rattle.md_tree.specs.declared.kinds.Reading.TheVariants as reading
-use Rattle.md_tree.specs.declared.kinds.Target.{Target}
-use Rattle.md_tree.specs.declared.kinds.Target.TheVariants.{Missing, Resource, Label}
+use Rattle.md_pattern.specs.declared.kinds.Symbol.{Symbol}
+use Rattle.md_pattern.specs.declared.kinds.Role.{Role}
+use Rattle.md_pattern.specs.declared.kinds.Reading.{Reading}
+use Rattle.md_pattern.specs.declared.kinds.Reading.TheVariants as reading
+use Rattle.md_tree.specs.declared.mention.Target.{Target}
+use Rattle.md_tree.specs.declared.mention.Target.TheVariants.{Missing, Resource, Label}
 use Rattle.md_tree.specs.declared.rule.Rule.{Rule}
 use Rattle.md_tree.specs.declared.rule.Rule.TheVariants as rule
 use Rattle.md_tree.specs.declared.rule.CompileError.{CompileError}
 use Rattle.md_tree.specs.declared.rule.CompileError.TheVariants as error
 use Rattle.md_base.specs.declared.event.Position.{Position}
-use Rattle.md_tree.specs.declared.kinds.Mentioned.{Mentioned}
+use Rattle.md_tree.specs.declared.mention.Mentioned.{Mentioned}
 use Rattle.md_tree.specs.declared.state.State.{State}
 use Rattle.md_tree.specs.Machine.{Open}
 use Rattle.md_tree.specs.Machine.{Outer}

@@ -1,11 +1,11 @@
 -- The last contributing child that the pass finds is the one that is defined.
 use Rattle.std.proofs.Common.{◌≡◌, ℕ, suc, Bool, true, false, cond, Option, Some, None, refl, ap, ◌∙◌}
 use Rattle.std.specs.Prelude.{unwrap_or}
-use Rattle.md_tree.specs.Tree.{Forest, Empty, Node}
-use Rattle.md_tree.specs.NameTests.{contributes}
-use Rattle.md_tree.specs.Children.{or_else}
-use Rattle.md_tree.specs.Partners.{behind, last_contributing_at}
-use Rattle.md_tree.specs.Facts.{contributing_over}
+use Rattle.md_base.specs.Tree.{Forest, Empty, Node}
+use Rattle.md_base.specs.NameTests.{contributes}
+use Rattle.md_base.specs.Children.{or_else}
+use Rattle.md_infer.specs.Partners.{behind, last_contributing_at}
+use Rattle.md_infer.specs.Facts.{contributing_over}
 use Rattle.md_tree.specs.Found.{index_if}
 
 one_more : (later : Option ℕ) (here : Bool) (index before : ℕ) → unwrap_or later (cond here index before) ≡ unwrap_or (or_else later (cond here (Some index) None)) before

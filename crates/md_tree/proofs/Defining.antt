@@ -7,11 +7,11 @@ use Rattle.md_base.specs.declared.event.Point.{Point}
 use Rattle.md_base.specs.declared.event.Event.{Event}
 use Rattle.md_base.specs.declared.event.Name.{Name}
 use Rattle.md_base.specs.declared.event.Name.TheVariants.{Definition}
-use Rattle.md_tree.specs.Tree.{Forest, Empty, Node, flatten, entering, exiting}
-use Rattle.md_tree.specs.NameTests.{is_link_definition}
-use Rattle.md_tree.specs.Partners.{behind, definitions_of}
+use Rattle.md_base.specs.Tree.{Forest, Empty, Node, flatten, entering, exiting}
+use Rattle.md_base.specs.NameTests.{is_link_definition}
+use Rattle.md_infer.specs.Partners.{behind, definitions_of}
 use Rattle.md_tree.specs.Texts.{EntersAt}
-use Rattle.md_tree.proofs.Passing.{length_one}
+use Rattle.md_infer.proofs.Passing.{length_one}
 use Rattle.md_tree.proofs.Entering.{get_at}
 use Rattle.md_tree.proofs.Placing.{at_entry, in_node, behind_node, length_events}
 

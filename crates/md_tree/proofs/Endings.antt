@@ -4,22 +4,22 @@ use Rattle.std.specs.List.{list_all}
 use Rattle.md_base.specs.declared.event.Point.{Point}
 use Rattle.md_base.specs.declared.event.Name.{Name}
 use Rattle.md_base.specs.declared.event.Event.{Event}
-use Rattle.md_tree.specs.declared.kinds.Role.TheVariants.{Flow, Childless}
-use Rattle.md_tree.specs.declared.kinds.Reading.TheVariants.{Free}
-use Rattle.md_tree.specs.declared.kinds.Standing.{Standing}
-use Rattle.md_tree.specs.declared.kinds.Standing.TheVariants.{Through, Space, Solid, Mdx}
-use Rattle.md_tree.specs.declared.kinds.Target.{Target}
-use Rattle.md_tree.specs.declared.kinds.Target.TheVariants.{Missing}
-use Rattle.md_tree.specs.declared.kinds.Mentioned.{Mentioned}
+use Rattle.md_pattern.specs.declared.kinds.Role.TheVariants.{Flow, Childless}
+use Rattle.md_pattern.specs.declared.kinds.Reading.TheVariants.{Free}
+use Rattle.md_pattern.specs.declared.kinds.Standing.{Standing}
+use Rattle.md_pattern.specs.declared.kinds.Standing.TheVariants.{Through, Space, Solid, Mdx}
+use Rattle.md_tree.specs.declared.mention.Target.{Target}
+use Rattle.md_tree.specs.declared.mention.Target.TheVariants.{Missing}
+use Rattle.md_tree.specs.declared.mention.Mentioned.{Mentioned}
 use Rattle.md_tree.specs.declared.rule.Rule.{Rule}
 use Rattle.md_tree.specs.declared.state.State.{State}
 use Rattle.md_tree.specs.Machine.{Open}
 use Rattle.md_tree.specs.Machine.{Outer}
-use Rattle.md_tree.specs.Tree.{Forest, Empty, Node, flatten, entering, exiting}
-use Rattle.md_tree.specs.Standing.{standing_of}
-use Rattle.md_tree.specs.Spine.{spine}
-use Rattle.md_tree.specs.Pattern.{pattern_of}
-use Rattle.md_tree.specs.Shape.{EachNode, IsShaped, AreShaped, inner_role, inner_before}
+use Rattle.md_base.specs.Tree.{Forest, Empty, Node, flatten, entering, exiting}
+use Rattle.md_pattern.specs.Standing.{standing_of}
+use Rattle.md_pattern.specs.Spine.{spine}
+use Rattle.md_pattern.specs.Pattern.{pattern_of}
+use Rattle.md_pattern.specs.Shape.{EachNode, IsShaped, AreShaped, inner_role, inner_before}
 use Rattle.md_tree.specs.Rules.{broken_where, MeetRules, target_of}
 use Rattle.md_tree.specs.Grammar.{Document, IsGrammatical, IsReadAs, IsChecked}
 use Rattle.md_tree.specs.Refusal.{Level, opening, role_in, before_in, symbol_after, Begins, LeaveOpen, EndsBroken}

@@ -6,20 +6,20 @@ use Rattle.std.proofs.lemmas.List.Elements.{All-cons, All-append, All-nil}
 use Rattle.md_base.specs.declared.event.Event.{Event}
 use Rattle.md_base.specs.declared.event.Name.{Name}
 use Rattle.md_base.specs.declared.event.Name.TheVariants.{GfmTable}
-use Rattle.md_tree.specs.declared.kinds.Symbol.{Symbol}
-use Rattle.md_tree.specs.declared.kinds.Role.{Role}
-use Rattle.md_tree.specs.declared.kinds.Role.TheVariants as role
-use Rattle.md_tree.specs.Tree.{Forest, Empty, Node, entering}
-use Rattle.md_tree.specs.Standing.{standing_of}
-use Rattle.md_tree.specs.Spine.{spine, shown}
-use Rattle.md_tree.specs.Shape.{EachNode, IsShapedNode, IsStanding, AreShaped, inner_role, inner_before, last_symbol}
+use Rattle.md_pattern.specs.declared.kinds.Symbol.{Symbol}
+use Rattle.md_pattern.specs.declared.kinds.Role.{Role}
+use Rattle.md_pattern.specs.declared.kinds.Role.TheVariants as role
+use Rattle.md_base.specs.Tree.{Forest, Empty, Node, entering}
+use Rattle.md_pattern.specs.Standing.{standing_of}
+use Rattle.md_pattern.specs.Spine.{spine, shown}
+use Rattle.md_pattern.specs.Shape.{EachNode, IsShapedNode, IsStanding, AreShaped, inner_role, inner_before, last_symbol}
 use Rattle.md_tree.specs.Grammar.{Document, IsChecked, IsReadAs, IsGrammatical}
 use Rattle.md_tree.specs.Texts.{EntersAt}
 use Rattle.md_tree.specs.Entered.{children_of, IsEnteredAt}
 use Rattle.md_tree.specs.Tables.{IsTable}
 use Rattle.md_tree.proofs.Indexed.{flatten_one}
-use Rattle.md_tree.specs.Partners.{behind}
-use Rattle.md_tree.specs.Facts.{tables_with, tables_behind}
+use Rattle.md_infer.specs.Partners.{behind}
+use Rattle.md_infer.specs.Facts.{tables_with, tables_behind}
 use Rattle.md_tree.proofs.Entering.{Row, entry_row, exit_row, rows_of, past_row, inside_rows, event_there, children_there}
 
 -- a table has its shape

@@ -2,17 +2,17 @@
 use Rattle.std.proofs.Common.{◌≡◌, ◌⊎◌, inl, inr, ℕ, zero, suc, ◌+◌, Bool, true, false, cond, Option, Some, None, List, [], ◌∷◌, ◌++◌, drop, replicate, refl, sym, ap, ◌∙◌, subst, add-one, append_assoc, append-nil}
 use Rattle.std.specs.List.{list_all}
 use Rattle.std.specs.Prelude.{option_map}
-use Rattle.md_tree.specs.declared.kinds.Symbol.{Symbol}
-use Rattle.md_tree.specs.declared.kinds.Symbol.TheVariants.{ReferenceMarker, ReferenceNumeric, ReferenceHexadecimal, ReferenceValue, SetextText, SetextUnderline, LineEnding}
-use Rattle.md_tree.specs.declared.kinds.Role.{Role}
-use Rattle.md_tree.specs.declared.kinds.Times.{Times}
-use Rattle.md_tree.specs.declared.kinds.Times.TheVariants.{Once, Maybe, Many}
-use Rattle.md_tree.specs.declared.kinds.Item.{Item}
+use Rattle.md_pattern.specs.declared.kinds.Symbol.{Symbol}
+use Rattle.md_pattern.specs.declared.kinds.Symbol.TheVariants.{ReferenceMarker, ReferenceNumeric, ReferenceHexadecimal, ReferenceValue, SetextText, SetextUnderline, LineEnding}
+use Rattle.md_pattern.specs.declared.kinds.Role.{Role}
+use Rattle.md_pattern.specs.declared.kinds.Times.{Times}
+use Rattle.md_pattern.specs.declared.kinds.Times.TheVariants.{Once, Maybe, Many}
+use Rattle.md_pattern.specs.declared.kinds.Item.{Item}
 use Rattle.md_tree.specs.declared.state.Stage.{Stage}
 use Rattle.md_tree.specs.declared.state.Stage.TheVariants.{Whole, Marker, Numeric, Hexadecimal, Setext}
 use Rattle.md_tree.specs.declared.state.State.{State}
-use Rattle.md_tree.specs.Pattern.{takes, pattern_of, Fits}
-use Rattle.md_tree.specs.Spine.{IsTail, IsGrouped, Matches, IsBegunGroup}
+use Rattle.md_pattern.specs.Pattern.{takes, pattern_of, Fits}
+use Rattle.md_pattern.specs.Spine.{IsTail, IsGrouped, Matches, IsBegunGroup}
 use Rattle.md_tree.specs.Refusal.{EndsInGroup}
 use Rattle.md_tree.specs.Machine.{begun_by, continued, is_optional, after_item, seek, moved, items_of, advance, is_whole, is_complete, start_of}
 use Rattle.md_tree.proofs.Greedy.{and_left, and_right, and_both, settled, pattern_settled, kept, left_after, fits_nothing, fits_back, fits_on, nothing_fits}

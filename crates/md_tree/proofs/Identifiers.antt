@@ -16,9 +16,9 @@ use Rattle.std.proofs.lemmas.List.Elements.{Contains-append_left, Contains-appen
 use Rattle.std.proofs.lemmas.Map.Text.{is_eq-slice_cmp}
 use Rattle.std.proofs.lemmas.Slice.Eq.{bytes_eq-Decides}
 use Rattle.md_base.specs.declared.event.Position.{Position}
-use Rattle.md_tree.specs.declared.kinds.Mention.{Mention}
-use Rattle.md_tree.specs.declared.kinds.Mention.TheVariants.{Definition, FootnoteDefinition}
-use Rattle.md_tree.specs.declared.kinds.Mentioned.{Mentioned}
+use Rattle.md_tree.specs.declared.mention.Mention.{Mention}
+use Rattle.md_tree.specs.declared.mention.Mention.TheVariants.{Definition, FootnoteDefinition}
+use Rattle.md_tree.specs.declared.mention.Mentioned.{Mentioned}
 use Rattle.md_tree.specs.Mentions.{defined_by, footnoted_by}
 use Rattle.md_tree.specs.Resolve.{HaveSame}
 

@@ -11,27 +11,27 @@ use Rattle.md_base.specs.declared.event.Name.{Name}
 use Rattle.md_base.specs.declared.event.Kind.TheVariants.{Exit}
 use Rattle.md_base.specs.declared.event.Event.{Event}
 use Rattle.md_base.specs.Place.{text_between, label_between}
-use Rattle.md_tree.specs.declared.kinds.Symbol.{Symbol}
-use Rattle.md_tree.specs.declared.kinds.Role.{Role}
-use Rattle.md_tree.specs.declared.kinds.Role.TheVariants.{Flow}
-use Rattle.md_tree.specs.declared.kinds.Reading.{Reading}
-use Rattle.md_tree.specs.declared.kinds.Reading.TheVariants as reading
-use Rattle.md_tree.specs.declared.kinds.Standing.{Standing}
-use Rattle.md_tree.specs.declared.kinds.Standing.TheVariants.{Through, Space, Solid, Mdx}
-use Rattle.md_tree.specs.declared.kinds.Target.{Target}
-use Rattle.md_tree.specs.declared.kinds.Target.TheVariants.{Missing}
+use Rattle.md_pattern.specs.declared.kinds.Symbol.{Symbol}
+use Rattle.md_pattern.specs.declared.kinds.Role.{Role}
+use Rattle.md_pattern.specs.declared.kinds.Role.TheVariants.{Flow}
+use Rattle.md_pattern.specs.declared.kinds.Reading.{Reading}
+use Rattle.md_pattern.specs.declared.kinds.Reading.TheVariants as reading
+use Rattle.md_pattern.specs.declared.kinds.Standing.{Standing}
+use Rattle.md_pattern.specs.declared.kinds.Standing.TheVariants.{Through, Space, Solid, Mdx}
+use Rattle.md_tree.specs.declared.mention.Target.{Target}
+use Rattle.md_tree.specs.declared.mention.Target.TheVariants.{Missing}
 use Rattle.md_tree.specs.declared.rule.Rule.{Rule}
-use Rattle.md_tree.specs.Tree.{Forest, Empty, Node, flatten, entering, exiting}
-use Rattle.md_tree.specs.Standing.{standing_of}
-use Rattle.md_tree.specs.Spine.{spine, shown}
-use Rattle.md_tree.specs.Shape.{inner_role, inner_before, last_symbol}
+use Rattle.md_base.specs.Tree.{Forest, Empty, Node, flatten, entering, exiting}
+use Rattle.md_pattern.specs.Standing.{standing_of}
+use Rattle.md_pattern.specs.Spine.{spine, shown}
+use Rattle.md_pattern.specs.Shape.{inner_role, inner_before, last_symbol}
 use Rattle.md_tree.specs.Rules.{place, broken_by, broken_rule, broken_where, MeetRules, target_of}
 use Rattle.md_tree.specs.Grammar.{Document, IsGrammatical, IsReadAs, IsChecked}
-use Rattle.md_tree.specs.Partners.{behind}
-use Rattle.md_tree.specs.Facts.{partner_alone, tables_with, tables_behind, facts_at}
+use Rattle.md_infer.specs.Partners.{behind}
+use Rattle.md_infer.specs.Facts.{partner_alone, tables_with, tables_behind, facts_at}
 use Rattle.md_tree.specs.Found.{position_from, partner_event, position_ended}
 use Rattle.md_tree.specs.Texts.{ExitsAt, positions_of, has_reading, is_text, is_identifier}
-use Rattle.md_tree.proofs.Passing.{length_one, facts-flatten}
+use Rattle.md_infer.proofs.Passing.{length_one, facts-flatten}
 use Rattle.md_tree.proofs.Entering.{Row, entry_row, exit_row, rows_of, event_rows, fact_rows, position_rows, get_at, got_inside, got_mapped, mapped_long}
 use Rattle.md_tree.proofs.Placing.{at_entry, in_node, behind_node, length_events}
 

@@ -8,20 +8,20 @@ use Rattle.md_base.specs.declared.event.Position.{Position}
 use Rattle.md_base.specs.declared.event.Name.{Name}
 use Rattle.md_base.specs.declared.event.Name.TheVariants.{Definition, GfmTable}
 use Rattle.md_tree.specs.declared.checked.Checked.TheInside.{Inside}
-use Rattle.md_tree.specs.declared.facts.Fact.{Fact}
-use Rattle.md_tree.specs.declared.kinds.Reading.{Reading}
-use Rattle.md_tree.specs.Tree.{Forest, flatten}
-use Rattle.md_tree.specs.Alignments.{alignments}
+use Rattle.md_infer.specs.declared.facts.Fact.{Fact}
+use Rattle.md_pattern.specs.declared.kinds.Reading.{Reading}
+use Rattle.md_base.specs.Tree.{Forest, flatten}
+use Rattle.md_infer.specs.Alignments.{alignments}
 use Rattle.md_tree.specs.Grammar.{Document, IsReadAs, IsChecked}
-use Rattle.md_tree.specs.Standing.{standing_of}
+use Rattle.md_pattern.specs.Standing.{standing_of}
 use Rattle.md_tree.specs.Texts.{EntersAt, ExitsAt, has_reading}
 use Rattle.md_tree.specs.Entered.{IsEnteredAt, EntersNode}
 use Rattle.md_tree.specs.Checked.{given_of, IsKept}
-use Rattle.md_tree.specs.Facts.{facts_at, tables_at, definitions_at, fact_at}
+use Rattle.md_infer.specs.Facts.{facts_at, tables_at, definitions_at, fact_at}
 use Rattle.md_tree.specs.Found.{EntersSome, IsFactAt, position_ended}
-use Rattle.md_tree.specs.Partners.{AreDefinitions}
+use Rattle.md_tree.specs.Indices.{AreDefinitions}
 use Rattle.md_tree.proofs.Defining.{definitions-entered}
-use Rattle.md_tree.proofs.Passing.{definitions-flatten}
+use Rattle.md_infer.proofs.Passing.{definitions-flatten}
 use Rattle.md_tree.proofs.Indexed.{HaveText, EndedAt, EndedAt-checked}
 use Rattle.md_tree.proofs.Entering.{got_inside, EntersNode-entered, found-entered, facts_at-inside}
 

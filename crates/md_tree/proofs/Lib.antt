@@ -5,10 +5,7 @@ pub mod Defining
 pub mod Endings
 pub mod EnteredTables
 pub mod Entering
-pub mod Passing
-pub mod FirstIndex
 pub mod Placing
-pub mod Telling
 pub mod Greedy
 pub mod Identifiers
 pub mod Indexed

@@ -4,15 +4,15 @@ use Rattle.std.specs.Prelude.{slice_get}
 use Rattle.std.specs.List.{All, Contains}
 use Rattle.std.proofs.lemmas.List.{map-append}
 use Rattle.std.proofs.lemmas.List.Elements.{All-cons, All-nil, All-head, All-tail}
-use Rattle.md_tree.specs.declared.kinds.Mention.{Mention}
-use Rattle.md_tree.specs.declared.kinds.Mention.TheVariants.{Nothing, Reference, Call, Definition, FootnoteDefinition}
-use Rattle.md_tree.specs.declared.kinds.Mentioned.{Mentioned}
-use Rattle.md_tree.specs.declared.kinds.Note.{Note}
-use Rattle.md_tree.specs.declared.kinds.Target.TheVariants.{Missing}
-use Rattle.md_tree.specs.Tree.{Forest, Empty, Node}
-use Rattle.md_tree.specs.Standing.{standing_of}
+use Rattle.md_tree.specs.declared.mention.Mention.{Mention}
+use Rattle.md_tree.specs.declared.mention.Mention.TheVariants.{Nothing, Reference, Call, Definition, FootnoteDefinition}
+use Rattle.md_tree.specs.declared.mention.Mentioned.{Mentioned}
+use Rattle.md_tree.specs.declared.mention.Note.{Note}
+use Rattle.md_tree.specs.declared.mention.Target.TheVariants.{Missing}
+use Rattle.md_base.specs.Tree.{Forest, Empty, Node}
+use Rattle.md_pattern.specs.Standing.{standing_of}
 use Rattle.md_tree.specs.Rules.{target_of}
-use Rattle.md_tree.specs.Partners.{behind}
+use Rattle.md_infer.specs.Partners.{behind}
 use Rattle.md_tree.specs.Mentions.{mention_where, note, notes_of, mentions_in, mentions_with, mentions_among, identifier_at, defined, footnoted, IsResolved}
 use Rattle.md_tree.proofs.Trees.{mentions_over}
 

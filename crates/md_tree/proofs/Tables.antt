@@ -5,25 +5,25 @@ use Rattle.std.specs.List.{list_all, list_any}
 use Rattle.std.proofs.lemmas.List.{map-append}
 use Rattle.std.proofs.lemmas.List.Folds.{list_all-append}
 use denote.Enum.Bare.{same_true}
-use Rattle.md_tree.specs.contracts.kinds.Symbol.{the_type}
+use Rattle.md_pattern.specs.contracts.kinds.Symbol.{the_type}
 use Rattle.md_base.specs.declared.event.AlignKind.{AlignKind}
 use Rattle.md_base.specs.declared.event.Name.{Name}
 use Rattle.md_base.specs.declared.event.Name.TheVariants.{GfmTableHead, GfmTableDelimiterRow, GfmTableDelimiterCellValue}
-use Rattle.md_tree.specs.declared.kinds.Symbol.{Symbol}
-use Rattle.md_tree.specs.declared.kinds.Symbol.TheVariants as symbol
-use Rattle.md_tree.specs.declared.kinds.Role.{Role}
-use Rattle.md_tree.specs.declared.kinds.Role.TheVariants as role
-use Rattle.md_tree.specs.declared.kinds.Item.{Item}
-use Rattle.md_tree.specs.declared.kinds.Standing.{Standing}
-use Rattle.md_tree.specs.declared.kinds.Standing.TheVariants.{Through, Space, Solid, Mdx}
-use Rattle.md_tree.specs.Tree.{Forest, Empty, Node}
-use Rattle.md_tree.specs.NameTests.{is_transparent, is_table_head, is_delimiter_row, is_delimiter_value, leads_to_values}
-use Rattle.md_tree.specs.Standing.{standing_of}
-use Rattle.md_tree.specs.Pattern.{members, takes, same_symbol, pattern_of, Fits}
-use Rattle.md_tree.specs.Spine.{spine, shown, IsTail, IsGrouped, Matches}
-use Rattle.md_tree.specs.Shape.{EachNode, IsShapedNode, IsStanding, AreShaped, inner_role, inner_before, last_symbol}
+use Rattle.md_pattern.specs.declared.kinds.Symbol.{Symbol}
+use Rattle.md_pattern.specs.declared.kinds.Symbol.TheVariants as symbol
+use Rattle.md_pattern.specs.declared.kinds.Role.{Role}
+use Rattle.md_pattern.specs.declared.kinds.Role.TheVariants as role
+use Rattle.md_pattern.specs.declared.kinds.Item.{Item}
+use Rattle.md_pattern.specs.declared.kinds.Standing.{Standing}
+use Rattle.md_pattern.specs.declared.kinds.Standing.TheVariants.{Through, Space, Solid, Mdx}
+use Rattle.md_base.specs.Tree.{Forest, Empty, Node}
+use Rattle.md_base.specs.NameTests.{is_transparent, is_table_head, is_delimiter_row, is_delimiter_value, leads_to_values}
+use Rattle.md_pattern.specs.Standing.{standing_of}
+use Rattle.md_pattern.specs.Pattern.{members, takes, same_symbol, pattern_of, Fits}
+use Rattle.md_pattern.specs.Spine.{spine, shown, IsTail, IsGrouped, Matches}
+use Rattle.md_pattern.specs.Shape.{EachNode, IsShapedNode, IsStanding, AreShaped, inner_role, inner_before, last_symbol}
 use Rattle.md_tree.specs.Machine.{begun_by, is_whole}
-use Rattle.md_tree.specs.Alignments.{alignment_of, alignments}
+use Rattle.md_infer.specs.Alignments.{alignment_of, alignments}
 use Rattle.md_tree.specs.Tables.{in_each, values_of_row, values_of_head, values_of_table, IsTable}
 use Rattle.md_tree.proofs.Greedy.{and_left, and_right, and_both}
 

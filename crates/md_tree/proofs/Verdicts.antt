@@ -5,23 +5,23 @@ use Rattle.md_base.specs.declared.event.Name.{Name}
 use Rattle.md_base.specs.declared.event.Kind.{Kind}
 use Rattle.md_base.specs.declared.event.Kind.TheVariants.{Enter, Exit}
 use Rattle.md_base.specs.declared.event.Event.{Event}
-use Rattle.md_tree.specs.declared.kinds.Symbol.{Symbol}
-use Rattle.md_tree.specs.declared.kinds.Role.{Role}
-use Rattle.md_tree.specs.declared.kinds.Role.TheVariants.{Flow}
-use Rattle.md_tree.specs.declared.kinds.Standing.{Standing}
-use Rattle.md_tree.specs.declared.kinds.Standing.TheVariants.{Through, Space, Solid, Mdx}
-use Rattle.md_tree.specs.declared.kinds.Target.{Target}
-use Rattle.md_tree.specs.declared.kinds.Target.TheVariants.{Missing}
+use Rattle.md_pattern.specs.declared.kinds.Symbol.{Symbol}
+use Rattle.md_pattern.specs.declared.kinds.Role.{Role}
+use Rattle.md_pattern.specs.declared.kinds.Role.TheVariants.{Flow}
+use Rattle.md_pattern.specs.declared.kinds.Standing.{Standing}
+use Rattle.md_pattern.specs.declared.kinds.Standing.TheVariants.{Through, Space, Solid, Mdx}
+use Rattle.md_tree.specs.declared.mention.Target.{Target}
+use Rattle.md_tree.specs.declared.mention.Target.TheVariants.{Missing}
 use Rattle.md_tree.specs.declared.rule.Rule.{Rule}
 use Rattle.md_tree.specs.declared.rule.Rule.TheVariants as rule
 use Rattle.md_tree.specs.declared.state.State.{State}
 use Rattle.md_tree.specs.Machine.{Entry}
 use Rattle.md_tree.specs.Machine.{Open}
 use Rattle.md_tree.specs.Machine.{Outer}
-use Rattle.md_tree.specs.Tree.{Forest, Empty, Node, flatten, entering}
-use Rattle.md_tree.specs.Standing.{standing_of}
-use Rattle.md_tree.specs.Spine.{spine, shown}
-use Rattle.md_tree.specs.Shape.{Claim, EachNode, IsShapedNode, IsShaped, AreShaped, inner_role, inner_before, last_symbol}
+use Rattle.md_base.specs.Tree.{Forest, Empty, Node, flatten, entering}
+use Rattle.md_pattern.specs.Standing.{standing_of}
+use Rattle.md_pattern.specs.Spine.{spine, shown}
+use Rattle.md_pattern.specs.Shape.{Claim, EachNode, IsShapedNode, IsShaped, AreShaped, inner_role, inner_before, last_symbol}
 use Rattle.md_tree.specs.Rules.{broken_where, broken_rule, MeetsRules, MeetRules, target_of}
 use Rattle.md_tree.specs.Grammar.{Document, IsGrammatical, IsReadAs, IsChecked}
 use Rattle.md_tree.specs.Refusal.{Level, role_in, before_in, IsShapedPath, BeginNoTree}

@@ -2,8 +2,8 @@
 use Rattle.std.specs.Prelude.{◌≡◌, map, length}
 use Rattle.md_tree.specs.declared.checked.Checked.TheInside.{Inside}
 use Rattle.md_tree.specs.Grammar.{Document, handed, IsChecked}
-use Rattle.md_tree.specs.Ending.{first_index}
-use Rattle.md_tree.specs.Facts.{facts_at, tables_at, definitions_at}
+use Rattle.md_infer.specs.Ending.{first_index}
+use Rattle.md_infer.specs.Facts.{facts_at, tables_at, definitions_at}
 
 -- what was handed in
 abbrev pub given_of : Inside → Document

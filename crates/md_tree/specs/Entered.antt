@@ -1,6 +1,6 @@
 -- The nodes of a document by the index of the event that enters each.
 use Rattle.std.specs.Prelude.{◌≡◌, ℕ, Option, Some, None, List, [], ◌∷◌, ◌++◌, slice_get}
-use Rattle.md_tree.specs.Tree.{Forest, Empty, Node, flatten}
+use Rattle.md_base.specs.Tree.{Forest, Empty, Node, flatten}
 use Rattle.md_tree.specs.Grammar.{Document}
 
 -- for each event of the nodes, in order: at an entry the node's children, nothing at an exit

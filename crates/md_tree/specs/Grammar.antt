@@ -4,9 +4,9 @@ use Rattle.std.specs.List.{All}
 use Rattle.std.specs.Borrow.{Bor}
 use Rattle.md_base.specs.Reference.{name_table}
 use Rattle.md_base.specs.declared.event.Event.{Event}
-use Rattle.md_tree.specs.declared.kinds.Role.TheVariants as role
-use Rattle.md_tree.specs.Tree.{Forest, flatten}
-use Rattle.md_tree.specs.Shape.{IsShaped}
+use Rattle.md_pattern.specs.declared.kinds.Role.TheVariants as role
+use Rattle.md_base.specs.Tree.{Forest, flatten}
+use Rattle.md_pattern.specs.Shape.{IsShaped}
 use Rattle.md_tree.specs.Rules.{MeetRules}
 use Rattle.md_tree.specs.Mentions.{notes_of, mentions_in, IsResolved}
 

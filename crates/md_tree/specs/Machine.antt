@@ -6,26 +6,26 @@ use Rattle.md_base.specs.declared.event.Name.{Name}
 use Rattle.md_base.specs.declared.event.Event.{Event}
 use Rattle.md_base.specs.declared.event.Kind.{Kind}
 use Rattle.md_base.specs.declared.event.Kind.TheVariants.{Enter, Exit}
-use Rattle.md_tree.specs.declared.kinds.Symbol.{Symbol}
-use Rattle.md_tree.specs.declared.kinds.Symbol.TheVariants.{ReferenceMarker, ReferenceNumeric, ReferenceHexadecimal, ReferenceValue, SetextText, SetextUnderline, LineEnding}
-use Rattle.md_tree.specs.declared.kinds.Role.{Role}
-use Rattle.md_tree.specs.declared.kinds.Role.TheVariants as role
-use Rattle.md_tree.specs.declared.kinds.Standing.{Standing}
-use Rattle.md_tree.specs.declared.kinds.Standing.TheVariants.{Through, Space, Solid, Mdx}
-use Rattle.md_tree.specs.declared.kinds.Reading.{Reading}
-use Rattle.md_tree.specs.declared.kinds.Reading.TheVariants.{Free}
-use Rattle.md_tree.specs.declared.kinds.Times.{Times}
-use Rattle.md_tree.specs.declared.kinds.Times.TheVariants.{Once, Many}
-use Rattle.md_tree.specs.declared.kinds.Item.{Item}
-use Rattle.md_tree.specs.declared.kinds.Target.{Target}
-use Rattle.md_tree.specs.declared.kinds.Target.TheVariants.{Missing}
-use Rattle.md_tree.specs.declared.kinds.Mentioned.{Mentioned}
+use Rattle.md_pattern.specs.declared.kinds.Symbol.{Symbol}
+use Rattle.md_pattern.specs.declared.kinds.Symbol.TheVariants.{ReferenceMarker, ReferenceNumeric, ReferenceHexadecimal, ReferenceValue, SetextText, SetextUnderline, LineEnding}
+use Rattle.md_pattern.specs.declared.kinds.Role.{Role}
+use Rattle.md_pattern.specs.declared.kinds.Role.TheVariants as role
+use Rattle.md_pattern.specs.declared.kinds.Standing.{Standing}
+use Rattle.md_pattern.specs.declared.kinds.Standing.TheVariants.{Through, Space, Solid, Mdx}
+use Rattle.md_pattern.specs.declared.kinds.Reading.{Reading}
+use Rattle.md_pattern.specs.declared.kinds.Reading.TheVariants.{Free}
+use Rattle.md_pattern.specs.declared.kinds.Times.{Times}
+use Rattle.md_pattern.specs.declared.kinds.Times.TheVariants.{Once, Many}
+use Rattle.md_pattern.specs.declared.kinds.Item.{Item}
+use Rattle.md_tree.specs.declared.mention.Target.{Target}
+use Rattle.md_tree.specs.declared.mention.Target.TheVariants.{Missing}
+use Rattle.md_tree.specs.declared.mention.Mentioned.{Mentioned}
 use Rattle.md_tree.specs.declared.state.Stage.{Stage}
 use Rattle.md_tree.specs.declared.state.Stage.TheVariants.{Whole, Marker, Numeric, Hexadecimal, Setext}
 use Rattle.md_tree.specs.declared.state.State.{State}
-use Rattle.md_tree.specs.Standing.{standing_of}
-use Rattle.md_tree.specs.Pattern.{pattern_of, takes}
-use Rattle.md_tree.specs.Shape.{role_for}
+use Rattle.md_pattern.specs.Standing.{standing_of}
+use Rattle.md_pattern.specs.Pattern.{pattern_of, takes}
+use Rattle.md_pattern.specs.Shape.{role_for}
 use Rattle.md_tree.specs.Rules.{place, target_at}
 use Rattle.md_tree.specs.Mentions.{mention_of, mentions_with}
 

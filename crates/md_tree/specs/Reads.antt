@@ -4,9 +4,9 @@ use Rattle.std.specs.List.{list_any}
 use Rattle.md_base.specs.declared.event.Name.{Name}
 use Rattle.md_base.specs.declared.event.Name.TheVariants.{HeadingAtx, ListOrdered, Link, Image, GfmFootnoteCall, Definition, GfmFootnoteDefinition}
 use Rattle.md_base.specs.declared.event.Position.{Position}
-use Rattle.md_tree.specs.Tree.{Forest}
-use Rattle.md_tree.specs.NameTests.{is_heading_mark, is_item, is_item_prefix, is_item_value, is_label, is_label_text, is_reference, is_resource, is_definition_label, is_footnote_prefix, is_footnote_label}
-use Rattle.md_tree.specs.Children.{or_else, first_on_spine, spine_names}
+use Rattle.md_base.specs.Tree.{Forest}
+use Rattle.md_base.specs.NameTests.{is_heading_mark, is_item, is_item_prefix, is_item_value, is_label, is_label_text, is_reference, is_resource, is_definition_label, is_footnote_prefix, is_footnote_label}
+use Rattle.md_base.specs.Children.{or_else, first_on_spine, spine_names}
 use Rattle.md_tree.specs.Rules.{place}
 use Rattle.md_tree.specs.Grammar.{Document}
 use Rattle.md_tree.specs.Texts.{EntersAt}

@@ -5,20 +5,20 @@ use Rattle.md_base.specs.declared.event.Position.{Position}
 use Rattle.md_base.specs.declared.event.Event.{Event}
 use Rattle.md_base.specs.declared.event.Kind.TheVariants.{Enter}
 use Rattle.md_base.specs.declared.event.Name.{Name}
-use Rattle.md_tree.specs.declared.kinds.Symbol.{Symbol}
-use Rattle.md_tree.specs.declared.kinds.Role.{Role}
-use Rattle.md_tree.specs.declared.kinds.Role.TheVariants as role
-use Rattle.md_tree.specs.declared.kinds.Standing.TheVariants as standing
-use Rattle.md_tree.specs.declared.kinds.Mention.{Mention}
-use Rattle.md_tree.specs.declared.kinds.Mention.TheVariants.{Reference, Call}
+use Rattle.md_pattern.specs.declared.kinds.Symbol.{Symbol}
+use Rattle.md_pattern.specs.declared.kinds.Role.{Role}
+use Rattle.md_pattern.specs.declared.kinds.Role.TheVariants as role
+use Rattle.md_pattern.specs.declared.kinds.Standing.TheVariants as standing
+use Rattle.md_tree.specs.declared.mention.Mention.{Mention}
+use Rattle.md_tree.specs.declared.mention.Mention.TheVariants.{Reference, Call}
 use Rattle.md_tree.specs.declared.rule.Rule.{Rule}
 use Rattle.md_tree.specs.declared.rule.Rule.TheVariants as rule
 use Rattle.md_tree.specs.declared.rule.CompileError.{CompileError}
 use Rattle.md_tree.specs.declared.rule.CompileError.TheVariants as error
-use Rattle.md_tree.specs.Tree.{Forest, Empty, Node, flatten, entering}
-use Rattle.md_tree.specs.Standing.{standing_of}
-use Rattle.md_tree.specs.Spine.{spine, IsBegunGroup}
-use Rattle.md_tree.specs.Shape.{AreShaped, IsShaped, inner_role, inner_before, last_symbol}
+use Rattle.md_base.specs.Tree.{Forest, Empty, Node, flatten, entering}
+use Rattle.md_pattern.specs.Standing.{standing_of}
+use Rattle.md_pattern.specs.Spine.{spine, IsBegunGroup}
+use Rattle.md_pattern.specs.Shape.{AreShaped, IsShaped, inner_role, inner_before, last_symbol}
 use Rattle.md_tree.specs.Rules.{MeetRules, broken_at}
 use Rattle.md_tree.specs.Mentions.{notes_of, mentions_in, IsResolved}
 use Rattle.md_tree.specs.Grammar.{Document, IsChecked}

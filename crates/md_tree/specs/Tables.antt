@@ -1,11 +1,11 @@
 -- The cell values of a table's delimiter row.
 use Rattle.std.specs.Prelude.{Bool, None, if◌then◌else◌, List, [], ◌∷◌, ◌++◌}
 use Rattle.md_base.specs.declared.event.Name.{Name}
-use Rattle.md_tree.specs.declared.kinds.Role.TheVariants as role
-use Rattle.md_tree.specs.Tree.{Forest, Empty, Node}
-use Rattle.md_tree.specs.NameTests.{is_transparent, is_table_head, is_delimiter_row, is_delimiter_value}
-use Rattle.md_tree.specs.Spine.{spine, Matches}
-use Rattle.md_tree.specs.Shape.{AreShaped}
+use Rattle.md_pattern.specs.declared.kinds.Role.TheVariants as role
+use Rattle.md_base.specs.Tree.{Forest, Empty, Node}
+use Rattle.md_base.specs.NameTests.{is_transparent, is_table_head, is_delimiter_row, is_delimiter_value}
+use Rattle.md_pattern.specs.Spine.{spine, Matches}
+use Rattle.md_pattern.specs.Shape.{AreShaped}
 
 -- what is found in each node on the spine whose name passes a test, in order
 abbrev pub in_each : {A : Type 0} → (Name → Bool) → (Forest → List A) → Forest → List A

@@ -6,12 +6,12 @@ use Rattle.md_base.specs.declared.event.Kind.{Kind}
 use Rattle.md_base.specs.declared.event.Kind.TheVariants.{Enter, Exit}
 use Rattle.md_base.specs.declared.event.Event.{Event}
 use Rattle.md_base.specs.Place.{text_between, label_between}
-use Rattle.md_tree.specs.declared.kinds.Reading.{Reading}
-use Rattle.md_tree.specs.declared.kinds.Reading.TheVariants as reading
-use Rattle.md_tree.specs.declared.kinds.Standing.{Standing}
-use Rattle.md_tree.specs.declared.kinds.Standing.TheVariants.{Solid}
-use Rattle.md_tree.specs.Tree.{Forest, Empty, Node, flatten}
-use Rattle.md_tree.specs.Standing.{standing_of}
+use Rattle.md_pattern.specs.declared.kinds.Reading.{Reading}
+use Rattle.md_pattern.specs.declared.kinds.Reading.TheVariants as reading
+use Rattle.md_pattern.specs.declared.kinds.Standing.{Standing}
+use Rattle.md_pattern.specs.declared.kinds.Standing.TheVariants.{Solid}
+use Rattle.md_base.specs.Tree.{Forest, Empty, Node, flatten}
+use Rattle.md_pattern.specs.Standing.{standing_of}
 use Rattle.md_tree.specs.Rules.{place}
 use Rattle.md_tree.specs.Grammar.{Document}
 

@@ -6,20 +6,20 @@ use Rattle.md_base.specs.declared.event.Name.{Name}
 use Rattle.md_base.specs.declared.event.Event.{Event}
 use Rattle.md_base.specs.declared.event.Kind.{Kind}
 use Rattle.md_base.specs.declared.event.Kind.TheVariants.{Enter, Exit}
-use Rattle.md_tree.specs.declared.kinds.Standing.TheVariants as standing
+use Rattle.md_pattern.specs.declared.kinds.Standing.TheVariants as standing
 use Rattle.md_tree.specs.declared.rule.Rule.{Rule}
 use Rattle.md_tree.specs.declared.rule.Rule.TheVariants as rule
 use Rattle.md_tree.specs.declared.rule.CompileError.{CompileError}
 use Rattle.md_tree.specs.declared.rule.CompileError.TheVariants as error
-use Rattle.md_tree.specs.declared.kinds.Target.{Target}
-use Rattle.md_tree.specs.declared.kinds.Target.TheVariants.{Missing, Resource, Label}
+use Rattle.md_tree.specs.declared.mention.Target.{Target}
+use Rattle.md_tree.specs.declared.mention.Target.TheVariants.{Missing, Resource, Label}
 use Rattle.md_tree.specs.declared.state.Aim.{Aim}
 use Rattle.md_tree.specs.declared.state.Aim.TheVariants as aim
 use Rattle.md_tree.specs.declared.state.Open.{Open as KeptOpen}
 use Rattle.md_tree.specs.declared.state.Outer.{Outer as KeptOuter}
 use Rattle.md_tree.specs.declared.state.Entry.{Entry as KeptEntry}
 use Rattle.md_tree.specs.declared.walk.Walk.{Walk}
-use Rattle.md_tree.specs.Standing.{standing_of}
+use Rattle.md_pattern.specs.Standing.{standing_of}
 use Rattle.md_tree.specs.Rules.{place, broken_rule}
 use Rattle.md_tree.specs.Machine.{Reads, Outer, Open, Entry, Course, Enters, Exits, is_complete}
 

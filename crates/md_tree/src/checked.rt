@@ -1,12 +1,12 @@
 ghost use Rattle.std.specs.Prelude.{◌≡◌, ◌↔◌, ◌<◌, Some, length, map, option_map, slice_get, IsTrue};
 ghost use Rattle.md_base.specs.declared.event.Event.{Event};
-ghost use Rattle.md_tree.specs.declared.facts.Fact.{Fact};
+ghost use Rattle.md_infer.specs.declared.facts.Fact.{Fact};
 ghost use Rattle.md_tree.specs.Found.{index_if, position_at, position_ended};
 ghost use Rattle.md_tree.specs.Texts.{IsEventAt};
 
-use crate::facts::{Fact, Facts};
 use crate::judge::{label_at, text_at};
 use md_base::{AlignKind, Event, Kind, Name, Position, is_same_name};
+use md_infer::{Fact, Facts};
 use std::marker::Model;
 
 /// Events, a document's bytes and a table of names that have passed a check: the events are the
@@ -44,11 +44,12 @@ impl<'a> Checked<'a> {
     ghost use Rattle.md_tree.specs.Texts.{EntersAt, ExitsAt, ExitsText, ExitsIdentifier, IsTextAt, IsIdentifierAt};
     ghost use Rattle.md_base.specs.Reference.{name_table};
     ghost use Rattle.md_tree.specs.Grammar.{IsChecked, handed};
-    ghost use Rattle.md_tree.specs.Tree.{Forest};
-    ghost use Rattle.md_tree.specs.Alignments.{alignments};
-    ghost use Rattle.md_tree.specs.Partners.{IsPartnerAt, AreDefinitions, last_contributing_at};
-    ghost use Rattle.md_tree.specs.Facts.{facts_at, tables_at, definitions_at};
-    ghost use Rattle.md_tree.specs.Ending.{first_index};
+    ghost use Rattle.md_base.specs.Tree.{Forest};
+    ghost use Rattle.md_infer.specs.Alignments.{alignments};
+    ghost use Rattle.md_infer.specs.Partners.{last_contributing_at};
+    ghost use Rattle.md_tree.specs.Indices.{IsPartnerAt, AreDefinitions};
+    ghost use Rattle.md_infer.specs.Facts.{facts_at, tables_at, definitions_at};
+    ghost use Rattle.md_infer.specs.Ending.{first_index};
     ghost use Rattle.std.specs.List.{All};
     ghost use Rattle.md_tree.specs.Entered.{IsEnteredAt, EntersNode};
     ghost use Rattle.md_tree.specs.Found.{EntersSome, IsFactAt};

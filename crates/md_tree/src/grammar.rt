@@ -1,14 +1,13 @@
 ghost use Rattle.std.specs.Prelude.{◌≡◌, [], true, false, length, map, IfOk, OnOk, IfErr};
 ghost use Rattle.md_base.specs.Reference.{name_table};
-ghost use Rattle.md_tree.specs.Ending.{first_index};
+ghost use Rattle.md_infer.specs.Ending.{first_index};
 ghost use Rattle.md_tree.specs.Grammar.{handed, IsChecked};
 ghost use Rattle.md_tree.specs.Refusal.{IsOrder, IsMdx, IsOfNode, IsLost, IsOutside, IsRefusal};
 ghost use Rattle.md_tree.specs.Machine.{Runs, beginning, is_complete};
 ghost use Rattle.md_tree.specs.Walk.{course_of, Unbroken};
-ghost use Rattle.md_tree.specs.Facts.{facts_at, tables_at, definitions_at};
+ghost use Rattle.md_infer.specs.Facts.{facts_at, tables_at, definitions_at};
 
 use crate::checked::Checked;
-use crate::facts::{Facts, Pass, ending_behind};
 use crate::judge::Source;
 use crate::resolve::resolve;
 use crate::rule::{CompileError, Rule};
@@ -16,6 +15,7 @@ use crate::steps::can_end;
 use crate::texts::Texts;
 use crate::walk::Walk;
 use md_base::Event;
+use md_infer::{Facts, Pass, ending_behind};
 use std::alloc::Global;
 
 /// Checks that events are the flattening of a document of the grammar over the document's bytes

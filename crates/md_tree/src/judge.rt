@@ -5,14 +5,15 @@ ghost use Rattle.md_tree.specs.Rules.{is_line_ending, is_decodable, is_list_numb
 ghost use Rattle.md_tree.specs.Mentions.{mention_of};
 ghost use Rattle.md_tree.specs.Walk.{point_at, place_at, target_seen};
 ghost use Rattle.md_base.specs.declared.event.Event.{Event};
-ghost use Rattle.md_tree.specs.declared.kinds.Target.TheVariants.{Label};
+ghost use Rattle.md_tree.specs.declared.mention.Target.TheVariants.{Label};
 ghost use Rattle.md_tree.specs.declared.rule.Rule.TheVariants as rule;
 
-use crate::kinds::{Mention, Reading, Role, Symbol};
+use crate::mention::Mention;
 use crate::rule::Rule;
 use crate::state::{Aim, Outer};
 use crate::texts::Texts;
 use md_base::{Event, Point, Position, Slice, decode_character_reference};
+use md_pattern::{Reading, Role, Symbol};
 use md_text::LineEnding;
 use std::alloc::{AllocError, Global};
 

@@ -1,11 +1,11 @@
 //! What holds of every document, as the contracts of functions that do nothing.
 
-ghost use Rattle.md_tree.specs.Tree.{Forest, flatten};
+ghost use Rattle.md_base.specs.Tree.{Forest, flatten};
 ghost use Rattle.md_tree.specs.Tables.{IsTable};
 ghost use Rattle.std.specs.Prelude.{◌≡◌, Option};
-ghost use Rattle.md_tree.specs.declared.kinds.Role.{Role};
-ghost use Rattle.md_tree.specs.declared.kinds.Symbol.{Symbol};
-ghost use Rattle.md_tree.specs.Shape.{AreShaped};
+ghost use Rattle.md_pattern.specs.declared.kinds.Role.{Role};
+ghost use Rattle.md_pattern.specs.declared.kinds.Symbol.{Symbol};
+ghost use Rattle.md_pattern.specs.Shape.{AreShaped};
 ghost use Rattle.md_tree.specs.Laws.{HasOneAlignmentForEachValue, HasOneSpine, IsLooseWithItemsToo};
 
 /// A list of events is the flattening of one document at most.

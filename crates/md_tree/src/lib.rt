@@ -2,24 +2,16 @@
 #![tactic(auto)]
 
 mod checked;
-mod columns;
-mod facts;
 mod grammar;
 mod infer;
 mod judge;
-mod kinds;
 pub mod laws;
-mod names;
-mod pattern;
+mod mention;
 mod resolve;
 mod rule;
-mod seeking;
-mod shape;
-mod standing;
 mod state;
 mod steps;
 mod texts;
-mod told;
 mod walk;
 
 pub use checked::Checked;

@@ -4,7 +4,7 @@ ghost use Rattle.md_tree.specs.Mentions.{identifier_at, defined, footnoted, ment
 ghost use Rattle.md_tree.specs.Resolve.{IsUnresolved, identifiers_of, HaveSame, IsFound, IsLost};
 
 use crate::judge::{label_at, rule_unless};
-use crate::kinds::{Mention, Mentioned};
+use crate::mention::{Mention, Mentioned};
 use crate::rule::{CompileError, Rule};
 use md_base::{Position, normalize_identifier};
 use std::alloc::{AllocError, Global};

@@ -1,5 +1,5 @@
-use crate::kinds::{Reading, Role, Symbol};
 use md_base::Name;
+use md_pattern::{Reading, Role, Symbol};
 
 /// Which symbols of a group have been read.
 #[derive(Clone, Copy, Debug, PartialEq, Eq)]

@@ -5,10 +5,8 @@ ghost use Rattle.md_base.specs.declared.event.Event.{Event};
 ghost use Rattle.md_tree.specs.Walk.{target_seen, entry_seen};
 ghost use Rattle.md_tree.specs.declared.state.Aim.TheVariants.{Missing};
 
-use crate::kinds::{Item, Reading, Role, Standing, Symbol, Times};
-use crate::pattern::{pattern, takes};
-use crate::shape::role_of;
 use crate::state::{Aim, Entry, Outer, Stage, State};
+use md_pattern::{Item, Reading, Role, Standing, Symbol, Times, pattern, role_of, takes};
 
 /// The group that a symbol begins.
 fn begun(symbol: Symbol) -> Stage

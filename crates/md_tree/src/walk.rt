@@ -3,12 +3,12 @@ ghost use Rattle.md_tree.specs.Mentions.{mention_of, mentions_with};
 ghost use Rattle.md_tree.specs.Walk.{target_seen};
 
 use crate::judge::{Source, broken, mention, place_at, target_left};
-use crate::kinds::{Mention, Mentioned, Reading, Role, Standing};
+use crate::mention::{Mention, Mentioned};
 use crate::rule::{CompileError, Rule};
-use crate::standing::standing;
 use crate::state::{Aim, Open, Outer, State};
 use crate::steps::{can_end, entry, start};
 use md_base::{Event, Kind, Name, is_same_name};
+use md_pattern::{Reading, Role, Standing, standing};
 use std::alloc::{AllocError, Global};
 
 /// How far events have been read.

@@ -5,13 +5,15 @@ use Rattle.mdevents.specs.declared.failure.Failure.{Failure}
 use Rattle.mdevents.specs.declared.failure.Failure.TheVariants.{Run, Options, Usage, InputOutput}
 use Rattle.md_script.specs.declared.error.SafeRunError.{SafeRunError}
 use Rattle.md_script.specs.declared.error.SafeRunError.TheVariants as safe
+use Rattle.md_script.specs.declared.serving.ServeError.{ServeError}
+use Rattle.md_script.specs.declared.serving.ServeError.TheVariants as serving
 
 -- the line on standard error
 abbrev pub line_of : Failure → List ℕ
 line_of (Run error) = message_of error
 line_of InputOutput = codes "input or output failed"
 line_of Options = codes "unsafe options"
-line_of Usage = codes "usage: mdevents [--page TITLE]"
+line_of Usage = codes "usage: mdevents [--page TITLE | --help | --version]"
 
 -- the status
 abbrev pub status_behind : Failure → ℕ
@@ -24,3 +26,9 @@ status_behind Usage = 64
 abbrev pub failure_of : SafeRunError → Failure
 failure_of safe.Options = Options
 failure_of (safe.Run error) = Run error
+
+-- why a script was not served, as the program tells it
+abbrev pub unserved : ServeError → Failure
+unserved (serving.Run error) = Run error
+unserved serving.Input = InputOutput
+unserved serving.Output = InputOutput

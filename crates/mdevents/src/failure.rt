@@ -1,6 +1,6 @@
 //! Why nothing was written, and what is said of it.
 
-use md_script::{RunError, SafeRunError};
+use md_script::{RunError, SafeRunError, ServeError};
 use std::alloc::AllocError;
 use std::{fmt, io};
 
@@ -46,19 +46,22 @@ impl fmt::Display for Failure {
             Failure::Run(error) => write!(f, "{error}"),
             Failure::InputOutput => write!(f, "input or output failed"),
             Failure::Options => write!(f, "unsafe options"),
-            Failure::Usage => write!(f, "usage: mdevents [--page TITLE]"),
+            Failure::Usage => write!(f, "usage: mdevents [--page TITLE | --help | --version]"),
         }
     }
 }
 
-impl From<RunError> for Failure {
+impl From<ServeError> for Failure {
     ghost use Rattle.std.specs.Prelude.{◌≡◌};
-    ghost use Rattle.mdevents.specs.declared.failure.Failure.TheVariants.{Run};
+    ghost use Rattle.mdevents.specs.Failure.{unserved};
 
-    ghost from_gives = { λ error failure. failure ≡ Run error };
+    ghost from_gives = { λ error failure. failure ≡ unserved error };
 
-    fn from(error: RunError) -> Failure {
-        Failure::Run(error)
+    fn from(error: ServeError) -> Failure {
+        match error {
+            ServeError::Run(error) => Failure::Run(error),
+            ServeError::Input | ServeError::Output => Failure::InputOutput,
+        }
     }
 }
 

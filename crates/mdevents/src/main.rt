@@ -1,5 +1,5 @@
 //! Compiles an event script from standard input, and writes the HTML to standard output; `--page TITLE` writes a whole
-//! page with that title round it, where the script's options are safe.
+//! page with that title round it, where the script's options are safe; `--help` and `--version` write a few words.
 //!
 //! Where there is none it writes one line to standard error, and ends with status 1 for an event
 //! that is refused, 2 for a line that can't be read, 3 for want of memory, 4 where reading or
@@ -10,17 +10,48 @@ mod failure;
 
 use failure::Failure;
 use md_page::page;
-use md_script::{run, run_safe};
-use std::alloc::Global;
+use md_script::{read_input, run_safe, serve};
 use std::env::{self, Env};
-use std::io::Read;
+use std::io::writer;
 use std::process::ExitCode;
 
-/// How often standard input is read at most.
-const MOST_READS: u32 = 16_777_216;
+/// What `--help` prints.
+const HELP: &str = "\
+usage: mdevents [--page TITLE | --help | --version]
 
-/// How many bytes are read at once at most.
-const READ_SIZE: usize = 65_536;
+Reads an event script from standard input and writes its HTML to standard output;
+with --page the HTML stands in a whole page with that title, and the script's
+options must be safe.
+
+A script has a line for each option (!NAME or !NAME=VALUE) and for each event
+(+NAME INDEX where a node begins, -NAME INDEX where it ends), then a line --, and
+behind it the document that the indices point into.
+
+    printf -- '+ThematicBreak 0\\n-ThematicBreak 3\\n--\\n***' | mdevents
+
+prints <hr />. Where nothing can be written, a line on standard error says why:
+
+    status 1   event I: RULE            the event with that index breaks that rule
+    status 2   line N: unreadable       the line with that number can't be read
+    status 3   out of memory
+    status 4   input or output failed
+    status 5   unsafe options           with --page alone
+    status 64  usage: ..                other arguments
+";
+
+/// What `--version` prints.
+const VERSION: &str = "mdevents 1.0.0\n";
+
+/// What the arguments ask for.
+#[derive(Drop)]
+enum Asked {
+    /// The script's text.
+    Text,
+    /// A page with this title.
+    Page(String),
+    /// These words.
+    Words(&'static str),
+}
 
 fn main(rt: HostRuntime) -> ExitCode {
     match answer(&rt) {
@@ -35,28 +66,32 @@ fn main(rt: HostRuntime) -> ExitCode {
 
 /// Writes what the arguments ask for.
 fn answer<R: Env + Input + Print + AllocGlobal>(rt: &R) -> Result<(), Failure> {
-    let title = title_asked(rt)?;
-    let input = read_to_end(rt.alloc(), &mut rt.reader())?;
-    let text = match title {
-        None => run(rt.alloc(), input.as_slice())?,
-        Some(title) => {
-            let html = run_safe(rt.alloc(), input.as_slice())?;
-            page(rt.alloc(), title.as_str(), &html)?
-        }
-    };
+    match read_arguments(rt)? {
+        Asked::Text => Ok(serve(rt.alloc(), &mut rt.reader(), &mut writer(rt))?),
+        Asked::Page(title) => write_page(rt, title.as_str()),
+        Asked::Words(words) => Ok(rt.write_all(words.as_bytes())?),
+    }
+}
+
+/// Writes a page with a title.
+fn write_page<R: Input + Print + AllocGlobal>(rt: &R, title: &str) -> Result<(), Failure> {
+    let input = read_input(rt.alloc(), &mut rt.reader())?;
+    let html = run_safe(rt.alloc(), input.as_slice())?;
+    let text = page(rt.alloc(), title, &html)?;
     rt.write_all(text.as_bytes())?;
     Ok(())
 }
 
-/// The title of the page that the arguments ask for, if they ask for one.
-fn title_asked<R: Env + AllocGlobal>(rt: &R) -> Result<Option<String>, Failure> {
+/// What the arguments ask for.
+fn read_arguments<R: Env + AllocGlobal>(rt: &R) -> Result<Asked, Failure> {
     let mut arguments = env::args(rt)?;
     arguments.next();
     match (arguments.next(), arguments.next(), arguments.next()) {
-        (None, _, _) => Ok(None),
+        (None, _, _) => Ok(Asked::Text),
+        (Some(option), None, _) => words_asked(option.as_str()),
         (Some(option), Some(title), None) => {
             if option.as_str() == "--page" {
-                Ok(Some(title))
+                Ok(Asked::Page(title))
             } else {
                 Err(Failure::Usage)
             }
@@ -65,16 +100,11 @@ fn title_asked<R: Env + AllocGlobal>(rt: &R) -> Result<Option<String>, Failure> 
     }
 }
 
-/// The bytes up to the end, where one of so many reads met it.
-fn read_to_end<R: Read>(alloc: Global, reader: &mut R) -> Result<Vec<u8>, Failure> {
-    let mut input = Vec::new(alloc);
-    let mut buffer = vec![in alloc; 0u8; READ_SIZE]?;
-    for _ in 0..MOST_READS {
-        let count = reader.read(&mut buffer)?;
-        if count == 0 {
-            return Ok(input);
-        }
-        input.extend_from_slice(&buffer[..count])?;
+/// The words that one argument asks for.
+fn words_asked(option: &str) -> Result<Asked, Failure> {
+    match option {
+        "--help" => Ok(Asked::Words(HELP)),
+        "--version" => Ok(Asked::Words(VERSION)),
+        _ => Err(Failure::Usage),
     }
-    Err(Failure::InputOutput)
 }

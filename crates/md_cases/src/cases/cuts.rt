@@ -14,6 +14,7 @@ fn lines_are_cut(rt: &(impl Abort + AllocGlobal), script: &[u8], needs: &[usize]
         let number = needs.iter().filter(|need| **need <= cut).count();
         is_unreadable(
             rt,
+            "a script that is cut",
             script.get(..cut).unwrap_or(script),
             number.saturating_add(1),
         );
@@ -64,6 +65,7 @@ fn footnote_cut_at_each_byte(rt: HostRuntime) -> Result<(), Fail> {
         }
         refuses(
             &rt,
+            "a document that is cut",
             FOOTNOTE.get(..start + length).unwrap_or(FOOTNOTE),
             permitted.as_slice(),
         )?;

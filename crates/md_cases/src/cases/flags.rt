@@ -6,7 +6,7 @@ mod media;
 mod plain;
 mod tasks;
 
-use super::answers;
+use super::answers_named;
 use std::alloc::{AllocError, Global};
 use std::process::Abort;
 use std::test::Fail;
@@ -35,32 +35,36 @@ fn choices(alloc: Global) -> Result<Vec<String>, AllocError> {
     Ok(choices)
 }
 
-/// A script behind some lines.
-pub(super) fn behind(alloc: Global, lines: &str, script: &[u8]) -> Result<Vec<u8>, AllocError> {
-    let mut whole = Vec::from_slice(alloc, lines.as_bytes())?;
-    whole.extend_from_slice(script)?;
-    Ok(whole)
-}
-
 /// Whether these lines turn on each of some options.
 fn turns_on(lines: &str, flags: &[&str]) -> bool {
     flags.iter().all(|flag| lines.contains(*flag))
 }
 
-/// Under each choice of the options a script answers the text of the last row whose options are all on.
-fn answers_by_flags(
-    rt: &(impl Abort + AllocGlobal),
-    script: &[u8],
-    rows: &[(&[&str], &str)],
-) -> Result<(), Fail> {
-    for lines in choices(rt.alloc())?.as_slice() {
-        let mut expected = "";
-        for (flags, text) in rows {
-            if turns_on(lines, flags) {
-                expected = text;
-            }
+/// A case by its name: a script, and the texts that it answers, each with the options that are all on for it.
+type Flagged = (
+    &'static str,
+    &'static [u8],
+    &'static [(&'static [&'static str], &'static str)],
+);
+
+/// The text of the last row whose options are all on.
+fn text_under<'a>(lines: &str, rows: &[(&[&str], &'a str)]) -> &'a str {
+    let mut expected = "";
+    for (flags, text) in rows {
+        if turns_on(lines, flags) {
+            expected = text;
         }
-        answers(rt, behind(rt.alloc(), lines, script)?.as_slice(), expected)?;
+    }
+    expected
+}
+
+/// Under each choice of the options each script answers the text of the last row whose options are all on.
+fn answers_by_flags(rt: &(impl Abort + AllocGlobal), cases: &[Flagged]) -> Result<(), Fail> {
+    let choices = choices(rt.alloc())?;
+    for (name, script, rows) in cases {
+        for lines in choices.as_slice() {
+            answers_named(rt, name, lines, script, text_under(lines, rows))?;
+        }
     }
     Ok(())
 }

@@ -1,7 +1,6 @@
 //! The options that are texts: each choice of them, with the options that are off or on.
 
-use super::answers;
-use super::flags::behind;
+use super::{answers, behind};
 use std::alloc::{AllocError, Global};
 use std::process::Abort;
 use std::test::Fail;

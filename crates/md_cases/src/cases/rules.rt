@@ -10,15 +10,3 @@ mod marks;
 mod media;
 mod tables;
 mod texts;
-
-use super::answers;
-use std::process::Abort;
-use std::test::Fail;
-
-/// Each of some scripts compiles to exactly its text.
-fn answers_each(rt: &(impl Abort + AllocGlobal), cases: &[(&[u8], &str)]) -> Result<(), Fail> {
-    for (script, expected) in cases {
-        answers(rt, script, expected)?;
-    }
-    Ok(())
-}

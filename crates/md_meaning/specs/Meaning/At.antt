@@ -4,8 +4,8 @@ use Rattle.md_base.specs.declared.event.AlignKind.{AlignKind}
 use Rattle.md_base.specs.declared.event.Name.{Name}
 use Rattle.md_base.specs.declared.event.Point.{Point}
 use Rattle.md_base.specs.Place.{text_between}
-use Rattle.md_tree.specs.Tree.{Forest}
-use Rattle.md_tree.specs.Children.{or_else}
+use Rattle.md_base.specs.Tree.{Forest}
+use Rattle.md_base.specs.Children.{or_else}
 use Rattle.md_meaning.specs.declared.facts.Container.{Container}
 use Rattle.md_meaning.specs.declared.facts.Container.TheVariants.{Nothing, TightList}
 use Rattle.md_meaning.specs.declared.facts.Surroundings.{Surroundings}

@@ -3,10 +3,10 @@ use Rattle.std.specs.Prelude.{ℕ, Bool, not, List, [], ◌∷◌, ◌++◌, Som
 use Rattle.std.specs.List.{list_any}
 use Rattle.md_base.specs.declared.event.Name.{Name}
 use Rattle.md_base.specs.declared.event.Name.TheVariants.{LineEnding, BlankLineEnding, BlockQuote, ListItem, CodeIndented, CodeFenced, CodeFencedFence, MathFlow, MathFlowFence, HeadingSetextText, Paragraph, Frontmatter}
-use Rattle.md_tree.specs.Tree.{Forest, Empty, Node}
-use Rattle.md_tree.specs.Looseness.{is_loose}
-use Rattle.md_tree.specs.Alignments.{alignments}
-use Rattle.md_tree.specs.NameTests.{is_fence, is_transparent, is_call, is_table}
+use Rattle.md_base.specs.Tree.{Forest, Empty, Node}
+use Rattle.md_infer.specs.Looseness.{is_loose}
+use Rattle.md_infer.specs.Alignments.{alignments}
+use Rattle.md_base.specs.NameTests.{is_fence, is_transparent, is_call, is_table}
 use Rattle.md_meaning.specs.declared.facts.Surroundings.{Surroundings}
 use Rattle.md_meaning.specs.declared.options.CompileOptions.{CompileOptions}
 use Rattle.md_meaning.specs.Surroundings.{Mark, Sets, Clears, inside, spine_inside, spine_behind}

@@ -5,8 +5,8 @@ use Rattle.std.specs.List.{list_any}
 use Rattle.std.specs.Fmt.{decimal}
 use Rattle.md_base.specs.declared.event.Name.{Name}
 use Rattle.md_text.specs.Encode.{encoded}
-use Rattle.md_tree.specs.Children.{spine_names, last_name, last_contributing}
-use Rattle.md_tree.specs.NameTests.{is_heading_mark, is_fence, is_chunk, is_item_prefix, is_paragraph}
+use Rattle.md_base.specs.Children.{spine_names, last_name, last_contributing}
+use Rattle.md_base.specs.NameTests.{is_heading_mark, is_fence, is_chunk, is_item_prefix, is_paragraph}
 use Rattle.md_meaning.specs.Given.{text_of, serialized_of}
 use Rattle.md_meaning.specs.Places.{without_zeros, length_of}
 use Rattle.md_meaning.specs.Meaning.Layout.{Piece, Text, Needed, Forced, said, on_own_line, when}

@@ -2,9 +2,9 @@
 use Rattle.std.specs.Prelude.{Bool, Option, None, unwrap_or, is_some, if◌then◌else◌}
 use Rattle.md_base.specs.declared.event.Name.{Name}
 use Rattle.md_base.specs.declared.event.Position.{Position}
-use Rattle.md_tree.specs.Tree.{Forest}
-use Rattle.md_tree.specs.Children.{first_on_spine}
-use Rattle.md_tree.specs.NameTests.{is_label, is_label_text, is_reference, is_footnote_prefix, is_footnote_label, is_item, is_item_prefix, is_item_value}
+use Rattle.md_base.specs.Tree.{Forest}
+use Rattle.md_base.specs.Children.{first_on_spine}
+use Rattle.md_base.specs.NameTests.{is_label, is_label_text, is_reference, is_footnote_prefix, is_footnote_label, is_item, is_item_prefix, is_item_value}
 use Rattle.md_meaning.specs.Places.{position}
 
 -- the place of the first node on the spine whose name passes a test

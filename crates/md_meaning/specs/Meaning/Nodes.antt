@@ -2,10 +2,10 @@
 use Rattle.std.specs.Prelude.{List, [], ◌++◌, ◌&&◌, if◌then◌else◌, Some}
 use Rattle.md_base.specs.declared.event.Name.{Name}
 use Rattle.md_base.specs.declared.event.Name.TheVariants.{HeadingSetextText, DefinitionDestinationString, DefinitionTitleString, Resource, ResourceDestinationString, ResourceTitleString}
-use Rattle.md_tree.specs.Tree.{Forest, Empty, Node}
-use Rattle.md_tree.specs.Children.{is_empty}
-use Rattle.md_tree.specs.Looseness.{is_loose}
-use Rattle.md_tree.specs.NameTests.{is_transparent, is_definition_label, is_link_definition, is_footnote_definition}
+use Rattle.md_base.specs.Tree.{Forest, Empty, Node}
+use Rattle.md_base.specs.Children.{is_empty}
+use Rattle.md_infer.specs.Looseness.{is_loose}
+use Rattle.md_base.specs.NameTests.{is_transparent, is_definition_label, is_link_definition, is_footnote_definition}
 use Rattle.md_meaning.specs.declared.facts.Surroundings.{Surroundings}
 use Rattle.md_meaning.specs.Surroundings.{inside}
 use Rattle.md_meaning.specs.Given.{Defined}

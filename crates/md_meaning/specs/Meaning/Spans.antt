@@ -7,7 +7,7 @@ use Rattle.md_base.specs.declared.event.Name.TheVariants.{CharacterReferenceMark
 use Rattle.md_base.specs.Reference.{decoded}
 use Rattle.md_text.specs.Encode.{encoded}
 use Rattle.md_text.specs.Filter.{tag_filtered}
-use Rattle.md_tree.specs.NameTests.{is_definition}
+use Rattle.md_base.specs.NameTests.{is_definition}
 use Rattle.md_meaning.specs.Surroundings.{is_slurping, last_of}
 use Rattle.md_meaning.specs.Meaning.Layout.{Piece, Text, said, when}
 use Rattle.md_meaning.specs.Meaning.At.{Given, At, text_at}

@@ -3,8 +3,8 @@ use Rattle.std.specs.Prelude.{ℕ, Bool, if◌then◌else◌, List, [], ◌∷�
 use Rattle.std.specs.Option.{option_map_or}
 use Rattle.md_base.specs.declared.event.AlignKind.{AlignKind}
 use Rattle.md_base.specs.declared.event.AlignKind.TheVariants as align
-use Rattle.md_tree.specs.Children.{spine_names}
-use Rattle.md_tree.specs.NameTests.{is_cell}
+use Rattle.md_base.specs.Children.{spine_names}
+use Rattle.md_base.specs.NameTests.{is_cell}
 use Rattle.md_meaning.specs.Meaning.Layout.{Piece, Text, on_own_line}
 use Rattle.md_meaning.specs.Meaning.At.{At}
 

@@ -1,7 +1,7 @@
 -- Worked trees of line endings: which are slurped, dropped or used.
 use Rattle.std.specs.Prelude.{ℕ, List, [], ◌∷◌, ◌++◌, codes}
 use Rattle.md_base.specs.declared.event.Name.TheVariants.{BlankLineEnding, BlockQuote, CodeFenced, CodeFencedFence, CodeIndented, CodeText, Data, Definition, DefinitionDestinationString, DefinitionLabelString, DefinitionTitleString, Frontmatter, GfmFootnoteCall, GfmFootnoteDefinition, GfmFootnoteDefinitionLabelString, GfmFootnoteDefinitionPrefix, GfmTable, GfmTableCell, GfmTableDelimiterRow, GfmTableHead, GfmTableRow, Label, LabelText, LineEnding, Link, ListItem, ListItemMarker, ListItemPrefix, ListUnordered, MathFlow, MathFlowFence, Other, Paragraph, SpaceOrTab, ThematicBreak}
-use Rattle.md_tree.specs.Tree.{Forest, Empty, Node}
+use Rattle.md_base.specs.Tree.{Forest, Empty, Node}
 use Rattle.md_text.specs.declared.line_ending.LineEnding.TheVariants.{CarriageReturn}
 use Rattle.md_meaning.specs.Defaults.{default_options}
 use Rattle.md_meaning.specs.declared.options.CompileOptions.{CompileOptions}

@@ -1,7 +1,7 @@
 -- Worked trees of footnote calls and the section of footnotes.
 use Rattle.std.specs.Prelude.{ℕ, true, List, [], ◌∷◌, ◌++◌, codes}
 use Rattle.md_base.specs.declared.event.Name.TheVariants.{BlankLineEnding, BlockQuote, BlockQuotePrefix, Data, GfmFootnoteCall, GfmFootnoteDefinition, GfmFootnoteDefinitionLabelString, GfmFootnoteDefinitionPrefix, HtmlFlow, HtmlFlowData, Image, Label, LabelText, LineEnding, Paragraph, Resource, ResourceDestinationString, ThematicBreak}
-use Rattle.md_tree.specs.Tree.{Forest, Empty, Node}
+use Rattle.md_base.specs.Tree.{Forest, Empty, Node}
 use Rattle.md_meaning.specs.Defaults.{default_options}
 use Rattle.md_meaning.specs.declared.options.CompileOptions.{CompileOptions}
 use Rattle.md_meaning.specs.Trees.{at}

@@ -1,7 +1,7 @@
 -- Worked trees of lists, items and tasks.
 use Rattle.std.specs.Prelude.{ℕ, true, List, [], ◌∷◌, ◌++◌, codes}
 use Rattle.md_base.specs.declared.event.Name.TheVariants.{BlankLineEnding, BlockQuote, BlockQuotePrefix, CodeFenced, CodeFencedFence, CodeFlowChunk, Data, GfmTaskListItemCheck, GfmTaskListItemValueChecked, LineEnding, ListItem, ListItemMarker, ListItemPrefix, ListItemValue, ListOrdered, ListUnordered, Paragraph, SpaceOrTab}
-use Rattle.md_tree.specs.Tree.{Forest, Empty, Node}
+use Rattle.md_base.specs.Tree.{Forest, Empty, Node}
 use Rattle.md_meaning.specs.Defaults.{default_options}
 use Rattle.md_meaning.specs.declared.options.CompileOptions.{CompileOptions}
 use Rattle.md_meaning.specs.Trees.{at}

@@ -1,7 +1,7 @@
 -- Worked trees of spans, breaks, code and math in a text, references.
 use Rattle.std.specs.Prelude.{ℕ, List, [], ◌∷◌, ◌++◌, codes}
 use Rattle.md_base.specs.declared.event.Name.TheVariants.{CharacterReferenceMarker, CharacterReferenceMarkerHexadecimal, CharacterReferenceMarkerNumeric, CharacterReferenceValue, CodeText, CodeTextData, Data, Emphasis, GfmStrikethrough, HardBreakEscape, HardBreakTrailing, LineEnding, MathFlow, MathFlowChunk, MathFlowFence, MathFlowFenceMeta, MathText, MathTextData, Paragraph, Strong}
-use Rattle.md_tree.specs.Tree.{Forest, Empty, Node}
+use Rattle.md_base.specs.Tree.{Forest, Empty, Node}
 use Rattle.md_meaning.specs.Trees.{at}
 
 -- trimmed code: the tree, its bytes and its text

@@ -1,7 +1,7 @@
 -- Worked trees of tables.
 use Rattle.std.specs.Prelude.{ℕ, List, [], ◌∷◌, ◌++◌, codes}
 use Rattle.md_base.specs.declared.event.Name.TheVariants.{BlankLineEnding, CodeText, CodeTextData, Data, GfmFootnoteCall, GfmFootnoteDefinition, GfmFootnoteDefinitionLabelString, GfmFootnoteDefinitionPrefix, GfmTable, GfmTableBody, GfmTableCell, GfmTableDelimiterCellValue, GfmTableDelimiterMarker, GfmTableDelimiterRow, GfmTableHead, GfmTableRow, Label, LabelText, LineEnding, Other, Paragraph}
-use Rattle.md_tree.specs.Tree.{Forest, Empty, Node}
+use Rattle.md_base.specs.Tree.{Forest, Empty, Node}
 use Rattle.md_meaning.specs.Trees.{at}
 
 -- short table row: the tree, its bytes and its text

@@ -1,63 +1,44 @@
 use super::*;
 
-#[test]
-fn places_fit_and_are_texts(rt: HostRuntime) -> Result<(), Fail> {
-    refuses(
-        &rt,
+/// Lists of events, each by what it shows.
+const CASES: [Case; 33] = [
+    (
+        "places fit and are texts",
         &[(Enter, Name::Data, 0), (Exit, Name::Data, 2)],
         b"a",
         &[],
-        (1, Rule::Place),
-    );
-    refuses(
-        &rt,
+        Some((1, Rule::Place)),
+    ),
+    (
+        "places fit and are texts",
         &[(Enter, Name::Data, 0), (Exit, Name::Data, 1)],
         b"\xc3\xa9",
         &[],
-        (1, Rule::Place),
-    );
-    refuses(
-        &rt,
+        Some((1, Rule::Place)),
+    ),
+    (
+        "places fit and are texts",
         &[(Enter, Name::Data, 2), (Exit, Name::Data, 1)],
         b"abc",
         &[],
-        (1, Rule::Place),
-    );
-    refuses(
-        &rt,
+        Some((1, Rule::Place)),
+    ),
+    (
+        "places fit and are texts",
         &[(Enter, Name::Data, 3), (Exit, Name::Data, 4)],
         b"abc",
         &[],
-        (1, Rule::Place),
-    );
-    refuses_of(
-        &rt,
-        &[enter_at(Name::Data, 0, 5), exit(Name::Data, 1)],
-        b"abc",
-        &[],
-        (1, Rule::Place),
-    );
-    refuses_of(
-        &rt,
-        &[enter(Name::Data, 0), exit_at(Name::Data, 0, 5)],
-        b"abc",
-        &[],
-        (1, Rule::Place),
-    );
-    accepts_of(
-        &rt,
-        &[enter(Name::Data, 0), exit_at(Name::Data, 0, 4)],
-        b"abc",
-        &[],
-    );
-    accepts(
-        &rt,
+        Some((1, Rule::Place)),
+    ),
+    (
+        "places fit and are texts",
         &[(Enter, Name::Paragraph, 9), (Exit, Name::Paragraph, 3)],
         b"",
         &[],
-    );
-    accepts(
-        &rt,
+        None,
+    ),
+    (
+        "places fit and are texts",
         &[
             (Enter, Name::Emphasis, 0),
             (Enter, Name::CodeText, 0),
@@ -66,49 +47,41 @@ fn places_fit_and_are_texts(rt: HostRuntime) -> Result<(), Fail> {
         ],
         b"",
         &[],
-    );
-    Ok(())
-}
-
-#[test]
-fn line_endings_are_one_of_three(rt: HostRuntime) -> Result<(), Fail> {
-    refuses(
-        &rt,
+        None,
+    ),
+    (
+        "line endings are one of three",
         &[(Enter, Name::LineEnding, 0), (Exit, Name::LineEnding, 1)],
         b"x",
         &[],
-        (1, Rule::LineEnding),
-    );
-    refuses(
-        &rt,
+        Some((1, Rule::LineEnding)),
+    ),
+    (
+        "line endings are one of three",
         &[
             (Enter, Name::BlankLineEnding, 0),
             (Exit, Name::BlankLineEnding, 1),
         ],
         b"x",
         &[],
-        (1, Rule::LineEnding),
-    );
-    accepts(
-        &rt,
+        Some((1, Rule::LineEnding)),
+    ),
+    (
+        "line endings are one of three",
         &[(Enter, Name::LineEnding, 0), (Exit, Name::LineEnding, 2)],
         b"\r\n",
         &[],
-    );
-    refuses(
-        &rt,
+        None,
+    ),
+    (
+        "line endings are one of three",
         &[(Enter, Name::LineEnding, 0), (Exit, Name::LineEnding, 2)],
         b"\n\r",
         &[],
-        (1, Rule::LineEnding),
-    );
-    Ok(())
-}
-
-#[test]
-fn heading_marks_have_one_to_six_columns(rt: HostRuntime) -> Result<(), Fail> {
-    refuses(
-        &rt,
+        Some((1, Rule::LineEnding)),
+    ),
+    (
+        "heading marks have one to six columns",
         &[
             (Enter, Name::HeadingAtx, 0),
             (Enter, Name::HeadingAtxSequence, 0),
@@ -117,10 +90,10 @@ fn heading_marks_have_one_to_six_columns(rt: HostRuntime) -> Result<(), Fail> {
         ],
         b"#######",
         &[],
-        (2, Rule::HeadingMark),
-    );
-    refuses(
-        &rt,
+        Some((2, Rule::HeadingMark)),
+    ),
+    (
+        "heading marks have one to six columns",
         &[
             (Enter, Name::HeadingAtx, 0),
             (Enter, Name::HeadingAtxSequence, 0),
@@ -129,10 +102,10 @@ fn heading_marks_have_one_to_six_columns(rt: HostRuntime) -> Result<(), Fail> {
         ],
         b"",
         &[],
-        (2, Rule::HeadingMark),
-    );
-    accepts(
-        &rt,
+        Some((2, Rule::HeadingMark)),
+    ),
+    (
+        "heading marks have one to six columns",
         &[
             (Enter, Name::HeadingAtx, 0),
             (Enter, Name::HeadingAtxSequence, 0),
@@ -141,20 +114,10 @@ fn heading_marks_have_one_to_six_columns(rt: HostRuntime) -> Result<(), Fail> {
         ],
         b"######",
         &[],
-    );
-    accepts_of(
-        &rt,
-        &[
-            enter(Name::HeadingAtx, 0),
-            enter_at(Name::HeadingAtxSequence, 0, 1),
-            exit_at(Name::HeadingAtxSequence, 0, 4),
-            exit(Name::HeadingAtx, 1),
-        ],
-        b"#",
-        &[],
-    );
-    accepts(
-        &rt,
+        None,
+    ),
+    (
+        "heading marks have one to six columns",
         &[
             (Enter, Name::HeadingAtx, 0),
             (Enter, Name::HeadingAtxSequence, 0),
@@ -165,14 +128,10 @@ fn heading_marks_have_one_to_six_columns(rt: HostRuntime) -> Result<(), Fail> {
         ],
         b"########",
         &[],
-    );
-    Ok(())
-}
-
-#[test]
-fn list_numbers_fit(rt: HostRuntime) -> Result<(), Fail> {
-    refuses(
-        &rt,
+        None,
+    ),
+    (
+        "list numbers fit",
         &[
             (Enter, Name::ListOrdered, 0),
             (Enter, Name::ListItem, 0),
@@ -193,10 +152,10 @@ fn list_numbers_fit(rt: HostRuntime) -> Result<(), Fail> {
         ],
         b"4294967296. a",
         &[],
-        (4, Rule::ListNumber),
-    );
-    refuses(
-        &rt,
+        Some((4, Rule::ListNumber)),
+    ),
+    (
+        "list numbers fit",
         &[
             (Enter, Name::ListOrdered, 0),
             (Enter, Name::ListItem, 0),
@@ -211,10 +170,10 @@ fn list_numbers_fit(rt: HostRuntime) -> Result<(), Fail> {
         ],
         b"+1",
         &[],
-        (4, Rule::ListNumber),
-    );
-    accepts(
-        &rt,
+        Some((4, Rule::ListNumber)),
+    ),
+    (
+        "list numbers fit",
         &[
             (Enter, Name::ListOrdered, 0),
             (Enter, Name::ListItem, 0),
@@ -229,9 +188,10 @@ fn list_numbers_fit(rt: HostRuntime) -> Result<(), Fail> {
         ],
         b"007",
         &[],
-    );
-    accepts(
-        &rt,
+        None,
+    ),
+    (
+        "list numbers fit",
         &[
             (Enter, Name::ListOrdered, 0),
             (Enter, Name::ListItem, 0),
@@ -254,9 +214,10 @@ fn list_numbers_fit(rt: HostRuntime) -> Result<(), Fail> {
         ],
         b"2x",
         &[],
-    );
-    refuses(
-        &rt,
+        None,
+    ),
+    (
+        "list numbers fit",
         &[
             (Enter, Name::ListUnordered, 0),
             (Enter, Name::ListItem, 0),
@@ -271,15 +232,10 @@ fn list_numbers_fit(rt: HostRuntime) -> Result<(), Fail> {
         ],
         b"2",
         &[],
-        (3, Rule::Order),
-    );
-    Ok(())
-}
-
-#[test]
-fn character_references_decode(rt: HostRuntime) -> Result<(), Fail> {
-    refuses(
-        &rt,
+        Some((3, Rule::Order)),
+    ),
+    (
+        "character references decode",
         &[
             (Enter, Name::CharacterReferenceMarker, 0),
             (Exit, Name::CharacterReferenceMarker, 1),
@@ -288,10 +244,10 @@ fn character_references_decode(rt: HostRuntime) -> Result<(), Fail> {
         ],
         b"&x;",
         &[],
-        (3, Rule::CharacterReference),
-    );
-    accepts(
-        &rt,
+        Some((3, Rule::CharacterReference)),
+    ),
+    (
+        "character references decode",
         &[
             (Enter, Name::CharacterReferenceMarker, 0),
             (Exit, Name::CharacterReferenceMarker, 1),
@@ -300,9 +256,10 @@ fn character_references_decode(rt: HostRuntime) -> Result<(), Fail> {
         ],
         b"&x;",
         &[("x", "<")],
-    );
-    accepts(
-        &rt,
+        None,
+    ),
+    (
+        "character references decode",
         &[
             (Enter, Name::CharacterReferenceMarker, 0),
             (Exit, Name::CharacterReferenceMarker, 1),
@@ -313,9 +270,10 @@ fn character_references_decode(rt: HostRuntime) -> Result<(), Fail> {
         ],
         b"&#10;",
         &[],
-    );
-    refuses(
-        &rt,
+        None,
+    ),
+    (
+        "character references decode",
         &[
             (Enter, Name::CharacterReferenceMarker, 0),
             (Exit, Name::CharacterReferenceMarker, 1),
@@ -328,15 +286,10 @@ fn character_references_decode(rt: HostRuntime) -> Result<(), Fail> {
         ],
         b"&#xg;",
         &[],
-        (7, Rule::CharacterReference),
-    );
-    Ok(())
-}
-
-#[test]
-fn references_need_a_definition(rt: HostRuntime) -> Result<(), Fail> {
-    refuses(
-        &rt,
+        Some((7, Rule::CharacterReference)),
+    ),
+    (
+        "references need a definition",
         &[
             (Enter, Name::Link, 0),
             (Enter, Name::Label, 0),
@@ -349,10 +302,10 @@ fn references_need_a_definition(rt: HostRuntime) -> Result<(), Fail> {
         ],
         b"[a]",
         &[],
-        (7, Rule::Definition),
-    );
-    accepts(
-        &rt,
+        Some((7, Rule::Definition)),
+    ),
+    (
+        "references need a definition",
         &[
             (Enter, Name::Link, 0),
             (Enter, Name::Label, 0),
@@ -367,9 +320,10 @@ fn references_need_a_definition(rt: HostRuntime) -> Result<(), Fail> {
         ],
         b"[a]",
         &[],
-    );
-    refuses(
-        &rt,
+        None,
+    ),
+    (
+        "references need a definition",
         &[
             (Enter, Name::Link, 0),
             (Enter, Name::Label, 0),
@@ -386,10 +340,10 @@ fn references_need_a_definition(rt: HostRuntime) -> Result<(), Fail> {
         ],
         b"[a]",
         &[],
-        (7, Rule::Definition),
-    );
-    accepts(
-        &rt,
+        Some((7, Rule::Definition)),
+    ),
+    (
+        "references need a definition",
         &[
             (Enter, Name::Link, 0),
             (Enter, Name::Label, 0),
@@ -404,14 +358,10 @@ fn references_need_a_definition(rt: HostRuntime) -> Result<(), Fail> {
         ],
         b"AaA",
         &[],
-    );
-    Ok(())
-}
-
-#[test]
-fn links_need_a_target(rt: HostRuntime) -> Result<(), Fail> {
-    refuses(
-        &rt,
+        None,
+    ),
+    (
+        "links need a target",
         &[
             (Enter, Name::Link, 0),
             (Enter, Name::Label, 0),
@@ -420,10 +370,10 @@ fn links_need_a_target(rt: HostRuntime) -> Result<(), Fail> {
         ],
         b"[]",
         &[],
-        (3, Rule::Target),
-    );
-    refuses(
-        &rt,
+        Some((3, Rule::Target)),
+    ),
+    (
+        "links need a target",
         &[
             (Enter, Name::Image, 0),
             (Enter, Name::Label, 0),
@@ -432,10 +382,10 @@ fn links_need_a_target(rt: HostRuntime) -> Result<(), Fail> {
         ],
         b"[]",
         &[],
-        (3, Rule::Target),
-    );
-    accepts(
-        &rt,
+        Some((3, Rule::Target)),
+    ),
+    (
+        "links need a target",
         &[
             (Enter, Name::Link, 0),
             (Enter, Name::Label, 0),
@@ -446,14 +396,10 @@ fn links_need_a_target(rt: HostRuntime) -> Result<(), Fail> {
         ],
         b"[]",
         &[],
-    );
-    Ok(())
-}
-
-#[test]
-fn footnote_calls_need_a_definition(rt: HostRuntime) -> Result<(), Fail> {
-    refuses(
-        &rt,
+        None,
+    ),
+    (
+        "footnote calls need a definition",
         &[
             (Enter, Name::GfmFootnoteCall, 0),
             (Enter, Name::Label, 0),
@@ -466,10 +412,10 @@ fn footnote_calls_need_a_definition(rt: HostRuntime) -> Result<(), Fail> {
         ],
         b"[^b]",
         &[],
-        (7, Rule::Footnote),
-    );
-    refuses(
-        &rt,
+        Some((7, Rule::Footnote)),
+    ),
+    (
+        "footnote calls need a definition",
         &[
             (Enter, Name::GfmFootnoteCall, 0),
             (Enter, Name::Label, 0),
@@ -484,10 +430,10 @@ fn footnote_calls_need_a_definition(rt: HostRuntime) -> Result<(), Fail> {
         ],
         b"[^b]",
         &[],
-        (5, Rule::Footnote),
-    );
-    accepts(
-        &rt,
+        Some((5, Rule::Footnote)),
+    ),
+    (
+        "footnote calls need a definition",
         &[
             (Enter, Name::GfmFootnoteCall, 0),
             (Enter, Name::Label, 0),
@@ -503,6 +449,52 @@ fn footnote_calls_need_a_definition(rt: HostRuntime) -> Result<(), Fail> {
             (Exit, Name::GfmFootnoteDefinition, 0),
         ],
         b"[^b]",
+        &[],
+        None,
+    ),
+];
+
+#[test]
+fn each_list_is_decided(rt: HostRuntime) {
+    decide_each(&rt, &CASES);
+}
+
+#[test]
+fn places_with_virtual_spaces_fit(rt: HostRuntime) -> Result<(), Fail> {
+    refuses_of(
+        &rt,
+        &[enter_at(Name::Data, 0, 5), exit(Name::Data, 1)],
+        b"abc",
+        &[],
+        (1, Rule::Place),
+    );
+    refuses_of(
+        &rt,
+        &[enter(Name::Data, 0), exit_at(Name::Data, 0, 5)],
+        b"abc",
+        &[],
+        (1, Rule::Place),
+    );
+    accepts_of(
+        &rt,
+        &[enter(Name::Data, 0), exit_at(Name::Data, 0, 4)],
+        b"abc",
+        &[],
+    );
+    Ok(())
+}
+
+#[test]
+fn columns_of_heading_marks_count_virtual_spaces(rt: HostRuntime) -> Result<(), Fail> {
+    accepts_of(
+        &rt,
+        &[
+            enter(Name::HeadingAtx, 0),
+            enter_at(Name::HeadingAtxSequence, 0, 1),
+            exit_at(Name::HeadingAtxSequence, 0, 4),
+            exit(Name::HeadingAtx, 1),
+        ],
+        b"#",
         &[],
     );
     Ok(())

@@ -1,91 +1,71 @@
 use super::*;
 
-#[test]
-fn nothing_is_a_document(rt: HostRuntime) -> Result<(), Fail> {
-    accepts(&rt, &[], b"", &[]);
-    Ok(())
-}
-
-#[test]
-fn a_lone_exit_is_out_of_order(rt: HostRuntime) -> Result<(), Fail> {
-    refuses(
-        &rt,
+/// Lists of events, each by what it shows.
+const CASES: [Case; 34] = [
+    ("nothing is a document", &[], b"", &[], None),
+    (
+        "a lone exit is out of order",
         &[(Exit, Name::Paragraph, 0)],
         b"",
         &[],
-        (0, Rule::Order),
-    );
-    Ok(())
-}
-
-#[test]
-fn a_lone_entry_stays_open(rt: HostRuntime) -> Result<(), Fail> {
-    refuses(
-        &rt,
+        Some((0, Rule::Order)),
+    ),
+    (
+        "a lone entry stays open",
         &[(Enter, Name::Paragraph, 0)],
         b"",
         &[],
-        (1, Rule::Order),
-    );
-    Ok(())
-}
-
-#[test]
-fn mdx_is_refused(rt: HostRuntime) -> Result<(), Fail> {
-    refuses(
-        &rt,
+        Some((1, Rule::Order)),
+    ),
+    (
+        "mdx is refused",
         &[(Enter, Name::MdxEsm, 0), (Exit, Name::MdxEsm, 0)],
         b"",
         &[],
-        (0, Rule::Mdx),
-    );
-    refuses(
-        &rt,
+        Some((0, Rule::Mdx)),
+    ),
+    (
+        "mdx is refused",
         &[
             (Enter, Name::MdxFlowExpression, 0),
             (Exit, Name::MdxFlowExpression, 0),
         ],
         b"",
         &[],
-        (0, Rule::Mdx),
-    );
-    refuses(
-        &rt,
+        Some((0, Rule::Mdx)),
+    ),
+    (
+        "mdx is refused",
         &[
             (Enter, Name::MdxTextExpression, 0),
             (Exit, Name::MdxTextExpression, 0),
         ],
         b"",
         &[],
-        (0, Rule::Mdx),
-    );
-    refuses(
-        &rt,
+        Some((0, Rule::Mdx)),
+    ),
+    (
+        "mdx is refused",
         &[
             (Enter, Name::MdxJsxFlowTag, 0),
             (Exit, Name::MdxJsxFlowTag, 0),
         ],
         b"",
         &[],
-        (0, Rule::Mdx),
-    );
-    refuses(
-        &rt,
+        Some((0, Rule::Mdx)),
+    ),
+    (
+        "mdx is refused",
         &[
             (Enter, Name::MdxJsxTextTag, 0),
             (Exit, Name::MdxJsxTextTag, 0),
         ],
         b"",
         &[],
-        (0, Rule::Mdx),
-    );
-    Ok(())
-}
-
-#[test]
-fn a_second_fence_says_nothing(rt: HostRuntime) -> Result<(), Fail> {
-    refuses(
-        &rt,
+        Some((0, Rule::Mdx)),
+    ),
+    (
+        "a second fence says nothing",
         &[
             (Enter, Name::CodeFenced, 0),
             (Enter, Name::CodeFencedFence, 0),
@@ -98,10 +78,10 @@ fn a_second_fence_says_nothing(rt: HostRuntime) -> Result<(), Fail> {
         ],
         b"abcdef",
         &[],
-        (4, Rule::Order),
-    );
-    accepts(
-        &rt,
+        Some((4, Rule::Order)),
+    ),
+    (
+        "a second fence says nothing",
         &[
             (Enter, Name::CodeFenced, 0),
             (Enter, Name::CodeFencedFence, 0),
@@ -114,9 +94,10 @@ fn a_second_fence_says_nothing(rt: HostRuntime) -> Result<(), Fail> {
         ],
         b"abcdef",
         &[],
-    );
-    refuses(
-        &rt,
+        None,
+    ),
+    (
+        "a second fence says nothing",
         &[
             (Enter, Name::MathFlow, 0),
             (Enter, Name::MathFlowFence, 0),
@@ -129,10 +110,10 @@ fn a_second_fence_says_nothing(rt: HostRuntime) -> Result<(), Fail> {
         ],
         b"abcdef",
         &[],
-        (4, Rule::Order),
-    );
-    refuses(
-        &rt,
+        Some((4, Rule::Order)),
+    ),
+    (
+        "a second fence says nothing",
         &[
             (Enter, Name::CodeFenced, 0),
             (Enter, Name::CodeFencedFence, 0),
@@ -145,15 +126,10 @@ fn a_second_fence_says_nothing(rt: HostRuntime) -> Result<(), Fail> {
         ],
         b"",
         &[],
-        (5, Rule::Order),
-    );
-    Ok(())
-}
-
-#[test]
-fn a_list_begins_with_an_item(rt: HostRuntime) -> Result<(), Fail> {
-    refuses(
-        &rt,
+        Some((5, Rule::Order)),
+    ),
+    (
+        "a list begins with an item",
         &[
             (Enter, Name::ListUnordered, 0),
             (Enter, Name::LineEnding, 0),
@@ -162,25 +138,20 @@ fn a_list_begins_with_an_item(rt: HostRuntime) -> Result<(), Fail> {
         ],
         b"\n",
         &[],
-        (1, Rule::Order),
-    );
-    refuses(
-        &rt,
+        Some((1, Rule::Order)),
+    ),
+    (
+        "a list begins with an item",
         &[
             (Enter, Name::ListUnordered, 0),
             (Exit, Name::ListUnordered, 0),
         ],
         b"",
         &[],
-        (1, Rule::Order),
-    );
-    Ok(())
-}
-
-#[test]
-fn a_group_stays_in_its_node(rt: HostRuntime) -> Result<(), Fail> {
-    refuses(
-        &rt,
+        Some((1, Rule::Order)),
+    ),
+    (
+        "a group stays in its node",
         &[
             (Enter, Name::Emphasis, 0),
             (Enter, Name::CharacterReferenceMarker, 0),
@@ -191,10 +162,10 @@ fn a_group_stays_in_its_node(rt: HostRuntime) -> Result<(), Fail> {
         ],
         b"&x;",
         &[("x", "<")],
-        (3, Rule::Order),
-    );
-    accepts(
-        &rt,
+        Some((3, Rule::Order)),
+    ),
+    (
+        "a group stays in its node",
         &[
             (Enter, Name::Other(1), 0),
             (Enter, Name::CharacterReferenceMarker, 0),
@@ -205,19 +176,20 @@ fn a_group_stays_in_its_node(rt: HostRuntime) -> Result<(), Fail> {
         ],
         b"&x;",
         &[("x", "<")],
-    );
-    refuses(
-        &rt,
+        None,
+    ),
+    (
+        "a group stays in its node",
         &[
             (Enter, Name::CharacterReferenceMarker, 0),
             (Exit, Name::CharacterReferenceMarker, 1),
         ],
         b"&",
         &[],
-        (2, Rule::Order),
-    );
-    refuses(
-        &rt,
+        Some((2, Rule::Order)),
+    ),
+    (
+        "a group stays in its node",
         &[
             (Enter, Name::CharacterReferenceMarker, 0),
             (Exit, Name::CharacterReferenceMarker, 1),
@@ -226,10 +198,10 @@ fn a_group_stays_in_its_node(rt: HostRuntime) -> Result<(), Fail> {
         ],
         b"&",
         &[],
-        (2, Rule::Order),
-    );
-    refuses(
-        &rt,
+        Some((2, Rule::Order)),
+    ),
+    (
+        "a group stays in its node",
         &[
             (Enter, Name::HeadingSetextText, 0),
             (Exit, Name::HeadingSetextText, 0),
@@ -238,10 +210,10 @@ fn a_group_stays_in_its_node(rt: HostRuntime) -> Result<(), Fail> {
         ],
         b"\n",
         &[],
-        (4, Rule::Order),
-    );
-    refuses(
-        &rt,
+        Some((4, Rule::Order)),
+    ),
+    (
+        "a group stays in its node",
         &[
             (Enter, Name::HeadingSetextText, 0),
             (Exit, Name::HeadingSetextText, 0),
@@ -250,10 +222,10 @@ fn a_group_stays_in_its_node(rt: HostRuntime) -> Result<(), Fail> {
         ],
         b"",
         &[],
-        (3, Rule::Place),
-    );
-    accepts(
-        &rt,
+        Some((3, Rule::Place)),
+    ),
+    (
+        "a group stays in its node",
         &[
             (Enter, Name::HeadingSetextText, 0),
             (Enter, Name::Data, 0),
@@ -266,14 +238,10 @@ fn a_group_stays_in_its_node(rt: HostRuntime) -> Result<(), Fail> {
         ],
         b"a\n--",
         &[],
-    );
-    Ok(())
-}
-
-#[test]
-fn labels_may_be_empty(rt: HostRuntime) -> Result<(), Fail> {
-    accepts(
-        &rt,
+        None,
+    ),
+    (
+        "labels may be empty",
         &[
             (Enter, Name::Definition, 0),
             (Enter, Name::DefinitionLabelString, 0),
@@ -282,16 +250,17 @@ fn labels_may_be_empty(rt: HostRuntime) -> Result<(), Fail> {
         ],
         b"",
         &[],
-    );
-    refuses(
-        &rt,
+        None,
+    ),
+    (
+        "labels may be empty",
         &[(Enter, Name::Definition, 0), (Exit, Name::Definition, 0)],
         b"",
         &[],
-        (1, Rule::Order),
-    );
-    refuses(
-        &rt,
+        Some((1, Rule::Order)),
+    ),
+    (
+        "labels may be empty",
         &[
             (Enter, Name::Definition, 0),
             (Enter, Name::DefinitionLabelString, 0),
@@ -304,15 +273,10 @@ fn labels_may_be_empty(rt: HostRuntime) -> Result<(), Fail> {
         ],
         b"",
         &[],
-        (5, Rule::Order),
-    );
-    Ok(())
-}
-
-#[test]
-fn labels_have_one_text(rt: HostRuntime) -> Result<(), Fail> {
-    refuses(
-        &rt,
+        Some((5, Rule::Order)),
+    ),
+    (
+        "labels have one text",
         &[
             (Enter, Name::Link, 0),
             (Enter, Name::Label, 0),
@@ -327,10 +291,10 @@ fn labels_have_one_text(rt: HostRuntime) -> Result<(), Fail> {
         ],
         b"",
         &[],
-        (4, Rule::Order),
-    );
-    refuses(
-        &rt,
+        Some((4, Rule::Order)),
+    ),
+    (
+        "labels have one text",
         &[
             (Enter, Name::GfmFootnoteCall, 0),
             (Enter, Name::Label, 0),
@@ -339,15 +303,10 @@ fn labels_have_one_text(rt: HostRuntime) -> Result<(), Fail> {
         ],
         b"",
         &[],
-        (2, Rule::Order),
-    );
-    Ok(())
-}
-
-#[test]
-fn endings_and_spaces_have_no_children(rt: HostRuntime) -> Result<(), Fail> {
-    refuses(
-        &rt,
+        Some((2, Rule::Order)),
+    ),
+    (
+        "endings and spaces have no children",
         &[
             (Enter, Name::SpaceOrTab, 0),
             (Enter, Name::Data, 0),
@@ -356,10 +315,10 @@ fn endings_and_spaces_have_no_children(rt: HostRuntime) -> Result<(), Fail> {
         ],
         b"a",
         &[],
-        (1, Rule::Order),
-    );
-    refuses(
-        &rt,
+        Some((1, Rule::Order)),
+    ),
+    (
+        "endings and spaces have no children",
         &[
             (Enter, Name::LineEnding, 0),
             (Enter, Name::Other(1), 0),
@@ -368,10 +327,10 @@ fn endings_and_spaces_have_no_children(rt: HostRuntime) -> Result<(), Fail> {
         ],
         b"\n",
         &[],
-        (1, Rule::Order),
-    );
-    refuses(
-        &rt,
+        Some((1, Rule::Order)),
+    ),
+    (
+        "endings and spaces have no children",
         &[
             (Enter, Name::SpaceOrTab, 0),
             (Enter, Name::Other(1), 0),
@@ -380,15 +339,10 @@ fn endings_and_spaces_have_no_children(rt: HostRuntime) -> Result<(), Fail> {
         ],
         b"a",
         &[],
-        (1, Rule::Order),
-    );
-    Ok(())
-}
-
-#[test]
-fn a_table_head_has_a_delimiter_row(rt: HostRuntime) -> Result<(), Fail> {
-    refuses(
-        &rt,
+        Some((1, Rule::Order)),
+    ),
+    (
+        "a table head has a delimiter row",
         &[
             (Enter, Name::GfmTable, 0),
             (Enter, Name::GfmTableHead, 0),
@@ -399,10 +353,10 @@ fn a_table_head_has_a_delimiter_row(rt: HostRuntime) -> Result<(), Fail> {
         ],
         b"",
         &[],
-        (4, Rule::Order),
-    );
-    accepts(
-        &rt,
+        Some((4, Rule::Order)),
+    ),
+    (
+        "a table head has a delimiter row",
         &[
             (Enter, Name::GfmTable, 0),
             (Enter, Name::GfmTableHead, 0),
@@ -417,14 +371,10 @@ fn a_table_head_has_a_delimiter_row(rt: HostRuntime) -> Result<(), Fail> {
         ],
         b"",
         &[],
-    );
-    Ok(())
-}
-
-#[test]
-fn other_names_stand_anywhere(rt: HostRuntime) -> Result<(), Fail> {
-    accepts(
-        &rt,
+        None,
+    ),
+    (
+        "other names stand anywhere",
         &[
             (Enter, Name::Other(7), 0),
             (Enter, Name::ThematicBreak, 0),
@@ -433,9 +383,10 @@ fn other_names_stand_anywhere(rt: HostRuntime) -> Result<(), Fail> {
         ],
         b"***",
         &[],
-    );
-    refuses(
-        &rt,
+        None,
+    ),
+    (
+        "other names stand anywhere",
         &[
             (Enter, Name::ThematicBreak, 0),
             (Enter, Name::Data, 0),
@@ -444,10 +395,10 @@ fn other_names_stand_anywhere(rt: HostRuntime) -> Result<(), Fail> {
         ],
         b"***",
         &[],
-        (1, Rule::Order),
-    );
-    accepts(
-        &rt,
+        Some((1, Rule::Order)),
+    ),
+    (
+        "other names stand anywhere",
         &[
             (Enter, Name::ThematicBreak, 0),
             (Enter, Name::Other(65535), 0),
@@ -456,6 +407,11 @@ fn other_names_stand_anywhere(rt: HostRuntime) -> Result<(), Fail> {
         ],
         b"***",
         &[],
-    );
-    Ok(())
+        None,
+    ),
+];
+
+#[test]
+fn each_list_is_decided(rt: HostRuntime) {
+    decide_each(&rt, &CASES);
 }

@@ -3,12 +3,12 @@ use Rattle.std.proofs.Common.{◌≡◌, ◌∷◌, ◌+◌, Bool, false, List, 
 use Rattle.md_base.specs.declared.event.Event.{Event}
 use Rattle.md_base.specs.declared.event.AlignKind.{AlignKind}
 use Rattle.md_meaning.specs.declared.facts.Ahead.{Ahead}
-use Rattle.md_tree.specs.Tree.{Forest}
+use Rattle.md_base.specs.Tree.{Forest}
 use Rattle.md_tree.specs.Entered.{children_of}
 use Rattle.md_sheet.proofs.Lists.{drop-found}
-use Rattle.md_print.specs.Sources.{given_of}
-use Rattle.md_print.specs.Machine as machine
-use Rattle.md_print.specs.Machine.{State}
+use Rattle.md_printer.specs.Sources.{given_of}
+use Rattle.md_printer.specs.Machine as machine
+use Rattle.md_printer.specs.Machine.{State}
 use Rattle.md_html.proofs.Walks.{is_nil-length, drop-first, told-at}
 use Rattle.md_html.proofs.Leaves.{run-leaf}
 use Rattle.md_html.proofs.compiler.advance.Goals as goal

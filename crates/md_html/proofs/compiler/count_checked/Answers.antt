@@ -7,11 +7,11 @@ use Rattle.md_shape.proofs.Grammatical.{grammatical-built}
 use Rattle.md_safe.specs.Options.{KeepsGrammar, KeepsLinks, KeepsImages}
 use Rattle.md_safe.proofs.Whole.{one-reading, safe-links, safe-images}
 use Rattle.md_base.specs.Reference.{name_table}
-use Rattle.md_tree.specs.Tree.{Forest, flatten}
+use Rattle.md_base.specs.Tree.{Forest, flatten}
 use Rattle.md_meaning.specs.Given.{Given, Defined}
 use Rattle.md_base.specs.declared.event.Event.{Event}
-use Rattle.md_print.specs.Machine.{finished}
-use Rattle.md_tree.specs.Shape.{IsShaped}
+use Rattle.md_printer.specs.Machine.{finished}
+use Rattle.md_pattern.specs.Shape.{IsShaped}
 use Rattle.md_html.specs.OwnDefinitions.{own_definitions}
 use Rattle.md_html.proofs.OwnEvents.{document-definitions}
 use Rattle.md_meaning.specs.Meaning.{meaning, ending_at}

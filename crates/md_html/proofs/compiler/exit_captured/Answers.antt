@@ -1,9 +1,9 @@
 -- The frames that are read are the machine's, and each step is the machine's.
 use Rattle.std.proofs.Common.{◌≡◌, Bool, true, [], OnOk, ap, sym, subst, ◌∙◌}
-use Rattle.md_print.specs.declared.facts.Exit.{Exit}
-use Rattle.md_print.specs.Sources.{given_of, closing_at, exit_in}
-use Rattle.md_print.specs.Machine as machine
-use Rattle.md_print.specs.Machine.{State}
+use Rattle.md_printer.specs.declared.facts.Exit.{Exit}
+use Rattle.md_printer.specs.Sources.{given_of, closing_at, exit_in}
+use Rattle.md_printer.specs.Machine as machine
+use Rattle.md_printer.specs.Machine.{State}
 use Rattle.md_around.specs.Steps.{first_or}
 use Rattle.md_meaning.specs.declared.facts.Ahead.{Ahead}
 use Rattle.md_meaning.specs.Piece.{Page}

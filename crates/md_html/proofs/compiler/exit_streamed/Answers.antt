@@ -1,11 +1,11 @@
 -- The frames that are read are the machine's, and each step is the machine's; nothing is logged.
 use Rattle.std.proofs.Common.{◌≡◌, Bool, false, [], OnOk, ap, sym, subst, ◌∙◌}
-use Rattle.md_print.specs.declared.facts.Exit.{Exit}
-use Rattle.md_print.specs.Sources.{given_of, closing_at, exit_in}
-use Rattle.md_print.specs.Machine as machine
-use Rattle.md_print.specs.Machine.{State}
+use Rattle.md_printer.specs.declared.facts.Exit.{Exit}
+use Rattle.md_printer.specs.Sources.{given_of, closing_at, exit_in}
+use Rattle.md_printer.specs.Machine as machine
+use Rattle.md_printer.specs.Machine.{State}
 use Rattle.md_around.specs.Steps.{first_or}
-use Rattle.md_tree.specs.NameTests.{is_table}
+use Rattle.md_base.specs.NameTests.{is_table}
 use Rattle.md_meaning.specs.Piece.{blank}
 use Rattle.md_html.proofs.Groups.{unseen}
 use Rattle.md_html.proofs.compiler.exit_streamed.Goals as goal

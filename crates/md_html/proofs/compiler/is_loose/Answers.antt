@@ -2,9 +2,9 @@ use Rattle.std.proofs.Common.{◌≡◌, ◌⊎◌, inl, inr, Option, false, ap,
 use Rattle.std.specs.Option.{option_map_or}
 use Rattle.md_base.specs.declared.event.Name.{Name}
 use Rattle.md_base.specs.declared.event.Name.TheVariants.{ListOrdered, ListUnordered}
-use Rattle.md_tree.specs.Tree.{Forest}
-use Rattle.md_tree.specs.Looseness.{is_loose}
-use Rattle.md_print.specs.Machine.{loose_told}
+use Rattle.md_base.specs.Tree.{Forest}
+use Rattle.md_infer.specs.Looseness.{is_loose}
+use Rattle.md_printer.specs.Machine.{loose_told}
 use Rattle.md_html.proofs.Walks.{told-entered}
 use Rattle.md_html.proofs.compiler.is_loose.Goals as goal
 

@@ -3,10 +3,10 @@ use Rattle.std.proofs.Common.{◌≡◌, Bool, false, List, [], ap, ◌∙◌}
 use Rattle.md_base.specs.declared.event.AlignKind.{AlignKind}
 use Rattle.md_meaning.specs.declared.facts.Ahead.{Ahead}
 use Rattle.md_meaning.specs.Piece.{blank}
-use Rattle.md_print.specs.declared.facts.Exit.{Exit}
-use Rattle.md_print.specs.Sources.{given_of, closing_at}
-use Rattle.md_print.specs.Machine as machine
-use Rattle.md_print.specs.Machine.{State}
+use Rattle.md_printer.specs.declared.facts.Exit.{Exit}
+use Rattle.md_printer.specs.Sources.{given_of, closing_at}
+use Rattle.md_printer.specs.Machine as machine
+use Rattle.md_printer.specs.Machine.{State}
 use Rattle.md_around.specs.Steps.{first_or}
 use Rattle.md_html.proofs.Leaves.{leaf-steps, streamed}
 use Rattle.md_html.proofs.Walks.{on_answer}

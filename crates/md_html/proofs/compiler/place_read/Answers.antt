@@ -3,9 +3,9 @@ use Rattle.std.proofs.Common.{◌≡◌, Option, Some, None, ap, sym, ◌∙◌,
 use Rattle.std.specs.Option.{option_map_or}
 use Rattle.md_base.specs.declared.event.Name.{Name}
 use Rattle.md_base.specs.declared.event.Name.TheVariants.{HeadingAtx, ListOrdered, Link, Image, GfmFootnoteCall, Definition, GfmFootnoteDefinition}
-use Rattle.md_tree.specs.Tree.{Forest}
+use Rattle.md_base.specs.Tree.{Forest}
 use Rattle.md_tree.specs.Reads.{reads, is_reader}
-use Rattle.md_print.specs.Machine.{ahead_by, ahead_told}
+use Rattle.md_printer.specs.Machine.{ahead_by, ahead_told}
 use Rattle.std.proofs.lemmas.Bool.{false≢true}
 use Rattle.md_html.proofs.Walks.{told-entered}
 use Rattle.md_html.proofs.compiler.place_read.Goals as goal

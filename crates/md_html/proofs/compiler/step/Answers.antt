@@ -1,13 +1,13 @@
 use Rattle.std.proofs.Common.{◌≡◌, Option, Bool, List}
 use Rattle.md_base.specs.declared.event.AlignKind.{AlignKind}
-use Rattle.md_tree.specs.Tree.{Forest}
+use Rattle.md_base.specs.Tree.{Forest}
 use Rattle.md_meaning.specs.declared.facts.Ahead.{Ahead}
-use Rattle.md_print.specs.Sources.{IsToldAt, given_of}
-use Rattle.md_print.specs.Machine as machine
+use Rattle.md_printer.specs.Sources.{IsToldAt, given_of}
+use Rattle.md_printer.specs.Machine as machine
 use Rattle.md_meaning.specs.Printed.{is_captured}
 use Rattle.md_html.proofs.compiler.step.Goals as goal
 use Rattle.std.proofs.Common.{ap, sym, ◌∙◌}
-use Rattle.md_print.specs.Machine.{State}
+use Rattle.md_printer.specs.Machine.{State}
 use Rattle.md_html.proofs.Walks.{on_answer}
 
 pub returns-in_ok-columns-in-Enter : goal.returns-in_ok-columns-in-Enter

@@ -1,15 +1,15 @@
 use Rattle.std.proofs.Common.{◌≡◌, ◌<◌, ℕ, ◌-◌, List, [], ◌∷◌, length, drop, ap, sym, ◌∙◌, arith, subst, Option, Some, get_or}
 use Rattle.std.specs.Prelude.{slice_get}
-use Rattle.md_tree.specs.Tree.{Forest, flatten}
-use Rattle.md_tree.specs.Shape.{IsShaped}
+use Rattle.md_base.specs.Tree.{Forest, flatten}
+use Rattle.md_pattern.specs.Shape.{IsShaped}
 use Rattle.md_tree.specs.Entered.{children_of}
-use Rattle.md_tree.specs.Partners.{partners_of}
+use Rattle.md_infer.specs.Partners.{partners_of}
 use Rattle.md_tree.proofs.Indexed.{flatten_one}
 use Rattle.md_base.specs.declared.event.Name.TheVariants.{GfmTable}
 use Rattle.md_meaning.specs.Given.{Given, Defined}
-use Rattle.md_print.specs.Machine as machine
-use Rattle.md_print.specs.Machine.{State}
-use Rattle.md_print.specs.Sources.{given_of}
+use Rattle.md_printer.specs.Machine as machine
+use Rattle.md_printer.specs.Machine.{State}
+use Rattle.md_printer.specs.Sources.{given_of}
 use Rattle.md_html.specs.OwnDefinitions.{events_at}
 use Rattle.md_html.proofs.OwnNodes.{own-run}
 use Rattle.md_html.proofs.own_events.defined_at.Goals as goal

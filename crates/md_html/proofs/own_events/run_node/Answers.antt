@@ -2,10 +2,10 @@ use Rattle.std.proofs.Common.{◌≡◌, ◌<◌, ℕ, ◌+◌, List, ◌∷◌,
 use Rattle.std.specs.Prelude.{slice_get}
 use Rattle.std.proofs.lemmas.Option.{slice_get_within}
 use Rattle.md_base.specs.declared.event.Event.{Event}
-use Rattle.md_tree.specs.Tree.{Forest}
+use Rattle.md_base.specs.Tree.{Forest}
 use Rattle.md_tree.specs.Entered.{children_of}
-use Rattle.md_print.specs.Sources.{given_of}
-use Rattle.md_print.specs.Machine as machine
+use Rattle.md_printer.specs.Sources.{given_of}
+use Rattle.md_printer.specs.Machine as machine
 use Rattle.md_sheet.proofs.Lists.{drop-found}
 use Rattle.md_html.specs.OwnDefinitions.{events_at}
 use Rattle.md_html.proofs.Walks.{is_nil-length, drop-first, drop-later, told-at}

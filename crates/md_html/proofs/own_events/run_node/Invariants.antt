@@ -2,11 +2,11 @@
 use Rattle.std.proofs.Common.{◌≡◌, ◌++◌, List, length, drop}
 use Rattle.std.specs.Prelude.{slice_get}
 use Rattle.md_base.specs.declared.event.Event.{Event}
-use Rattle.md_tree.specs.Tree.{Forest, flatten}
+use Rattle.md_base.specs.Tree.{Forest, flatten}
 use Rattle.md_tree.specs.Entered.{children_of}
-use Rattle.md_tree.specs.Partners.{partners_of}
-use Rattle.md_print.specs.Machine.{run, beginning}
-use Rattle.md_print.specs.Sources.{given_of}
+use Rattle.md_infer.specs.Partners.{partners_of}
+use Rattle.md_printer.specs.Machine.{run, beginning}
+use Rattle.md_printer.specs.Sources.{given_of}
 use Rattle.md_html.specs.OwnDefinitions.{events_at}
 use Rattle.md_html.proofs.own_events.run_node.Given as goal
 

@@ -1,10 +1,10 @@
 -- A name prints in its group alone.
 use Rattle.std.proofs.Common.{◌≡◌, [], OnOk, sym, subst, ◌∙◌}
-use Rattle.md_print.specs.Machine.{State}
+use Rattle.md_printer.specs.Machine.{State}
 use Rattle.md_print.specs.declared.groups.Group.TheVariants.{Text, Span, Block, Autolink, Table}
 use Rattle.md_around.specs.Steps.{first_or}
 use Rattle.md_meaning.specs.Piece.{blank}
-use Rattle.md_print.specs.Sources.{given_of, left_at}
+use Rattle.md_printer.specs.Sources.{given_of, left_at}
 use Rattle.md_print.proofs.Closings.{At, printing-group}
 use Rattle.md_print.proofs.close.close.Goals as goal
 

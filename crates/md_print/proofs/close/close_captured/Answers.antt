@@ -3,11 +3,11 @@ use Rattle.std.proofs.Common.{◌≡◌, ◌++◌, List, [], ℕ, Bool, true, fa
 use Rattle.std.specs.Prelude.{if◌then◌else◌}
 use Rattle.md_base.specs.declared.event.Name.{Name}
 use Rattle.md_meaning.specs.declared.facts.Surroundings.{Surroundings}
-use Rattle.md_print.specs.Machine.{State, ahead_by, printing}
+use Rattle.md_printer.specs.Machine.{State, ahead_by, printing}
 use Rattle.md_meaning.specs.Piece.{Piece, Text}
 use Rattle.md_meaning.specs.Texts.{said, code_pieces, code_text}
-use Rattle.md_print.specs.Sources.{given_of, closing_at}
-use Rattle.md_print.specs.declared.facts.Exit.{Exit}
+use Rattle.md_printer.specs.Sources.{given_of, closing_at}
+use Rattle.md_printer.specs.declared.facts.Exit.{Exit}
 use Rattle.md_around.specs.Steps.{first_or}
 use Rattle.std.proofs.lemmas.List.{append-nil}
 use Rattle.std.proofs.Common.{codes}

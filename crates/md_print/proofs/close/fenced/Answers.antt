@@ -1,11 +1,11 @@
 -- The four parts of the end, one after another.
 use Rattle.std.proofs.Common.{◌≡◌, ◌∷◌, [], ◌++◌, List, Bool, OnOk, ap, sym, subst, ◌∙◌}
-use Rattle.md_print.specs.Machine.{State, printing}
+use Rattle.md_printer.specs.Machine.{State, printing}
 use Rattle.md_meaning.specs.Piece.{Piece, Needed, Forced}
 use Rattle.md_meaning.specs.declared.facts.Passed.{Passed}
 use Rattle.md_meaning.specs.Texts.{said}
 use Rattle.md_meaning.specs.Blocks.{when, is_unclosed, runs_out, code_end, fenced_closing}
-use Rattle.md_print.proofs.Printing.{printing-append}
+use Rattle.md_printer.proofs.Printing.{printing-append}
 use Rattle.md_print.proofs.close.fenced.Goals as goal
 
 pub returns : goal.returns

@@ -1,10 +1,10 @@
 -- The three parts of the opening tag, one after another.
 use Rattle.std.proofs.Common.{◌≡◌, ◌++◌, List, OnOk, codes, ap, sym, subst, ◌∙◌}
-use Rattle.md_print.specs.Machine.{State, printing}
+use Rattle.md_printer.specs.Machine.{State, printing}
 use Rattle.md_meaning.specs.Piece.{Piece}
 use Rattle.md_meaning.specs.Texts.{said}
 use Rattle.md_meaning.specs.Blocks.{on_own_line, start_pieces}
-use Rattle.md_print.proofs.Printing.{printing-append}
+use Rattle.md_printer.proofs.Printing.{printing-append}
 use Rattle.md_print.proofs.open.ordered_list.Goals as goal
 
 pub returns : goal.returns

@@ -4,10 +4,10 @@ use Rattle.std.proofs.lemmas.Result.{err_from_is_err_and}
 use Rattle.md_base.specs.Reference.{name_table}
 use Rattle.md_tree.specs.Grammar.{handed}
 use Rattle.md_tree.specs.Walk.{point_of, course_of, Unbroken}
-use Rattle.md_tree.specs.Facts.{nothing_passed}
+use Rattle.md_infer.specs.Facts.{nothing_passed}
 use Rattle.md_tree.proofs.Checking.{Runs-more, IsRefusal-stopped}
-use Rattle.md_tree.proofs.FirstIndex.{first_index-more}
-use Rattle.md_tree.proofs.Passing.{passed_more}
+use Rattle.md_infer.proofs.FirstIndex.{first_index-more}
+use Rattle.md_infer.proofs.Passing.{passed_more}
 use Rattle.md_tree.proofs.grammar.read_events.Goals as goal
 
 pub step-requires : goal.step-requires

@@ -2,8 +2,8 @@ use Rattle.std.proofs.Common.{◌≡◌, take}
 use Rattle.md_base.specs.Reference.{name_table}
 use Rattle.md_tree.specs.Machine.{Runs, beginning}
 use Rattle.md_tree.specs.Walk.{course_of, Unbroken}
-use Rattle.md_tree.specs.Ending.{first_index}
-use Rattle.md_tree.specs.Facts.{passed_over, nothing_passed}
+use Rattle.md_infer.specs.Ending.{first_index}
+use Rattle.md_infer.specs.Facts.{passed_over, nothing_passed}
 use Rattle.md_tree.proofs.grammar.read_events.Given as goal
 
 abbrev pub invariant-loop-index : goal.invariant-loop-index

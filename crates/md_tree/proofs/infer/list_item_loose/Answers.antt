@@ -1,7 +1,7 @@
 use Rattle.std.proofs.Common.{ap, ◌∙◌}
 use Rattle.md_base.specs.declared.event.Name.TheVariants.{ListItem}
-use Rattle.md_tree.specs.declared.facts.Fact.{Fact}
-use Rattle.md_tree.proofs.Telling.{of_item-told}
+use Rattle.md_infer.specs.declared.facts.Fact.{Fact}
+use Rattle.md_infer.proofs.Telling.{of_item-told}
 use Rattle.md_tree.proofs.infer.list_item_loose.Goals as goal
 
 pub returns-clause-loose : goal.returns-clause-loose

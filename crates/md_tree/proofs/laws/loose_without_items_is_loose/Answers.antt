@@ -1,5 +1,5 @@
 use Rattle.std.proofs.Common.{◌||◌, ap}
-use Rattle.md_tree.specs.Looseness.{has_loose_item}
+use Rattle.md_infer.specs.Looseness.{has_loose_item}
 use Rattle.md_tree.proofs.laws.loose_without_items_is_loose.Goals as goal
 
 pub returns : goal.returns

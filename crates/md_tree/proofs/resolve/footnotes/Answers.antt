@@ -1,5 +1,5 @@
 use Rattle.std.proofs.Common.{ℕ, ◌+◌, List, Option, drop, ap, refl}
-use Rattle.md_tree.specs.declared.kinds.Mentioned.{Mentioned}
+use Rattle.md_tree.specs.declared.mention.Mentioned.{Mentioned}
 use Rattle.md_tree.specs.Mentions.{mentions_among, footnoted, footnoted_by}
 use Rattle.md_tree.proofs.Identifiers.{HaveSame-put, HaveSame-passed, HaveSame-all, footnoted_by-other}
 use Rattle.md_tree.proofs.resolve.footnotes.Goals as goal

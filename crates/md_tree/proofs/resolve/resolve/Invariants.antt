@@ -1,5 +1,5 @@
 use Rattle.std.proofs.Common.{ℕ, ◌<◌, get_or}
-use Rattle.md_tree.specs.declared.kinds.Mention.{Mention}
+use Rattle.md_tree.specs.declared.mention.Mention.{Mention}
 use Rattle.md_tree.specs.Mentions.{mentions_among, IsResolved}
 use Rattle.md_tree.proofs.resolve.resolve.Given as goal
 

@@ -1,7 +1,7 @@
 use Rattle.std.proofs.Common.{subst, sym}
 use Rattle.std.specs.List.{All}
 use Rattle.md_base.specs.declared.event.Name.TheVariants.{Definition}
-use Rattle.md_tree.specs.Partners.{AreDefinitions}
+use Rattle.md_tree.specs.Indices.{AreDefinitions}
 use Rattle.md_tree.specs.Texts.{EntersAt}
 use Rattle.md_tree.proofs.Kept.{definitions-kept, definitions-enter}
 use Rattle.md_tree.proofs.checked.Checked.definitions.Goals as goal

@@ -1,12 +1,12 @@
 use Rattle.std.proofs.Common.{◌≡◌, ◌⊎◌, inl, inr, ℕ, suc, List, refl, ap, ◌∙◌}
 use Rattle.md_base.specs.declared.event.Event.{Event}
 use Rattle.md_base.specs.declared.event.Name.TheVariants.{Link, Image}
-use Rattle.md_tree.specs.declared.facts.Fact.{Fact}
+use Rattle.md_infer.specs.declared.facts.Fact.{Fact}
 use Rattle.md_tree.specs.Grammar.{Document}
-use Rattle.md_tree.specs.Tree.{Forest}
+use Rattle.md_base.specs.Tree.{Forest}
 use Rattle.md_tree.specs.Texts.{EntersAt}
 use Rattle.md_tree.specs.Entered.{IsEnteredAt}
-use Rattle.md_tree.specs.Facts.{facts_at}
+use Rattle.md_infer.specs.Facts.{facts_at}
 use Rattle.md_tree.specs.Reads.{has_resource}
 use Rattle.md_tree.specs.Found.{EntersSome, IsFactAt, position_at}
 use Rattle.md_tree.proofs.Placing.{children-placed}

@@ -1,11 +1,11 @@
 use Rattle.std.proofs.Common.{◌≡◌, ℕ, Option, ap, ◌∙◌}
 use Rattle.std.specs.Prelude.{option_map, slice_get}
 use Rattle.md_tree.specs.declared.checked.Checked.TheInside.{Inside}
-use Rattle.md_tree.specs.declared.facts.Fact.{Fact}
+use Rattle.md_infer.specs.declared.facts.Fact.{Fact}
 use Rattle.md_tree.specs.Grammar.{Document, IsReadAs}
 use Rattle.md_tree.specs.Checked.{given_of, IsKept}
-use Rattle.md_tree.specs.Facts.{facts_at}
-use Rattle.md_tree.specs.Partners.{IsPartnerAt}
+use Rattle.md_infer.specs.Facts.{facts_at}
+use Rattle.md_tree.specs.Indices.{IsPartnerAt}
 use Rattle.md_tree.proofs.Entering.{partners_there}
 use Rattle.md_tree.proofs.checked.Checked.partner.Goals as goal
 

@@ -1,12 +1,12 @@
 use Rattle.std.proofs.Common.{◌≡◌, ℕ, suc, true, false, refl, ap, ◌∙◌}
 use Rattle.md_base.specs.declared.event.Name.{Name}
 use Rattle.md_base.specs.declared.event.Name.TheVariants.{HeadingAtx, ListOrdered, Link, Image, GfmFootnoteCall, Definition, GfmFootnoteDefinition}
-use Rattle.md_tree.specs.declared.facts.Fact.{Fact}
-use Rattle.md_tree.specs.declared.seeking.Sought.{Sought}
+use Rattle.md_infer.specs.declared.facts.Fact.{Fact}
+use Rattle.md_infer.specs.declared.seeking.Sought.{Sought}
 use Rattle.md_tree.specs.Grammar.{Document}
 use Rattle.md_tree.specs.Reads.{is_reader}
-use Rattle.md_tree.specs.Seeking.{search_of}
-use Rattle.md_tree.specs.Facts.{place_of, tables_behind, contributing_over, sought_over, facts_at}
+use Rattle.md_infer.specs.Seeking.{search_of}
+use Rattle.md_infer.specs.Facts.{place_of, tables_behind, contributing_over, sought_over, facts_at}
 use Rattle.md_tree.specs.Found.{position_at}
 use Rattle.md_tree.proofs.Kept.{facts_are}
 use Rattle.md_tree.proofs.Placing.{children-placed}

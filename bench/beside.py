@@ -1,0 +1,174 @@
+#!/usr/bin/env python3
+"""Measures `mdevents` beside the original, and prints the Markdown tables of docs/SPEED.md.
+
+    python3 bench/beside.py PROGRAM [--picture FILE] [--runs R] [--shapes NAME,..|none]
+
+PROGRAM is the built `mdevents`. The original is built from the folder `speed` beside the clone, in `../shared`; where it
+isn't there, this says so, and `bench/bench.py` measures the program alone. Instructions are counted by valgrind, where
+it is there: they are steady where the machine is busy. The realistic script is that of the folder's examples, one after
+another; `reader` is the same script with a line that can't be read before its document, `compile` the rest. Times are
+the least of some runs, in ms. The picture shows the times of the shapes, and is drawn where matplotlib is there.
+"""
+
+import argparse
+import os
+import sys
+import tempfile
+
+TOP = os.path.dirname(os.path.dirname(os.path.abspath(__file__)))
+SHARED = os.path.join(os.path.dirname(TOP), "shared", "speed")
+SIZES = (5000, 10000, 20000, 40000)
+SLOW = 3.0  # seconds; no greater size of a shape is run after a run that took longer
+
+
+def beside():
+    """The module that builds the original and measures, or None where it isn't beside the clone."""
+    if not os.path.isfile(os.path.join(SHARED, "compare.py")):
+        return None
+    sys.path.insert(0, SHARED)
+    import compare
+
+    return compare
+
+
+def put(path, data):
+    with open(path, "wb") as file:
+        file.write(data)
+
+
+def row(*cells):
+    print("| " + " | ".join(cells) + " |")
+
+
+def ratio(ours, theirs):
+    return f"{ours / theirs:.2f}" if theirs else "–"
+
+
+def whole_and_reader(measure, path, lines, document, compare):
+    """What `measure` answers for a script, and for the same with a line that can't be read before its document."""
+    put(path, compare.written(lines, document))
+    whole = measure(path)
+    put(path, compare.written(lines + [b"unreadable"], document))
+    return whole, measure(path)
+
+
+def instructions_table(compare, commands, path):
+    lines, document = compare.realistic(10)
+
+    def each(path):
+        counts = [compare.instructions(command, path) for command in commands]
+        return None if None in counts else [count / len(lines) for count in counts]
+
+    whole, reader = whole_and_reader(each, path, lines, document, compare)
+    if whole is None or reader is None:
+        print("Instructions are not counted: valgrind is missing.\n")
+        return
+    rest = [whole[at] - reader[at] for at in (0, 1)]
+    row(f"instructions an event, {len(lines):,} events", "the original", "ours", "beside it")
+    row("---", "---", "---", "---")
+    for name, (ours, theirs) in (("check, compile, write", rest), ("reading the script", reader), ("the whole program", whole)):
+        row(name, f"{theirs:.0f}", f"{ours:.0f}", ratio(ours, theirs))
+    print()
+
+
+def times_table(compare, commands, path, runs):
+    lines, document = compare.realistic(100)
+    whole, reader = whole_and_reader(lambda at: compare.least(commands, at, runs), path, lines, document, compare)
+    put(path, compare.written(lines, document))
+    text = [len(compare.text_of(command, path)) for command in commands]
+    size = os.path.getsize(path)
+    row(f"{len(lines):,} events", "the original", "ours", "beside it")
+    row("---", "---", "---", "---")
+    rest = [whole[at][0] - reader[at][0] for at in (0, 1)]
+    row("check, compile, write, ms", f"{rest[1] * 1000:.1f}", f"{rest[0] * 1000:.1f}", ratio(*rest))
+    row("the whole program, ms", f"{whole[1][0] * 1000:.1f}", f"{whole[0][0] * 1000:.1f}", ratio(whole[0][0], whole[1][0]))
+    memory = [(whole[at][1] - size - text[at]) / len(lines) for at in (0, 1)]
+    row("memory beyond script and text, bytes an event", f"{memory[1]:.0f}", f"{memory[0]:.0f}", ratio(*memory))
+    print()
+
+
+def shape_times(compare, commands, path, shape, runs):
+    """The least times of a shape at each size, ours and the original's, None where a run was killed."""
+    times = []
+    for size in SIZES:
+        put(path, compare.shapes.script(shape, size))
+        best = [found and found[0] for found in compare.least(commands, path, runs)]
+        times.append((size, *best))
+        if any(time is None or time > SLOW for time in best):
+            break
+    return times
+
+
+def milliseconds(time):
+    return "killed" if time is None else f"{time * 1000:.1f}"
+
+
+def shapes_table(compare, commands, path, names, runs):
+    row("shape", "n", "the original, ms", "ours, ms", "beside it")
+    row("---", "---", "---", "---", "---")
+    found = {}
+    for name in names:
+        found[name] = shape_times(compare, commands, path, name, runs)
+        size, ours, theirs = found[name][-1]
+        known = ours is not None and theirs
+        row(name, f"{size:,}", milliseconds(theirs), milliseconds(ours), ratio(ours, theirs) if known else "–")
+        sys.stdout.flush()
+    print()
+    return found
+
+
+def draw(found, file):
+    """Draws the times of each shape over its sizes, ours and the original's."""
+    try:
+        import matplotlib
+
+        matplotlib.use("Agg")
+        from matplotlib import pyplot
+    except ImportError:
+        print("There is no picture: matplotlib is missing (Debian: python3-matplotlib).")
+        return
+    columns = 4
+    rows = -(-len(found) // columns)
+    figure, axes = pyplot.subplots(rows, columns, figsize=(3.2 * columns, 2.4 * rows), squeeze=False)
+    for axis in axes.flat[len(found):]:
+        axis.axis("off")
+    for axis, (name, times) in zip(axes.flat, found.items()):
+        for at, label, colour in ((2, "the original", "#b0b0b0"), (1, "ours", "#1f5fa8")):
+            known = [(time[0], time[at] * 1000) for time in times if time[at] is not None]
+            axis.plot([size for size, _ in known], [time for _, time in known], "o-", color=colour, label=label, markersize=3)
+        axis.set_title(name, fontsize=8)
+        axis.set_ylim(bottom=0)
+        axis.tick_params(labelsize=6)
+    axes.flat[0].legend(fontsize=6)
+    figure.supxlabel("n", fontsize=8)
+    figure.supylabel("ms", fontsize=8)
+    figure.tight_layout()
+    figure.savefig(file, dpi=110)
+
+
+def main():
+    parser = argparse.ArgumentParser(usage="see the head of this file")
+    parser.add_argument("program")
+    parser.add_argument("--picture")
+    parser.add_argument("--runs", type=int, default=5)
+    parser.add_argument("--shapes", default="all")
+    given = parser.parse_args()
+    compare = beside()
+    if compare is None:
+        print(f"The original isn't beside this clone ({SHARED} is missing), so there is nothing to compare with.")
+        print("bench/bench.py measures the program alone.")
+        return 0
+    commands = [[os.path.abspath(given.program)], [compare.original_path()]]
+    names = [] if given.shapes == "none" else list(compare.shapes.SHAPES) if given.shapes == "all" else given.shapes.split(",")
+    with tempfile.TemporaryDirectory(prefix="md-beside-") as folder:
+        path = os.path.join(folder, "script")
+        instructions_table(compare, commands, path)
+        times_table(compare, commands, path, given.runs)
+        found = shapes_table(compare, commands, path, names, min(given.runs, 3)) if names else {}
+    if found and given.picture:
+        draw(found, given.picture)
+    return 0
+
+
+if __name__ == "__main__":
+    sys.exit(main())

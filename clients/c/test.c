@@ -1,0 +1,245 @@
+/*
+ * Tests of the C interface: each function of bivdrazo.h, each status, and calls from many threads.
+ * Prints a line for each check that fails, and ends with status 1 then.
+ */
+#include "bivdrazo.h"
+
+#include <pthread.h>
+#include <stdio.h>
+#include <string.h>
+
+#define THREADS 8
+#define CALLS 500
+
+static int failures = 0;
+
+/* How many more calls for memory are met before one is refused. The linker leads the library's calls here (--wrap).
+ */
+static size_t calls_left = SIZE_MAX;
+
+void *__real_malloc(size_t size);
+void *__real_realloc(void *old, size_t size);
+
+void *__wrap_malloc(size_t size) {
+    return calls_left != SIZE_MAX && calls_left-- == 0 ? NULL : __real_malloc(size);
+}
+
+void *__wrap_realloc(void *old, size_t size) {
+    return calls_left != SIZE_MAX && calls_left-- == 0 ? NULL : __real_realloc(old, size);
+}
+
+/* Counts a check that fails, and prints where it stands. */
+#define CHECK(condition) check((condition), #condition, __LINE__)
+
+static void check(int holds, const char *condition, int line) {
+    if (!holds) {
+        printf("test.c:%d: %s\n", line, condition);
+        failures++;
+    }
+}
+
+static bivdrazo_event event(uint8_t kind, uint16_t name, size_t index) {
+    bivdrazo_event event = {index, name, 0, kind, 0};
+    return event;
+}
+
+/* The events of a paragraph over so many bytes. */
+static void paragraph(bivdrazo_event events[4], size_t length) {
+    events[0] = event(BIVDRAZO_ENTER, BIVDRAZO_NAME_PARAGRAPH, 0);
+    events[1] = event(BIVDRAZO_ENTER, BIVDRAZO_NAME_DATA, 0);
+    events[2] = event(BIVDRAZO_EXIT, BIVDRAZO_NAME_DATA, length);
+    events[3] = event(BIVDRAZO_EXIT, BIVDRAZO_NAME_PARAGRAPH, length);
+}
+
+/* Whether events over a document give that text. */
+static int gives(const bivdrazo_event *events, size_t events_length, const char *document,
+                 const bivdrazo_options *options, const char *text) {
+    uint8_t *made;
+    bivdrazo_answer answer = bivdrazo_compile_alloc(events, events_length, (const uint8_t *)document,
+                                                    strlen(document), options, NULL, 0, &made);
+    const int same = answer.status == BIVDRAZO_OK && answer.length == strlen(text) && strcmp((char *)made, text) == 0;
+    free(made);
+    return same;
+}
+
+static void test_text(void) {
+    bivdrazo_event events[4];
+    paragraph(events, 6);
+    CHECK(gives(events, 4, "Hi <b>", NULL, "<p>Hi &lt;b&gt;</p>"));
+    CHECK(gives(NULL, 0, "", NULL, ""));
+    CHECK(bivdrazo_version() == BIVDRAZO_VERSION);
+}
+
+static void test_buffer(void) {
+    bivdrazo_event events[4];
+    uint8_t buffer[32];
+    const uint8_t *bytes = (const uint8_t *)"Hi <b>";
+    const bivdrazo_options options = bivdrazo_options_default();
+    const bivdrazo_reference name = {bytes, 0, bytes, 0};
+    paragraph(events, 6);
+    memset(buffer, 7, sizeof buffer);
+    bivdrazo_answer answer = bivdrazo_compile(events, 4, bytes, 6, &options, &name, 0, buffer, 18);
+    CHECK(answer.status == BIVDRAZO_TOO_SHORT && answer.length == 19 && answer.rule == 0 && answer.index == 0);
+    CHECK(buffer[0] == 7 && memcmp(buffer, buffer + 1, sizeof buffer - 1) == 0);
+    answer = bivdrazo_compile(events, 4, bytes, 6, &options, &name, 0, buffer, 19);
+    CHECK(answer.status == BIVDRAZO_OK && answer.length == 19 && memcmp(buffer, "<p>Hi &lt;b&gt;</p>", 19) == 0);
+    CHECK(buffer[19] == 7 && memcmp(buffer + 19, buffer + 20, sizeof buffer - 20) == 0);
+}
+
+/* Whether events are answered with a status, an index and a rule, no text, and an untouched buffer. */
+static int answers(const bivdrazo_event *events, size_t length, const bivdrazo_options *options,
+                   const bivdrazo_reference *names, size_t names_length, bivdrazo_answer wanted) {
+    uint8_t buffer[8] = {7, 7, 7, 7, 7, 7, 7, 7};
+    uint8_t *text;
+    const uint8_t *bytes = (const uint8_t *)"a";
+    bivdrazo_answer answer =
+        bivdrazo_compile(events, length, bytes, 1, options, names, names_length, buffer, sizeof buffer);
+    bivdrazo_answer again = bivdrazo_compile_alloc(events, length, bytes, 1, options, names, names_length, &text);
+    return memcmp(&answer, &wanted, sizeof answer) == 0 && memcmp(&again, &wanted, sizeof again) == 0 &&
+           text == NULL && memcmp(buffer, "\7\7\7\7\7\7\7\7", sizeof buffer) == 0;
+}
+
+static void test_refusals(void) {
+    const bivdrazo_reference none = {(const uint8_t *)"", 0, (const uint8_t *)"", 0};
+    const bivdrazo_reference names[2] = {none, {(const uint8_t *)"x", 1, (const uint8_t *)"\xff", 1}};
+    const bivdrazo_options options = bivdrazo_options_default();
+    bivdrazo_event events[4];
+    paragraph(events, 1);
+    CHECK(answers(events, 3, &options, &none, 0, (bivdrazo_answer){BIVDRAZO_REFUSED, BIVDRAZO_RULE_ORDER, 3, 0}));
+    CHECK(answers(events, 4, &options, names, 2, (bivdrazo_answer){BIVDRAZO_NO_NAME, 0, 1, 0}));
+    events[2].index = 2;
+    CHECK(answers(events, 4, &options, &none, 0, (bivdrazo_answer){BIVDRAZO_REFUSED, BIVDRAZO_RULE_PLACE, 2, 0}));
+    events[3].kind = 3;
+    CHECK(answers(events, 4, &options, &none, 0, (bivdrazo_answer){BIVDRAZO_NO_EVENT, 0, 3, 0}));
+    events[1].name = 87;
+    CHECK(answers(events, 4, &options, &none, 0, (bivdrazo_answer){BIVDRAZO_NO_EVENT, 0, 1, 0}));
+    events[0].name = 0;
+    CHECK(answers(events, 4, &options, &none, 0, (bivdrazo_answer){BIVDRAZO_NO_EVENT, 0, 0, 0}));
+}
+
+static void test_options(void) {
+    const bivdrazo_reference none = {(const uint8_t *)"", 0, (const uint8_t *)"", 0};
+    const bivdrazo_event html[4] = {
+        event(BIVDRAZO_ENTER, BIVDRAZO_NAME_HTML_FLOW, 0), event(BIVDRAZO_ENTER, BIVDRAZO_NAME_HTML_FLOW_DATA, 0),
+        event(BIVDRAZO_EXIT, BIVDRAZO_NAME_HTML_FLOW_DATA, 3), event(BIVDRAZO_EXIT, BIVDRAZO_NAME_HTML_FLOW, 3)};
+    bivdrazo_options options = bivdrazo_options_default();
+    CHECK(gives(html, 4, "<i>", &options, "&lt;i&gt;"));
+    options.allow_dangerous_html = 1;
+    CHECK(gives(html, 4, "<i>", &options, "<i>"));
+    options.default_line_ending = 3;
+    CHECK(answers(html, 0, &options, &none, 0, (bivdrazo_answer){BIVDRAZO_NO_OPTION, 0, 5, 0}));
+    options.default_line_ending = BIVDRAZO_CARRIAGE_RETURN;
+    options.gfm_footnote_label = bivdrazo_text_of((const uint8_t *)"\xc3", 1);
+    CHECK(answers(html, 0, &options, &none, 0,
+                  (bivdrazo_answer){BIVDRAZO_NO_OPTION, 0, BIVDRAZO_OPTION_GFM_FOOTNOTE_LABEL, 0}));
+    options.gfm_footnote_label = bivdrazo_text_unset();
+    options.gfm_tagfilter = 2;
+    CHECK(answers(html, 0, &options, &none, 0, (bivdrazo_answer){BIVDRAZO_NO_OPTION, 0, 4, 0}));
+}
+
+static void test_lengths(void) {
+    uint8_t *text;
+    const uint8_t *bytes = (const uint8_t *)"";
+    CHECK(bivdrazo_compile_alloc(NULL, 0, bytes, SIZE_MAX, NULL, NULL, 0, &text).status == BIVDRAZO_MEMORY && !text);
+    CHECK(bivdrazo_compile_alloc(NULL, 0, bytes, PTRDIFF_MAX, NULL, NULL, 0, &text).status == BIVDRAZO_MEMORY &&
+          !text);
+    CHECK(bivdrazo_run_alloc(bytes, SIZE_MAX, &text).status == BIVDRAZO_MEMORY && !text);
+}
+
+static void test_scripts(void) {
+    const char *script = "+ThematicBreak 0\n-ThematicBreak 3\n--\n***";
+    uint8_t *text;
+    bivdrazo_answer answer = bivdrazo_run_alloc((const uint8_t *)script, strlen(script), &text);
+    CHECK(answer.status == BIVDRAZO_OK && strcmp((char *)text, "<hr />") == 0);
+    free(text);
+    answer = bivdrazo_run_alloc(NULL, 0, &text);
+    CHECK(answer.status == BIVDRAZO_NO_LINE && answer.index == 1 && text == NULL);
+    answer = bivdrazo_run_alloc((const uint8_t *)"+Paragraph 0\n--", 15, &text);
+    CHECK(answer.status == BIVDRAZO_REFUSED && answer.index == 1 && answer.rule == BIVDRAZO_RULE_ORDER &&
+          text == NULL);
+}
+
+/* A text that needs more than the first size. */
+static void test_second_turn(void) {
+    bivdrazo_event events[4];
+    const char quotes[] = "\"\"\"\"\"\"\"\"\"\"\"\"\"\"\"\"\"\"\"\"\"\"\"\"\"\"\"\"\"\"\"\"\"\"\"\"\"\"\"\"";
+    uint8_t *text;
+    paragraph(events, 40);
+    bivdrazo_answer answer = bivdrazo_compile_alloc(events, 4, (const uint8_t *)quotes, 40, NULL, NULL, 0, &text);
+    CHECK(answer.status == BIVDRAZO_OK && answer.length == 247 && answer.length > bivdrazo_first_size(4, 40));
+    CHECK(text != NULL && strncmp((char *)text, "<p>&quot;", 9) == 0 &&
+          strcmp((char *)text + 237, "&quot;</p>") == 0);
+    free(text);
+}
+
+/* Each call for memory is refused in turn: the answer says so, and the buffer is untouched; at last there is a text.
+ */
+static void test_memory(void) {
+    static const char script[] =
+        "!gfm_footnote_label=x\n+Paragraph 0\n+GfmFootnoteCall 0\n+Label 0\n+LabelText 0\n"
+        "-LabelText 1\n-Label 1\n-GfmFootnoteCall 1\n-Paragraph 1\n+GfmFootnoteDefinition 1\n"
+        "+GfmFootnoteDefinitionPrefix 1\n+GfmFootnoteDefinitionLabelString 1\n"
+        "-GfmFootnoteDefinitionLabelString 2\n-GfmFootnoteDefinitionPrefix 2\n"
+        "-GfmFootnoteDefinition 2\n--\naA";
+    bivdrazo_answer answer = {BIVDRAZO_MEMORY, 0, 0, 0};
+    size_t refused = 0;
+    while (answer.status == BIVDRAZO_MEMORY && refused < 10000) {
+        uint8_t buffer[1024] = {7};
+        calls_left = refused++;
+        answer = bivdrazo_run((const uint8_t *)script, sizeof script - 1, buffer, sizeof buffer);
+        calls_left = SIZE_MAX;
+        CHECK(answer.status == BIVDRAZO_OK || (answer.status == BIVDRAZO_MEMORY && buffer[0] == 7 && buffer[1] == 0));
+    }
+    CHECK(answer.status == BIVDRAZO_OK && answer.index == 0 && refused > 10);
+}
+
+/* The wrappers answer want of memory too, and keep nothing. */
+static void test_memory_of_wrappers(void) {
+    bivdrazo_event events[4];
+    bivdrazo_answer answer = {BIVDRAZO_MEMORY, 0, 0, 0};
+    size_t refused = 0;
+    uint8_t *text = NULL;
+    paragraph(events, 1);
+    while (answer.status == BIVDRAZO_MEMORY && refused < 10000) {
+        calls_left = refused++;
+        answer = bivdrazo_compile_alloc(events, 4, (const uint8_t *)"a", 1, NULL, NULL, 0, &text);
+        calls_left = SIZE_MAX;
+        CHECK((text == NULL) == (answer.status != BIVDRAZO_OK));
+    }
+    CHECK(answer.status == BIVDRAZO_OK && strcmp((char *)text, "<p>a</p>") == 0 && refused > 5);
+    free(text);
+}
+
+/* Compiles the same events many times; the argument counts the answers that are wrong. */
+static void *work(void *argument) {
+    size_t *wrong = argument;
+    bivdrazo_event events[4];
+    paragraph(events, 6);
+    for (int call = 0; call < CALLS; call++)
+        *wrong += !gives(events, 4, "Hi <b>", NULL, "<p>Hi &lt;b&gt;</p>");
+    return NULL;
+}
+
+static void test_threads(void) {
+    pthread_t threads[THREADS];
+    size_t wrong[THREADS] = {0};
+    for (size_t at = 0; at < THREADS; at++)
+        CHECK(pthread_create(&threads[at], NULL, work, &wrong[at]) == 0);
+    for (size_t at = 0; at < THREADS; at++)
+        CHECK(pthread_join(threads[at], NULL) == 0 && wrong[at] == 0);
+}
+
+int main(void) {
+    test_text();
+    test_buffer();
+    test_refusals();
+    test_options();
+    test_lengths();
+    test_scripts();
+    test_second_turn();
+    test_memory();
+    test_memory_of_wrappers();
+    test_threads();
+    printf("C: %s\n", failures == 0 ? "passed" : "failed");
+    return failures == 0 ? 0 : 1;
+}

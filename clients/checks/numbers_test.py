@@ -1,0 +1,67 @@
+#!/usr/bin/env python3
+"""Compares the clients' list of numbers with the tables in the sources of the crate md_ffi.
+
+    numbers_test.py CRATE
+
+Reads the crate's tables as text: the names' array, the constants of statuses, and the matches of rules, kinds, line
+endings and options. Ends with status 1 where one isn't the list's.
+"""
+
+import pathlib
+import re
+import sys
+
+LIST = pathlib.Path(__file__).resolve().parent.parent / "numbers" / "numbers.txt"
+
+
+def listed(group):
+    """The list's pairs of a name and a number in one group."""
+    lines = re.findall(rf"^{group} (\d+) (\w+)", LIST.read_text(), re.MULTILINE)
+    return [(name, int(number)) for number, name in lines]
+
+
+def camel(name):
+    """A constant's name as the list has it."""
+    return "".join(word.capitalize() for word in name.split("_"))
+
+
+def names(source):
+    """The names of the crate's array, numbered from 1, and the number of the others."""
+    table = re.search(r"static NAMES: \[Name; \d+\] = \[(.*?)\];", source, re.DOTALL)
+    other = re.search(r"const OTHER: u16 = (\d+);", source)
+    found = re.findall(r"Name::(\w+)", table[1]) if table else []
+    return [(name, at) for at, name in enumerate(found, 1)] + ([("Other", int(other[1]))] if other else [])
+
+
+def tables(crate):
+    """The crate's pairs of a name and a number, by the list's groups."""
+    source = {path.stem: path.read_text() for path in (crate / "src").glob("*.rt")}
+    statuses = re.findall(r"^const (\w+): u32 = (\d+);", source["answer"], re.MULTILINE)
+    rules = re.findall(r"Rule::(\w+) => (\d+),", source["answer"])
+    kinds = re.findall(r"(\d+) => Some\(Kind::(\w+)\)", source["event"])
+    endings = re.findall(r"(\d+) => Ok\(LineEnding::(\w+)\)", source["option"])
+    options = re.findall(r"^ +(\w+): read_\w+\(.*, (\d+)\)\?,", source["option"], re.MULTILINE)
+    version = re.findall(r"const (VERSION): u32 = (\d+);", source["export"])
+    return {
+        "version": [(name, int(number)) for name, number in version],
+        "status": [(camel(name), int(number)) for name, number in statuses],
+        "rule": [(name, int(number)) for name, number in rules],
+        "kind": [(name, int(number)) for number, name in kinds],
+        "line_ending": [(name, int(number)) for number, name in endings],
+        "option": [(name, int(number)) for name, number in options],
+        "name": names(source["names"]),
+    }
+
+
+def main(arguments):
+    """Compares each group; the status to end with."""
+    found = tables(pathlib.Path(arguments[0]))
+    wrong = [group for group, pairs in found.items() if pairs != listed(group) or not pairs]
+    for group in wrong:
+        print(f"numbers: {group}: the crate has {found[group]}, the list {listed(group)}")
+    print(f"numbers: {sum(map(len, found.values()))} of the crate are the list's" if not wrong else "numbers: failed")
+    return 1 if wrong else 0
+
+
+if __name__ == "__main__":
+    sys.exit(main(sys.argv[1:]))

@@ -1,0 +1,44 @@
+"""Events of a Markdown parser to HTML, by a library that is proved.
+
+A parser says what it found in a document as a list of events: a paragraph begins at byte 0, a text runs from there to
+byte 6, the paragraph ends. `compile` makes HTML of such a list:
+
+>>> from bivdrazo import Event, Name, compile
+>>> events = [
+...     Event.enter(Name.PARAGRAPH, 0),
+...     Event.enter(Name.DATA, 0),
+...     Event.exit(Name.DATA, 6),
+...     Event.exit(Name.PARAGRAPH, 6),
+... ]
+>>> compile(events, b"Hi <b>")
+'<p>Hi &lt;b&gt;</p>'
+
+Nothing is assumed of the events: whatever a parser hands in is refused or gives a text that, under the default options,
+has one reading as HTML, with links and images of permitted protocols alone.
+
+>>> compile(events[:3], b"Hi <b>")
+Traceback (most recent call last):
+    ...
+bivdrazo.errors.Refused: event 3: ORDER
+
+Calls may be made from any number of threads, and run side by side.
+"""
+
+from .calls import Event, compile, run
+from .errors import Error, Invalid, Refused, Unreadable
+from .numbers import VERSION, Kind, LineEnding, Name, Rule
+
+__all__ = [
+    "VERSION",
+    "Error",
+    "Event",
+    "Invalid",
+    "Kind",
+    "LineEnding",
+    "Name",
+    "Refused",
+    "Rule",
+    "Unreadable",
+    "compile",
+    "run",
+]

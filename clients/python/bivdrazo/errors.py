@@ -1,0 +1,53 @@
+"""Why a call has no text. Want of memory is Python's own MemoryError."""
+
+from __future__ import annotations
+
+from .numbers import OPTIONS, Rule, Status
+
+
+class Error(ValueError):
+    """What was handed in has no text."""
+
+
+class Refused(Error):
+    """The events are refused: at `index` (the number of events where something is open at the end), by `rule`."""
+
+    def __init__(self, index: int, rule: Rule) -> None:
+        super().__init__(f"event {index}: {rule.name}")
+        self.index = index
+        self.rule = rule
+
+
+class Invalid(Error):
+    """An event, a name or an option stands for none; `what` says which of the three, `index` where."""
+
+    def __init__(self, what: str, index: int) -> None:
+        told = OPTIONS[index][0] if what == "option" else str(index)
+        super().__init__(f"{what} {told}: no such value")
+        self.what = what
+        self.index = index
+
+
+class Unreadable(Error):
+    """The line with the number `line`, from 1, of a script can't be read."""
+
+    def __init__(self, line: int) -> None:
+        super().__init__(f"line {line}: unreadable")
+        self.line = line
+
+
+def error_of(status: int, index: int, rule: int) -> Exception:
+    """The error that an answer without a text stands for."""
+    if status == Status.REFUSED:
+        return Refused(index, Rule(rule))
+    if status == Status.NO_EVENT:
+        return Invalid("event", index)
+    if status == Status.NO_NAME:
+        return Invalid("name", index)
+    if status == Status.NO_OPTION:
+        return Invalid("option", index)
+    if status == Status.NO_LINE:
+        return Unreadable(index)
+    if status == Status.MEMORY:
+        return MemoryError("out of memory")
+    return RuntimeError(f"the library answered the status {status}")

@@ -1,0 +1,91 @@
+"""The shared object, and its structs as ctypes sees them."""
+
+from __future__ import annotations
+
+import ctypes
+import os
+import pathlib
+
+from .numbers import VERSION
+
+
+class CAnswer(ctypes.Structure):
+    """What a call answers."""
+
+    _fields_ = [
+        ("status", ctypes.c_uint32),
+        ("rule", ctypes.c_uint32),
+        ("index", ctypes.c_size_t),
+        ("length", ctypes.c_size_t),
+    ]
+
+
+class CEvent(ctypes.Structure):
+    """An event."""
+
+    _fields_ = [
+        ("index", ctypes.c_size_t),
+        ("name", ctypes.c_uint16),
+        ("other", ctypes.c_uint16),
+        ("kind", ctypes.c_uint8),
+        ("columns", ctypes.c_uint8),
+    ]
+
+
+class CText(ctypes.Structure):
+    """A text that may be unset; its pointer is never null."""
+
+    _fields_ = [("bytes", ctypes.c_char_p), ("length", ctypes.c_size_t), ("is_set", ctypes.c_uint8)]
+
+
+class CReference(ctypes.Structure):
+    """A named character reference."""
+
+    _fields_ = [
+        ("name", ctypes.c_char_p),
+        ("name_length", ctypes.c_size_t),
+        ("text", ctypes.c_char_p),
+        ("text_length", ctypes.c_size_t),
+    ]
+
+
+class COptions(ctypes.Structure):
+    """The options."""
+
+    _fields_ = [
+        ("allow_any_img_src", ctypes.c_uint8),
+        ("allow_dangerous_html", ctypes.c_uint8),
+        ("allow_dangerous_protocol", ctypes.c_uint8),
+        ("gfm_task_list_item_checkable", ctypes.c_uint8),
+        ("gfm_tagfilter", ctypes.c_uint8),
+        ("default_line_ending", ctypes.c_uint8),
+        ("gfm_footnote_back_label", CText),
+        ("gfm_footnote_clobber_prefix", CText),
+        ("gfm_footnote_label", CText),
+        ("gfm_footnote_label_attributes", CText),
+        ("gfm_footnote_label_tag_name", CText),
+    ]
+
+
+def load() -> ctypes.CDLL:
+    """The shared object that BIVDRAZO_LIBRARY names, or else the one in this package."""
+    path = os.environ.get("BIVDRAZO_LIBRARY") or pathlib.Path(__file__).with_name("out") / "libbivdrazo.so"
+    try:
+        library = ctypes.CDLL(str(path))
+    except OSError as error:
+        raise ImportError(f"{error}; clients/build makes it") from error
+    size, text = ctypes.c_size_t, ctypes.c_char_p
+    events, options, names = ctypes.POINTER(CEvent), ctypes.POINTER(COptions), ctypes.POINTER(CReference)
+    library.bivdrazo_compile.argtypes = [events, size, text, size, options, names, size, text, size]
+    library.bivdrazo_compile.restype = CAnswer
+    library.bivdrazo_run.argtypes = [text, size, text, size]
+    library.bivdrazo_run.restype = CAnswer
+    library.bivdrazo_version.argtypes = []
+    library.bivdrazo_version.restype = ctypes.c_uint32
+    version = library.bivdrazo_version()
+    if version != VERSION:
+        raise ImportError(f"{path} has the interface {version}, not {VERSION}")
+    return library
+
+
+LIBRARY = load()

@@ -1,0 +1,166 @@
+"""Tests of the Python module: each call, each error, and calls from many threads."""
+
+import ctypes
+import doctest
+import threading
+import unittest
+
+import bivdrazo
+from bivdrazo import Event, Invalid, LineEnding, Name, Refused, Rule, Unreadable, compile, run
+from bivdrazo.errors import error_of
+from bivdrazo.library import CAnswer, CEvent, COptions, CReference, CText
+
+
+def paragraph(length):
+    """The events of a paragraph over so many bytes."""
+    return [
+        Event.enter(Name.PARAGRAPH, 0),
+        Event.enter(Name.DATA, 0),
+        Event.exit(Name.DATA, length),
+        Event.exit(Name.PARAGRAPH, length),
+    ]
+
+
+def node(name, *children, start=0, end=0):
+    """The events of a node over some bytes."""
+    return [Event.enter(name, start), *sum(children, []), Event.exit(name, end)]
+
+
+class Texts(unittest.TestCase):
+    """Where there is a text."""
+
+    def test_paragraph(self):
+        self.assertEqual(compile(paragraph(6), b"Hi <b>"), "<p>Hi &lt;b&gt;</p>")
+
+    def test_nothing(self):
+        self.assertEqual(compile([], b""), "")
+
+    def test_bytes_that_may_change(self):
+        self.assertEqual(compile(iter(paragraph(1)), bytearray(b"a")), "<p>a</p>")
+        self.assertEqual(compile(tuple(paragraph(1)), memoryview(b"a")), "<p>a</p>")
+
+    def test_text_past_the_first_buffer(self):
+        self.assertEqual(compile(paragraph(1000), b'"' * 1000), "<p>" + "&quot;" * 1000 + "</p>")
+
+    def test_characters(self):
+        self.assertEqual(compile(paragraph(4), "\U0001fa90".encode()), "<p>\U0001fa90</p>")
+
+    def test_options(self):
+        html = node(Name.HTML_FLOW, node(Name.HTML_FLOW_DATA, end=8), end=8)
+        self.assertEqual(compile(html, b"<script>"), "&lt;script&gt;")
+        self.assertEqual(compile(html, b"<script>", allow_dangerous_html=True), "<script>")
+        self.assertEqual(compile(html, b"<script>", allow_dangerous_html=True, gfm_tagfilter=True), "&lt;script>")
+
+    def test_texts_of_options(self):
+        call = node(Name.GFM_FOOTNOTE_CALL, node(Name.LABEL, node(Name.LABEL_TEXT, end=1)))
+        prefix = node(
+            Name.GFM_FOOTNOTE_DEFINITION_PREFIX, node(Name.GFM_FOOTNOTE_DEFINITION_LABEL_STRING, end=1)
+        )
+        events = call + node(Name.GFM_FOOTNOTE_DEFINITION, prefix)
+        text = compile(
+            events,
+            b"a",
+            gfm_footnote_label="\u00e9<",
+            gfm_footnote_clobber_prefix="",
+            default_line_ending=LineEnding.CARRIAGE_RETURN,
+        )
+        self.assertIn('<a href="#fn-a" id="fnref-a"', text)
+        self.assertIn('class="sr-only">\u00e9&lt;</h2>\r<ol>\r<li id="fn-a">', text)
+
+    def test_names(self):
+        reference = node(Name.CHARACTER_REFERENCE_MARKER, end=1) + node(Name.CHARACTER_REFERENCE_VALUE, start=1, end=2)
+        self.assertEqual(compile(reference, b"&x;", names={"x": "<"}), "&lt;")
+        self.assertEqual(compile(reference, b"&x;", names=[("x", "y"), ("x", "z")]), "y")
+
+    def test_other_names(self):
+        inner = node(Name.THEMATIC_BREAK)
+        events = [Event(1, Name.OTHER, 0, other=7), *inner, Event(2, Name.OTHER, 0, other=7)]
+        self.assertEqual(compile(events, b""), "<hr />")
+
+    def test_columns(self):
+        chunk = [Event(1, Name.CODE_FLOW_CHUNK, 0, columns=2), Event(2, Name.CODE_FLOW_CHUNK, 2, columns=3)]
+        events = [Event.enter(Name.CODE_INDENTED, 0), *chunk, Event.exit(Name.CODE_INDENTED, 3)]
+        self.assertEqual(compile(events, b"\ta\t"), "<pre><code>  a\t  \n</code></pre>")
+
+    def test_script(self):
+        self.assertEqual(run(b"+ThematicBreak 0\n-ThematicBreak 3\n--\n***"), "<hr />")
+
+
+class Errors(unittest.TestCase):
+    """Where there is no text."""
+
+    def test_refused(self):
+        with self.assertRaises(Refused) as caught:
+            compile(paragraph(2), b"a")
+        self.assertEqual((caught.exception.index, caught.exception.rule), (2, Rule.PLACE))
+
+    def test_other_numbers_differ(self):
+        events = [Event(1, Name.OTHER, 0, other=7), Event(2, Name.OTHER, 0, other=8)]
+        with self.assertRaises(Refused) as caught:
+            compile(events, b"")
+        self.assertEqual((caught.exception.index, caught.exception.rule), (1, Rule.ORDER))
+
+    def test_no_event(self):
+        numbers = [(3, 1, 0), (1, 0, 0), (1, 87, 0), (0, 1, 0)]
+        past_their_fields = [(1, 1 << 16, 0), (1, 1, -1), (1, 1, 1 << 64), (1, 1, 0, 256)]
+        for event in numbers + past_their_fields:
+            with self.subTest(event=event), self.assertRaises(Invalid) as caught:
+                compile([*paragraph(0), Event(*event)], b"")
+            self.assertEqual((caught.exception.what, caught.exception.index), ("event", 4))
+
+    def test_no_line_ending(self):
+        with self.assertRaises(ValueError):
+            compile([], b"", default_line_ending=3)
+
+    def test_text_that_is_none(self):
+        with self.assertRaises(ValueError):
+            compile([], b"", gfm_footnote_label="\ud800")
+        with self.assertRaises(ValueError):
+            compile([], b"", names={"\ud800": ""})
+
+    def test_unreadable(self):
+        with self.assertRaises(Unreadable) as caught:
+            run(b"+Paragraph 0\n")
+        self.assertEqual(caught.exception.line, 2)
+
+    def test_refused_script(self):
+        with self.assertRaises(Refused) as caught:
+            run(b"+Paragraph 0\n--")
+        self.assertEqual(str(caught.exception), "event 1: ORDER")
+
+    def test_each_status(self):
+        self.assertEqual(str(error_of(3, 4, 0)), "event 4: no such value")
+        self.assertEqual(str(error_of(4, 5, 0)), "name 5: no such value")
+        self.assertEqual(str(error_of(5, 8, 0)), "option gfm_footnote_label: no such value")
+        self.assertIsInstance(error_of(7, 0, 0), MemoryError)
+        self.assertIsInstance(error_of(99, 0, 0), RuntimeError)
+
+
+class Interface(unittest.TestCase):
+    """What holds of the module as a whole."""
+
+    def test_sizes(self):
+        sizes = [(CAnswer, 24), (CEvent, 16), (CText, 24), (CReference, 32), (COptions, 128)]
+        self.assertEqual([ctypes.sizeof(type_) for type_, _ in sizes], [size for _, size in sizes])
+
+    def test_examples(self):
+        self.assertEqual(doctest.testmod(bivdrazo).failed, 0)
+
+    def test_threads(self):
+        wrong = []
+
+        def work(number):
+            wanted = f"<p>{number}</p>"
+            texts = [compile(paragraph(len(str(number))), str(number).encode()) for _ in range(300)]
+            wrong.extend(text for text in texts if text != wanted)
+
+        threads = [threading.Thread(target=work, args=(number,)) for number in range(8)]
+        for thread in threads:
+            thread.start()
+        for thread in threads:
+            thread.join()
+        self.assertEqual(wrong, [])
+
+
+if __name__ == "__main__":
+    unittest.main()

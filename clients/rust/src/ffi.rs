@@ -1,0 +1,248 @@
+//! The library's calls, as C has them.
+
+use crate::numbers::{
+    Rule, KIND_ENTER, KIND_EXIT, LINE_ENDING_CARRIAGE_RETURN,
+    LINE_ENDING_CARRIAGE_RETURN_LINE_FEED, LINE_ENDING_LINE_FEED, STATUS_MEMORY, STATUS_NO_EVENT,
+    STATUS_NO_LINE, STATUS_NO_NAME, STATUS_NO_OPTION, STATUS_OK, STATUS_REFUSED, STATUS_TOO_SHORT,
+};
+use crate::{Error, Event, Kind, LineEnding, Options};
+use std::mem::size_of;
+
+#[repr(C)]
+pub(crate) struct CAnswer {
+    pub(crate) status: u32,
+    pub(crate) rule: u32,
+    pub(crate) index: usize,
+    pub(crate) length: usize,
+}
+
+#[repr(C)]
+struct CEvent {
+    index: usize,
+    name: u16,
+    other: u16,
+    kind: u8,
+    columns: u8,
+}
+
+#[repr(C)]
+struct CText {
+    bytes: *const u8,
+    length: usize,
+    is_set: u8,
+}
+
+#[repr(C)]
+struct CReference {
+    name: *const u8,
+    name_length: usize,
+    text: *const u8,
+    text_length: usize,
+}
+
+#[repr(C)]
+struct COptions {
+    allow_any_img_src: u8,
+    allow_dangerous_html: u8,
+    allow_dangerous_protocol: u8,
+    gfm_task_list_item_checkable: u8,
+    gfm_tagfilter: u8,
+    default_line_ending: u8,
+    gfm_footnote_back_label: CText,
+    gfm_footnote_clobber_prefix: CText,
+    gfm_footnote_label: CText,
+    gfm_footnote_label_attributes: CText,
+    gfm_footnote_label_tag_name: CText,
+}
+
+const _: () = assert!(size_of::<CAnswer>() == 24);
+const _: () = assert!(size_of::<CEvent>() == 16);
+const _: () = assert!(size_of::<CText>() == 24);
+const _: () = assert!(size_of::<CReference>() == 32);
+const _: () = assert!(size_of::<COptions>() == 128);
+
+extern "C" {
+    fn bivdrazo_compile(
+        events: *const CEvent,
+        events_length: usize,
+        bytes: *const u8,
+        bytes_length: usize,
+        options: *const COptions,
+        names: *const CReference,
+        names_length: usize,
+        buffer: *mut u8,
+        buffer_length: usize,
+    ) -> CAnswer;
+    fn bivdrazo_run(
+        script: *const u8,
+        script_length: usize,
+        buffer: *mut u8,
+        buffer_length: usize,
+    ) -> CAnswer;
+    fn bivdrazo_version() -> u32;
+}
+
+/// As `crate::compile`.
+pub(crate) fn compile(
+    events: &[Event],
+    bytes: &[u8],
+    options: &Options,
+    names: &[(&str, &str)],
+) -> Result<String, Error> {
+    let events = collect(events.iter().map(c_event))?;
+    let names = collect(names.iter().map(c_reference))?;
+    let options = c_options(options);
+    let room = first_size(events.len(), bytes.len());
+    into_text(room, |buffer| {
+        // SAFETY: the pointers are those of slices, of a struct that refers to strings of the caller's, and of a buffer
+        // that nothing else refers to; each goes with its own length and isn't null.
+        unsafe {
+            bivdrazo_compile(
+                events.as_ptr(),
+                events.len(),
+                bytes.as_ptr(),
+                bytes.len(),
+                &options,
+                names.as_ptr(),
+                names.len(),
+                buffer.as_mut_ptr(),
+                buffer.capacity(),
+            )
+        }
+    })
+}
+
+/// As `crate::run`.
+pub(crate) fn run(script: &[u8]) -> Result<String, Error> {
+    into_text(first_size(0, script.len()), |buffer| {
+        // SAFETY: the pointers are those of a slice and of a buffer that nothing else refers to, with their lengths.
+        unsafe {
+            bivdrazo_run(
+                script.as_ptr(),
+                script.len(),
+                buffer.as_mut_ptr(),
+                buffer.capacity(),
+            )
+        }
+    })
+}
+
+/// As `crate::library_version`.
+pub(crate) fn version() -> u32 {
+    // SAFETY: the call takes nothing and reads nothing.
+    unsafe { bivdrazo_version() }
+}
+
+/// A first size of the buffer that most texts fit into.
+fn first_size(events: usize, bytes: usize) -> usize {
+    events
+        .saturating_mul(8)
+        .saturating_add(bytes.saturating_mul(2))
+        .saturating_add(64)
+}
+
+/// The text that a call writes into a buffer, with a second call where the first buffer is too short.
+fn into_text(room: usize, call: impl Fn(&mut Vec<u8>) -> CAnswer) -> Result<String, Error> {
+    let mut buffer = buffer_of(room)?;
+    let mut answer = call(&mut buffer);
+    if answer.status == STATUS_TOO_SHORT {
+        buffer = buffer_of(answer.length)?;
+        answer = call(&mut buffer);
+    }
+    if answer.status != STATUS_OK || answer.length > buffer.capacity() {
+        return Err(error_of(&answer));
+    }
+    // SAFETY: under this status the library wrote the buffer's first `length` bytes.
+    unsafe { buffer.set_len(answer.length) };
+    String::from_utf8(buffer).map_err(|_| Error::Unknown)
+}
+
+/// An empty buffer with room for so many bytes.
+fn buffer_of(room: usize) -> Result<Vec<u8>, Error> {
+    let mut buffer = Vec::new();
+    buffer.try_reserve_exact(room).map_err(|_| Error::Memory)?;
+    Ok(buffer)
+}
+
+/// The elements, where memory is found for them.
+fn collect<T>(elements: impl ExactSizeIterator<Item = T>) -> Result<Vec<T>, Error> {
+    let mut collected = Vec::new();
+    collected
+        .try_reserve_exact(elements.len())
+        .map_err(|_| Error::Memory)?;
+    collected.extend(elements);
+    Ok(collected)
+}
+
+/// The error that an answer without a text stands for.
+pub(crate) fn error_of(answer: &CAnswer) -> Error {
+    match answer.status {
+        STATUS_REFUSED => match Rule::from_number(answer.rule) {
+            Some(rule) => Error::Refused {
+                index: answer.index,
+                rule,
+            },
+            None => Error::Unknown,
+        },
+        STATUS_NO_EVENT => Error::Event(answer.index),
+        STATUS_NO_NAME => Error::Name(answer.index),
+        STATUS_NO_OPTION => Error::Option(answer.index),
+        STATUS_NO_LINE => Error::Line(answer.index),
+        STATUS_MEMORY => Error::Memory,
+        _ => Error::Unknown,
+    }
+}
+
+fn c_event(event: &Event) -> CEvent {
+    let (name, other) = event.name.numbers();
+    let kind = match event.kind {
+        Kind::Enter => KIND_ENTER,
+        Kind::Exit => KIND_EXIT,
+    };
+    CEvent {
+        index: event.index,
+        name,
+        other,
+        kind,
+        columns: event.columns,
+    }
+}
+
+fn c_reference(&(name, text): &(&str, &str)) -> CReference {
+    CReference {
+        name: name.as_ptr(),
+        name_length: name.len(),
+        text: text.as_ptr(),
+        text_length: text.len(),
+    }
+}
+
+fn c_text(text: &Option<String>) -> CText {
+    let value = text.as_deref().unwrap_or("");
+    CText {
+        bytes: value.as_ptr(),
+        length: value.len(),
+        is_set: u8::from(text.is_some()),
+    }
+}
+
+/// The options as C has them; they refer to the texts of `options`.
+fn c_options(options: &Options) -> COptions {
+    COptions {
+        allow_any_img_src: u8::from(options.allow_any_img_src),
+        allow_dangerous_html: u8::from(options.allow_dangerous_html),
+        allow_dangerous_protocol: u8::from(options.allow_dangerous_protocol),
+        gfm_task_list_item_checkable: u8::from(options.gfm_task_list_item_checkable),
+        gfm_tagfilter: u8::from(options.gfm_tagfilter),
+        default_line_ending: match options.default_line_ending {
+            LineEnding::LineFeed => LINE_ENDING_LINE_FEED,
+            LineEnding::CarriageReturn => LINE_ENDING_CARRIAGE_RETURN,
+            LineEnding::CarriageReturnLineFeed => LINE_ENDING_CARRIAGE_RETURN_LINE_FEED,
+        },
+        gfm_footnote_back_label: c_text(&options.gfm_footnote_back_label),
+        gfm_footnote_clobber_prefix: c_text(&options.gfm_footnote_clobber_prefix),
+        gfm_footnote_label: c_text(&options.gfm_footnote_label),
+        gfm_footnote_label_attributes: c_text(&options.gfm_footnote_label_attributes),
+        gfm_footnote_label_tag_name: c_text(&options.gfm_footnote_label_tag_name),
+    }
+}

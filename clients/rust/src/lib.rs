@@ -1,0 +1,221 @@
+//! Events of a Markdown parser to HTML, by a library that is proved.
+//!
+//! A parser says what it found in a document as a list of events: a paragraph begins at byte 0, a text runs from there
+//! to byte 6, the paragraph ends. [`compile`] makes HTML of such a list. Nothing is assumed of the events: whatever a
+//! parser hands in is refused or gives a text that, under the default options, has one reading as HTML, with links and
+//! images of permitted protocols alone.
+//!
+//! ```
+//! use bivdrazo::{compile, Event, Name, Options};
+//!
+//! let events = [
+//!     Event::enter(Name::Paragraph, 0),
+//!     Event::enter(Name::Data, 0),
+//!     Event::exit(Name::Data, 6),
+//!     Event::exit(Name::Paragraph, 6),
+//! ];
+//! let html = compile(&events, b"Hi <b>", &Options::default(), &[])?;
+//! assert_eq!(html, "<p>Hi &lt;b&gt;</p>");
+//! # Ok::<(), bivdrazo::Error>(())
+//! ```
+//!
+//! There is no state between calls: any number of threads may call at once.
+
+mod ffi;
+mod numbers;
+
+pub use numbers::{Name, Rule, VERSION};
+
+use std::error;
+use std::fmt;
+
+/// Whether an event begins a node or ends it.
+#[derive(Clone, Copy, Debug, Eq, Hash, PartialEq)]
+pub enum Kind {
+    /// The node begins here.
+    Enter,
+    /// The node ends here.
+    Exit,
+}
+
+/// At the byte `index` of the document a node begins or ends.
+#[derive(Clone, Copy, Debug, Eq, Hash, PartialEq)]
+pub struct Event {
+    /// Whether it begins or ends.
+    pub kind: Kind,
+    /// What it is.
+    pub name: Name,
+    /// How many of the document's bytes stand before the event.
+    pub index: usize,
+    /// How many columns of a tab at `index`, 0 to 4, are already taken; 0 where there is no tab.
+    pub columns: u8,
+}
+
+impl Event {
+    /// The node begins before the byte `index`.
+    pub fn enter(name: Name, index: usize) -> Event {
+        Event {
+            kind: Kind::Enter,
+            name,
+            index,
+            columns: 0,
+        }
+    }
+
+    /// The node ends before the byte `index`.
+    pub fn exit(name: Name, index: usize) -> Event {
+        Event {
+            kind: Kind::Exit,
+            name,
+            index,
+            columns: 0,
+        }
+    }
+}
+
+/// How a line ends.
+#[derive(Clone, Copy, Debug, Default, Eq, Hash, PartialEq)]
+pub enum LineEnding {
+    /// `\n`.
+    #[default]
+    LineFeed,
+    /// `\r`.
+    CarriageReturn,
+    /// `\r\n`.
+    CarriageReturnLineFeed,
+}
+
+/// What may be chosen. The default is safe.
+///
+/// The text is safe where `allow_any_img_src`, `allow_dangerous_html` and `allow_dangerous_protocol` are off, and
+/// `gfm_footnote_label_attributes` and `gfm_footnote_label_tag_name` are `None`; the others are free.
+///
+/// ```
+/// use bivdrazo::{LineEnding, Options};
+///
+/// let options = Options {
+///     default_line_ending: LineEnding::CarriageReturn,
+///     ..Options::default()
+/// };
+/// assert!(!options.allow_dangerous_html);
+/// ```
+#[derive(Clone, Debug, Default, Eq, PartialEq)]
+pub struct Options {
+    /// Let images have any source.
+    pub allow_any_img_src: bool,
+    /// Leave HTML of the document as it is.
+    pub allow_dangerous_html: bool,
+    /// Let links and images have any protocol.
+    pub allow_dangerous_protocol: bool,
+    /// Print tasks without `disabled`.
+    pub gfm_task_list_item_checkable: bool,
+    /// Disarm some tags of HTML that is left as it is.
+    pub gfm_tagfilter: bool,
+    /// How lines end where the document has no line ending.
+    pub default_line_ending: LineEnding,
+    /// The `aria-label` of a way back; else `Back to content`.
+    pub gfm_footnote_back_label: Option<String>,
+    /// What footnotes' ids begin with; else `user-content-`.
+    pub gfm_footnote_clobber_prefix: Option<String>,
+    /// The heading of the footnotes; else `Footnotes`.
+    pub gfm_footnote_label: Option<String>,
+    /// That heading's attributes, not escaped; else `class="sr-only"`.
+    pub gfm_footnote_label_attributes: Option<String>,
+    /// That heading's tag name; else `h2`.
+    pub gfm_footnote_label_tag_name: Option<String>,
+}
+
+/// Why there is no text.
+#[derive(Clone, Copy, Debug, Eq, PartialEq)]
+pub enum Error {
+    /// The events are refused: at `index` (the number of events where something is open at the end), by `rule`.
+    Refused {
+        /// The index of the event.
+        index: usize,
+        /// What it breaks.
+        rule: Rule,
+    },
+    /// The event at this index stands for none; this crate hands in none such.
+    Event(usize),
+    /// The character reference at this index isn't UTF-8; this crate hands in none such.
+    Name(usize),
+    /// The option with this number stands for none; this crate hands in none such.
+    Option(usize),
+    /// The line with this number, from 1, of a script can't be read.
+    Line(usize),
+    /// There is no more memory.
+    Memory,
+    /// The library answered what this crate doesn't know: it is of another version.
+    Unknown,
+}
+
+impl fmt::Display for Error {
+    fn fmt(&self, formatter: &mut fmt::Formatter) -> fmt::Result {
+        match self {
+            Error::Refused { index, rule } => write!(formatter, "event {index}: {rule:?}"),
+            Error::Event(index) => write!(formatter, "event {index}: no such kind or name"),
+            Error::Name(index) => write!(formatter, "character reference {index}: not UTF-8"),
+            Error::Option(number) => {
+                let name = numbers::OPTIONS.get(*number).unwrap_or(&"unknown");
+                write!(formatter, "option {name}: no such value")
+            }
+            Error::Line(number) => write!(formatter, "line {number}: unreadable"),
+            Error::Memory => write!(formatter, "out of memory"),
+            Error::Unknown => write!(formatter, "a library of another version"),
+        }
+    }
+}
+
+impl error::Error for Error {}
+
+/// The HTML of a list of events over a document's bytes.
+///
+/// `names` are the character references by name that a document may use, each with what it stands for; of two with one
+/// name the first counts. The bytes need not be UTF-8 but where events read them as text.
+///
+/// # Errors
+///
+/// [`Error::Refused`] where the events are refused, and [`Error::Memory`].
+///
+/// ```
+/// use bivdrazo::{compile, Error, Event, Name, Options, Rule};
+///
+/// let open = [Event::enter(Name::Paragraph, 0)];
+/// let refused = Error::Refused { index: 1, rule: Rule::Order };
+/// assert_eq!(compile(&open, b"", &Options::default(), &[]), Err(refused));
+/// ```
+pub fn compile(
+    events: &[Event],
+    bytes: &[u8],
+    options: &Options,
+    names: &[(&str, &str)],
+) -> Result<String, Error> {
+    ffi::compile(events, bytes, options, names)
+}
+
+/// The HTML of an event script: lines of options and events, a line `--`, the document.
+///
+/// # Errors
+///
+/// [`Error::Line`] where a line can't be read, [`Error::Refused`] where the events are refused, and [`Error::Memory`].
+///
+/// ```
+/// let script = b"+ThematicBreak 0\n-ThematicBreak 3\n--\n***";
+/// assert_eq!(bivdrazo::run(script), Ok("<hr />".to_string()));
+/// assert_eq!(bivdrazo::run(b""), Err(bivdrazo::Error::Line(1)));
+/// ```
+pub fn run(script: &[u8]) -> Result<String, Error> {
+    ffi::run(script)
+}
+
+/// The number of the interface that the library was built with: it is to be [`VERSION`].
+///
+/// ```
+/// assert_eq!(bivdrazo::library_version(), bivdrazo::VERSION);
+/// ```
+pub fn library_version() -> u32 {
+    ffi::version()
+}
+
+#[cfg(test)]
+mod tests;

@@ -1,0 +1,369 @@
+// Written by clients/numbers/generate from numbers.txt. Don't edit it.
+
+/// What an event enters or exits.
+#[derive(Clone, Copy, Debug, Eq, Hash, PartialEq)]
+pub enum Name {
+    // Links that are written out as such: `<a@b.c>`, `<https://a.b>`, and the literal ones of GFM.
+    AutolinkEmail,
+    AutolinkProtocol,
+    GfmAutolinkLiteralEmail,
+    GfmAutolinkLiteralMailto,
+    GfmAutolinkLiteralProtocol,
+    GfmAutolinkLiteralWww,
+    GfmAutolinkLiteralXmpp,
+    // Line endings: a LineEnding is printed where the rules say so, a BlankLineEnding makes lists loose and ends the
+    // text with a line ending.
+    LineEnding,
+    BlankLineEnding,
+    // Containers: quotes, lists with their items, definitions of footnotes.
+    BlockQuote,
+    BlockQuotePrefix,
+    ListOrdered,
+    ListUnordered,
+    ListItem,
+    ListItemPrefix,
+    ListItemValue,
+    ListItemMarker,
+    GfmFootnoteDefinition,
+    GfmFootnoteDefinitionPrefix,
+    GfmFootnoteDefinitionLabelString,
+    // Characters: text as it is, escaped characters, references such as `&amp;` by their parts.
+    Data,
+    CharacterEscapeValue,
+    CharacterReferenceMarker,
+    CharacterReferenceMarkerNumeric,
+    CharacterReferenceMarkerHexadecimal,
+    CharacterReferenceValue,
+    // Code and math, as blocks.
+    CodeIndented,
+    CodeFenced,
+    CodeFencedFence,
+    CodeFencedFenceInfo,
+    CodeFencedFenceMeta,
+    CodeFlowChunk,
+    MathFlow,
+    MathFlowFence,
+    MathFlowFenceMeta,
+    MathFlowChunk,
+    // Code, math and HTML in text, HTML as a block.
+    CodeText,
+    CodeTextData,
+    MathText,
+    MathTextData,
+    HtmlFlow,
+    HtmlFlowData,
+    HtmlText,
+    HtmlTextData,
+    // Definitions of links: `[label]: destination "title"`.
+    Definition,
+    DefinitionLabelString,
+    DefinitionDestinationString,
+    DefinitionTitleString,
+    // Links, images, calls of footnotes.
+    Link,
+    Image,
+    Label,
+    LabelText,
+    Resource,
+    ResourceDestinationString,
+    ResourceTitleString,
+    ReferenceString,
+    GfmFootnoteCall,
+    // Headings: `# text`, or a text that is underlined.
+    HeadingAtx,
+    HeadingAtxSequence,
+    HeadingAtxText,
+    HeadingSetextText,
+    HeadingSetextUnderlineSequence,
+    // Tables.
+    GfmTable,
+    GfmTableHead,
+    GfmTableBody,
+    GfmTableRow,
+    GfmTableCell,
+    GfmTableDelimiterRow,
+    GfmTableDelimiterCellValue,
+    GfmTableDelimiterMarker,
+    // Spans, tasks, breaks, paragraphs, and what prints nothing.
+    Emphasis,
+    Strong,
+    GfmStrikethrough,
+    GfmTaskListItemCheck,
+    GfmTaskListItemValueChecked,
+    HardBreakEscape,
+    HardBreakTrailing,
+    Paragraph,
+    ThematicBreak,
+    Frontmatter,
+    SpaceOrTab,
+    // MDX: always refused.
+    MdxEsm,
+    MdxFlowExpression,
+    MdxTextExpression,
+    MdxJsxFlowTag,
+    MdxJsxTextTag,
+    /// Every other name of a parser, by a number of its own in the field `other`.
+    Other(u16),
+}
+
+impl Name {
+    /// The number of the name, and the number that an other name has of its own.
+    pub(crate) fn numbers(self) -> (u16, u16) {
+        match self {
+            Name::AutolinkEmail => (1, 0),
+            Name::AutolinkProtocol => (2, 0),
+            Name::GfmAutolinkLiteralEmail => (3, 0),
+            Name::GfmAutolinkLiteralMailto => (4, 0),
+            Name::GfmAutolinkLiteralProtocol => (5, 0),
+            Name::GfmAutolinkLiteralWww => (6, 0),
+            Name::GfmAutolinkLiteralXmpp => (7, 0),
+            Name::LineEnding => (8, 0),
+            Name::BlankLineEnding => (9, 0),
+            Name::BlockQuote => (10, 0),
+            Name::BlockQuotePrefix => (11, 0),
+            Name::ListOrdered => (12, 0),
+            Name::ListUnordered => (13, 0),
+            Name::ListItem => (14, 0),
+            Name::ListItemPrefix => (15, 0),
+            Name::ListItemValue => (16, 0),
+            Name::ListItemMarker => (17, 0),
+            Name::GfmFootnoteDefinition => (18, 0),
+            Name::GfmFootnoteDefinitionPrefix => (19, 0),
+            Name::GfmFootnoteDefinitionLabelString => (20, 0),
+            Name::Data => (21, 0),
+            Name::CharacterEscapeValue => (22, 0),
+            Name::CharacterReferenceMarker => (23, 0),
+            Name::CharacterReferenceMarkerNumeric => (24, 0),
+            Name::CharacterReferenceMarkerHexadecimal => (25, 0),
+            Name::CharacterReferenceValue => (26, 0),
+            Name::CodeIndented => (27, 0),
+            Name::CodeFenced => (28, 0),
+            Name::CodeFencedFence => (29, 0),
+            Name::CodeFencedFenceInfo => (30, 0),
+            Name::CodeFencedFenceMeta => (31, 0),
+            Name::CodeFlowChunk => (32, 0),
+            Name::MathFlow => (33, 0),
+            Name::MathFlowFence => (34, 0),
+            Name::MathFlowFenceMeta => (35, 0),
+            Name::MathFlowChunk => (36, 0),
+            Name::CodeText => (37, 0),
+            Name::CodeTextData => (38, 0),
+            Name::MathText => (39, 0),
+            Name::MathTextData => (40, 0),
+            Name::HtmlFlow => (41, 0),
+            Name::HtmlFlowData => (42, 0),
+            Name::HtmlText => (43, 0),
+            Name::HtmlTextData => (44, 0),
+            Name::Definition => (45, 0),
+            Name::DefinitionLabelString => (46, 0),
+            Name::DefinitionDestinationString => (47, 0),
+            Name::DefinitionTitleString => (48, 0),
+            Name::Link => (49, 0),
+            Name::Image => (50, 0),
+            Name::Label => (51, 0),
+            Name::LabelText => (52, 0),
+            Name::Resource => (53, 0),
+            Name::ResourceDestinationString => (54, 0),
+            Name::ResourceTitleString => (55, 0),
+            Name::ReferenceString => (56, 0),
+            Name::GfmFootnoteCall => (57, 0),
+            Name::HeadingAtx => (58, 0),
+            Name::HeadingAtxSequence => (59, 0),
+            Name::HeadingAtxText => (60, 0),
+            Name::HeadingSetextText => (61, 0),
+            Name::HeadingSetextUnderlineSequence => (62, 0),
+            Name::GfmTable => (63, 0),
+            Name::GfmTableHead => (64, 0),
+            Name::GfmTableBody => (65, 0),
+            Name::GfmTableRow => (66, 0),
+            Name::GfmTableCell => (67, 0),
+            Name::GfmTableDelimiterRow => (68, 0),
+            Name::GfmTableDelimiterCellValue => (69, 0),
+            Name::GfmTableDelimiterMarker => (70, 0),
+            Name::Emphasis => (71, 0),
+            Name::Strong => (72, 0),
+            Name::GfmStrikethrough => (73, 0),
+            Name::GfmTaskListItemCheck => (74, 0),
+            Name::GfmTaskListItemValueChecked => (75, 0),
+            Name::HardBreakEscape => (76, 0),
+            Name::HardBreakTrailing => (77, 0),
+            Name::Paragraph => (78, 0),
+            Name::ThematicBreak => (79, 0),
+            Name::Frontmatter => (80, 0),
+            Name::SpaceOrTab => (81, 0),
+            Name::MdxEsm => (82, 0),
+            Name::MdxFlowExpression => (83, 0),
+            Name::MdxTextExpression => (84, 0),
+            Name::MdxJsxFlowTag => (85, 0),
+            Name::MdxJsxTextTag => (86, 0),
+            Name::Other(own) => (65535, own),
+        }
+    }
+}
+
+/// Every name but the others, by its number.
+#[cfg(test)]
+pub(crate) const NAMES: &[Name] = &[
+    Name::AutolinkEmail,
+    Name::AutolinkProtocol,
+    Name::GfmAutolinkLiteralEmail,
+    Name::GfmAutolinkLiteralMailto,
+    Name::GfmAutolinkLiteralProtocol,
+    Name::GfmAutolinkLiteralWww,
+    Name::GfmAutolinkLiteralXmpp,
+    Name::LineEnding,
+    Name::BlankLineEnding,
+    Name::BlockQuote,
+    Name::BlockQuotePrefix,
+    Name::ListOrdered,
+    Name::ListUnordered,
+    Name::ListItem,
+    Name::ListItemPrefix,
+    Name::ListItemValue,
+    Name::ListItemMarker,
+    Name::GfmFootnoteDefinition,
+    Name::GfmFootnoteDefinitionPrefix,
+    Name::GfmFootnoteDefinitionLabelString,
+    Name::Data,
+    Name::CharacterEscapeValue,
+    Name::CharacterReferenceMarker,
+    Name::CharacterReferenceMarkerNumeric,
+    Name::CharacterReferenceMarkerHexadecimal,
+    Name::CharacterReferenceValue,
+    Name::CodeIndented,
+    Name::CodeFenced,
+    Name::CodeFencedFence,
+    Name::CodeFencedFenceInfo,
+    Name::CodeFencedFenceMeta,
+    Name::CodeFlowChunk,
+    Name::MathFlow,
+    Name::MathFlowFence,
+    Name::MathFlowFenceMeta,
+    Name::MathFlowChunk,
+    Name::CodeText,
+    Name::CodeTextData,
+    Name::MathText,
+    Name::MathTextData,
+    Name::HtmlFlow,
+    Name::HtmlFlowData,
+    Name::HtmlText,
+    Name::HtmlTextData,
+    Name::Definition,
+    Name::DefinitionLabelString,
+    Name::DefinitionDestinationString,
+    Name::DefinitionTitleString,
+    Name::Link,
+    Name::Image,
+    Name::Label,
+    Name::LabelText,
+    Name::Resource,
+    Name::ResourceDestinationString,
+    Name::ResourceTitleString,
+    Name::ReferenceString,
+    Name::GfmFootnoteCall,
+    Name::HeadingAtx,
+    Name::HeadingAtxSequence,
+    Name::HeadingAtxText,
+    Name::HeadingSetextText,
+    Name::HeadingSetextUnderlineSequence,
+    Name::GfmTable,
+    Name::GfmTableHead,
+    Name::GfmTableBody,
+    Name::GfmTableRow,
+    Name::GfmTableCell,
+    Name::GfmTableDelimiterRow,
+    Name::GfmTableDelimiterCellValue,
+    Name::GfmTableDelimiterMarker,
+    Name::Emphasis,
+    Name::Strong,
+    Name::GfmStrikethrough,
+    Name::GfmTaskListItemCheck,
+    Name::GfmTaskListItemValueChecked,
+    Name::HardBreakEscape,
+    Name::HardBreakTrailing,
+    Name::Paragraph,
+    Name::ThematicBreak,
+    Name::Frontmatter,
+    Name::SpaceOrTab,
+    Name::MdxEsm,
+    Name::MdxFlowExpression,
+    Name::MdxTextExpression,
+    Name::MdxJsxFlowTag,
+    Name::MdxJsxTextTag,
+];
+
+/// Why events are refused.
+#[derive(Clone, Copy, Debug, Eq, Hash, PartialEq)]
+pub enum Rule {
+    /// No tree's events begin so, or a node or a group is open at the end.
+    Order,
+    /// A name of MDX.
+    Mdx,
+    /// A place that is read doesn't fit the bytes, or isn't UTF-8.
+    Place,
+    /// The text of a line ending is none.
+    LineEnding,
+    /// The first mark of a heading has not a length of 1 to 6.
+    HeadingMark,
+    /// The value of an ordered list's first item is no number under 2^32.
+    ListNumber,
+    /// A character reference doesn't decode.
+    CharacterReference,
+    /// A link or an image has an identifier that no definition has.
+    Definition,
+    /// A footnote call has an identifier that no footnote definition has.
+    Footnote,
+    /// A link or an image leads nowhere.
+    Target,
+}
+
+impl Rule {
+    /// The rule with that number.
+    pub(crate) fn from_number(number: u32) -> Option<Rule> {
+        match number {
+            1 => Some(Rule::Order),
+            2 => Some(Rule::Mdx),
+            3 => Some(Rule::Place),
+            4 => Some(Rule::LineEnding),
+            5 => Some(Rule::HeadingMark),
+            6 => Some(Rule::ListNumber),
+            7 => Some(Rule::CharacterReference),
+            8 => Some(Rule::Definition),
+            9 => Some(Rule::Footnote),
+            10 => Some(Rule::Target),
+            _ => None,
+        }
+    }
+}
+
+/// The number of this interface: it changes when a layout or a number changes.
+pub const VERSION: u32 = 1;
+
+pub(crate) const STATUS_OK: u32 = 0;
+pub(crate) const STATUS_TOO_SHORT: u32 = 1;
+pub(crate) const STATUS_REFUSED: u32 = 2;
+pub(crate) const STATUS_NO_EVENT: u32 = 3;
+pub(crate) const STATUS_NO_NAME: u32 = 4;
+pub(crate) const STATUS_NO_OPTION: u32 = 5;
+pub(crate) const STATUS_NO_LINE: u32 = 6;
+pub(crate) const STATUS_MEMORY: u32 = 7;
+pub(crate) const KIND_ENTER: u8 = 1;
+pub(crate) const KIND_EXIT: u8 = 2;
+pub(crate) const LINE_ENDING_LINE_FEED: u8 = 0;
+pub(crate) const LINE_ENDING_CARRIAGE_RETURN: u8 = 1;
+pub(crate) const LINE_ENDING_CARRIAGE_RETURN_LINE_FEED: u8 = 2;
+
+/// The names of the options, by their numbers.
+pub(crate) const OPTIONS: &[&str] = &[
+    "allow_any_img_src",
+    "allow_dangerous_html",
+    "allow_dangerous_protocol",
+    "gfm_task_list_item_checkable",
+    "gfm_tagfilter",
+    "default_line_ending",
+    "gfm_footnote_back_label",
+    "gfm_footnote_clobber_prefix",
+    "gfm_footnote_label",
+    "gfm_footnote_label_attributes",
+    "gfm_footnote_label_tag_name",
+];

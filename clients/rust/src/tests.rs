@@ -1,0 +1,173 @@
+//! Each call, each error, and calls from many threads.
+
+use crate::ffi::{error_of, CAnswer};
+use crate::numbers::NAMES;
+use crate::{compile, run, Error, Event, LineEnding, Name, Options, Rule};
+use std::thread;
+
+/// The events of a node over some bytes, with others in it.
+fn node(name: Name, start: usize, end: usize, children: &[Event]) -> Vec<Event> {
+    let mut events = vec![Event::enter(name, start)];
+    events.extend_from_slice(children);
+    events.push(Event::exit(name, end));
+    events
+}
+
+/// The events of a paragraph over so many bytes.
+fn paragraph(length: usize) -> Vec<Event> {
+    node(
+        Name::Paragraph,
+        0,
+        length,
+        &node(Name::Data, 0, length, &[]),
+    )
+}
+
+fn with_defaults(events: &[Event], bytes: &[u8]) -> Result<String, Error> {
+    compile(events, bytes, &Options::default(), &[])
+}
+
+fn error(status: u32, rule: u32, index: usize) -> Error {
+    error_of(&CAnswer {
+        status,
+        rule,
+        index,
+        length: 0,
+    })
+}
+
+#[test]
+fn texts() {
+    assert_eq!(
+        with_defaults(&paragraph(6), b"Hi <b>").unwrap(),
+        "<p>Hi &lt;b&gt;</p>"
+    );
+    assert_eq!(with_defaults(&[], b"").unwrap(), "");
+}
+
+#[test]
+fn texts_past_the_first_buffer() {
+    let wanted = format!("<p>{}</p>", "&quot;".repeat(1000));
+    assert_eq!(
+        with_defaults(&paragraph(1000), &[b'"'; 1000]).unwrap(),
+        wanted
+    );
+}
+
+#[test]
+fn options() {
+    let html = node(Name::HtmlFlow, 0, 8, &node(Name::HtmlFlowData, 0, 8, &[]));
+    let mut options = Options {
+        allow_dangerous_html: true,
+        ..Options::default()
+    };
+    assert_eq!(
+        compile(&html, b"<script>", &options, &[]).unwrap(),
+        "<script>"
+    );
+    options.gfm_tagfilter = true;
+    assert_eq!(
+        compile(&html, b"<script>", &options, &[]).unwrap(),
+        "&lt;script>"
+    );
+    assert_eq!(with_defaults(&html, b"<script>").unwrap(), "&lt;script&gt;");
+}
+
+#[test]
+fn texts_of_options() {
+    let label = node(Name::LabelText, 0, 1, &[]);
+    let mut events = node(
+        Name::GfmFootnoteCall,
+        0,
+        1,
+        &node(Name::Label, 0, 1, &label),
+    );
+    let string = node(Name::GfmFootnoteDefinitionLabelString, 0, 1, &[]);
+    let prefix = node(Name::GfmFootnoteDefinitionPrefix, 0, 1, &string);
+    events.extend(node(Name::GfmFootnoteDefinition, 0, 1, &prefix));
+    let options = Options {
+        default_line_ending: LineEnding::CarriageReturn,
+        gfm_footnote_clobber_prefix: Some(String::new()),
+        gfm_footnote_label: Some("é<".to_string()),
+        ..Options::default()
+    };
+    let text = compile(&events, b"a", &options, &[]).unwrap();
+    assert!(text.contains("<a href=\"#fn-a\" id=\"fnref-a\""), "{text}");
+    assert!(
+        text.contains("class=\"sr-only\">é&lt;</h2>\r<ol>\r<li id=\"fn-a\">"),
+        "{text}"
+    );
+}
+
+#[test]
+fn names_of_references() {
+    let mut events = node(Name::CharacterReferenceMarker, 0, 1, &[]);
+    events.extend(node(Name::CharacterReferenceValue, 1, 2, &[]));
+    let names = [("x", "<"), ("x", "y")];
+    assert_eq!(
+        compile(&events, b"&x;", &Options::default(), &names).unwrap(),
+        "&lt;"
+    );
+}
+
+#[test]
+fn other_names() {
+    let inner = node(Name::ThematicBreak, 0, 0, &[]);
+    assert_eq!(
+        with_defaults(&node(Name::Other(7), 0, 0, &inner), b"").unwrap(),
+        "<hr />"
+    );
+    let mut events = node(Name::Other(7), 0, 0, &[]);
+    events[1].name = Name::Other(8);
+    let refused = Error::Refused {
+        index: 1,
+        rule: Rule::Order,
+    };
+    assert_eq!(with_defaults(&events, b""), Err(refused));
+}
+
+#[test]
+fn refusals() {
+    let refused = Error::Refused {
+        index: 2,
+        rule: Rule::Place,
+    };
+    assert_eq!(with_defaults(&paragraph(2), b"a"), Err(refused));
+    assert_eq!(run(b"+Paragraph 0\n"), Err(Error::Line(2)));
+    assert_eq!(refused.to_string(), "event 2: Place");
+}
+
+#[test]
+fn statuses() {
+    assert_eq!(error(2, 11, 0), Error::Unknown);
+    assert_eq!(error(3, 0, 4), Error::Event(4));
+    assert_eq!(error(4, 0, 5), Error::Name(5));
+    assert_eq!(
+        error(5, 0, 8).to_string(),
+        "option gfm_footnote_label: no such value"
+    );
+    assert_eq!(error(7, 0, 0), Error::Memory);
+    assert_eq!(error(99, 0, 0), Error::Unknown);
+}
+
+#[test]
+fn numbers_of_names() {
+    let numbers: Vec<u16> = NAMES.iter().map(|name| name.numbers().0).collect();
+    let in_order: Vec<u16> = (1..=86).collect();
+    assert_eq!(numbers, in_order);
+    assert_eq!(Name::Other(3).numbers(), (65535, 3));
+}
+
+#[test]
+fn threads() {
+    let work = |number: usize| {
+        let text = number.to_string();
+        let wanted = format!("<p>{text}</p>");
+        (0..500)
+            .all(|_| with_defaults(&paragraph(text.len()), text.as_bytes()) == Ok(wanted.clone()))
+    };
+    let threads: Vec<_> = (0..8)
+        .map(|number| thread::spawn(move || work(number)))
+        .collect();
+    assert!(threads.into_iter().all(|thread| thread.join().unwrap()));
+}

@@ -1,0 +1,11 @@
+pub mod Numbers
+pub mod Names
+pub mod Standing
+pub mod Events
+pub mod References
+pub mod Options
+pub mod Rendered
+pub mod Compiled
+pub mod Failures
+pub mod Buffer
+pub mod Answers

@@ -1,0 +1,52 @@
+-- The numbers that C reads in an answer.
+use Rattle.std.specs.Prelude.{ℕ}
+use Rattle.md_tree.specs.declared.rule.Rule.{Rule}
+use Rattle.md_tree.specs.declared.rule.Rule.TheVariants.{Order, Mdx, Place, LineEnding, HeadingMark, ListNumber, CharacterReference, Definition, Footnote, Target}
+
+-- ---- statuses
+
+-- the text is in the buffer
+abbrev pub written : ℕ
+written = 0
+
+-- the buffer is too short
+abbrev pub too_short : ℕ
+too_short = 1
+
+-- an event is refused
+abbrev pub refused : ℕ
+refused = 2
+
+-- an event stands for none
+abbrev pub no_event : ℕ
+no_event = 3
+
+-- a named character reference stands for none
+abbrev pub no_name : ℕ
+no_name = 4
+
+-- an option stands for none
+abbrev pub no_option : ℕ
+no_option = 5
+
+-- a line of a script can't be read
+abbrev pub no_line : ℕ
+no_line = 6
+
+-- there is no more memory
+abbrev pub no_memory : ℕ
+no_memory = 7
+
+-- ---- rules; 0 is none
+
+abbrev pub rule_number : Rule → ℕ
+rule_number Order = 1
+rule_number Mdx = 2
+rule_number Place = 3
+rule_number LineEnding = 4
+rule_number HeadingMark = 5
+rule_number ListNumber = 6
+rule_number CharacterReference = 7
+rule_number Definition = 8
+rule_number Footnote = 9
+rule_number Target = 10

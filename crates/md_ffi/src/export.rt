@@ -1,0 +1,77 @@
+//! The functions that C calls.
+
+ghost use Rattle.std.specs.Prelude.{◌≡◌};
+ghost use Rattle.md_script.specs.Run.{IsTextOf};
+ghost use Rattle.md_script.specs.Script.{IsReadable, IsFirstUnreadable};
+ghost use Rattle.md_ffi.specs.Numbers.{refused, no_event, no_name, no_option, no_line};
+ghost use Rattle.md_ffi.specs.Standing.{IsFirstWithout};
+ghost use Rattle.md_ffi.specs.Events.{event_of};
+ghost use Rattle.md_ffi.specs.References.{reference_of};
+ghost use Rattle.md_ffi.specs.Options.{StandsForNone};
+ghost use Rattle.md_ffi.specs.Rendered.{IsRendered, IsRefusedBy, IsRefusedIn};
+ghost use Rattle.md_ffi.specs.Buffer.{HandsOver};
+ghost use Rattle.md_ffi.specs.Answers.{IsOfCompile, IsOfRun};
+
+use crate::answer::{Answer, answer_to, hand_over};
+use crate::event::CEvent;
+use crate::failure::Failure;
+use crate::given::compile_given;
+use crate::option::COptions;
+use crate::reference::CReference;
+use md_script::run;
+use std::alloc::Global;
+
+/// The version of what C sees: the layouts of structs, and every number.
+const VERSION: u32 = 1;
+
+/// The HTML of a list of events over a document's bytes, into a buffer.
+///
+/// A C caller passes nothing for `alloc`, and for each slice a pointer, which isn't null, and a length.
+#[unsafe(no_mangle)]
+pub extern "C" fn bivdrazo_compile(
+    alloc: Global,
+    events: &[CEvent],
+    bytes: &[u8],
+    options: &COptions,
+    names: &[CReference],
+    buffer: &mut [u8],
+) -> Answer
+    // The text is the meaning of what was handed in, and safe where the options are.
+    ensures text { HandsOver (IsRendered events.now bytes.now options.now names.now) buffer.old buffer.new result }
+    ensures refused { result.status ≡ refused →
+        IsRefusedBy events.now bytes.now names.now result.index result.rule }
+    ensures no_event { result.status ≡ no_event → IsFirstWithout event_of events.now result.index }
+    ensures no_name { result.status ≡ no_name → IsFirstWithout reference_of names.now result.index }
+    ensures no_option { result.status ≡ no_option → StandsForNone options.now result.index }
+    ensures fields { IsOfCompile result }
+{
+    match compile_given(alloc, events, bytes, options, names) {
+        Ok(text) => hand_over(text.as_str(), buffer),
+        Err(failure) => answer_to(&failure),
+    }
+}
+
+/// The HTML of an event script, into a buffer.
+///
+/// A C caller passes nothing for `alloc`, and for each slice a pointer, which isn't null, and a length.
+#[unsafe(no_mangle)]
+pub extern "C" fn bivdrazo_run(alloc: Global, script: &[u8], buffer: &mut [u8]) -> Answer
+    ensures text { HandsOver (IsTextOf script.now) buffer.old buffer.new result }
+    ensures refused { result.status ≡ refused → IsRefusedIn script.now result.index result.rule }
+    ensures unreadable { result.status ≡ no_line → ¬ IsReadable script.now }
+    ensures no_line { result.status ≡ no_line → IsFirstUnreadable script.now result.index }
+    ensures fields { IsOfRun result }
+{
+    match run(alloc, script) {
+        Ok(text) => hand_over(text.as_str(), buffer),
+        Err(error) => answer_to(&Failure::from(error)),
+    }
+}
+
+/// The version of what C sees.
+#[unsafe(no_mangle)]
+pub extern "C" fn bivdrazo_version() -> u32
+    ensures { result ≡ 1 }
+{
+    VERSION
+}

@@ -1,0 +1,233 @@
+//! Documents that are broken at one event: what they may give, and that the mended ones give what they gave.
+
+use super::growing::{Tree, grow};
+use super::random::Random;
+use super::{Given, OTHER_NAMES, compiled, point};
+use Break::{Double, Move, Remove, Rename, Swap};
+use Verdict::{Open, Refused, Same};
+use md_html::{CompileError, CompileOptions, Event, Kind, Name, Rule, is_same_name};
+use std::alloc::{AllocError, Global};
+use std::process::Abort;
+use std::test::Fail;
+
+/// How many trees are broken.
+const TREES: u64 = 150;
+
+/// At how many places each of them is broken in each way.
+const TIMES: usize = 5;
+
+/// How a list of events is broken at one of them.
+#[derive(Clone, Copy, Debug)]
+enum Break {
+    /// It is left out.
+    Remove,
+    /// It comes twice.
+    Double,
+    /// It comes behind the next one.
+    Swap,
+    /// It has another name.
+    Rename,
+    /// It has another place.
+    Move,
+}
+
+const BREAKS: [Break; 5] = [Remove, Double, Swap, Rename, Move];
+
+/// What a broken list may give.
+#[derive(Clone, Copy)]
+enum Verdict {
+    /// The text that it gave before.
+    Same,
+    /// A text or a refusal.
+    Open,
+    /// A refusal alone.
+    Refused,
+}
+
+/// Places to which events are moved.
+const PLACES: [(usize, usize); 8] = [
+    (0, 0),
+    (3, 0),
+    (20, 0),
+    (20, 5),
+    (9, 1),
+    (usize::MAX, 0),
+    (usize::MAX, 1),
+    (999_999_999, 0),
+];
+
+/// An event with another name.
+fn renamed(event: Event) -> Event {
+    let name = if is_same_name(event.name, Name::Data) {
+        Name::MdxEsm
+    } else {
+        Name::Data
+    };
+    Event { name, ..event }
+}
+
+/// The list of events with its event at a place broken, which the next one follows.
+fn broken(
+    alloc: Global,
+    events: &[Event],
+    place: usize,
+    change: Break,
+    moved: Event,
+) -> Result<Vec<Event>, AllocError> {
+    let mut list = Vec::new(alloc);
+    list.extend_from_slice(events.get(..place).unwrap_or(&[]))?;
+    if let Some([first, second, after @ ..]) = events.get(place..) {
+        match change {
+            Remove => list.extend_from_slice(&[*second])?,
+            Double => list.extend_from_slice(&[*first, *first, *second])?,
+            Swap => list.extend_from_slice(&[*second, *first])?,
+            Rename => list.extend_from_slice(&[renamed(*first), *second])?,
+            Move => list.extend_from_slice(&[moved, *second])?,
+        }
+        list.extend_from_slice(after)?;
+    }
+    Ok(list)
+}
+
+/// Whether the place of an event is read.
+fn has_read_place(event: Event) -> bool {
+    match event.name {
+        Name::HeadingSetextUnderlineSequence => matches!(event.kind, Kind::Enter),
+        Name::HeadingAtxSequence
+        | Name::Data
+        | Name::CharacterEscapeValue
+        | Name::CharacterReferenceValue
+        | Name::CodeTextData
+        | Name::MathTextData
+        | Name::CodeFlowChunk
+        | Name::MathFlowChunk
+        | Name::HtmlFlowData
+        | Name::HtmlTextData
+        | Name::AutolinkEmail
+        | Name::AutolinkProtocol
+        | Name::GfmAutolinkLiteralEmail
+        | Name::GfmAutolinkLiteralMailto
+        | Name::GfmAutolinkLiteralProtocol
+        | Name::GfmAutolinkLiteralWww
+        | Name::GfmAutolinkLiteralXmpp
+        | Name::LineEnding
+        | Name::BlankLineEnding
+        | Name::ListItemValue
+        | Name::DefinitionLabelString
+        | Name::GfmFootnoteDefinitionLabelString
+        | Name::LabelText
+        | Name::ReferenceString => true,
+        _ => false,
+    }
+}
+
+/// What the list may give: of an odd number of events, and where a node would end by another name, a refusal alone.
+fn judged(first: Event, second: Event, change: Break, moved: Event, length: usize) -> Verdict {
+    match change {
+        Remove | Double | Rename => Refused,
+        Swap if is_same_name(first.name, second.name) => Open,
+        Swap => Refused,
+        Move if !has_read_place(first) => Same,
+        Move if moved.point.index > length => Refused,
+        Move => Open,
+    }
+}
+
+/// Whether a list that is broken at a place may be refused at this event by this rule.
+///
+/// What comes before the place is as it was. A definition or a footnote is missed only where the order is right.
+fn may_refuse(change: Break, place: usize, index: usize, rule: Rule) -> bool {
+    match rule {
+        Rule::Definition | Rule::Footnote => matches!(change, Move | Swap),
+        Rule::Mdx => place <= index && matches!(change, Rename),
+        Rule::Order | Rule::Target => place <= index && !matches!(change, Move),
+        _ => place <= index,
+    }
+}
+
+/// Whether a list that is broken at a place may give this answer.
+fn is_right(
+    answer: &Result<String, CompileError>,
+    verdict: Verdict,
+    whole: &str,
+    change: Break,
+    place: usize,
+) -> bool {
+    match (answer, verdict) {
+        (Ok(text), Same) => text.as_str() == whole,
+        (Ok(_), Open) => true,
+        (Err(CompileError::Event { index, rule }), Open | Refused) => {
+            may_refuse(change, place, *index, *rule)
+        }
+        _ => false,
+    }
+}
+
+/// Breaks a tree at one place, and mends it.
+fn break_once(
+    rt: &(impl Abort + AllocGlobal),
+    tree: &Tree,
+    whole: &str,
+    place: usize,
+    change: Break,
+    to: (usize, usize),
+) -> Result<(), Fail> {
+    let events = tree.events.as_slice();
+    let Some([first, second, ..]) = events.get(place..) else {
+        return Ok(());
+    };
+    let moved = Event {
+        point: point(to.0, to.1),
+        ..*first
+    };
+    let verdict = judged(*first, *second, change, moved, tree.bytes.len());
+    let list = broken(rt.alloc(), events, place, change, moved)?;
+    let answer = text_of(rt, list.as_slice(), tree.bytes.as_slice());
+    let is_right = is_right(&answer, verdict, whole, change, place);
+    let mended = text_of(rt, events, tree.bytes.as_slice())?;
+    assert!(rt;
+        is_right && mended.as_str() == whole,
+        "{change:?} at {place}: {answer:?}"
+    );
+    Ok(())
+}
+
+fn text_of(
+    rt: &(impl Abort + AllocGlobal),
+    events: &[Event],
+    bytes: &[u8],
+) -> Result<String, CompileError> {
+    let given = Given {
+        events,
+        bytes,
+        names: &OTHER_NAMES,
+    };
+    compiled(rt, &given, &CompileOptions::default())
+}
+
+/// Breaks a tree in each way, at some places.
+fn break_tree(
+    rt: &(impl Abort + AllocGlobal),
+    tree: &Tree,
+    random: &mut Random,
+) -> Result<(), Fail> {
+    let whole = text_of(rt, tree.events.as_slice(), tree.bytes.as_slice())?;
+    for change in BREAKS {
+        for _ in 0..TIMES {
+            let place = random.below(tree.events.len().saturating_sub(1));
+            let to = random.pick(&PLACES).unwrap_or((0, 0));
+            break_once(rt, tree, &whole, place, change, to)?;
+        }
+    }
+    Ok(())
+}
+
+#[test]
+fn broken_trees(rt: HostRuntime) -> Result<(), Fail> {
+    let mut random = Random::new(7);
+    for seed in 0..TREES {
+        let tree = grow(rt.alloc(), seed, &OTHER_NAMES)?;
+        break_tree(&rt, &tree, &mut random)?;
+    }
+    Ok(())
+}

@@ -1,0 +1,127 @@
+//! Trees that grow at random: each is a document, and its text under the safe options is HTML that leads where it may.
+
+use super::growing::{Tree, grow};
+use super::html::fault;
+use super::random::Random;
+use super::{Given, OTHER_NAMES, SCRIPT_NAMES, compiled, compiled_as_script};
+use md_html::{CompileOptions, LineEnding};
+use std::alloc::{AllocError, Global};
+use std::process::Abort;
+use std::test::Fail;
+
+/// How many trees grow for each test.
+const TREES: u64 = 400;
+
+/// Texts of options.
+const TEXTS: [&str; 6] = ["", "a", "<\"&>", "\0", "javascript:x", "' id='"];
+
+/// The options of a seed; where they are to be safe, those that are not stay off.
+fn options(alloc: Global, seed: u64, is_safe: bool) -> Result<CompileOptions, AllocError> {
+    let mut random = Random::new(seed);
+    let mut options = CompileOptions {
+        gfm_task_list_item_checkable: random.once_in(2),
+        gfm_tagfilter: random.once_in(2),
+        default_line_ending: ending(random.below(3)),
+        gfm_footnote_back_label: text(alloc, &mut random)?,
+        gfm_footnote_clobber_prefix: text(alloc, &mut random)?,
+        gfm_footnote_label: text(alloc, &mut random)?,
+        ..CompileOptions::default()
+    };
+    if !is_safe {
+        options.allow_any_img_src = random.once_in(2);
+        options.allow_dangerous_html = random.once_in(2);
+        options.allow_dangerous_protocol = random.once_in(2);
+        options.gfm_footnote_label_attributes = text(alloc, &mut random)?;
+        options.gfm_footnote_label_tag_name = text(alloc, &mut random)?;
+    }
+    Ok(options)
+}
+
+fn ending(number: usize) -> LineEnding {
+    match number {
+        0 => LineEnding::LineFeed,
+        1 => LineEnding::CarriageReturn,
+        _ => LineEnding::CarriageReturnLineFeed,
+    }
+}
+
+fn text(alloc: Global, random: &mut Random) -> Result<Option<String>, AllocError> {
+    if random.once_in(2) {
+        return Ok(None);
+    }
+    let text = random.pick(&TEXTS).unwrap_or("");
+    Ok(Some(String::from_str(alloc, text)?))
+}
+
+fn given<'a>(tree: &'a Tree, names: &'a [(&'a str, &'a str)]) -> Given<'a> {
+    Given {
+        events: tree.events.as_slice(),
+        bytes: tree.bytes.as_slice(),
+        names,
+    }
+}
+
+fn has_no_fault(rt: &impl Abort, fault: Option<&'static str>, seed: u64) {
+    let reason = fault.unwrap_or("");
+    assert!(rt; reason.is_empty(), "seed {seed}: {reason}");
+}
+
+/// The text of a tree under safe options is read.
+fn is_read(rt: &(impl Abort + AllocGlobal), given: &Given<'_>, seed: u64) -> Result<(), Fail> {
+    let options = options(rt.alloc(), seed, true)?;
+    let text = compiled(rt, given, &options)?;
+    let fault = fault(rt.alloc(), &text)?;
+    has_no_fault(rt, fault, seed);
+    Ok(())
+}
+
+/// The trees of a seed are compiled: one as a script too, the other with any options.
+fn are_compiled(rt: &(impl Abort + AllocGlobal), seed: u64) -> Result<(), Fail> {
+    let tree = grow(rt.alloc(), seed, &SCRIPT_NAMES)?;
+    compiled_as_script(rt, &given(&tree, &SCRIPT_NAMES))?;
+    is_read(rt, &given(&tree, &SCRIPT_NAMES), seed)?;
+    let other = grow(rt.alloc(), seed, &OTHER_NAMES)?;
+    let any = options(rt.alloc(), seed, false)?;
+    compiled(rt, &given(&other, &OTHER_NAMES), &any)?;
+    is_read(rt, &given(&other, &OTHER_NAMES), seed)
+}
+
+#[test]
+fn random_trees(rt: HostRuntime) -> Result<(), Fail> {
+    for seed in 0..TREES {
+        are_compiled(&rt, seed)?;
+    }
+    Ok(())
+}
+
+/// The reader refuses what isn't HTML of the listed elements, or leads elsewhere.
+#[test]
+fn reader_refuses(rt: HostRuntime) -> Result<(), Fail> {
+    for text in [
+        "<p>",
+        "</p>",
+        "<p></p",
+        "<b></b>",
+        "a & b",
+        "\"",
+        "<p><em></p></em>",
+        "<p class=\"x\"></p>",
+        "<a href=\"x\" href=\"y\"></a>",
+        "<a href=x></a>",
+        "<a  href=\"x\"></a>",
+        "<a href=\"x\"title=\"y\"></a>",
+        "<br></br>",
+        "<p />",
+        "<a href=\"javascript:x\"></a>",
+        "<a href=\" \tJava\nScript:x\"></a>",
+        "<img src=\"irc:x\" />",
+        "<img src=\"&quot;:x\" />",
+    ] {
+        let fault = fault(rt.alloc(), text)?;
+        assert!(rt; fault.is_some(), "{text}");
+    }
+    let text = "a<p>&lt;<a href=\"http://x?y:z\" title=\"\">b</a><img src=\"x/y:z\" /></p>\n<hr />";
+    let fault = fault(rt.alloc(), text)?;
+    assert!(rt; fault.is_none(), "{fault:?}");
+    Ok(())
+}

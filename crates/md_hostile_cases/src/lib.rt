@@ -1,0 +1,5 @@
+//! Hostile events, places and scripts: cases that are judged apart from the calls that they ask.
+#![tactic(auto)]
+
+#[cfg(test)]
+mod cases;

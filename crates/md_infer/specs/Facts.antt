@@ -1,0 +1,197 @@
+-- The pass over the events from the first to the last, which finds what is read or inferred of each node. Only
+-- contracts of private functions speak of it.
+use Rattle.std.specs.Prelude.{ℕ, suc, false, not, ◌&&◌, if◌then◌else◌, List, [], ◌∷◌, ◌++◌, length, set}
+use Rattle.md_base.specs.declared.event.AlignKind.{AlignKind}
+use Rattle.md_base.specs.declared.event.Name.{Name}
+use Rattle.md_base.specs.declared.event.Name.TheVariants.{Paragraph}
+use Rattle.md_base.specs.declared.event.Kind.{Kind}
+use Rattle.md_base.specs.declared.event.Kind.TheVariants.{Enter, Exit}
+use Rattle.md_base.specs.declared.event.Event.{Event}
+use Rattle.md_infer.specs.declared.told.Told.{Told}
+use Rattle.md_infer.specs.declared.seeking.Sought.{Sought}
+use Rattle.md_infer.specs.declared.facts.Fact.{Fact}
+use Rattle.md_infer.specs.declared.facts.OpenNode.{OpenNode}
+use Rattle.md_base.specs.Tree.{Forest, Empty, Node}
+use Rattle.md_base.specs.NameTests.{is_transparent, is_item, is_table, is_link_definition, contributes}
+use Rattle.md_infer.specs.Partners.{behind}
+use Rattle.md_infer.specs.Told.{nothing_told, told_with, told_over, looseness}
+use Rattle.md_infer.specs.Seeking.{search_of, seen}
+use Rattle.md_infer.specs.Columns.{Collected, nothing_collected, collects_in, columns_entered, columns_exited}
+
+-- the document itself
+abbrev pub nowhere : OpenNode
+nowhere = record { entry = 0; contributing = 0; collects = false; sought = search_of Paragraph; told = nothing_told }
+
+-- a spine on which a search begins, or goes on where the node is transparent
+abbrev pub sought_inside : Name → Sought → Sought
+sought_inside name around = if is_transparent name then around else search_of name
+
+-- the search behind a node, after that in it
+abbrev pub sought_behind : Name → ℕ → Sought → Sought → Sought
+sought_behind name entry own around = if is_transparent name then own else seen around name entry own.place
+
+-- the last contributing child, after one more child
+abbrev pub contributing_behind : Name → ℕ → ℕ → ℕ
+contributing_behind name entry before = if contributes name then entry else before
+
+-- a node that has been entered at an index, in one that is open
+abbrev pub opened : ℕ → Name → OpenNode → OpenNode
+opened entry name around = record {
+  entry = entry;
+  contributing = 0;
+  collects = collects_in name around.collects;
+  sought = sought_inside name around.sought;
+  told = nothing_told;
+}
+
+-- an open node behind one of its children
+abbrev pub followed : Name → OpenNode → OpenNode → OpenNode
+followed name own around = record {
+  entry = around.entry;
+  contributing = contributing_behind name own.entry around.contributing;
+  collects = around.collects;
+  sought = sought_behind name own.entry own.sought around.sought;
+  told = told_with name own.told around.told;
+}
+
+-- which place a fact has: which table it is, the last contributing child, or what was sought
+abbrev pub place_of : Name → ℕ → ℕ → Sought → ℕ
+place_of name table contributing sought =
+    if is_table name then table
+    else (if is_item name then contributing else (if is_transparent name then 0 else sought.place))
+
+-- what is found of a node that exits at an index
+abbrev pub fact_of : Name → ℕ → ℕ → ℕ → Sought → Told → Fact
+fact_of name exit table contributing sought told = record {
+  partner = exit;
+  place = place_of name table contributing sought;
+  looseness = looseness told;
+  has_resource = not (is_transparent name) && sought.has_resource;
+}
+
+-- what is known of an exit, and of an entry before its exit
+abbrev pub partner_alone : ℕ → Fact
+partner_alone partner = record {
+  partner = partner;
+  place = 0;
+  looseness = record { without_items = false; with_items = false; of_item = false };
+  has_resource = false;
+}
+
+-- what is found at the events so far, the entries of the definitions that have ended, the innermost open node, and those round it, the next one first
+pub record Passed : Type 0 where
+  pub facts : List Fact
+  pub columns : Collected
+  pub definitions : List ℕ
+  pub here : OpenNode
+  pub round : List OpenNode
+
+-- before any event
+abbrev pub nothing_passed : Passed
+nothing_passed = record { facts = []; columns = nothing_collected; definitions = []; here = nowhere; round = [] }
+
+-- the first of some open nodes, and the others
+abbrev pub next_round : List OpenNode → OpenNode
+next_round [] = nowhere
+next_round (open_node ∷ others) = open_node
+
+abbrev pub others_round : List OpenNode → List OpenNode
+others_round [] = []
+others_round (open_node ∷ others) = others
+
+-- the entry of a node
+abbrev pub passed_entry : Name → Passed → Passed
+passed_entry name pass = record {
+  facts = pass.facts ++ partner_alone 0 ∷ [];
+  columns = columns_entered name pass.columns;
+  definitions = pass.definitions;
+  here = opened (length pass.facts) name pass.here;
+  round = pass.here ∷ pass.round;
+}
+
+-- what is found of the innermost open node, which exits
+abbrev pub fact_here : Name → Passed → Fact
+fact_here name pass =
+    fact_of name (length pass.facts) (length pass.columns.tables) pass.here.contributing pass.here.sought pass.here.told
+
+-- the entries of definitions, with that of one more node
+abbrev pub definitions_with : Name → ℕ → List ℕ → List ℕ
+definitions_with name entry definitions = definitions ++ (if is_link_definition name then entry ∷ [] else [])
+
+-- the exit of a node
+abbrev pub passed_exit : Name → Passed → Passed
+passed_exit name pass = record {
+  facts = set pass.facts pass.here.entry (fact_here name pass) ++ partner_alone pass.here.entry ∷ [];
+  columns = columns_exited name pass.here.told (OpenNode.collects (next_round pass.round)) pass.columns;
+  definitions = definitions_with name pass.here.entry pass.definitions;
+  here = followed name pass.here (next_round pass.round);
+  round = others_round pass.round;
+}
+
+-- an event
+abbrev pub passed : Kind → Name → Passed → Passed
+passed Enter name pass = passed_entry name pass
+passed Exit name pass = passed_exit name pass
+
+-- events, one after another
+abbrev pub passed_over : List Event → Passed → Passed
+passed_over [] pass = pass
+passed_over (event ∷ events) pass = passed_over events (passed event.kind event.name pass)
+
+-- the last contributing of some nodes, behind others
+abbrev pub contributing_over : ℕ → Forest → ℕ → ℕ
+contributing_over index Empty before = before
+contributing_over index (Node name start end children rest) before =
+    contributing_over (suc (behind (suc index) children)) rest (contributing_behind name index before)
+
+-- a search over some nodes
+abbrev pub sought_over : ℕ → Forest → Sought → Sought
+sought_over index Empty sought = sought
+sought_over index (Node name start end children rest) sought =
+    sought_over (suc (behind (suc index) children)) rest
+    (sought_behind name index (sought_over (suc index) children (sought_inside name sought)) sought)
+
+-- an open node behind some of its children
+abbrev pub after : ℕ → Forest → OpenNode → OpenNode
+after index forest here = record {
+  entry = here.entry;
+  contributing = contributing_over index forest here.contributing;
+  collects = here.collects;
+  sought = sought_over index forest here.sought;
+  told = told_over forest here.told;
+}
+
+-- how many tables have ended behind a node, and behind some nodes
+abbrev pub tables_with : Name → ℕ → ℕ
+tables_with name tables = if is_table name then suc tables else tables
+
+abbrev pub tables_behind : ℕ → Forest → ℕ
+tables_behind tables Empty = tables
+tables_behind tables (Node name start end children rest) =
+    tables_behind (tables_with name (tables_behind tables children)) rest
+
+-- what is found of a node that is entered at an index, where so many tables have ended
+abbrev pub fact_at : ℕ → ℕ → Name → Forest → Fact
+fact_at index tables name children =
+    fact_of name (behind (suc index) children) (tables_behind tables children) (contributing_over (suc index) children 0)
+    (sought_over (suc index) children (search_of name)) (told_over children nothing_told)
+
+-- for each event of the nodes, in order, what is found at it: the first event has this index, and so many tables
+-- have ended before
+abbrev pub facts_of : ℕ → ℕ → Forest → List Fact
+facts_of index tables Empty = []
+facts_of index tables (Node name start end children rest) =
+    fact_at index tables name children
+    ∷ facts_of (suc index) tables children
+    ++ partner_alone index
+    ∷ facts_of (suc (behind (suc index) children)) (tables_with name (tables_behind tables children)) rest
+
+-- what is found at each event, the alignments of the tables, and the entries of the definitions
+abbrev pub facts_at : List Event → List Fact
+facts_at events = Passed.facts (passed_over events nothing_passed)
+
+abbrev pub tables_at : List Event → List (List AlignKind)
+tables_at events = Collected.tables (Passed.columns (passed_over events nothing_passed))
+
+abbrev pub definitions_at : List Event → List ℕ
+definitions_at events = Passed.definitions (passed_over events nothing_passed)

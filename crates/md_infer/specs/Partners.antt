@@ -1,0 +1,30 @@
+-- The indices of a node's two events, of its children's, and of the definitions.
+use Rattle.std.specs.Prelude.{ℕ, suc, if◌then◌else◌, Option, Some, None, List, [], ◌∷◌, ◌++◌}
+use Rattle.md_base.specs.Tree.{Forest, Empty, Node}
+use Rattle.md_base.specs.NameTests.{contributes, is_link_definition}
+use Rattle.md_base.specs.Children.{or_else}
+
+-- the index behind the events of some nodes, of which the first has an index
+abbrev pub behind : ℕ → Forest → ℕ
+behind index Empty = index
+behind index (Node name start end children rest) = behind (suc (behind (suc index) children)) rest
+
+-- for each event of the nodes, in order, the index of the other event of its node, where the first has an index
+abbrev pub partners_of : ℕ → Forest → List ℕ
+partners_of index Empty = []
+partners_of index (Node name start end children rest) =
+    behind (suc index) children ∷ partners_of (suc index) children ++ index ∷ partners_of (suc (behind (suc index) children)) rest
+
+-- the index of the event that enters the last of some nodes that contributes to an item, where the first has an index
+abbrev pub last_contributing_at : ℕ → Forest → Option ℕ
+last_contributing_at index Empty = None
+last_contributing_at index (Node name start end children rest) =
+    or_else (last_contributing_at (suc (behind (suc index) children)) rest) (if contributes name then Some index else None)
+
+-- the indices of the events that enter definitions among some nodes, in the order of their exits, where the first event
+-- has an index
+abbrev pub definitions_of : ℕ → Forest → List ℕ
+definitions_of index Empty = []
+definitions_of index (Node name start end children rest) =
+    definitions_of (suc index) children
+    ++ ((if is_link_definition name then index ∷ [] else []) ++ definitions_of (suc (behind (suc index) children)) rest)

@@ -1,0 +1,13 @@
+//! What is inferred of a node by those in it: its partner, its looseness, its columns, and what its name reads.
+#![tactic(auto)]
+
+mod columns;
+mod facts;
+mod names;
+mod seeking;
+mod told;
+
+pub use facts::{Fact, Facts, OpenNode, Pass, ending_behind};
+pub use names::{is_item, is_link_definition, is_table, is_transparent};
+pub use seeking::{Found, Sight, Sought, Wanted};
+pub use told::{Last, Looseness, Told};

@@ -1,0 +1,186 @@
+//! What a name reads of the nodes on its spine: where the one node stands that it seeks.
+
+ghost use Rattle.std.specs.Prelude.{◌≡◌};
+ghost use Rattle.md_infer.specs.Seeking as spec;
+
+use md_base::Name;
+
+/// What is sought on a spine.
+#[derive(Clone, Copy, Debug, PartialEq, Eq)]
+pub enum Wanted {
+    Nothing,
+    /// The first mark of a heading.
+    Mark,
+    /// The first item of an ordered list, and in it the number.
+    Item,
+    /// The first prefix of an item, and in it the number.
+    Prefix,
+    /// The first value in the prefix of an item.
+    Value,
+    /// What a link or an image refers by, and whether it has a resource.
+    Media,
+    /// The first label of a call, and in it the text.
+    Label,
+    /// The first text in a label.
+    LabelText,
+    /// The label of a definition.
+    DefinitionLabel,
+    /// The first prefix of a footnote definition, and in it the label.
+    FootnotePrefix,
+    /// The label in such a prefix.
+    FootnoteLabel,
+}
+
+/// What has been found on a spine.
+#[derive(Clone, Copy, Debug, PartialEq, Eq)]
+pub enum Found {
+    Nothing,
+    /// The first node that is sought.
+    First,
+    /// A reference, which counts before a label.
+    Reference,
+}
+
+/// How a spine has been searched so far.
+#[derive(Clone, Copy, Debug, PartialEq, Eq)]
+pub struct Sought {
+    /// The index of the event that enters what is read, 0 where there is none.
+    pub place: usize,
+    pub wanted: Wanted,
+    pub found: Found,
+    /// A resource stands on the spine of a link or an image.
+    pub has_resource: bool,
+}
+
+/// What a node is on a spine on which something is sought.
+#[derive(Clone, Copy, Debug, PartialEq, Eq)]
+pub enum Sight {
+    Other,
+    /// It is what is sought.
+    Itself,
+    /// It holds what is sought.
+    Holder,
+    Reference,
+    Resource,
+}
+
+/// What the spine of a name is searched for.
+fn wanted_by(name: Name) -> Wanted
+    ensures { result ≡ spec.wanted_by name }
+{
+    match name {
+        Name::HeadingAtx => Wanted::Mark,
+        Name::ListOrdered => Wanted::Item,
+        Name::ListItem => Wanted::Prefix,
+        Name::ListItemPrefix => Wanted::Value,
+        Name::Link => Wanted::Media,
+        Name::Image => Wanted::Media,
+        Name::GfmFootnoteCall => Wanted::Label,
+        Name::Label => Wanted::LabelText,
+        Name::Definition => Wanted::DefinitionLabel,
+        Name::GfmFootnoteDefinition => Wanted::FootnotePrefix,
+        Name::GfmFootnoteDefinitionPrefix => Wanted::FootnoteLabel,
+        _ => Wanted::Nothing,
+    }
+}
+
+/// A spine of a name, of which nothing has been searched.
+pub fn search_of(name: Name) -> Sought
+    ensures { result ≡ spec.search_of name }
+{
+    Sought {
+        wanted: wanted_by(name),
+        found: Found::Nothing,
+        place: 0,
+        has_resource: false,
+    }
+}
+
+/// What a node of this name is on the spine of a link or an image.
+fn sight_in_media(name: Name) -> Sight
+    ensures { result ≡ spec.sight_in_media name }
+{
+    match name {
+        Name::Label => Sight::Holder,
+        Name::ReferenceString => Sight::Reference,
+        Name::Resource => Sight::Resource,
+        _ => Sight::Other,
+    }
+}
+
+/// What a node is that is what is sought, if it is.
+fn itself_if(is: bool) -> Sight
+    ensures { result ≡ spec.itself_if is }
+{
+    if is { Sight::Itself } else { Sight::Other }
+}
+
+/// What a node is that holds what is sought, if it does.
+fn holder_if(is: bool) -> Sight
+    ensures { result ≡ spec.holder_if is }
+{
+    if is { Sight::Holder } else { Sight::Other }
+}
+
+/// What a node of this name is on a spine.
+fn sight_of(wanted: Wanted, name: Name) -> Sight
+    ensures { result ≡ spec.sight wanted name }
+{
+    match wanted {
+        Wanted::Nothing => Sight::Other,
+        Wanted::Mark => itself_if(matches!(name, Name::HeadingAtxSequence)),
+        Wanted::Item => holder_if(matches!(name, Name::ListItem)),
+        Wanted::Prefix => holder_if(matches!(name, Name::ListItemPrefix)),
+        Wanted::Value => itself_if(matches!(name, Name::ListItemValue)),
+        Wanted::Media => sight_in_media(name),
+        Wanted::Label => holder_if(matches!(name, Name::Label)),
+        Wanted::LabelText => itself_if(matches!(name, Name::LabelText)),
+        Wanted::DefinitionLabel => itself_if(matches!(name, Name::DefinitionLabelString)),
+        Wanted::FootnotePrefix => holder_if(matches!(name, Name::GfmFootnoteDefinitionPrefix)),
+        Wanted::FootnoteLabel => itself_if(matches!(name, Name::GfmFootnoteDefinitionLabelString)),
+    }
+}
+
+/// A search that finds this, unless it has found something.
+fn first(sought: Sought, place: usize) -> Sought
+    ensures { result ≡ spec.first sought place }
+{
+    match sought.found {
+        Found::Nothing => Sought {
+            found: Found::First,
+            place,
+            ..sought
+        },
+        _ => sought,
+    }
+}
+
+/// A search that finds a reference, unless it has found one.
+fn refer(sought: Sought, place: usize) -> Sought
+    ensures { result ≡ spec.refer sought place }
+{
+    match sought.found {
+        Found::Reference => sought,
+        _ => Sought {
+            found: Found::Reference,
+            place,
+            ..sought
+        },
+    }
+}
+
+/// A search behind a node that is entered here, and in which this was found.
+pub fn seen(sought: Sought, name: Name, entry: usize, inner: usize) -> Sought
+    ensures { result ≡ spec.seen sought name entry inner }
+{
+    match sight_of(sought.wanted, name) {
+        Sight::Other => sought,
+        Sight::Itself => first(sought, entry),
+        Sight::Holder => first(sought, inner),
+        Sight::Reference => refer(sought, entry),
+        Sight::Resource => Sought {
+            has_resource: true,
+            ..sought
+        },
+    }
+}

@@ -1,0 +1,4 @@
+pub mod Standing
+pub mod Pattern
+pub mod Spine
+pub mod Shape

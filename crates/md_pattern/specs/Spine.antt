@@ -1,0 +1,45 @@
+-- Spines: what patterns see of a node's children, and the groups of neighbours on a spine.
+use Rattle.std.specs.Prelude.{◌≡◌, ◌⊎◌, ℕ, List, [], ◌∷◌, ◌++◌, replicate}
+use Rattle.md_pattern.specs.declared.kinds.Symbol.{Symbol}
+use Rattle.md_pattern.specs.declared.kinds.Symbol.TheVariants.{ReferenceMarker, ReferenceNumeric, ReferenceHexadecimal, ReferenceValue, SetextText, SetextUnderline, LineEnding}
+use Rattle.md_pattern.specs.declared.kinds.Role.{Role}
+use Rattle.md_pattern.specs.declared.kinds.Standing.{Standing}
+use Rattle.md_pattern.specs.declared.kinds.Standing.TheVariants.{Through, Space, Solid, Mdx}
+use Rattle.md_base.specs.Tree.{Forest, Empty, Node}
+use Rattle.md_pattern.specs.Standing.{standing_of}
+use Rattle.md_pattern.specs.Pattern.{Fits, pattern_of}
+
+-- what a node shows on the spine around it: itself, or where it is transparent its own spine
+abbrev pub shown : Standing → List Symbol → List Symbol
+shown Through inner = inner
+shown Space inner = []
+shown (Solid symbol usual reading) inner = symbol ∷ []
+shown Mdx inner = []
+
+-- the symbols of the nodes that are reached through transparent ones alone
+abbrev pub spine : Forest → List Symbol
+spine Empty = []
+spine (Node name start end children rest) = shown (standing_of name) (spine children) ++ spine rest
+
+-- what follows the first symbol of a group on a spine: a reference's marks and value, a setext heading's underline
+abbrev pub IsTail : Symbol → List Symbol → Type 0
+IsTail ReferenceMarker tail =
+    (tail ≡ ReferenceValue ∷ []) ⊎ ((tail ≡ ReferenceNumeric ∷ ReferenceValue ∷ []) ⊎ (tail ≡ ReferenceNumeric ∷ ReferenceHexadecimal ∷ ReferenceValue ∷ []))
+IsTail SetextText tail = (endings : ℕ) × (tail ≡ replicate endings LineEnding ++ SetextUnderline ∷ [])
+IsTail _ tail = tail ≡ []
+
+-- the spine is these first symbols, each with what follows it in its group
+abbrev pub IsGrouped : List Symbol → List Symbol → Type 0
+IsGrouped [] spine = spine ≡ []
+IsGrouped (first ∷ firsts) spine =
+    (tail others : List Symbol) × (spine ≡ first ∷ tail ++ others) × IsTail first tail × IsGrouped firsts others
+
+-- a spine matches the pattern of a role, each of its groups seen by its first symbol
+abbrev pub Matches : Role → List Symbol → Type 0
+Matches role spine = (firsts : List Symbol) × IsGrouped firsts spine × Fits (pattern_of role) firsts
+
+-- a group that has begun and isn't complete
+abbrev pub IsBegunGroup : List Symbol → Type 0
+IsBegunGroup group =
+    (group ≡ ReferenceMarker ∷ []) ⊎ ((group ≡ ReferenceMarker ∷ ReferenceNumeric ∷ [])
+    ⊎ ((group ≡ ReferenceMarker ∷ ReferenceNumeric ∷ ReferenceHexadecimal ∷ []) ⊎ ((endings : ℕ) × (group ≡ SetextText ∷ replicate endings LineEnding))))

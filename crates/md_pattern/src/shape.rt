@@ -1,0 +1,70 @@
+ghost use Rattle.std.specs.Prelude.{◌≡◌};
+ghost use Rattle.md_pattern.specs.Shape.{role_for, item_in, prefix_in, code_fence_after, math_fence_after, label_in};
+
+use crate::kinds::{Role, Symbol};
+
+/// An item, in an ordered list the first one or a later one.
+fn item_role(around: Role, before: Option<Symbol>) -> Role
+    ensures { result ≡ item_in around before }
+{
+    match (around, before) {
+        (Role::OrderedList, None) => Role::FirstOrderedItem,
+        (Role::OrderedList, Some(_)) => Role::OrderedItem,
+        _ => Role::Item,
+    }
+}
+
+/// The prefix of an item.
+fn prefix_role(around: Role) -> Role
+    ensures { result ≡ prefix_in around }
+{
+    match around {
+        Role::FirstOrderedItem => Role::FirstOrderedPrefix,
+        Role::OrderedItem => Role::OrderedPrefix,
+        _ => Role::Prefix,
+    }
+}
+
+/// The label of a footnote call, or of a link or an image.
+fn label_role(around: Role) -> Role
+    ensures { result ≡ label_in around }
+{
+    match around {
+        Role::FootnoteCall => Role::CallLabel,
+        _ => Role::Label,
+    }
+}
+
+/// A fence of code.
+fn code_fence_role(before: Option<Symbol>) -> Role
+    ensures { result ≡ code_fence_after before }
+{
+    match before {
+        None => Role::FirstCodeFence,
+        Some(_) => Role::CodeFence,
+    }
+}
+
+/// A fence of mathematics.
+fn math_fence_role(before: Option<Symbol>) -> Role
+    ensures { result ≡ math_fence_after before }
+{
+    match before {
+        None => Role::FirstMathFence,
+        Some(_) => Role::MathFence,
+    }
+}
+
+/// The role that a name with this usual one has in a node of a role, after a symbol on its spine.
+pub fn role_of(around: Role, before: Option<Symbol>, usual: Role) -> Role
+    ensures { result ≡ role_for around before usual }
+{
+    match usual {
+        Role::Item => item_role(around, before),
+        Role::Prefix => prefix_role(around),
+        Role::CodeFence => code_fence_role(before),
+        Role::MathFence => math_fence_role(before),
+        Role::Label => label_role(around),
+        _ => usual,
+    }
+}

@@ -1,0 +1,15 @@
+use Rattle.std.proofs.Common.{◌≡◌, ◌-◌, length, drop, []}
+use Rattle.md_meaning.specs.Tables as tables
+use Rattle.md_printer.specs.Machine.{printing}
+use Rattle.md_around.specs.Steps.{first_or}
+use Rattle.md_pieces.proofs.tables.empty_cells.Given as goal
+
+-- the columns stay, and what is left comes behind what is printed
+abbrev pub invariant-loop-kind : goal.invariant-loop-kind
+invariant-loop-kind l =
+    (l.printer.tables ≡ l.fn.printer.tables)
+    × (printing l.ending (tables.empty_cells l.in_head (drop l.index (first_or [] l.printer.tables))) l.printer
+    ≡ printing l.ending (tables.empty_cells l.in_head (drop l.first (first_or [] l.fn.printer.tables))) l.fn.printer)
+
+abbrev pub decreases-loop-kind : goal.decreases-loop-kind
+decreases-loop-kind l = length (first_or [] l.fn.printer.tables) - l.index

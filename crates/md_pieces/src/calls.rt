@@ -1,0 +1,74 @@
+//! What footnote calls print.
+
+ghost use Rattle.std.specs.Prelude.{◌≡◌, ◌∷◌, [], codes, OnOk};
+ghost use Rattle.md_printer.specs.Machine.{printing, ahead_by};
+ghost use Rattle.md_around.specs.Steps.{first_or};
+ghost use Rattle.md_printer.specs.Sources.{given_of, left_at};
+ghost use Rattle.md_meaning.specs.Footnotes as footnotes;
+ghost use Rattle.md_meaning.specs.Piece.{Text};
+
+use md_base::Position;
+use md_meaning::CompileOptions;
+use md_printer::facts::Exit;
+use md_printer::printer::Printer;
+use md_printer::source::{Source, identifier_at};
+use md_sheet::{call_id, footnote_id};
+use std::alloc::{AllocError, Global};
+
+/// Prints a call with its number and its occurrence.
+fn tags(
+    alloc: Global,
+    printer: &mut Printer,
+    options: &CompileOptions,
+    identifier: &str,
+    number: usize,
+    occurrence: usize,
+) -> Result<(), AllocError>
+    ensures { OnOk result (printer.new ≡ printing [] (footnotes.call_tags options.now identifier.now number occurrence) printer.old) }
+{
+    let footnote = footnote_id(alloc, options, identifier)?;
+    let id = call_id(alloc, options, identifier, occurrence)?;
+    let number = number.to_string(alloc)?;
+    put_tags(printer, footnote.as_str(), id.as_str(), number.as_str())
+}
+
+/// Prints the tags of a call round its number.
+fn put_tags(printer: &mut Printer, footnote: &str, id: &str, number: &str) -> Result<(), AllocError>
+    ensures { OnOk result (printer.new ≡ printing [] (Text (codes "<sup><a href=\"#") ∷ Text footnote.now ∷ Text (codes "\" id=\"") ∷ Text id.now
+        ∷ Text (codes "\" data-footnote-ref=\"\" aria-describedby=\"footnote-label\">") ∷ Text number.now ∷ Text (codes "</a></sup>") ∷ []) printer.old) }
+{
+    printer.put("<sup><a href=\"#")?;
+    printer.put(footnote)?;
+    printer.put("\" id=\"")?;
+    printer.put(id)?;
+    printer.put("\" data-footnote-ref=\"\" aria-describedby=\"footnote-label\">")?;
+    printer.put(number)?;
+    printer.put("</a></sup>")
+}
+
+/// Prints a call, numbered behind those that were seen: nothing in an image.
+pub fn call(
+    alloc: Global,
+    printer: &mut Printer,
+    source: &Source,
+    exit: &Exit,
+    place: Option<Position>,
+) -> Result<(), AllocError>
+    ensures { OnOk result (printer.new ≡ printing [] (footnotes.call_pieces (given_of source.now) exit.now.around (left_at exit.now printer.old.log.called []) (ahead_by place)) printer.old) }
+{
+    if exit.around.in_image {
+        return Ok(());
+    }
+    let identifier = identifier_at(alloc, source.bytes, place)?;
+    let number = printer.number(identifier.as_str());
+    let before = printer.count_of(identifier.as_str());
+    let occurrence = before.checked_add(1).ok_or(AllocError)?;
+    tags(
+        alloc,
+        printer,
+        source.options,
+        identifier.as_str(),
+        number,
+        occurrence,
+    )
+}

@@ -1,0 +1,242 @@
+//! What links, images and autolinks print.
+
+ghost use Rattle.std.specs.Prelude.{◌≡◌, ◌∷◌, [], ◌++◌, ◌||◌, OnOk, IfOk, unwrap_or, string_bytes, option_copied, option_map};
+ghost use Rattle.md_printer.specs.Machine.{printing, ahead_by};
+ghost use Rattle.md_meaning.specs.Media as media;
+ghost use Rattle.md_meaning.specs.Piece.{nowhere};
+ghost use Rattle.md_meaning.specs.Places.{identifier_at};
+ghost use Rattle.md_printer.specs.Sources.{given_of};
+
+use md_base::{Position, SAFE_PROTOCOL_HREF, SAFE_PROTOCOL_SRC};
+use md_meaning::{CompileOptions, Surroundings};
+use md_printer::facts::Exit;
+use md_printer::printer::Printer;
+use md_printer::source::{Source, identifier_at, text_of};
+use md_sheet::{Definitions, Notes, Rope, Sheet, Target};
+use md_text::{encode, sanitize, sanitize_with_protocols};
+use std::alloc::{AllocError, Global};
+
+/// A link's destination as it is written.
+pub fn href_of(
+    alloc: Global,
+    options: &CompileOptions,
+    destination: &str,
+) -> Result<String, AllocError>
+    ensures { IfOk result (λ url. string_bytes url ≡ media.href_of options.now destination.now) }
+{
+    if options.allow_dangerous_protocol {
+        sanitize(alloc, destination)
+    } else {
+        sanitize_with_protocols(alloc, destination, &SAFE_PROTOCOL_HREF)
+    }
+}
+
+/// An image's destination as it is written.
+fn src_of(alloc: Global, options: &CompileOptions, destination: &str) -> Result<String, AllocError>
+    ensures { IfOk result (λ url. string_bytes url ≡ media.src_of options.now destination.now) }
+{
+    if options.allow_dangerous_protocol || options.allow_any_img_src {
+        sanitize(alloc, destination)
+    } else {
+        sanitize_with_protocols(alloc, destination, &SAFE_PROTOCOL_SRC)
+    }
+}
+
+/// A GFM literal stands plain in an image or a link.
+pub fn is_plain(around: Surroundings) -> bool
+    ensures { result ≡ (around.in_image || around.in_link) }
+{
+    around.in_image || around.in_link
+}
+
+/// Where a link or an image leads: as its resource says, else as the definition with its identifier does, else nowhere.
+fn target_of<'a>(
+    alloc: Global,
+    bytes: &[u8],
+    definitions: &'a Definitions,
+    place: Option<Position>,
+    notes: &'a Notes,
+) -> Result<Option<&'a Target>, AllocError>
+    ensures { IfOk result (λ target. unwrap_or (option_copied target) nowhere
+        ≡ unwrap_or notes.now.resource (media.defined_target definitions.now (identifier_at bytes.now place))) }
+{
+    if let Some(target) = notes.resource() {
+        return Ok(Some(target));
+    }
+    let identifier = identifier_at(alloc, bytes, place)?;
+    Ok(definitions.target(identifier.as_str()))
+}
+
+/// The destination of a target, if there is one.
+fn destination_of(target: Option<&Target>) -> &str
+    ensures { result.now ≡ (unwrap_or (option_copied target.entry) nowhere).destination }
+{
+    match target {
+        Some(target) => target.destination.as_str(),
+        None => "",
+    }
+}
+
+/// The title of a target, if there is one.
+fn title_of(target: Option<&Target>) -> Option<&str>
+    ensures { option_copied result ≡ (unwrap_or (option_copied target.entry) nowhere).title }
+{
+    match target?.title.as_ref() {
+        Some(title) => Some(title.as_str()),
+        None => None,
+    }
+}
+
+/// Prints a title, if there is one.
+fn title(printer: &mut Printer, title: Option<&str>) -> Result<(), AllocError>
+    ensures { OnOk result (printer.new ≡ printing [] (media.title_pieces (option_copied title.entry)) printer.old) }
+{
+    match title {
+        Some(text) => {
+            printer.put(" title=\"")?;
+            printer.put(text)?;
+            printer.put("\"")
+        }
+        None => Ok(()),
+    }
+}
+
+/// Prints the beginning of a link, up to its title.
+fn link_start(
+    alloc: Global,
+    printer: &mut Printer,
+    options: &CompileOptions,
+    destination: &str,
+) -> Result<(), AllocError>
+    ensures { OnOk result (printer.new ≡ printing [] (media.link_start options.now destination.now) printer.old) }
+{
+    let url = href_of(alloc, options, destination)?;
+    printer.put("<a href=\"")?;
+    printer.put(url.as_str())?;
+    printer.put("\"")
+}
+
+/// Prints the rest of a link: its label and its end.
+fn link_end(alloc: Global, printer: &mut Printer, label: Rope) -> Result<(), AllocError>
+    ensures { OnOk result (printer.new ≡ printing [] (media.link_end label) printer.old) }
+{
+    printer.put(">")?;
+    printer.append(alloc, label)?;
+    printer.put("</a>")
+}
+
+/// Prints a link to a target round its label.
+fn link_to(
+    alloc: Global,
+    printer: &mut Printer,
+    options: &CompileOptions,
+    target: Option<&Target>,
+    label: Rope,
+) -> Result<(), AllocError>
+    ensures { OnOk result (printer.new ≡ printing [] (media.link_to options.now (unwrap_or (option_copied target.entry) nowhere) label) printer.old) }
+{
+    link_start(alloc, printer, options, destination_of(target))?;
+    title(printer, title_of(target))?;
+    link_end(alloc, printer, label)
+}
+
+/// Prints a link: in an image its label alone.
+pub fn link(
+    alloc: Global,
+    printer: &mut Printer,
+    source: &Source,
+    exit: &Exit,
+    place: Option<Position>,
+    inner: Sheet,
+) -> Result<(), AllocError>
+    ensures { OnOk result (printer.new ≡ printing [] (media.link_pieces (given_of source.now) exit.now.around (ahead_by place) inner) printer.old) }
+{
+    let (label, notes) = inner.into_parts();
+    if exit.around.in_image {
+        return printer.append(alloc, label);
+    }
+    let target = target_of(alloc, source.bytes, source.definitions, place, &notes)?;
+    link_to(alloc, printer, source.options, target, label)
+}
+
+/// Prints the beginning of an image, up to its title.
+fn image_start(
+    alloc: Global,
+    printer: &mut Printer,
+    options: &CompileOptions,
+    destination: &str,
+    label: Rope,
+) -> Result<(), AllocError>
+    ensures { OnOk result (printer.new ≡ printing [] (media.image_start options.now destination.now label) printer.old) }
+{
+    let url = src_of(alloc, options, destination)?;
+    printer.put("<img src=\"")?;
+    printer.put(url.as_str())?;
+    printer.put("\" alt=\"")?;
+    printer.append(alloc, label)?;
+    printer.put("\"")
+}
+
+/// Prints an image of a target, whose alternative text is its label.
+fn image_of(
+    alloc: Global,
+    printer: &mut Printer,
+    options: &CompileOptions,
+    target: Option<&Target>,
+    label: Rope,
+) -> Result<(), AllocError>
+    ensures { OnOk result (printer.new ≡ printing [] (media.image_of options.now (unwrap_or (option_copied target.entry) nowhere) label) printer.old) }
+{
+    image_start(alloc, printer, options, destination_of(target), label)?;
+    title(printer, title_of(target))?;
+    printer.put(" />")
+}
+
+/// Prints an image: in another its label alone.
+pub fn image(
+    alloc: Global,
+    printer: &mut Printer,
+    source: &Source,
+    exit: &Exit,
+    place: Option<Position>,
+    inner: Sheet,
+) -> Result<(), AllocError>
+    ensures { OnOk result (printer.new ≡ printing [] (media.image_pieces (given_of source.now) exit.now.around (ahead_by place) inner) printer.old) }
+{
+    let (label, notes) = inner.into_parts();
+    if exit.around.in_image {
+        return printer.append(alloc, label);
+    }
+    let target = target_of(alloc, source.bytes, source.definitions, place, &notes)?;
+    image_of(alloc, printer, source.options, target, label)
+}
+
+/// A prefix and a text, as one.
+fn joined(alloc: Global, prefix: &str, text: &str) -> Result<String, AllocError>
+    ensures { IfOk result (λ all. string_bytes all ≡ prefix.now ++ text.now) }
+{
+    let mut all = String::from_str(alloc, prefix)?;
+    all.push_str(text)?;
+    Ok(all)
+}
+
+/// Prints an autolink: its text, in a link to a prefix and its text unless it is plain.
+pub fn autolink(
+    alloc: Global,
+    printer: &mut Printer,
+    source: &Source,
+    exit: &Exit,
+    prefix: &str,
+    plain: bool,
+) -> Result<(), AllocError>
+    ensures { OnOk result (printer.new ≡ printing [] (media.autolink_pieces (given_of source.now) prefix.now plain exit.now.start exit.now.end) printer.old) }
+{
+    let text = text_of(source.bytes, exit.start, exit.end);
+    let encoded = encode(alloc, text, true)?;
+    if plain {
+        return printer.put(encoded.as_str());
+    }
+    let destination = joined(alloc, prefix, text)?;
+    link_start(alloc, printer, source.options, destination.as_str())?;
+    link_end(alloc, printer, Rope::from_string(alloc, encoded))
+}

@@ -1,0 +1,102 @@
+//! What texts print.
+
+ghost use Rattle.std.specs.Prelude.{◌≡◌, [], OnOk, not, ◌&&◌, ◌||◌};
+ghost use Rattle.md_printer.specs.Machine.{printing};
+ghost use Rattle.md_meaning.specs.Texts as texts;
+ghost use Rattle.md_printer.specs.Sources.{given_of, left_at};
+
+use md_around::names::is_definition;
+use md_base::{Name, decode_character_reference};
+use md_printer::escape::put_encoded;
+use md_printer::facts::Exit;
+use md_printer::printer::Printer;
+use md_printer::source::{Source, text_of};
+use md_text::gfm_tagfilter;
+use std::alloc::{AllocError, Global};
+
+/// Prints a node's text, escaped where its surroundings say so.
+pub fn data(printer: &mut Printer, source: &Source, exit: &Exit) -> Result<(), AllocError>
+    ensures { OnOk result (printer.new ≡ printing [] (texts.data_pieces (given_of source.now) exit.now.around exit.now.start exit.now.end) printer.old) }
+{
+    let text = text_of(source.bytes, exit.start, exit.end);
+    put_encoded(printer, text, exit.around.is_escaping)
+}
+
+/// Prints HTML, disarmed by the tag filter where HTML may stand.
+pub fn html(
+    alloc: Global,
+    printer: &mut Printer,
+    source: &Source,
+    exit: &Exit,
+) -> Result<(), AllocError>
+    ensures { OnOk result (printer.new ≡ printing [] (texts.html_pieces (given_of source.now) exit.now.around exit.now.start exit.now.end) printer.old) }
+{
+    let text = text_of(source.bytes, exit.start, exit.end);
+    let escaping = exit.around.is_escaping;
+    if source.options.gfm_tagfilter && source.options.allow_dangerous_html {
+        let filtered = gfm_tagfilter(alloc, text)?;
+        return put_encoded(printer, filtered.as_str(), escaping);
+    }
+    put_encoded(printer, text, escaping)
+}
+
+/// The marker of a reference, by the name before its value.
+fn marker_of(name: Option<Name>) -> u8
+    ensures { result ≡ texts.marker_of name }
+{
+    match name {
+        Some(Name::CharacterReferenceMarkerHexadecimal) => b'x',
+        Some(Name::CharacterReferenceMarkerNumeric) => b'#',
+        _ => b'&',
+    }
+}
+
+/// Prints what a reference stands for, escaped where its surroundings say so.
+pub fn reference(
+    alloc: Global,
+    printer: &mut Printer,
+    source: &Source,
+    exit: &Exit,
+) -> Result<(), AllocError>
+    ensures { OnOk result (printer.new ≡ printing [] (texts.reference_pieces (given_of source.now) exit.now.around (left_at exit.now [] []) exit.now.start exit.now.end) printer.old) }
+{
+    let value = text_of(source.bytes, exit.start, exit.end);
+    let marker = marker_of(exit.spine.last);
+    let decoded = decode_character_reference(alloc, value, marker, source.names)?;
+    let text = decoded.unwrap_or(String::new(alloc));
+    put_encoded(printer, text.as_str(), exit.around.is_escaping)
+}
+
+fn is_dropped_when(in_definition: bool, slurping: bool, behind_definition: bool) -> bool
+    ensures { result ≡ (not in_definition && slurping || behind_definition) }
+{
+    !in_definition && slurping || behind_definition
+}
+
+/// A line ending that isn't printed: it is slurped, or stands behind a definition.
+fn is_dropped(exit: &Exit) -> bool
+    ensures { result ≡ texts.is_dropped exit.now.around (left_at exit.now [] []) }
+{
+    let behind_definition = match exit.previous {
+        Some(name) => is_definition(name),
+        None => false,
+    };
+    is_dropped_when(
+        exit.around.in_definition,
+        exit.is_slurping,
+        behind_definition,
+    )
+}
+
+/// Prints a line ending: a space in code, else its own text unless it is dropped.
+pub fn line_ending(printer: &mut Printer, source: &Source, exit: &Exit) -> Result<(), AllocError>
+    ensures { OnOk result (printer.new ≡ printing [] (texts.line_ending_pieces (given_of source.now) exit.now.around (left_at exit.now [] []) exit.now.start exit.now.end) printer.old) }
+{
+    if exit.around.in_code {
+        printer.put(" ")
+    } else if is_dropped(exit) {
+        Ok(())
+    } else {
+        printer.put(text_of(source.bytes, exit.start, exit.end))
+    }
+}

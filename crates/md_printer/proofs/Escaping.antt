@@ -1,0 +1,33 @@
+-- A text's bytes, and what stands in their place.
+use Rattle.std.proofs.Common.{◌≡◌, ℕ, ◌+◌, ◌<◌, Bool, List, [], ◌∷◌, ◌++◌, length, get_or, take, drop, refl, sym, ap, ◌∙◌, append_assoc, add-one, drop-cons}
+use Rattle.std.proofs.lemmas.List.{take-append-drop}
+use Rattle.md_text.specs.Encode.{encoded, encoded_byte}
+use Rattle.md_text.proofs.EncodeLemmas.{encoded-append}
+use Rattle.md_meaning.specs.Texts.{said}
+use Rattle.md_printer.specs.Machine.{State, printing}
+
+-- a text at one of its bytes
+split : (bs : List ℕ) (i : ℕ) → i < length bs → take i bs ++ get_or bs i 0 ∷ drop (i + 1) bs ≡ bs
+split bs i h = ap (λ rest. take i bs ++ rest) (rw (add-one, ← drop-cons bs i 0) refl) ∙ take-append-drop i bs
+
+-- escaped, where what comes before the byte stays
+pub encoded-at : (html : Bool) (bs other : List ℕ) (i : ℕ) → i < length bs → encoded html (take i bs) ≡ take i bs → encoded_byte html (get_or bs i 0) ≡ other →
+    take i bs ++ (other ++ encoded html (drop (i + 1) bs)) ≡ encoded html bs
+encoded-at html bs other i h plain same =
+    ap (λ x. x ++ (other ++ encoded html (drop (i + 1) bs))) (sym plain)
+    ∙ ap (λ x. encoded html (take i bs) ++ (x ++ encoded html (drop (i + 1) bs))) (sym same)
+    ∙ sym (encoded-append html (take i bs) (get_or bs i 0 ∷ drop (i + 1) bs))
+    ∙ ap (λ x. encoded html x) (split bs i h)
+
+-- one more byte that stays
+pub plain-more : (html : Bool) (bs : List ℕ) (i : ℕ) → i < length bs → encoded html (take i bs) ≡ take i bs → encoded_byte html (get_or bs i 0) ≡ get_or bs i 0 ∷ [] →
+    encoded html (take i bs ++ get_or bs i 0 ∷ []) ≡ take i bs ++ get_or bs i 0 ∷ []
+plain-more html bs i h plain same =
+    encoded-append html (take i bs) (get_or bs i 0 ∷ [])
+    ∙ ap (λ x. x ++ (encoded_byte html (get_or bs i 0) ++ [])) plain
+    ∙ ap (λ x. take i bs ++ (x ++ [])) same
+
+-- a text is printed in three parts
+pub printed-parts : (xs ys zs all : List ℕ) (state : State) → xs ++ (ys ++ zs) ≡ all → printing [] (said zs) (printing [] (said ys) (printing [] (said xs) state)) ≡ printing [] (said all) state
+printed-parts xs ys zs all state same =
+    ap (λ text. record state { page = record state.page { text = text } }) (append_assoc (state.page.text ++ xs) ys zs ∙ append_assoc state.page.text xs (ys ++ zs) ∙ ap (λ x. state.page.text ++ x) same)

@@ -1,0 +1,86 @@
+-- What the compiler has of a document and of a node that is exited, as the definitions name it.
+use Rattle.std.specs.Prelude.{◌≡◌, ℕ, Bool, List, Option, Some, slice_get}
+use Rattle.md_base.specs.Reference.{name_table}
+use Rattle.md_base.specs.Tree.{Forest, flatten}
+use Rattle.md_tree.specs.Grammar.{Document}
+use Rattle.md_tree.specs.Entered.{children_of}
+use Rattle.md_printer.specs.declared.source.Source.{Source}
+use Rattle.md_base.specs.declared.event.Name.{Name}
+use Rattle.md_printer.specs.declared.facts.Exit.{Exit}
+use Rattle.md_printer.specs.declared.facts.Frame.{Frame as FrameInside}
+use Rattle.md_printer.specs.Machine.{Frame, State, ahead_by, document_frame}
+use Rattle.md_around.specs.Steps.{first_or}
+use Rattle.md_meaning.specs.Piece.{Piece, Page}
+use Rattle.md_meaning.specs.Places.{Left}
+use Rattle.md_meaning.specs.declared.facts.Ahead.{Ahead}
+use Rattle.md_meaning.specs.declared.facts.Passed.{Passed}
+use Rattle.md_meaning.specs.Printed.{closing}
+use Rattle.md_meaning.specs.Given.{Given}
+use Rattle.md_meaning.specs.Calls.{Called}
+use Rattle.md_base.specs.declared.event.AlignKind.{AlignKind}
+use Rattle.md_base.specs.declared.event.Point.{Point}
+
+abbrev pub given_of : Source → Given
+given_of source = record {
+  bytes = source.bytes.now;
+  names = name_table source.names.now;
+  options = source.options.now;
+  ending = source.ending.now;
+  definitions = source.definitions.now;
+}
+
+-- an open node, as the machine has it
+abbrev pub frame_of : FrameInside → Frame
+frame_of frame = record {
+  around = frame.around;
+  start = frame.start;
+  is_slurping = frame.is_slurping;
+  ahead = ahead_by frame.place;
+  passed = frame.passed;
+}
+
+-- what the innermost node of a state is exited with
+abbrev pub exit_in : Bool → Point → State → Exit
+exit_in last end state =
+    let parent = first_or document_frame state.frames in
+    record {
+      around = parent.around;
+      previous = parent.passed.last;
+      spine = parent.passed.spine;
+      start = state.frame.start;
+      is_slurping = state.frame.is_slurping;
+      is_last = last;
+      end = end;
+    }
+
+-- what a node without children is exited with, which starts where a state stands
+abbrev pub leaf_in : Point → Bool → Point → State → Exit
+leaf_in start last end state = record {
+  around = state.frame.around;
+  previous = state.frame.passed.last;
+  spine = state.frame.passed.spine;
+  start = start;
+  is_slurping = state.is_slurping;
+  is_last = last;
+  end = end;
+}
+
+-- what a node learns from what stands before it
+abbrev pub left_at : Exit → List Called → List AlignKind → Left
+left_at exit called columns = record {
+  called = called;
+  is_slurping = exit.is_slurping;
+  previous = exit.previous;
+  spine = exit.spine;
+  columns = columns;
+}
+
+-- what is printed where a node is exited, whose children tell this ahead and so far
+abbrev pub closing_at : Given → Exit → List Called → List AlignKind → Ahead → Passed → Page → Name → List Piece
+closing_at given exit called columns ahead passed inner name =
+    closing given exit.around (left_at exit called columns) ahead passed exit.is_last exit.start exit.end inner name
+
+-- the event at an index enters a node with these children, or none, in the document that the events are
+abbrev pub IsToldAt : Document → ℕ → Option Forest → Type 0
+IsToldAt given index told =
+    (document : Forest) × (flatten document ≡ given.events) × (slice_get (children_of document) index ≡ Some told)

@@ -1,0 +1,156 @@
+//! Reads a script from a reader, and writes its text to a writer.
+
+ghost use Rattle.std.specs.Prelude.{◌≡◌, ◌<◌, IfOk, OnOk, IfErr, length};
+ghost use Rattle.std.specs.Io.KnownBytes.{Appends};
+ghost use Rattle.md_script.specs.Serve.{IsReadWhole, IsServed, ExplainsServe, IsUnwritten, IsBeforeRun};
+ghost use Rattle.md_script.specs.declared.serving.ServeError.TheVariants as error;
+
+use crate::error::RunError;
+use crate::running::run;
+use std::alloc::{AllocError, Global};
+use std::error::Error;
+use std::fmt;
+use std::io::{Read, Write};
+
+/// How often a reader is read at most.
+const MOST_READS: u32 = 16_777_216;
+
+/// How many bytes are read at once at most.
+const READ_SIZE: usize = 65_536;
+
+/// Why a script was not served.
+#[derive(Debug, PartialEq, Eq, Drop)]
+pub enum ServeError {
+    /// It gives no text, or there is no more memory.
+    Run(RunError),
+    /// Reading failed, or none of 16,777,216 reads met the end.
+    Input,
+    /// Writing failed; a part of the text may have been written.
+    Output,
+}
+
+impl ServeError {
+    ghost use Rattle.std.specs.Prelude.{◌≡◌};
+    ghost use Rattle.md_script.specs.Serve.{serve_status};
+
+    /// The status with which a program ends: that of the script's error, 4 where reading or writing failed.
+    pub fn status(&self) -> u8
+        ensures { result ≡ serve_status self.now }
+    {
+        match self {
+            ServeError::Run(error) => error.status(),
+            ServeError::Input | ServeError::Output => 4,
+        }
+    }
+}
+
+impl fmt::Display for ServeError {
+    ghost use Rattle.std.specs.Prelude.{Some};
+    ghost use Rattle.md_script.specs.Serve.{serve_message};
+
+    ghost output = { λ error. Some (serve_message error) };
+
+    fn fmt<W: fmt::Write>(&self, f: &mut fmt::Formatter<W>) -> fmt::Result {
+        match self {
+            ServeError::Run(error) => write!(f, "{error}"),
+            ServeError::Input | ServeError::Output => write!(f, "input or output failed"),
+        }
+    }
+}
+
+impl Error for ServeError {}
+
+impl From<RunError> for ServeError {
+    ghost use Rattle.std.specs.Prelude.{◌≡◌};
+    ghost use Rattle.md_script.specs.declared.serving.ServeError.TheVariants.{Run};
+
+    ghost from_gives = { λ cause error. error ≡ Run cause };
+
+    fn from(error: RunError) -> ServeError {
+        ServeError::Run(error)
+    }
+}
+
+impl From<AllocError> for ServeError {
+    ghost use Rattle.std.specs.Prelude.{◌≡◌};
+    ghost use Rattle.md_script.specs.declared.serving.ServeError.TheVariants.{Run};
+    ghost use Rattle.md_script.specs.declared.error.RunError.TheVariants.{Memory};
+
+    ghost from_gives = { λ _ error. error ≡ Run Memory };
+
+    fn from(_error: AllocError) -> ServeError {
+        ServeError::Run(RunError::Memory)
+    }
+}
+
+/// Reads a script to its end, runs it, and writes its text.
+///
+/// A read or a write that fails is told, and not made again, `Interrupted` ones included.
+///
+/// # Errors
+///
+/// `ServeError::Run` where the script gives no text, or memory runs out; `ServeError::Input` where a read fails, or none of
+/// 16,777,216 reads meets the end. With both nothing was written. `ServeError::Output` where a write fails.
+pub fn serve<R: Read, W: Write>(
+    alloc: Global,
+    reader: &mut R,
+    writer: &mut W,
+) -> Result<(), ServeError>
+    ensures ok { OnOk result
+        (IsServed (R.remaining reader.old) (R.remaining reader.new) (W.contents writer.old) (W.contents writer.new)) }
+    ensures err { IfErr result (ExplainsServe (R.remaining reader.old) (R.remaining reader.new)) }
+    ensures unwritten { IfErr result (IsUnwritten (W.contents writer.old) (W.contents writer.new)) }
+{
+    let input = read_input(alloc, reader)?;
+    let text = run(alloc, input.as_slice())?;
+    write_text(writer, text.as_bytes())
+}
+
+/// Reads to the end.
+///
+/// # Errors
+///
+/// `ServeError::Input` where a read fails, or none of 16,777,216 reads meets the end, and `ServeError::Run` where memory
+/// runs out.
+pub fn read_input<R: Read>(alloc: Global, reader: &mut R) -> Result<Vec<u8>, ServeError>
+    ensures ok { IfOk result (λ input. IsReadWhole (R.remaining reader.old) (R.remaining reader.new) input.items) }
+    ensures err { IfErr result IsBeforeRun }
+{
+    let mut input = Vec::new(alloc);
+    let mut buffer = buffer(alloc)?;
+    for _ in 0..MOST_READS {
+        let Ok(count) = reader.read(&mut buffer) else {
+            return Err(ServeError::Input);
+        };
+        if count == 0 {
+            return Ok(input);
+        }
+        input.extend_from_slice(&buffer[..count])?;
+    }
+    Err(ServeError::Input)
+}
+
+/// Room for what is read at once.
+fn buffer(alloc: Global) -> Result<Vec<u8>, AllocError>
+    ensures { IfOk result (λ room. 0 < length room.items) }
+{
+    vec![in alloc; 0u8; READ_SIZE]
+}
+
+/// Writes a text, whole.
+fn write_text<W: Write>(writer: &mut W, text: &[u8]) -> Result<(), ServeError>
+    ensures ok { OnOk result (Appends (W.contents writer.old) (W.contents writer.new) text.now) }
+    ensures err { IfErr result (λ e. e ≡ error.Output) }
+{
+    let mut rest = text;
+    while !rest.is_empty() {
+        match writer.write(rest) {
+            Ok(0) | Err(_) => return Err(ServeError::Output),
+            Ok(count) => rest = &rest[count..],
+        }
+    }
+    match writer.flush() {
+        Ok(()) => Ok(()),
+        Err(_) => Err(ServeError::Output),
+    }
+}

@@ -1,0 +1,37 @@
+//! What nodes mention by their labels.
+
+use md_base::{Point, Position};
+
+/// What identifies a link, an image, a footnote call or a definition.
+#[derive(Clone, Copy, Debug, PartialEq, Eq)]
+pub enum Target {
+    Missing,
+    Resource,
+    /// The place of its label, of which the indices alone are read.
+    Label(Position),
+}
+
+/// What a node that ends mentions, by the place of its label.
+#[derive(Clone, Copy, Debug, PartialEq, Eq)]
+pub enum Mention {
+    Nothing,
+    /// A link or an image that leads to a definition.
+    Reference(Position),
+    Call(Position),
+    Definition(Position),
+    FootnoteDefinition(Position),
+}
+
+/// What is mentioned by a node that exits at an index.
+#[derive(Clone, Copy, Debug, PartialEq, Eq)]
+pub struct Mentioned {
+    pub index: usize,
+    pub mention: Mention,
+}
+
+/// What is said of an event: where its node starts, and at an exit what the node mentions.
+#[derive(Clone, Copy, Debug, PartialEq, Eq)]
+pub struct Note {
+    pub start: Point,
+    pub mention: Mention,
+}
