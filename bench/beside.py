@@ -12,6 +12,7 @@ the least of some runs, in ms. The picture shows the times of the shapes, and is
 
 import argparse
 import os
+import subprocess
 import sys
 import tempfile
 
@@ -34,6 +35,21 @@ def beside():
 def put(path, data):
     with open(path, "wb") as file:
         file.write(data)
+
+
+# Runs a command on a file from a small process: what a process took at most counts the one that it was forked from.
+PEAK = """
+import os, subprocess, sys
+with open(sys.argv[1], "rb") as file:
+    process = subprocess.Popen(sys.argv[2:], stdin=file, stdout=subprocess.DEVNULL)
+print(os.wait4(process.pid, 0)[2].ru_maxrss * 1024)
+"""
+
+
+def peak(command, path):
+    """The most memory that a run takes, in bytes."""
+    words = [sys.executable, "-I", "-S", "-c", PEAK, path, *command]
+    return int(subprocess.run(words, stdout=subprocess.PIPE, check=True).stdout)
 
 
 def row(*cells):
@@ -82,7 +98,7 @@ def times_table(compare, commands, path, runs):
     rest = [whole[at][0] - reader[at][0] for at in (0, 1)]
     row("check, compile, write, ms", f"{rest[1] * 1000:.1f}", f"{rest[0] * 1000:.1f}", ratio(*rest))
     row("the whole program, ms", f"{whole[1][0] * 1000:.1f}", f"{whole[0][0] * 1000:.1f}", ratio(whole[0][0], whole[1][0]))
-    memory = [(whole[at][1] - size - text[at]) / len(lines) for at in (0, 1)]
+    memory = [(peak(command, path) - size - text[at]) / len(lines) for at, command in enumerate(commands)]
     row("memory beyond script and text, bytes an event", f"{memory[1]:.0f}", f"{memory[0]:.0f}", ratio(*memory))
     print()
 

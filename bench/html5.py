@@ -4,12 +4,13 @@
     /usr/bin/python3 bench/html5.py PROGRAM
 
 PROGRAM is the built `mdevents`; html5lib comes with Debian's python3-html5lib, or from pip. The attacks, and the
-ways on which each comes into the text, are those of crates/md_cases/src/cases/attacks. Each text is read inside a
-`div` and as a whole page. It fails, with status 1, on an element, an attribute or a comment that compiled Markdown
-never has, and, but where an option lets them, on a link or an image that leads to another protocol as a browser
-takes it.
+ways on which each comes into the text, are in attacks.json; crates/md_cases/stdin has them with their answers. Each
+text is read inside a `div` and as a whole page. It fails, with status 1, on an element, an attribute or a comment
+that compiled Markdown never has, and, but where an option lets them, on a link or an image that leads to another
+protocol as a browser takes it.
 """
 
+import json
 import pathlib
 import re
 import subprocess
@@ -17,7 +18,7 @@ import sys
 
 import html5lib
 
-ATTACKS = pathlib.Path(__file__).resolve().parent.parent / "crates/md_cases/src/cases/attacks"
+ATTACKS = json.loads(pathlib.Path(__file__).with_name("attacks.json").read_text(encoding="utf-8"))
 
 ELEMENTS = {
     name: set()
@@ -42,31 +43,12 @@ PROTOCOLS = {
 }
 LETS_ANY = "!allow_dangerous_protocol"
 
-STRING = re.compile(r'"((?:[^"\\]|\\.)*)"', re.S)
-ESCAPE = re.compile(r"\\(u\{([0-9a-fA-F]+)\}|.)", re.S)
-SIMPLE = {"n": "\n", "r": "\r", "t": "\t", "0": "\0", '"': '"', "\\": "\\", "'": "'"}
 DATA = "+Data 0\n-Data [n]\n"
-
-
-def unescaped(literal):
-    """The text of a literal of the test's source."""
-    return ESCAPE.sub(lambda m: chr(int(m[2], 16)) if m[2] else SIMPLE[m[1]], literal)
-
-
-def fields(file, name):
-    """The values of a field in a file: a string, or the constant of a single data node."""
-    source = (ATTACKS / file).read_text(encoding="utf-8")
-    values = re.findall(rf'^ +{name}: ("(?:[^"\\]|\\.)*"|DATA),$', source, re.S | re.M)
-    return [DATA if value == "DATA" else unescaped(STRING.fullmatch(value)[1]) for value in values]
 
 
 def attacks():
     """Each attack's document, and the events by which it is read."""
-    pairs = []
-    for file in ("markup.rt", "protocols.rt", "breaks.rt", "spellings.rt"):
-        pairs += zip(fields(file, "text"), fields(file, "nodes"), strict=True)
-    pairs.append(("<" * 9000, DATA))
-    return sorted(set(pairs))
+    return [*ATTACKS["attacks"], ("<" * 9000, DATA)]
 
 
 def script(lines, text, nodes):
@@ -118,7 +100,7 @@ def is_sharp():
 def main():
     program = sys.argv[1]
     assert is_sharp()
-    ways, cases = fields("ways.rt", "lines"), attacks()
+    ways, cases = ATTACKS["ways"], attacks()
     count = failures = 0
     for lines in ways:
         for text, nodes in cases:

@@ -6,16 +6,6 @@ ghost use Rattle.md_meaning.specs.Printed as printed;
 
 use md_base::Name;
 
-/// A node that its parent's pattern looks through.
-pub fn is_transparent(name: Name) -> bool
-    ensures { result ≡ tests.is_transparent name }
-{
-    matches!(
-        name,
-        Name::Other(_) | Name::BlockQuotePrefix | Name::SpaceOrTab
-    )
-}
-
 pub fn is_item_prefix(name: Name) -> bool
     ensures { result ≡ tests.is_item_prefix name }
 {
@@ -96,10 +86,4 @@ pub fn is_cell(name: Name) -> bool
     ensures { result ≡ tests.is_cell name }
 {
     matches!(name, Name::GfmTableCell)
-}
-
-pub fn is_table(name: Name) -> bool
-    ensures { result ≡ tests.is_table name }
-{
-    matches!(name, Name::GfmTable)
 }

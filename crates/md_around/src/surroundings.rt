@@ -1,18 +1,20 @@
 //! What a node knows of the nodes round it and before it.
 
 ghost use Rattle.std.specs.Prelude.{◌≡◌, ◌+◌, IfOk, OnOk, ◌||◌, ◌&&◌, if◌then◌else◌, Some};
+ghost use Rattle.md_meaning.specs.declared.facts.Container.TheVariants.{TightList, Another};
 ghost use Rattle.md_meaning.specs.Surroundings as spec;
 ghost use Rattle.md_around.specs.Steps as machine;
 ghost use Rattle.md_base.specs.NameTests.{is_transparent, is_cell, contributes};
 
-use crate::names::{contributes, is_cell, is_chunk, is_fence, is_transparent};
+use crate::names::{contributes, is_cell, is_chunk, is_fence};
 use md_base::{Name, Point};
+use md_infer::is_transparent;
 use md_meaning::{CompileOptions, Container, Passed, Spine, Surroundings};
 use std::alloc::AllocError;
 
 /// A list as the container of its items' children.
 fn list_container(loose: bool) -> Container
-    ensures { result ≡ spec.list_container loose }
+    ensures { result ≡ (if loose then Another else TightList) }
 {
     if loose {
         Container::Another

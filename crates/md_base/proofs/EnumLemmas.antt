@@ -11,7 +11,8 @@ abbrev pub Tests : List (List Field) → Type 0
 Tests [] = Unit {0}
 Tests ([] ∷ variants) = Tests variants
 Tests ((field ∷ fields) ∷ variants) =
-    ((test : Values (field ∷ fields) → Values (field ∷ fields) → Bool) × ((x y : Values (field ∷ fields)) → Decides (test x y) (x ≡ y)))
+    ((test : Values (field ∷ fields) → Values (field ∷ fields) → Bool)
+    × ((x y : Values (field ∷ fields)) → Decides (test x y) (x ≡ y)))
     × Tests variants
 
 -- the tests of all variants: two values of one that has no field are equal
@@ -39,10 +40,12 @@ at_left B x = inl x
 abbrev at_right : (A : Type 0) {B : Type 0} → B → A ⊎ B
 at_right A y = inr y
 
-left_decides : {A B : Type 0} (x y : A) (answer : Bool) → Decides answer (x ≡ y) → Decides answer (at_left B x ≡ at_left B y)
+left_decides : {A B : Type 0} (x y : A) (answer : Bool) → Decides answer (x ≡ y) →
+    Decides answer (at_left B x ≡ at_left B y)
 left_decides x y answer d = (λ e. ap inl (d.0 e), λ e. d.1 (ap (left_or x) e))
 
-right_decides : {A B : Type 0} (x y : B) (answer : Bool) → Decides answer (x ≡ y) → Decides answer (at_right A x ≡ at_right A y)
+right_decides : {A B : Type 0} (x y : B) (answer : Bool) → Decides answer (x ≡ y) →
+    Decides answer (at_right A x ≡ at_right A y)
 right_decides x y answer d = (λ e. ap inr (d.0 e), λ e. d.1 (ap (right_or x) e))
 
 apart_decides : {A B : Type 0} (x : A) (y : B) → Decides false (at_left B x ≡ at_right A y)
@@ -51,7 +54,8 @@ apart_decides x y = (λ e. absurd (false≢true e), λ e. absurd (subst OnLeft e
 apart_too : {A B : Type 0} (x : A) (y : B) → Decides false (at_right A y ≡ at_left B x)
 apart_too x y = (λ e. absurd (false≢true e), λ e. absurd (subst OnLeft (sym e) tt))
 
-pub by_decides : (variants : List (List Field)) (tests : Tests variants) (a b : Choice variants) → Decides (by false false variants (each_of variants tests) a b) (a ≡ b)
+pub by_decides : (variants : List (List Field)) (tests : Tests variants) (a b : Choice variants) →
+    Decides (by false false variants (each_of variants tests) a b) (a ≡ b)
 by_decides [] tests a b = absurd a
 by_decides ([] ∷ variants) tests (inl x) (inl y) = left_decides x y true (λ _. refl, λ _. refl)
 by_decides ([] ∷ variants) tests (inl x) (inr y) = apart_decides x y
@@ -63,7 +67,8 @@ by_decides ((field ∷ fields) ∷ variants) tests (inr x) (inl y) = apart_too y
 by_decides ((field ∷ fields) ∷ variants) tests (inr x) (inr y) = right_decides x y _ (by_decides variants tests.1 x y)
 
 -- the same of the author's own values
-pub same_decides : (enum : Record) (tests : Tests enum.parts) (a b : enum.D) → Decides (by false false enum.parts (each_of enum.parts tests) (enum.as_values a) (enum.as_values b)) (a ≡ b)
+pub same_decides : (enum : Record) (tests : Tests enum.parts) (a b : enum.D) →
+    Decides (by false false enum.parts (each_of enum.parts tests) (enum.as_values a) (enum.as_values b)) (a ≡ b)
 same_decides enum tests a b =
     let choices = by_decides enum.parts tests (enum.as_values a) (enum.as_values b) in
     (λ e. values_one enum a b (choices.0 e), λ e. choices.1 (ap enum.as_values e))

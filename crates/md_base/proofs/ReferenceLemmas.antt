@@ -12,16 +12,20 @@ use Rattle.md_base.specs.Reference.{is_number, character_of, numbered}
 
 -- ---- a number
 
-all_digits-Decides : (radix : ℕ) (digits : List ℕ) → Decides (list_all (λ digit. nat_lt (digit_value digit) radix) digits) (AllDigits radix digits)
+all_digits-Decides : (radix : ℕ) (digits : List ℕ) → Decides
+    (list_all (λ digit. nat_lt (digit_value digit) radix) digits) (AllDigits radix digits)
 all_digits-Decides radix [] = (λ _. tt, λ _. refl)
 all_digits-Decides radix (digit ∷ digits) =
-    Decides-and (nat_lt (digit_value digit) radix) (list_all (λ d. nat_lt (digit_value d) radix) digits) (Decides-ltb (digit_value digit) radix) (all_digits-Decides radix digits)
+    Decides-and (nat_lt (digit_value digit) radix) (list_all (λ d. nat_lt (digit_value d) radix) digits)
+    (Decides-ltb (digit_value digit) radix) (all_digits-Decides radix digits)
 
 some_digits-Decides : (digits : List ℕ) → Decides (not (eqb (length digits) 0)) (0 < length digits)
 some_digits-Decides digits =
-    Decides-like (not (eqb (length digits) 0)) (λ h. omega (arith, h)) (λ h e. omega (arith, h, e)) (Decides-not (eqb (length digits) 0) (Decides-eqb (length digits) 0))
+    Decides-like (not (eqb (length digits) 0)) (λ h. omega (arith, h)) (λ h e. omega (arith, h, e))
+    (Decides-not (eqb (length digits) 0) (Decides-eqb (length digits) 0))
 
-pub is_number-Decides : (radix : ℕ) (digits : List ℕ) → Decides (is_number radix digits) (IsNumeral radix digits × (digits_value radix digits < 2 ^ 32))
+pub is_number-Decides : (radix : ℕ) (digits : List ℕ) → Decides (is_number radix digits) (IsNumeral radix digits
+    × (digits_value radix digits < 2 ^ 32))
 is_number-Decides radix digits =
     let all = list_all (λ digit. nat_lt (digit_value digit) radix) digits in
     let some = not (eqb (length digits) 0) in
@@ -42,17 +46,22 @@ read_none : {E : Type 0} (r : Result ℕ E) (P : Type 0) (v : ℕ) → None ≡ 
 read_none (Ok m) P v e h = cc
 read_none (Err m) P v e h = h
 
-plain : {E : Type 0} (radix : ℕ) (digits : List ℕ) (r : Result ℕ E) → get_or digits 0 0 ≢ 43 → ParsesUnsigned 32 radix digits r → OkIff r (IsNumeral radix digits × (digits_value radix digits < 2 ^ 32)) (digits_value radix digits)
+plain : {E : Type 0} (radix : ℕ) (digits : List ℕ) (r : Result ℕ E) → get_or digits 0 0 ≢ 43 →
+    ParsesUnsigned 32 radix digits r → OkIff r (IsNumeral radix digits
+    × (digits_value radix digits < 2 ^ 32)) (digits_value radix digits)
 plain radix digits r no_plus h =
     let e = without_leading_plus_none digits no_plus in
     subst (λ ds. OkIff r (IsNumeral radix ds × (digits_value radix ds < 2 ^ 32)) (digits_value radix ds)) e h
 
-pub numbered_ok : {E : Type 0} (radix : ℕ) (digits : List ℕ) (r : Result ℕ E) (code : ℕ) → get_or digits 0 0 ≢ 43 → ParsesUnsigned 32 radix digits r → Some code ≡ result_ok r → Some (character_of code) ≡ numbered radix digits
+pub numbered_ok : {E : Type 0} (radix : ℕ) (digits : List ℕ) (r : Result ℕ E) (code : ℕ) → get_or digits 0 0 ≢ 43 →
+    ParsesUnsigned 32 radix digits r → Some code ≡ result_ok r → Some (character_of code) ≡ numbered radix digits
 numbered_ok radix digits r code no_plus parsed e =
     let read = read_ok r _ code (digits_value radix digits) e (plain radix digits r no_plus parsed) in
-    ap (λ n. Some (character_of n)) read.1 ∙ sym (ap (chosen_number radix digits) ((is_number-Decides radix digits).1 read.0))
+    ap (λ n. Some (character_of n)) read.1 ∙ sym (ap (chosen_number radix digits)
+    ((is_number-Decides radix digits).1 read.0))
 
-pub numbered_none : {E : Type 0} (radix : ℕ) (digits : List ℕ) (r : Result ℕ E) → get_or digits 0 0 ≢ 43 → ParsesUnsigned 32 radix digits r → None ≡ result_ok r → None ≡ numbered radix digits
+pub numbered_none : {E : Type 0} (radix : ℕ) (digits : List ℕ) (r : Result ℕ E) → get_or digits 0 0 ≢ 43 →
+    ParsesUnsigned 32 radix digits r → None ≡ result_ok r → None ≡ numbered radix digits
 numbered_none radix digits r no_plus parsed e =
     let no = read_none r _ (digits_value radix digits) e (plain radix digits r no_plus parsed) in
     elim (cases_Bool (is_number radix digits)) [

@@ -26,24 +26,28 @@ without_one : (text : List ℕ) → IsUtf8 (text ++ 32 ∷ []) → IsUtf8 text
 without_one text utf8 =
     let at_end : get_or (text ++ 32 ∷ []) (length text) 0 ≡ 32 = get_or_at text 32 [] 0 (length text) refl in
     let inside : length text < length (text ++ 32 ∷ []) = omega (arith, length-append text (32 ∷ [])) in
-    let edge = IsCharBoundary-before_ascii (text ++ 32 ∷ []) (length text) inside (subst (λ b. b < 128) (sym at_end) (lit< tt)) in
+    let edge = IsCharBoundary-before_ascii (text ++ 32 ∷ []) (length text) inside
+    (subst (λ b. b < 128) (sym at_end) (lit< tt)) in
     subst IsUtf8 (take_at text (32 ∷ []) (length text) refl) (IsUtf8-take (text ++ 32 ∷ []) (length text) utf8 edge)
 
 without_right : (count : ℕ) (text : List ℕ) → IsUtf8 (text ++ replicate count 32) → IsUtf8 text
 without_right zero text utf8 = subst IsUtf8 (append-nil text) utf8
 without_right (suc count) text utf8 =
-    without_one text (without_right count (text ++ 32 ∷ []) (subst IsUtf8 (sym (append_assoc text (32 ∷ []) (replicate count 32))) utf8))
+    without_one text (without_right count (text ++ 32 ∷ [])
+    (subst IsUtf8 (sym (append_assoc text (32 ∷ []) (replicate count 32))) utf8))
 
 is_utf8-Decides : (bytes : List ℕ) → Decides (is_utf8 bytes) (IsUtf8 bytes)
 is_utf8-Decides bytes = (IsUtf8-from_is_utf8 bytes, is_utf8-from_IsUtf8 bytes)
 
-pub is_utf8-padded : (before after : ℕ) (bytes : List ℕ) → is_utf8 (replicate before 32 ++ bytes ++ replicate after 32) ≡ is_utf8 bytes
+pub is_utf8-padded : (before after : ℕ) (bytes : List ℕ) →
+    is_utf8 (replicate before 32 ++ bytes ++ replicate after 32) ≡ is_utf8 bytes
 is_utf8-padded before after bytes =
     let padded = replicate before 32 ++ bytes ++ replicate after 32 in
     same_from_decides (is_utf8 padded) (is_utf8 bytes)
     (Decides-like (is_utf8 padded)
     (λ utf8. without_left before bytes (without_right after (replicate before 32 ++ bytes) utf8))
-    (λ utf8. IsUtf8-append (replicate before 32 ++ bytes) (replicate after 32) (IsUtf8-append (replicate before 32) bytes (utf8_spaces before) utf8) (utf8_spaces after))
+    (λ utf8. IsUtf8-append (replicate before 32 ++ bytes) (replicate after 32)
+    (IsUtf8-append (replicate before 32) bytes (utf8_spaces before) utf8) (utf8_spaces after))
     (is_utf8-Decides padded))
     (is_utf8-Decides bytes)
 
@@ -52,20 +56,25 @@ is_utf8-padded before after bytes =
 abbrev chosen : List ℕ → Bool → Option (List ℕ)
 chosen bytes test = cond test (Some bytes) None
 
-pub padded_none : (before after : ℕ) (bytes : List ℕ) → None ≡ text_when true bytes → None ≡ text_when true (replicate before 32 ++ bytes ++ replicate after 32)
+pub padded_none : (before after : ℕ) (bytes : List ℕ) → None ≡ text_when true bytes →
+    None ≡ text_when true (replicate before 32 ++ bytes ++ replicate after 32)
 padded_none before after bytes h =
     elim (cases_Bool (is_utf8 bytes)) [
       | inl good ↦ (let e : text_when true bytes ≡ Some bytes = ap (chosen bytes) good in absurd (cc))
-      | inr bad ↦ sym (ap (chosen (replicate before 32 ++ bytes ++ replicate after 32)) (is_utf8-padded before after bytes ∙ bad))
+      | inr bad ↦ sym (ap (chosen (replicate before 32 ++ bytes ++ replicate after 32))
+          (is_utf8-padded before after bytes ∙ bad))
     ]
 
-pub padded_some : (before after : ℕ) (bytes inner all : List ℕ) → Some inner ≡ text_when true bytes → all ≡ replicate before 32 ++ inner ++ replicate after 32 → Some all ≡ text_when true (replicate before 32 ++ bytes ++ replicate after 32)
+pub padded_some : (before after : ℕ) (bytes inner all : List ℕ) → Some inner ≡ text_when true bytes →
+    all ≡ replicate before 32 ++ inner ++ replicate after 32 →
+    Some all ≡ text_when true (replicate before 32 ++ bytes ++ replicate after 32)
 padded_some before after bytes inner all h e =
     elim (cases_Bool (is_utf8 bytes)) [
       | inl good ↦ (
           let is : text_when true bytes ≡ Some bytes = ap (chosen bytes) good in
           let same : inner ≡ bytes = cc in
           ap Some (e ∙ ap (λ t. replicate before 32 ++ t ++ replicate after 32) same)
-          ∙ sym (ap (chosen (replicate before 32 ++ bytes ++ replicate after 32)) (is_utf8-padded before after bytes ∙ good)))
+          ∙ sym (ap (chosen (replicate before 32 ++ bytes ++ replicate after 32)) (is_utf8-padded before after bytes
+          ∙ good)))
       | inr bad ↦ (let isnt : text_when true bytes ≡ None = ap (chosen bytes) bad in absurd (cc))
     ]

@@ -13,22 +13,18 @@ spine_names (Node name start end children rest) =
 
 -- the first of two, where there is one, else the second
 abbrev pub or_else : {A : Type 0} → Option A → Option A → Option A
-or_else None second = second
-or_else (Some first) second = Some first
+or_else first second = elim first [ None ↦ second | Some found ↦ Some found ]
 
 -- what `tell` tells of the first node on the spine whose name passes a test
 abbrev pub first_on_spine : {A : Type 0} → (Name → Bool) → (Point → Point → Forest → A) → Forest → Option A
 first_on_spine test tell Empty = None
-first_on_spine test tell (Node name start end children rest) =
-    or_else
+first_on_spine test tell (Node name start end children rest) = or_else
     (if test name then Some (tell start end children)
-    else (if is_transparent name then first_on_spine test tell children else None))
-    (first_on_spine test tell rest)
+    else (if is_transparent name then first_on_spine test tell children else None)) (first_on_spine test tell rest)
 
 -- there is no node
 abbrev pub is_empty : Forest → Bool
-is_empty Empty = true
-is_empty _ = false
+is_empty forest = elim forest [ Empty ↦ true | _ ↦ false ]
 
 -- the name of the last child
 abbrev pub last_name : Forest → Option Name

@@ -8,17 +8,12 @@ abbrev pub is_white : ℕ → Bool
 is_white byte = byte == 9 || byte == 10 || byte == 13 || byte == 32
 
 abbrev pub is_nonempty : List ℕ → Bool
-is_nonempty [] = false
-is_nonempty (byte ∷ bytes) = true
+is_nonempty text = elim text [ [] ↦ false | _ ↦ true ]
 
 -- each run of white space becomes one space, and none is left at the ends
 abbrev pub collapsed : List ℕ → List ℕ
 collapsed text = join_with_byte 32 (filter is_nonempty (slice_split is_white text))
 
--- a text with full case folding
-abbrev pub folded : List ℕ → List ℕ
-folded text = encode_utf8_all (default_case_fold (chars text))
-
--- the form in which identifiers are compared
+-- the form in which identifiers are compared: so collapsed, with full case folding
 abbrev pub normalized : List ℕ → List ℕ
-normalized text = folded (collapsed text)
+normalized text = encode_utf8_all (default_case_fold (chars (collapsed text)))

@@ -17,8 +17,8 @@ spaces_after end = end.vs - 1
 
 -- a node may lie between these points: no more columns than a tab has, in order, within the bytes
 abbrev pub fits : List ℕ → Point → Point → Bool
-fits bytes start end =
-    nat_le start.vs 4 && nat_le end.vs 4 && nat_le (byte_index start) (byte_index end) && nat_le (byte_index end) (length bytes)
+fits bytes start end = nat_le start.vs 4 && nat_le end.vs 4
+    && nat_le (byte_index start) (byte_index end) && nat_le (byte_index end) (length bytes)
 
 -- the bytes of a node that fits
 abbrev pub bytes_between : List ℕ → Point → Point → List ℕ
@@ -34,10 +34,10 @@ text_between bytes start end = text_when (fits bytes start end) (bytes_between b
 
 -- the text with the spaces of the tabs that are cut at its ends
 abbrev pub serialized_between : List ℕ → Point → Point → Option (List ℕ)
-serialized_between bytes start end =
-    text_when (fits bytes start end) (replicate (spaces_before start) 32 ++ bytes_between bytes start end ++ replicate (spaces_after end) 32)
+serialized_between bytes start end = text_when (fits bytes start end)
+    (replicate (spaces_before start) 32 ++ bytes_between bytes start end ++ replicate (spaces_after end) 32)
 
 -- the text between the indices of two points, whatever columns of tabs are taken there
 abbrev pub label_between : List ℕ → Point → Point → Option (List ℕ)
-label_between bytes start end =
-    text_when (nat_le start.index end.index && nat_le end.index (length bytes)) (slice_range bytes start.index end.index)
+label_between bytes start end = text_when (nat_le start.index end.index && nat_le end.index (length bytes))
+    (slice_range bytes start.index end.index)

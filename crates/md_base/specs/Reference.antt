@@ -16,14 +16,14 @@ named names name = option_map (λ entry. entry.1) (find (λ entry. bytes_eq entr
 
 -- one or more digits of this radix, whose number is under 2 ^ 32
 abbrev pub is_number : ℕ → List ℕ → Bool
-is_number radix digits =
-    not (length digits == 0) && list_all (λ digit. nat_lt (digit_value digit) radix) digits && nat_lt (digits_value radix digits) (2 ^ 32)
+is_number radix digits = not (length digits == 0) && list_all (λ digit. nat_lt (digit_value digit) radix) digits
+    && nat_lt (digits_value radix digits) (2 ^ 32)
 
 -- control characters, surrogates, noncharacters and codes past the last character
 abbrev pub is_replaced : ℕ → Bool
-is_replaced code =
-    is_in_range 0 8 code || code == 11 || is_in_range 14 31 code || is_in_range 127 159 code || is_in_range 0xD800 0xDFFF code
-    || is_in_range 0xFDD0 0xFDEF code || code % 0x10000 == 0xFFFE || code % 0x10000 == 0xFFFF || nat_lt 0x10FFFF code
+is_replaced code = is_in_range 0 8 code || code == 11 || is_in_range 14 31 code || is_in_range 127 159 code
+    || is_in_range 0xD800 0xDFFF code || is_in_range 0xFDD0 0xFDEF code
+    || code % 0x10000 == 0xFFFE || code % 0x10000 == 0xFFFF || nat_lt 0x10FFFF code
 
 -- the character that a number stands for, U+FFFD where the code is replaced
 abbrev pub character_of : ℕ → List ℕ
@@ -35,5 +35,5 @@ numbered radix digits = if is_number radix digits then Some (character_of (digit
 
 -- what a reference stands for, by its marker: `&` a name, `#` a decimal number, `x` a hexadecimal one
 abbrev pub decoded : List (List ℕ × List ℕ) → ℕ → List ℕ → Option (List ℕ)
-decoded names marker value =
-    if marker == 38 then named names value else if marker == 35 then numbered 10 value else if marker == 120 then numbered 16 value else None
+decoded names marker value = if marker == 38 then named names value else if marker == 35 then numbered 10 value
+    else if marker == 120 then numbered 16 value else None

@@ -26,7 +26,8 @@ never a b differ same = absurd (eqb-false a b differ same)
 
 -- ---- texts
 
-pub handed_over : (claim : List ℕ → Type 0) (text old new : List ℕ) (answer : Answer) → claim text → IsHandedOver text old new answer → HandsOver claim old new answer
+pub handed_over : (claim : List ℕ → Type 0) (text old new : List ℕ) (answer : Answer) → claim text →
+    IsHandedOver text old new answer → HandsOver claim old new answer
 handed_over claim text old new answer holds (inl done) =
     let size : answer.length ≡ length text = ap (λ a. a.length) done.answered in
     let status : answer.status ≡ 0 = ap (λ a. a.status) done.answered in
@@ -44,7 +45,12 @@ handed_over claim text old new answer holds (inr kept) =
       text = λ is. absurd (omega (arith, is, status));
       fits = λ is. absurd (omega (arith, is, status));
       rest = λ is. absurd (omega (arith, is, status));
-      short = λ _. record { text = text; claimed = holds; counted = sym size; longer = subst (λ n. length old < n) (sym size) kept.longer };
+      short = λ _. record {
+        text = text;
+        claimed = holds;
+        counted = sym size;
+        longer = subst (λ n. length old < n) (sym size) kept.longer;
+      };
       untouched = λ _. kept.untouched;
     }
 
@@ -57,11 +63,16 @@ plain_text status size few = record {
   no_length = λ many. absurd (omega (arith, few, many));
 }
 
-text_is_plain : (text old new : List ℕ) (answer : Answer) → IsHandedOver text old new answer → IsPlain answer × (answer.status ≤ 1)
-text_is_plain text old new answer (inl done) =
-    (subst IsPlain (sym done.answered) (plain_text 0 (length text) (omega arith)), omega (arith, ap (λ a. a.status) done.answered))
-text_is_plain text old new answer (inr kept) =
-    (subst IsPlain (sym kept.answered) (plain_text 1 (length text) (omega arith)), omega (arith, ap (λ a. a.status) kept.answered))
+text_is_plain : (text old new : List ℕ) (answer : Answer) → IsHandedOver text old new answer →
+    IsPlain answer × (answer.status ≤ 1)
+text_is_plain text old new answer (inl done) = (
+  subst IsPlain (sym done.answered) (plain_text 0 (length text) (omega arith)),
+  omega (arith, ap (λ a. a.status) done.answered),
+)
+text_is_plain text old new answer (inr kept) = (
+  subst IsPlain (sym kept.answered) (plain_text 1 (length text) (omega arith)),
+  omega (arith, ap (λ a. a.status) kept.answered),
+)
 
 pub text_of_compile : (text old new : List ℕ) (answer : Answer) → IsHandedOver text old new answer → IsOfCompile answer
 text_of_compile text old new answer handed =
@@ -79,7 +90,8 @@ text_status text old new answer handed = (text_is_plain text old new answer hand
 
 -- ---- failures
 
-pub failed : (claim : List ℕ → Type 0) (old : List ℕ) (answer : Answer) → 1 < answer.status → HandsOver claim old old answer
+pub failed : (claim : List ℕ → Type 0) (old : List ℕ) (answer : Answer) → 1 < answer.status →
+    HandsOver claim old old answer
 failed claim old answer many = record {
   text = λ is. absurd (omega (arith, many, is));
   fits = λ is. absurd (omega (arith, many, is));
@@ -96,8 +108,10 @@ failure_status (failure.Option number) = omega arith
 failure_status (failure.Line number) = omega arith
 failure_status (failure.Refused index rule) = omega arith
 
-pub failure_hands_over : (claim : List ℕ → Type 0) (old : List ℕ) (why : Failure) (answer : Answer) → answer ≡ answer_of why → HandsOver claim old old answer
-failure_hands_over claim old why answer is = subst (HandsOver claim old old) (sym is) (failed claim old (answer_of why) (failure_status why))
+pub failure_hands_over : (claim : List ℕ → Type 0) (old : List ℕ) (why : Failure) (answer : Answer) →
+    answer ≡ answer_of why → HandsOver claim old old answer
+failure_hands_over claim old why answer is = subst (HandsOver claim old old) (sym is)
+    (failed claim old (answer_of why) (failure_status why))
 
 plain_about : (status index : ℕ) → 1 < status → status < 7 → IsPlain (about status index)
 plain_about status index many few = record {
@@ -109,7 +123,13 @@ plain_about status index many few = record {
 }
 
 failure_is_plain : (why : Failure) → IsPlain (answer_of why)
-failure_is_plain failure.Memory = record { known = omega arith; no_rule = λ _. refl; no_index = λ _. refl; no_place = λ _. refl; no_length = λ _. refl }
+failure_is_plain failure.Memory = record {
+  known = omega arith;
+  no_rule = λ _. refl;
+  no_index = λ _. refl;
+  no_place = λ _. refl;
+  no_length = λ _. refl;
+}
 failure_is_plain (failure.Event index) = plain_about 3 index (omega arith) (omega arith)
 failure_is_plain (failure.Name index) = plain_about 4 index (omega arith) (omega arith)
 failure_is_plain (failure.Option number) = plain_about 5 number (omega arith) (omega arith)
@@ -131,7 +151,8 @@ module _ (events : List CEvent) (bytes : List ℕ) (options : COptions) (names :
   without_lines (failure.Line number) h = absurd h
   without_lines (failure.Refused index rule) h = never 2 6 refl
 
-  pub failure_of_compile : (why : Failure) (answer : Answer) → Explains events bytes options names why → answer ≡ answer_of why → IsOfCompile answer
+  pub failure_of_compile : (why : Failure) (answer : Answer) → Explains events bytes options names why →
+      answer ≡ answer_of why → IsOfCompile answer
   failure_of_compile why answer h is =
       subst IsOfCompile (sym is) (record { plain = failure_is_plain why; without_lines = without_lines why h })
 
@@ -143,23 +164,55 @@ module _ (events : List CEvent) (bytes : List ℕ) (options : COptions) (names :
     pub no_option : answer.status ≡ 5 → StandsForNone options answer.index
 
   says : (why : Failure) → Explains events bytes options names why → Says (answer_of why)
-  says failure.Memory h = record { refused = never 7 2 refl; no_event = never 7 3 refl; no_name = never 7 4 refl; no_option = never 7 5 refl }
-  says (failure.Event index) h = record { refused = never 3 2 refl; no_event = λ _. h; no_name = never 3 4 refl; no_option = never 3 5 refl }
-  says (failure.Name index) h = record { refused = never 4 2 refl; no_event = never 4 3 refl; no_name = λ _. h; no_option = never 4 5 refl }
-  says (failure.Option number) h = record { refused = never 5 2 refl; no_event = never 5 3 refl; no_name = never 5 4 refl; no_option = λ _. h }
+  says failure.Memory h = record {
+    refused = never 7 2 refl;
+    no_event = never 7 3 refl;
+    no_name = never 7 4 refl;
+    no_option = never 7 5 refl;
+  }
+  says (failure.Event index) h = record {
+    refused = never 3 2 refl;
+    no_event = λ _. h;
+    no_name = never 3 4 refl;
+    no_option = never 3 5 refl;
+  }
+  says (failure.Name index) h = record {
+    refused = never 4 2 refl;
+    no_event = never 4 3 refl;
+    no_name = λ _. h;
+    no_option = never 4 5 refl;
+  }
+  says (failure.Option number) h = record {
+    refused = never 5 2 refl;
+    no_event = never 5 3 refl;
+    no_name = never 5 4 refl;
+    no_option = λ _. h;
+  }
   says (failure.Line number) h = absurd h
-  says (failure.Refused index rule) h = record { refused = λ _. (rule, refl, h); no_event = never 2 3 refl; no_name = never 2 4 refl; no_option = never 2 5 refl }
+  says (failure.Refused index rule) h = record {
+    refused = λ _. (rule, refl, h);
+    no_event = never 2 3 refl;
+    no_name = never 2 4 refl;
+    no_option = never 2 5 refl;
+  }
 
-  pub failure_says : (why : Failure) (answer : Answer) → Explains events bytes options names why → answer ≡ answer_of why → Says answer
+  pub failure_says : (why : Failure) (answer : Answer) → Explains events bytes options names why →
+      answer ≡ answer_of why → Says answer
   failure_says why answer h is = subst Says (sym is) (says why h)
 
   pub text_says : (answer : Answer) → answer.status ≤ 1 → Says answer
-  text_says answer few = record { refused = λ is. absurd (omega (arith, is, few)); no_event = λ is. absurd (omega (arith, is, few)); no_name = λ is. absurd (omega (arith, is, few)); no_option = λ is. absurd (omega (arith, is, few)) }
+  text_says answer few = record {
+    refused = λ is. absurd (omega (arith, is, few));
+    no_event = λ is. absurd (omega (arith, is, few));
+    no_name = λ is. absurd (omega (arith, is, few));
+    no_option = λ is. absurd (omega (arith, is, few));
+  }
 
 -- ---- scripts
 
 module _ (script : List ℕ) where
-  run_status : (why : RunError) → 3 ≤ (answer_of (failure_of_run why)).status → 5 < (answer_of (failure_of_run why)).status
+  run_status : (why : RunError) → 3 ≤ (answer_of (failure_of_run why)).status →
+      5 < (answer_of (failure_of_run why)).status
   run_status run.Memory many = omega arith
   run_status (run.Line number) many = omega arith
   run_status (run.Event index rule) many = absurd (omega (arith, many))
@@ -176,10 +229,19 @@ module _ (script : List ℕ) where
   script_says : (why : RunError) → ExplainsRun script why → SaysOfScript (answer_of (failure_of_run why))
   script_says run.Memory h = record { refused = never 7 2 refl; unreadable = never 7 6 refl; no_line = never 7 6 refl }
   script_says (run.Line number) h = record { refused = never 6 2 refl; unreadable = λ _. h.0; no_line = λ _. h.1 }
-  script_says (run.Event index rule) h = record { refused = λ _. (rule, refl, h); unreadable = never 2 6 refl; no_line = never 2 6 refl }
+  script_says (run.Event index rule) h = record {
+    refused = λ _. (rule, refl, h);
+    unreadable = never 2 6 refl;
+    no_line = never 2 6 refl;
+  }
 
-  pub failure_says_of_script : (why : RunError) (answer : Answer) → ExplainsRun script why → answer ≡ answer_of (failure_of_run why) → SaysOfScript answer
+  pub failure_says_of_script : (why : RunError) (answer : Answer) → ExplainsRun script why →
+      answer ≡ answer_of (failure_of_run why) → SaysOfScript answer
   failure_says_of_script why answer h is = subst SaysOfScript (sym is) (script_says why h)
 
   pub text_says_of_script : (answer : Answer) → answer.status ≤ 1 → SaysOfScript answer
-  text_says_of_script answer few = record { refused = λ is. absurd (omega (arith, is, few)); unreadable = λ is. absurd (omega (arith, is, few)); no_line = λ is. absurd (omega (arith, is, few)) }
+  text_says_of_script answer few = record {
+    refused = λ is. absurd (omega (arith, is, few));
+    unreadable = λ is. absurd (omega (arith, is, few));
+    no_line = λ is. absurd (omega (arith, is, few));
+  }

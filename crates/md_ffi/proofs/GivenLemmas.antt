@@ -34,25 +34,31 @@ abbrev text_at : CText → ℕ → Option (Option (List ℕ))
 text_at given set =
     cond (eqb set 0) (Some None) (cond (eqb set 1) (option_map Some (text_when true given.bytes.now)) None)
 
-unset : {S : Type 0} (bytes_of : S → List ℕ) (given : CText) (text : Option S) → given.is_set ≡ 0 → text_of given ≡ Some (option_map bytes_of text) → text ≡ None
+unset : {S : Type 0} (bytes_of : S → List ℕ) (given : CText) (text : Option S) → given.is_set ≡ 0 →
+    text_of given ≡ Some (option_map bytes_of text) → text ≡ None
 unset bytes_of given None off stands = refl
 unset bytes_of given (Some text) off stands =
     let same : Some None ≡ Some (Some (bytes_of text)) = ap (text_at given) (sym off) ∙ stands in cc
 
-keeps_grammar : (given : COptions) (options : CompileOptions) → HasOptions given options → KeepsGrammar given → safe.KeepsGrammar options
+keeps_grammar : (given : COptions) (options : CompileOptions) → HasOptions given options → KeepsGrammar given →
+    safe.KeepsGrammar options
 keeps_grammar given options has keeps = record {
   escapes_html = flag_off _ _ keeps.escapes_html has.dangerous_html;
-  usual_tag = unset string_bytes given.gfm_footnote_label_tag_name options.gfm_footnote_label_tag_name keeps.usual_tag has.label_tag_name;
-  usual_attributes = unset string_bytes given.gfm_footnote_label_attributes options.gfm_footnote_label_attributes keeps.usual_attributes has.label_attributes;
+  usual_tag = unset string_bytes given.gfm_footnote_label_tag_name options.gfm_footnote_label_tag_name keeps.usual_tag
+      has.label_tag_name;
+  usual_attributes = unset string_bytes given.gfm_footnote_label_attributes options.gfm_footnote_label_attributes
+      keeps.usual_attributes has.label_attributes;
 }
 
-keeps_links : (given : COptions) (options : CompileOptions) → HasOptions given options → KeepsLinks given → safe.KeepsLinks options
+keeps_links : (given : COptions) (options : CompileOptions) → HasOptions given options → KeepsLinks given →
+    safe.KeepsLinks options
 keeps_links given options has keeps = record {
   grammar = keeps_grammar given options has keeps.grammar;
   permitted_links = flag_off _ _ keeps.permitted_links has.dangerous_protocol;
 }
 
-keeps_images : (given : COptions) (options : CompileOptions) → HasOptions given options → KeepsImages given → safe.KeepsImages options
+keeps_images : (given : COptions) (options : CompileOptions) → HasOptions given options → KeepsImages given →
+    safe.KeepsImages options
 keeps_images given options has keeps = record {
   links = keeps_links given options has keeps.links;
   permitted_images = flag_off _ _ keeps.permitted_images has.any_img_src;
@@ -60,20 +66,28 @@ keeps_images given options has keeps = record {
 
 -- ---- what was read, and handed on as slices
 
-pub record IsRead (events : List CEvent) (options : COptions) (names : List CReference) (slice : List Event) (given : CompileOptions) (pairs : List (Bor (List ℕ) × Bor (List ℕ))) : Type 0 where
+pub record IsRead (events : List CEvent) (options : COptions) (names : List CReference) (slice : List Event)
+    (given : CompileOptions) (pairs : List (Bor (List ℕ) × Bor (List ℕ))) : Type 0 where
   pub events_stand : StandFor event_of events slice
   pub options_stand : HasOptions options given
   pub names_stand : StandFor reference_of names (name_table pairs)
 
-pub read_as : (events : List CEvent) (options : COptions) (names : List CReference) (slice read : List Event) (given : CompileOptions) (pairs read_pairs : List (Bor (List ℕ) × Bor (List ℕ))) → slice ≡ read → pairs ≡ read_pairs → StandFor event_of events read → HasOptions options given → StandFor reference_of names (name_table read_pairs) → IsRead events options names slice given pairs
-read_as events options names slice read given pairs read_pairs same same_pairs events_stand options_stand names_stand = record {
-  events_stand = events_stand ∙ ap (map Some) (sym same);
-  options_stand = options_stand;
-  names_stand = names_stand ∙ ap (λ list. map Some (name_table list)) (sym same_pairs);
-}
+pub read_as : (events : List CEvent) (options : COptions) (names : List CReference) (slice read : List Event)
+    (given : CompileOptions) (pairs read_pairs : List (Bor (List ℕ) × Bor (List ℕ))) → slice ≡ read →
+    pairs ≡ read_pairs → StandFor event_of events read → HasOptions options given →
+    StandFor reference_of names (name_table read_pairs) → IsRead events options names slice given pairs
+read_as events options names slice read given pairs read_pairs same same_pairs events_stand options_stand names_stand
+    = record {
+      events_stand = events_stand ∙ ap (map Some) (sym same);
+      options_stand = options_stand;
+      names_stand = names_stand ∙ ap (λ list. map Some (name_table list)) (sym same_pairs);
+    }
 
-module _ (events : List CEvent) (bytes : List ℕ) (options : COptions) (names : List CReference) (slice : List Event) (given : CompileOptions) (pairs : List (Bor (List ℕ) × Bor (List ℕ))) (read : IsRead events options names slice given pairs) where
-  rendered : (text : List ℕ) → IsCompiled (handed slice bytes pairs) given text → IsRendered events bytes options names text
+module _ (events : List CEvent) (bytes : List ℕ) (options : COptions) (names : List CReference) (slice : List Event)
+    (given : CompileOptions) (pairs : List (Bor (List ℕ) × Bor (List ℕ)))
+    (read : IsRead events options names slice given pairs) where
+  rendered : (text : List ℕ) → IsCompiled (handed slice bytes pairs) given text →
+      IsRendered events bytes options names text
   rendered text compiled = record {
     document = compiled.grammatical.0;
     given = given;
@@ -102,11 +116,14 @@ module _ (events : List CEvent) (bytes : List ℕ) (options : COptions) (names :
     refused = h;
   }
 
-  pub text_given : {S : Type 0} (bytes_of : S → List ℕ) (r : Result S Failure) → IfOk r (λ text. IsCompiled (handed slice bytes pairs) given (bytes_of text)) → IfOk r (λ text. IsRendered events bytes options names (bytes_of text))
+  pub text_given : {S : Type 0} (bytes_of : S → List ℕ) (r : Result S Failure) →
+      IfOk r (λ text. IsCompiled (handed slice bytes pairs) given (bytes_of text)) →
+      IfOk r (λ text. IsRendered events bytes options names (bytes_of text))
   text_given bytes_of (Ok text) h = rendered (bytes_of text) h
   text_given bytes_of (Err why) h = tt
 
-  pub refusal_given : {S : Type 0} (r : Result S Failure) → IfErr r (IsRefusalOf (handed slice bytes pairs)) → IfErr r (Explains events bytes options names)
+  pub refusal_given : {S : Type 0} (r : Result S Failure) → IfErr r (IsRefusalOf (handed slice bytes pairs)) →
+      IfErr r (Explains events bytes options names)
   refusal_given (Ok text) h = tt
   refusal_given (Err why) h = explained why h
 
@@ -117,6 +134,7 @@ told_of given refusal.Memory h = tt
 told_of given (refusal.Event index rule) h = h
 
 -- what the conversion of a refusal gives
-pub told : {T : Type 0} (given : Document) (why : CompileError) (r : Result T Failure) → IsRefusal given why → IsErrAnd r (λ made. made ≡ failure_of why) → IfErr r (IsRefusalOf given)
+pub told : {T : Type 0} (given : Document) (why : CompileError) (r : Result T Failure) → IsRefusal given why →
+    IsErrAnd r (λ made. made ≡ failure_of why) → IfErr r (IsRefusalOf given)
 told given why (Ok x) refused is = tt
 told given why (Err made) refused is = subst (IsRefusalOf given) (sym is) (told_of given why refused)

@@ -20,9 +20,11 @@ use Rattle.md_ffi.specs.declared.event.CEvent.{CEvent}
 use Rattle.md_ffi.specs.declared.reference.CReference.{CReference}
 use Rattle.md_ffi.specs.declared.option.COptions.{COptions}
 
--- the text is the meaning of a document of the grammar whose events, options and names are those that were handed in; where the
+-- the text is the meaning of a document of the grammar whose events, options and names are those that were handed
+-- in; where the
 -- options are safe, it has one reading, with links and images of permitted protocols alone
-pub record IsRendered (events : List CEvent) (bytes : List ℕ) (options : COptions) (names : List CReference) (text : List ℕ)
+pub record IsRendered (events : List CEvent) (bytes : List ℕ) (options : COptions) (names : List CReference)
+    (text : List ℕ)
     : Type 0 where
   pub document : Forest
   pub given : CompileOptions

@@ -15,7 +15,8 @@ no_table GfmTable captured = absurd (false≢true captured)
 no_table _ captured = refl
 
 -- a node that isn't captured is seen for nothing
-pub unseen : (bytes : List ℕ) (ahead : Ahead) (name : Name) (inner : Page) (state : State) → is_captured name ≡ false → logging bytes ahead name inner state ≡ state
+pub unseen : (bytes : List ℕ) (ahead : Ahead) (name : Name) (inner : Page) (state : State) →
+    is_captured name ≡ false → logging bytes ahead name inner state ≡ state
 unseen bytes ahead GfmFootnoteCall inner state streamed = absurd (false≢true (sym streamed))
 unseen bytes ahead Definition inner state streamed = absurd (false≢true (sym streamed))
 unseen bytes ahead GfmFootnoteDefinition inner state streamed = absurd (false≢true (sym streamed))

@@ -53,33 +53,50 @@ pub map-append : {A B : Type 0} (f : A → B) (xs ys : List A) → map f (xs ++ 
 map-append f [] ys = refl
 map-append f (x ∷ xs) ys = ap (λ zs. f x ∷ zs) (map-append f xs ys)
 
-map-where : {B : Type 0} (f : OwnNode → B) (is : Bool) (n : OwnNode) → map f (node_where is n) ≡ (if is then f n ∷ [] else [])
+map-where : {B : Type 0} (f : OwnNode → B) (is : Bool) (n : OwnNode) →
+    map f (node_where is n) ≡ (if is then f n ∷ [] else [])
 map-where f true n = refl
 map-where f false n = refl
 
-pub nodes-entries : (forest : Forest) (index : ℕ) → map (λ n. n.index) (own_nodes index forest) ≡ entries_of index forest
+pub nodes-entries : (forest : Forest) (index : ℕ) → map (λ n. n.index) (own_nodes index forest)
+    ≡ entries_of index forest
 nodes-entries Empty index = refl
 nodes-entries (Node name start end children rest) index =
     let f : OwnNode → ℕ = λ n. n.index in
-    let here : List OwnNode = node_where (is_link_definition name) (record { index = index; start = start; end = end; children = children }) in
+    let here : List OwnNode = node_where (is_link_definition name) (record {
+      index = index;
+      start = start;
+      end = end;
+      children = children;
+    }) in
     let later : List OwnNode = own_nodes (suc (behind (suc index) children)) rest in
     map-append f (own_nodes (suc index) children) (here ++ later)
     ∙ ap (λ xs. xs ++ map f (here ++ later)) (nodes-entries children (suc index))
     ∙ ap (λ xs. entries_of (suc index) children ++ xs) (map-append f here later)
-    ∙ ap (λ xs. entries_of (suc index) children ++ (xs ++ map f later)) (map-where f (is_link_definition name) (record { index = index; start = start; end = end; children = children }))
-    ∙ ap (λ xs. entries_of (suc index) children ++ ((if is_link_definition name then index ∷ [] else []) ++ xs)) (nodes-entries rest (suc (behind (suc index) children)))
+    ∙ ap (λ xs. entries_of (suc index) children ++ (xs ++ map f later))
+    (map-where f (is_link_definition name) (record { index = index; start = start; end = end; children = children }))
+    ∙ ap (λ xs. entries_of (suc index) children ++ ((if is_link_definition name then index ∷ [] else []) ++ xs))
+    (nodes-entries rest (suc (behind (suc index) children)))
 
-pub nodes-defined : (given : Given) (forest : Forest) (index : ℕ) → map (λ n. defined_alone given n.children) (own_nodes index forest) ≡ own_definitions given forest
+pub nodes-defined : (given : Given) (forest : Forest) (index : ℕ) →
+    map (λ n. defined_alone given n.children) (own_nodes index forest) ≡ own_definitions given forest
 nodes-defined given Empty index = refl
 nodes-defined given (Node name start end children rest) index =
     let f : OwnNode → Defined = λ n. defined_alone given n.children in
-    let here : List OwnNode = node_where (is_link_definition name) (record { index = index; start = start; end = end; children = children }) in
+    let here : List OwnNode = node_where (is_link_definition name) (record {
+      index = index;
+      start = start;
+      end = end;
+      children = children;
+    }) in
     let later : List OwnNode = own_nodes (suc (behind (suc index) children)) rest in
     map-append f (own_nodes (suc index) children) (here ++ later)
     ∙ ap (λ xs. xs ++ map f (here ++ later)) (nodes-defined given children (suc index))
     ∙ ap (λ xs. own_definitions given children ++ xs) (map-append f here later)
-    ∙ ap (λ xs. own_definitions given children ++ (xs ++ map f later)) (map-where f (is_link_definition name) (record { index = index; start = start; end = end; children = children }))
-    ∙ ap (λ xs. own_definitions given children ++ ((if is_link_definition name then defined_alone given children ∷ [] else []) ++ xs)) (nodes-defined given rest (suc (behind (suc index) children)))
+    ∙ ap (λ xs. own_definitions given children ++ (xs ++ map f later))
+    (map-where f (is_link_definition name) (record { index = index; start = start; end = end; children = children }))
+    ∙ ap (λ xs. own_definitions given children ++ ((if is_link_definition name then defined_alone given children ∷ []
+    else []) ++ xs)) (nodes-defined given rest (suc (behind (suc index) children)))
 
 -- what is left behind the first
 drop-past : {A : Type 0} (xs : List A) (i : ℕ) (y : A) (ys : List A) → drop i xs ≡ y ∷ ys → drop (suc i) xs ≡ ys
@@ -89,30 +106,36 @@ drop-past xs i y ys h = ap (λ n. drop n xs) (next i) ∙ sym (drop-later xs i y
     next n = omega arith
 
 -- what is left behind some nodes' events, and behind what is told of them
-events-behind : (forest : Forest) (i : ℕ) (es tail : List Event) → drop i es ≡ flatten forest ++ tail → drop (behind i forest) es ≡ tail
+events-behind : (forest : Forest) (i : ℕ) (es tail : List Event) → drop i es ≡ flatten forest ++ tail →
+    drop (behind i forest) es ≡ tail
 events-behind Empty i es tail h = h
 events-behind (Node name start end children rest) i es tail h =
     events-behind rest (suc (behind (suc i) children)) es tail
     (drop-past es (behind (suc i) children) (exiting name end) (flatten rest ++ tail)
     (events-behind children (suc i) es (exiting name end ∷ (flatten rest ++ tail))
-    (drop-past es i _ ((flatten children ++ exiting name end ∷ flatten rest) ++ tail) h ∙ append_assoc (flatten children) (exiting name end ∷ flatten rest) tail)))
+    (drop-past es i _ ((flatten children ++ exiting name end ∷ flatten rest) ++ tail) h
+    ∙ append_assoc (flatten children) (exiting name end ∷ flatten rest) tail)))
 
-nodes-behind : (forest : Forest) (i : ℕ) (ns tail : List (Option Forest)) → drop i ns ≡ children_of forest ++ tail → drop (behind i forest) ns ≡ tail
+nodes-behind : (forest : Forest) (i : ℕ) (ns tail : List (Option Forest)) → drop i ns ≡ children_of forest ++ tail →
+    drop (behind i forest) ns ≡ tail
 nodes-behind Empty i ns tail h = h
 nodes-behind (Node name start end children rest) i ns tail h =
     nodes-behind rest (suc (behind (suc i) children)) ns tail
     (drop-past ns (behind (suc i) children) None (children_of rest ++ tail)
     (nodes-behind children (suc i) ns (None ∷ (children_of rest ++ tail))
-    (drop-past ns i _ ((children_of children ++ None ∷ children_of rest) ++ tail) h ∙ append_assoc (children_of children) (None ∷ children_of rest) tail)))
+    (drop-past ns i _ ((children_of children ++ None ∷ children_of rest) ++ tail) h
+    ∙ append_assoc (children_of children) (None ∷ children_of rest) tail)))
 
-partners-behind : (forest : Forest) (i : ℕ) (ps tail : List ℕ) → drop i ps ≡ partners_of i forest ++ tail → drop (behind i forest) ps ≡ tail
+partners-behind : (forest : Forest) (i : ℕ) (ps tail : List ℕ) → drop i ps ≡ partners_of i forest ++ tail →
+    drop (behind i forest) ps ≡ tail
 partners-behind Empty i ps tail h = h
 partners-behind (Node name start end children rest) i ps tail h =
     let later : List ℕ = partners_of (suc (behind (suc i) children)) rest in
     partners-behind rest (suc (behind (suc i) children)) ps tail
     (drop-past ps (behind (suc i) children) i (later ++ tail)
     (partners-behind children (suc i) ps (i ∷ (later ++ tail))
-    (drop-past ps i _ ((partners_of (suc i) children ++ i ∷ later) ++ tail) h ∙ append_assoc (partners_of (suc i) children) (i ∷ later) tail)))
+    (drop-past ps i _ ((partners_of (suc i) children ++ i ∷ later) ++ tail) h
+    ∙ append_assoc (partners_of (suc i) children) (i ∷ later) tail)))
 
 -- a definition stands at its index among events, with what is told of them
 pub record Stands (es : List Event) (ns : List (Option Forest)) (ps : List ℕ) (n : OwnNode) : Type 0 where
@@ -133,49 +156,88 @@ each-append holds [] ys all others = others
 each-append holds (x ∷ xs) ys all others = (all.0, each-append holds xs ys all.1 others)
 
 -- a definition at its index
-one_stands : (name : Name) (start end : Point) (children : Forest) (i : ℕ) (r : Role) (b : Option Symbol) (es : List Event) (ns : List (Option Forest)) (ps : List ℕ)
+one_stands : (name : Name) (start end : Point) (children : Forest) (i : ℕ) (r : Role) (b : Option Symbol)
+    (es : List Event) (ns : List (Option Forest)) (ps : List ℕ)
     (later : List Event) (more : List (Option Forest)) → AreShaped (Node name start end children Empty) r b →
-    drop i es ≡ (flatten (Node name start end children Empty)) ++ later → drop i ns ≡ children_of (Node name start end children Empty) ++ more → slice_get ps i ≡ Some (behind (suc i) children) →
-    Each (Stands es ns ps) (node_where (is_link_definition name) (record { index = i; start = start; end = end; children = children }))
-one_stands Definition start end children i r b es ns ps later more shaped events nodes partner =
-    (record { later = later; more = more; events = events; nodes = nodes; partner = partner; shaped = shaped.1; match = shaped.0.1 }, tt)
+    drop i es ≡ (flatten (Node name start end children Empty)) ++ later →
+    drop i ns ≡ children_of (Node name start end children Empty) ++ more →
+    slice_get ps i ≡ Some (behind (suc i) children) →
+    Each (Stands es ns ps) (node_where (is_link_definition name) (record {
+      index = i;
+      start = start;
+      end = end;
+      children = children;
+    }))
+one_stands Definition start end children i r b es ns ps later more shaped events nodes partner = (
+  record {
+    later = later;
+    more = more;
+    events = events;
+    nodes = nodes;
+    partner = partner;
+    shaped = shaped.1;
+    match = shaped.0.1;
+  },
+  tt,
+)
 one_stands _ start end children i r b es ns ps later more shaped events nodes partner = tt
 
-pub all_stand : (forest : Forest) (i : ℕ) (r : Role) (b : Option Symbol) (es tail : List Event) (ns untold : List (Option Forest)) (ps others : List ℕ) → AreShaped forest r b →
-    drop i es ≡ flatten forest ++ tail → drop i ns ≡ children_of forest ++ untold → drop i ps ≡ partners_of i forest ++ others → Each (Stands es ns ps) (own_nodes i forest)
+pub all_stand : (forest : Forest) (i : ℕ) (r : Role) (b : Option Symbol) (es tail : List Event)
+    (ns untold : List (Option Forest)) (ps others : List ℕ) → AreShaped forest r b →
+    drop i es ≡ flatten forest ++ tail → drop i ns ≡ children_of forest ++ untold →
+    drop i ps ≡ partners_of i forest ++ others → Each (Stands es ns ps) (own_nodes i forest)
 all_stand Empty i r b es tail ns untold ps others shaped events nodes partners = tt
 all_stand (Node name start end children rest) i r b es tail ns untold ps others shaped events nodes partners =
     let past : ℕ = behind (suc i) children in
     let later : List ℕ = partners_of (suc past) rest in
     let e1 : drop (suc i) es ≡ flatten children ++ exiting name end ∷ (flatten rest ++ tail) =
-    drop-past es i _ ((flatten children ++ exiting name end ∷ flatten rest) ++ tail) events ∙ append_assoc (flatten children) (exiting name end ∷ flatten rest) tail
+    drop-past es i _ ((flatten children ++ exiting name end ∷ flatten rest) ++ tail) events
+    ∙ append_assoc (flatten children) (exiting name end ∷ flatten rest) tail
     in
     let n1 : drop (suc i) ns ≡ children_of children ++ None ∷ (children_of rest ++ untold) =
-    drop-past ns i _ ((children_of children ++ None ∷ children_of rest) ++ untold) nodes ∙ append_assoc (children_of children) (None ∷ children_of rest) untold
+    drop-past ns i _ ((children_of children ++ None ∷ children_of rest) ++ untold) nodes
+    ∙ append_assoc (children_of children) (None ∷ children_of rest) untold
     in
     let p1 : drop (suc i) ps ≡ partners_of (suc i) children ++ i ∷ (later ++ others) =
-    drop-past ps i _ ((partners_of (suc i) children ++ i ∷ later) ++ others) partners ∙ append_assoc (partners_of (suc i) children) (i ∷ later) others
+    drop-past ps i _ ((partners_of (suc i) children ++ i ∷ later) ++ others) partners
+    ∙ append_assoc (partners_of (suc i) children) (i ∷ later) others
     in
-    let e2 : drop (suc past) es ≡ flatten rest ++ tail = drop-past es past _ (flatten rest ++ tail) (events-behind children (suc i) es _ e1) in
-    let n2 : drop (suc past) ns ≡ children_of rest ++ untold = drop-past ns past _ (children_of rest ++ untold) (nodes-behind children (suc i) ns _ n1) in
-    let p2 : drop (suc past) ps ≡ later ++ others = drop-past ps past _ (later ++ others) (partners-behind children (suc i) ps _ p1) in
+    let e2 : drop (suc past) es ≡ flatten rest ++ tail =
+    drop-past es past _ (flatten rest ++ tail) (events-behind children (suc i) es _ e1) in
+    let n2 : drop (suc past) ns ≡ children_of rest ++ untold =
+    drop-past ns past _ (children_of rest ++ untold) (nodes-behind children (suc i) ns _ n1) in
+    let p2 : drop (suc past) ps ≡ later ++ others = drop-past ps past _ (later
+    ++ others) (partners-behind children (suc i) ps _ p1) in
     each-append (Stands es ns ps) (own_nodes (suc i) children) _
     (all_stand children (suc i) _ _ es _ ns _ ps _ shaped.1 e1 n1 p1)
-    (each-append (Stands es ns ps) (node_where (is_link_definition name) (record { index = i; start = start; end = end; children = children })) (own_nodes (suc past) rest)
-    (one_stands name start end children i r b es ns ps (flatten rest ++ tail) (children_of rest ++ untold) (shaped.0, shaped.1, tt)
-    (events ∙ ap (λ xs. entering name start ∷ xs) (append_assoc (flatten children) (exiting name end ∷ flatten rest) tail ∙ sym (append_assoc (flatten children) (exiting name end ∷ []) (flatten rest ++ tail))))
-    (nodes ∙ ap (λ xs. Some children ∷ xs) (append_assoc (children_of children) (None ∷ children_of rest) untold ∙ sym (append_assoc (children_of children) (None ∷ []) (children_of rest ++ untold))))
+    (each-append (Stands es ns ps) (node_where (is_link_definition name) (record {
+      index = i;
+      start = start;
+      end = end;
+      children = children;
+    })) (own_nodes (suc past) rest)
+    (one_stands name start end children i r b es ns ps (flatten rest ++ tail) (children_of rest ++ untold) (
+      shaped.0,
+      shaped.1,
+      tt,
+    )
+    (events ∙ ap (λ xs. entering name start ∷ xs) (append_assoc (flatten children) (exiting name end
+    ∷ flatten rest) tail ∙ sym (append_assoc (flatten children) (exiting name end ∷ []) (flatten rest ++ tail))))
+    (nodes ∙ ap (λ xs. Some children ∷ xs) (append_assoc (children_of children) (None ∷ children_of rest) untold
+    ∙ sym (append_assoc (children_of children) (None ∷ []) (children_of rest ++ untold))))
     (drop-first ps i past _ (sym partners)))
     (all_stand rest (suc past) _ _ es tail ns untold ps others shaped.2 e2 n2 p2))
 
 -- what is found at a place of such nodes
-pub each-get : (holds : OwnNode → Type 0) (xs : List OwnNode) (place entry : ℕ) → Each holds xs → slice_get (map (λ n. n.index) xs) place ≡ Some entry →
+pub each-get : (holds : OwnNode → Type 0) (xs : List OwnNode) (place entry : ℕ) → Each holds xs →
+    slice_get (map (λ n. n.index) xs) place ≡ Some entry →
     (n : OwnNode) × holds n × (n.index ≡ entry) × (slice_get xs place ≡ Some n)
 each-get holds [] place entry all h = absurd (none-some entry h)
 each-get holds (x ∷ xs) zero entry all h = (x, all.0, ap (λ o. unwrap_or o 0) h, refl)
 each-get holds (x ∷ xs) (suc place) entry all h = each-get holds xs place entry all.1 h
 
-pub map-got : {B : Type 0} (f : OwnNode → B) (xs : List OwnNode) (place : ℕ) (n : OwnNode) → slice_get xs place ≡ Some n → slice_get (map f xs) place ≡ Some (f n)
+pub map-got : {B : Type 0} (f : OwnNode → B) (xs : List OwnNode) (place : ℕ) (n : OwnNode) →
+    slice_get xs place ≡ Some n → slice_get (map f xs) place ≡ Some (f n)
 map-got f [] place n h = absurd (none-some n h)
 map-got f (x ∷ xs) zero n h = ap (λ o. Some (f (unwrap_or o x))) h
 map-got f (x ∷ xs) (suc place) n h = map-got f xs place n h
@@ -187,7 +249,8 @@ behind-length (Node name start end children rest) i =
     let inner = behind-length children (suc i) in
     let later = behind-length rest (suc (behind (suc i) children)) in
     let all = length-append (flatten children) (exiting name end ∷ flatten rest) in
-    sum (behind (suc i) children) (behind (suc (behind (suc i) children)) rest) (length (flatten children)) (length (flatten rest)) (length (flatten children ++ exiting name end ∷ flatten rest)) inner later all
+    sum (behind (suc i) children) (behind (suc (behind (suc i) children)) rest) (length (flatten children))
+    (length (flatten rest)) (length (flatten children ++ exiting name end ∷ flatten rest)) inner later all
   where
     sum : (p q a b c : ℕ) → p ≡ suc i + a → q ≡ suc p + b → c ≡ a + suc b → q ≡ i + suc c
     sum p q a b c h g e = omega (arith, h, g, e)
@@ -200,37 +263,49 @@ take-own (x ∷ xs) ys = ap (λ zs. x ∷ zs) (take-own xs ys)
 pub alone-length : (n : OwnNode) → suc (behind (suc n.index) n.children) - n.index ≡ length (flatten (alone n))
 alone-length n =
     let all = length-append (flatten n.children) (exiting Definition n.end ∷ []) in
-    count n.index (behind (suc n.index) n.children) (length (flatten n.children)) (length (flatten n.children ++ exiting Definition n.end ∷ [])) (behind-length n.children (suc n.index)) all
+    count n.index (behind (suc n.index) n.children) (length (flatten n.children))
+    (length (flatten n.children ++ exiting Definition n.end ∷ [])) (behind-length n.children (suc n.index)) all
   where
     count : (i p a c : ℕ) → p ≡ suc i + a → c ≡ a + 1 → suc p - i ≡ suc c
     count i p a c h e = omega (arith, h, e)
 
-stands-run : (given : Given) (document : Forest) (n : OwnNode) → Stands (flatten document) (children_of document) (partners_of 0 document) n →
-    (run given (events_at (flatten document) n.index (slice_get (partners_of 0 document) n.index)) (drop n.index (children_of document)) beginning).log.definitions ≡ defined_alone given n.children ∷ []
+stands-run : (given : Given) (document : Forest) (n : OwnNode) →
+    Stands (flatten document) (children_of document) (partners_of 0 document) n →
+    (run given (events_at (flatten document) n.index (slice_get (partners_of 0 document) n.index))
+    (drop n.index (children_of document)) beginning).log.definitions ≡ defined_alone given n.children ∷ []
 stands-run given document n stands =
-    ap (λ o. (run given (events_at (flatten document) n.index o) (drop n.index (children_of document)) beginning).log.definitions) stands.partner
-    ∙ ap (λ es. (run given (take (suc (behind (suc n.index) n.children) - n.index) es) (drop n.index (children_of document)) beginning).log.definitions) stands.events
-    ∙ ap (λ m. (run given (take m (flatten (alone n) ++ stands.later)) (drop n.index (children_of document)) beginning).log.definitions) (alone-length n)
-    ∙ ap (λ es. (run given es (drop n.index (children_of document)) beginning).log.definitions) (take-own (flatten (alone n)) stands.later)
+    ap (λ o. (run given (events_at (flatten document) n.index o)
+    (drop n.index (children_of document)) beginning).log.definitions) stands.partner
+    ∙ ap (λ es. (run given (take (suc (behind (suc n.index) n.children) - n.index) es)
+    (drop n.index (children_of document)) beginning).log.definitions) stands.events
+    ∙ ap (λ m. (run given (take m (flatten (alone n) ++ stands.later))
+    (drop n.index (children_of document)) beginning).log.definitions) (alone-length n)
+    ∙ ap (λ es. (run given es (drop n.index (children_of document)) beginning).log.definitions)
+    (take-own (flatten (alone n)) stands.later)
     ∙ ap (λ ns. (run given (flatten (alone n)) ns beginning).log.definitions) stands.nodes
     ∙ definition-run given n.start n.end n.children stands.more stands.shaped stands.match
 
 -- the machine over the events of one of a document's definitions logs that definition alone
-pub own-run : (given : Given) (document : Forest) (place entry : ℕ) → IsShaped document → slice_get (entries_of 0 document) place ≡ Some entry →
+pub own-run : (given : Given) (document : Forest) (place entry : ℕ) → IsShaped document →
+    slice_get (entries_of 0 document) place ≡ Some entry →
     (defined : Defined) × (slice_get (own_definitions given document) place ≡ Some defined)
-    × ((run given (events_at (flatten document) entry (slice_get (partners_of 0 document) entry)) (drop entry (children_of document)) beginning).log.definitions ≡ defined ∷ [])
+    × ((run given (events_at (flatten document) entry (slice_get (partners_of 0 document) entry))
+    (drop entry (children_of document)) beginning).log.definitions ≡ defined ∷ [])
 own-run given document place entry shaped h =
     let es : List Event = flatten document in
     let ns : List (Option Forest) = children_of document in
     let ps : List ℕ = partners_of 0 document in
     let found = each-get (Stands es ns ps) (own_nodes 0 document) place entry
-    (all_stand document 0 role.Flow None es [] ns [] ps [] shaped.0 (sym (append-nil es)) (sym (append-nil ns)) (sym (append-nil ps)))
+    (all_stand document 0 role.Flow None es [] ns [] ps [] shaped.0 (sym (append-nil es)) (sym (append-nil ns))
+    (sym (append-nil ps)))
     (ap (λ xs. slice_get xs place) (nodes-entries document 0) ∙ h)
     in
     let n : OwnNode = found.0 in
-    let logs : ℕ → Type 0 = λ e. (run given (events_at es e (slice_get ps e)) (drop e ns) beginning).log.definitions ≡ defined_alone given n.children ∷ [] in (
+    let logs : ℕ → Type 0 = λ e. (run given (events_at es e (slice_get ps e)) (drop e ns) beginning).log.definitions
+    ≡ defined_alone given n.children ∷ [] in (
       defined_alone given n.children,
-      ap (λ xs. slice_get xs place) (sym (nodes-defined given document 0)) ∙ map-got (λ m. defined_alone given m.children) (own_nodes 0 document) place n found.3,
+      ap (λ xs. slice_get xs place) (sym (nodes-defined given document 0))
+          ∙ map-got (λ m. defined_alone given m.children) (own_nodes 0 document) place n found.3,
       subst logs found.2 (stands-run given document n found.1),
     )
 
@@ -239,7 +314,8 @@ pub map-length : {B : Type 0} (f : OwnNode → B) (xs : List OwnNode) → length
 map-length f [] = refl
 map-length f (x ∷ xs) = ap (λ n. suc n) (map-length f xs)
 
-own-length : (given : Given) (document : Forest) → length (entries_of 0 document) ≡ length (own_definitions given document)
+own-length : (given : Given) (document : Forest) → length (entries_of 0 document)
+    ≡ length (own_definitions given document)
 own-length given document =
     ap (λ xs. length xs) (sym (nodes-entries document 0))
     ∙ map-length (λ n. n.index) (own_nodes 0 document)
@@ -275,19 +351,32 @@ take-whole (x ∷ xs) (suc i) h = ap (λ ys. x ∷ ys) (take-whole xs i (lower (
     lower : (a b : ℕ) → suc a ≤ suc b → a ≤ b
     lower a b l = omega (arith, l)
 
-pub take-own-all : (given : Given) (document : Forest) (entries : List ℕ) (i : ℕ) → entries ≡ entries_of 0 document → length entries ≤ i → take i (own_definitions given document) ≡ own_definitions given document
+pub take-own-all : (given : Given) (document : Forest) (entries : List ℕ) (i : ℕ) → entries ≡ entries_of 0 document →
+    length entries ≤ i → take i (own_definitions given document) ≡ own_definitions given document
 take-own-all given document entries i are h =
-    take-whole (own_definitions given document) i (within (length entries) (length (own_definitions given document)) (ap (λ es. length es) are ∙ own-length given document) h)
+    take-whole (own_definitions given document) i (within (length entries) (length (own_definitions given document))
+    (ap (λ es. length es) are ∙ own-length given document) h)
   where
     within : (a b : ℕ) → a ≡ b → a ≤ i → b ≤ i
     within a b e l = omega (arith, e, l)
 
 -- the events of a node are followed by others
-pub events-part : (events : List Event) (entry : ℕ) (partner : Option ℕ) → (later : List Event) × (drop entry events ≡ events_at events entry partner ++ later)
+pub events-part : (events : List Event) (entry : ℕ) (partner : Option ℕ) →
+    (later : List Event) × (drop entry events ≡ events_at events entry partner ++ later)
 events-part events entry None = (drop entry events, refl)
-events-part events entry (Some exit) = (drop (suc exit - entry) (drop entry events), sym (take-append-drop (suc exit - entry) (drop entry events)))
+events-part events entry (Some exit) = (
+  drop (suc exit - entry) (drop entry events),
+  sym (take-append-drop (suc exit - entry) (drop entry events)),
+)
 
 -- the other event of a node, in any document with these events
-pub partner-at : (given : Document) (entry : ℕ) (partner : Option ℕ) (document : Forest) → IsPartnerAt given entry partner → flatten document ≡ given.events → partner ≡ slice_get (partners_of 0 document) entry
+pub partner-at : (given : Document) (entry : ℕ) (partner : Option ℕ) (document : Forest) →
+    IsPartnerAt given entry partner → flatten document ≡ given.events →
+    partner ≡ slice_get (partners_of 0 document) entry
 partner-at given entry partner document is flat =
-    is.2 ∙ ap (λ f. slice_get (partners_of 0 f) entry) (flatten_one GfmTable (record { line = 0; column = 0; index = 0; vs = 0 }) is.0 document (is.1 ∙ sym flat))
+    is.2 ∙ ap (λ f. slice_get (partners_of 0 f) entry) (flatten_one GfmTable (record {
+      line = 0;
+      column = 0;
+      index = 0;
+      vs = 0;
+    }) is.0 document (is.1 ∙ sym flat))

@@ -34,12 +34,14 @@ use Rattle.md_printer.specs.Machine.{State, Log, ahead_by, ahead_told, columns_t
 use Rattle.md_around.specs.Steps.{first_or, others_of, no_spine, with_name, passing, slurps_behind}
 
 -- marks before marks
-pub is_slurping-append : (marks before : List Mark) → is_slurping (marks ++ before) ≡ slurps_behind marks (is_slurping before)
+pub is_slurping-append : (marks before : List Mark) → is_slurping (marks ++ before)
+    ≡ slurps_behind marks (is_slurping before)
 is_slurping-append [] before = refl
 is_slurping-append (Sets ∷ marks) before = refl
 is_slurping-append (Clears ∷ marks) before = refl
 
-pub slurps_behind-append : (marks before : List Mark) (s : Bool) → slurps_behind (marks ++ before) s ≡ slurps_behind marks (slurps_behind before s)
+pub slurps_behind-append : (marks before : List Mark) (s : Bool) →
+    slurps_behind (marks ++ before) s ≡ slurps_behind marks (slurps_behind before s)
 slurps_behind-append [] before s = refl
 slurps_behind-append (Sets ∷ marks) before s = refl
 slurps_behind-append (Clears ∷ marks) before s = refl
@@ -69,7 +71,8 @@ two_step false true false t = refl
 two_step false false true t = refl
 two_step false false false t = refl
 
-two_pass-push : (p : Name → Bool) (xs : List Name) (x : Name) → two_pass p (xs ++ x ∷ []) ≡ two_pass p xs || list_any p xs && p x
+two_pass-push : (p : Name → Bool) (xs : List Name) (x : Name) →
+    two_pass p (xs ++ x ∷ []) ≡ two_pass p xs || list_any p xs && p x
 two_pass-push p [] x = elim (p x) as (λ b. b && false || false ≡ false) [ true ↦ refl | false ↦ refl ]
 two_pass-push p (y ∷ ys) x =
     ap (λ b. p y && b || two_pass p (ys ++ x ∷ [])) (list_any-push p ys x)
@@ -80,38 +83,55 @@ last_of-push : (xs : List Name) (x : Name) → last_of (xs ++ x ∷ []) ≡ Some
 last_of-push [] x = refl
 last_of-push (y ∷ ys) x = ap (λ o. Some (unwrap_or o y)) (last_of-push ys x)
 
-count-push : (p : Name → Bool) (xs : List Name) (x : Name) → count_by p (xs ++ x ∷ []) ≡ count_by p xs + (if p x then 1 else 0)
-count-push p xs x = sum_by-append (λ y. cond (p y) 1 0) xs (x ∷ []) ∙ ap (λ n. count_by p xs + n) (zero_plus (if p x then 1 else 0))
+count-push : (p : Name → Bool) (xs : List Name) (x : Name) →
+    count_by p (xs ++ x ∷ []) ≡ count_by p xs + (if p x then 1 else 0)
+count-push p xs x = sum_by-append (λ y. cond (p y) 1 0) xs (x ∷ [])
+    ∙ ap (λ n. count_by p xs + n) (zero_plus (if p x then 1 else 0))
   where
     zero_plus : (n : ℕ) → 0 + n ≡ n
     zero_plus n = omega arith
 
 pub told_by-push : (xs : List Name) (x : Name) → told_by (xs ++ x ∷ []) ≡ with_name x (told_by xs)
 told_by-push xs x =
-    let spine : Bool → Bool → Bool → ℕ → Option Name → Spine = λ a b c n o. record { has_fence = a; has_second_fence = b; has_chunk = c; cells = n; last = o } in
+    let spine : Bool → Bool → Bool → ℕ → Option Name → Spine = λ a b c n o. record {
+      has_fence = a;
+      has_second_fence = b;
+      has_chunk = c;
+      cells = n;
+      last = o;
+    } in
     let ys = xs ++ x ∷ [] in
-    ap (λ a. spine a (two_pass is_fence ys) (list_any is_chunk ys) (count_by is_cell ys) (last_of ys)) (list_any-push is_fence xs x)
-    ∙ ap (λ b. spine (list_any is_fence xs || is_fence x) b (list_any is_chunk ys) (count_by is_cell ys) (last_of ys)) (two_pass-push is_fence xs x)
-    ∙ ap (λ c. spine (list_any is_fence xs || is_fence x) (two_pass is_fence xs || list_any is_fence xs && is_fence x) c (count_by is_cell ys) (last_of ys)) (list_any-push is_chunk xs x)
-    ∙ ap (λ n. spine (list_any is_fence xs || is_fence x) (two_pass is_fence xs || list_any is_fence xs && is_fence x) (list_any is_chunk xs || is_chunk x) n (last_of ys)) (count-push is_cell xs x)
-    ∙ ap (λ o. spine (list_any is_fence xs || is_fence x) (two_pass is_fence xs || list_any is_fence xs && is_fence x) (list_any is_chunk xs || is_chunk x) (count_by is_cell xs + (if is_cell x then 1 else 0)) o) (last_of-push xs x)
+    ap (λ a. spine a (two_pass is_fence ys) (list_any is_chunk ys) (count_by is_cell ys) (last_of ys))
+    (list_any-push is_fence xs x)
+    ∙ ap (λ b. spine (list_any is_fence xs || is_fence x) b (list_any is_chunk ys) (count_by is_cell ys) (last_of ys))
+    (two_pass-push is_fence xs x)
+    ∙ ap (λ c. spine (list_any is_fence xs || is_fence x) (two_pass is_fence xs || list_any is_fence xs
+    && is_fence x) c (count_by is_cell ys) (last_of ys)) (list_any-push is_chunk xs x)
+    ∙ ap (λ n. spine (list_any is_fence xs || is_fence x) (two_pass is_fence xs || list_any is_fence xs
+    && is_fence x) (list_any is_chunk xs || is_chunk x) n (last_of ys)) (count-push is_cell xs x)
+    ∙ ap (λ o. spine (list_any is_fence xs || is_fence x) (two_pass is_fence xs || list_any is_fence xs
+    && is_fence x) (list_any is_chunk xs || is_chunk x) (count_by is_cell xs + (if is_cell x then 1 else 0)) o)
+    (last_of-push xs x)
 
 -- small facts on options and tests
 or_else-none : {A : Type 0} (o : Option A) → or_else o None ≡ o
 or_else-none None = refl
 or_else-none (Some x) = refl
 
-or_else_last : (o : Option Name) (name : Name) (before : Option Name) → or_else o (Some name) ≡ or_else (Some (unwrap_or o name)) before
+or_else_last : (o : Option Name) (name : Name) (before : Option Name) →
+    or_else o (Some name) ≡ or_else (Some (unwrap_or o name)) before
 or_else_last None name before = refl
 or_else_last (Some x) name before = refl
 
-or_else_assoc : (o : Option Name) (b : Bool) (name : Name) (before : Option Name) → or_else o (if b then Some name else before) ≡ or_else (or_else o (if b then Some name else None)) before
+or_else_assoc : (o : Option Name) (b : Bool) (name : Name) (before : Option Name) →
+    or_else o (if b then Some name else before) ≡ or_else (or_else o (if b then Some name else None)) before
 or_else_assoc None true name before = refl
 or_else_assoc None false name before = refl
 or_else_assoc (Some x) b name before = refl
 
 -- a node's children are never outermost
-inside_outermost : (options : CompileOptions) (loose : Bool) (name : Name) (around : Surroundings) → (inside options loose name around).is_outermost ≡ false
+inside_outermost : (options : CompileOptions) (loose : Bool) (name : Name) (around : Surroundings) →
+    (inside options loose name around).is_outermost ≡ false
 inside_outermost options loose BlockQuote around = refl
 inside_outermost options loose GfmFootnoteDefinition around = refl
 inside_outermost options loose _ around = refl
@@ -150,30 +170,41 @@ pub record Knows (state : State) (before : Before) : Type 0 where
   pub spine : state.frame.passed.spine ≡ told_by before.spine
   pub columns : first_or [] state.tables ≡ before.columns
 
-after-nothing : (given : Given) (before : Before) (state : State) → Knows state before → after given before Empty state ≡ state
+after-nothing : (given : Given) (before : Before) (state : State) → Knows state before →
+    after given before Empty state ≡ state
 after-nothing given before state knows =
-    ap (λ ds. record (after given before Empty state) { log = record state.log { definitions = ds } }) (append-nil state.log.definitions)
-    ∙ ap (λ names. record state { frame = record state.frame { passed = record state.frame.passed { spine = told_by names } } }) (append-nil before.spine)
-    ∙ ap (λ s. record state { frame = record state.frame { passed = record state.frame.passed { spine = s } } }) (sym knows.spine)
+    ap (λ ds. record (after given before Empty state) { log = record state.log { definitions = ds } })
+    (append-nil state.log.definitions)
+    ∙ ap (λ names. record state {
+      frame = record state.frame
+          { passed = record state.frame.passed { spine = told_by names } };
+    }) (append-nil before.spine)
+    ∙ ap (λ s. record state { frame = record state.frame { passed = record state.frame.passed { spine = s } } })
+    (sym knows.spine)
 
 -- whether a node is loose counts where it is a list
-inside-told : (options : CompileOptions) (name : Name) (children : Forest) (around : Surroundings) → inside options (loose_told name (Some children)) name around ≡ inside options (is_loose children) name around
+inside-told : (options : CompileOptions) (name : Name) (children : Forest) (around : Surroundings) →
+    inside options (loose_told name (Some children)) name around ≡ inside options (is_loose children) name around
 inside-told options ListOrdered children around = refl
 inside-told options ListUnordered children around = refl
 inside-told options _ children around = refl
 
 -- the children's state, from the node's
-children_know : (given : Given) (ahead : Ahead) (before : Before) (name : Name) (start : Point) (children : Forest) (captured : Bool) (state : State) → Knows state before →
-    Knows (entered given ahead (is_loose children) (columns_told name (Some children)) captured name start state) (before_children name children before)
+children_know : (given : Given) (ahead : Ahead) (before : Before) (name : Name) (start : Point) (children : Forest)
+    (captured : Bool) (state : State) → Knows state before →
+    Knows (entered given ahead (is_loose children) (columns_told name (Some children)) captured name start state)
+    (before_children name children before)
 children_know given ahead before name start children captured state knows = record {
   calls = knows.calls;
   slurping = knows.slurping;
   previous = refl;
   spine =
       ap (λ s. if is_transparent name then s else no_spine) knows.spine
-      ∙ elim (is_transparent name) as (λ b. (if b then told_by before.spine else no_spine) ≡ told_by (if b then before.spine else [])) [ true ↦ refl | false ↦ refl ];
+      ∙ elim (is_transparent name) as (λ b. (if b then told_by before.spine else no_spine)
+      ≡ told_by (if b then before.spine else [])) [ true ↦ refl | false ↦ refl ];
   columns =
-      elim (is_table name) as (λ b. first_or [] (if b then (if b then alignments children else []) ∷ state.tables else state.tables) ≡ (if b then alignments children else before.columns)) [
+      elim (is_table name) as (λ b. first_or [] (if b then (if b then alignments children else []) ∷ state.tables
+      else state.tables) ≡ (if b then alignments children else before.columns)) [
         | true ↦ refl
         | false ↦ knows.columns
       ];
@@ -182,11 +213,14 @@ children_know given ahead before name start children captured state knows = reco
 -- a table that is left is the one that was entered
 abbrev left_tables : Name → Forest → List (List AlignKind) → List (List AlignKind)
 left_tables name children tables =
-    (leaving_table (is_table name) (entering_table (is_table name) (columns_told name (Some children)) (record beginning { tables = tables }))).tables
+    (leaving_table (is_table name) (entering_table (is_table name) (columns_told name (Some children))
+    (record beginning { tables = tables }))).tables
 
-tables-restored : (name : Name) (children : Forest) (tables : List (List AlignKind)) → left_tables name children tables ≡ tables
+tables-restored : (name : Name) (children : Forest) (tables : List (List AlignKind)) →
+    left_tables name children tables ≡ tables
 tables-restored name children tables =
-    elim (is_table name) as (λ b. (if b then others_of (if b then columns_told name (Some children) ∷ tables else tables) else (if b then columns_told name (Some children) ∷ tables else tables)) ≡ tables) [
+    elim (is_table name) as (λ b. (if b then others_of (if b then columns_told name (Some children) ∷ tables
+    else tables) else (if b then columns_told name (Some children) ∷ tables else tables)) ≡ tables) [
       | true ↦ refl
       | false ↦ refl
     ]
@@ -194,50 +228,73 @@ tables-restored name children tables =
 -- the page that a node's children print by themselves
 abbrev inner_page : Given → Surroundings → Before → Bool → Name → Forest → Page
 inner_page given around before captured name children =
-    if captured then lay given.ending blank (printed given (inside given.options (is_loose children) name around) (before_children name children before) children) else blank
+    if captured then lay given.ending blank (printed given (inside given.options (is_loose children) name around)
+    (before_children name children before) children) else blank
 
 -- what stands before a node's next sibling, as the state knows it when the node is left
 abbrev pub after_node : Given → Ahead → Before → Bool → Bool → Name → Point → Point → Forest → State → State
 after_node given ahead before last captured name start end children state = record state {
   log = record {
     called =
-        if is_call name then counted (fold counted state.log.called (calls_of given.bytes children)) (identifier_at given.bytes ahead.label)
+        if is_call name then counted (fold counted state.log.called (calls_of given.bytes children))
+        (identifier_at given.bytes ahead.label)
         else fold counted state.log.called (calls_of given.bytes children);
     definitions =
         if is_link_definition name
-        then (state.log.definitions ++ definitions_of given (inside given.options (is_loose children) name state.frame.around) (before_children name children before) children)
+        then (state.log.definitions ++ definitions_of given
+        (inside given.options (is_loose children) name state.frame.around)
+        (before_children name children before) children)
         ++ record {
           identifier = identifier_at given.bytes ahead.defined;
           target = (inner_page given state.frame.around before captured name children).notes.target;
         } ∷ []
-        else state.log.definitions ++ definitions_of given (inside given.options (is_loose children) name state.frame.around) (before_children name children before) children;
+        else state.log.definitions ++ definitions_of given
+        (inside given.options (is_loose children) name state.frame.around)
+        (before_children name children before) children;
     footnotes =
         if is_footnote_definition name
-        then noted (fold noted state.log.footnotes (footnotes_of given (inside given.options (is_loose children) name state.frame.around) (before_children name children before) children))
+        then noted (fold noted state.log.footnotes (footnotes_of given
+        (inside given.options (is_loose children) name state.frame.around)
+        (before_children name children before) children))
         (record {
           identifier = identifier_at given.bytes ahead.footnote;
           text = (inner_page given state.frame.around before captured name children).text;
         })
-        else fold noted state.log.footnotes (footnotes_of given (inside given.options (is_loose children) name state.frame.around) (before_children name children before) children);
+        else fold noted state.log.footnotes (footnotes_of given
+        (inside given.options (is_loose children) name state.frame.around)
+        (before_children name children before) children);
   };
   page = lay given.ending state.page
       (opening given state.frame.around ahead name
-      ++ ((if captured then [] else printed given (inside given.options (is_loose children) name state.frame.around) (before_children name children before) children)
-      ++ closing given state.frame.around (left_of given.bytes before children) ahead (passed_over (spine_inside name before.spine) children) last start end
-      (if captured then lay given.ending blank (printed given (inside given.options (is_loose children) name state.frame.around) (before_children name children before) children) else blank) name));
-  is_slurping = slurps_behind (own_marks state.frame.around (told_by before.spine) name) (slurps_behind (marks_of given.options (inside given.options (is_loose children) name state.frame.around) (spine_inside name before.spine) children) state.is_slurping);
-  frame = record state.frame { passed = passing name (told_by (spine_inside name before.spine ++ spine_names children)) state.frame.passed };
+      ++ ((if captured then [] else printed given (inside given.options (is_loose children) name state.frame.around)
+      (before_children name children before) children)
+      ++ closing given state.frame.around (left_of given.bytes before children) ahead
+      (passed_over (spine_inside name before.spine) children) last start end
+      (if captured then lay given.ending blank (printed given
+      (inside given.options (is_loose children) name state.frame.around)
+      (before_children name children before) children) else blank) name));
+  is_slurping = slurps_behind (own_marks state.frame.around (told_by before.spine) name)
+      (slurps_behind (marks_of given.options (inside given.options (is_loose children) name state.frame.around)
+      (spine_inside name before.spine) children) state.is_slurping);
+  frame = record state.frame {
+    passed = passing name (told_by (spine_inside name before.spine
+        ++ spine_names children)) state.frame.passed;
+  };
 }
 
 -- a page, laid on in parts
-lay_parts : (ending : List ℕ) (page : Page) (xs ys zs : List Piece) → lay ending (lay ending (lay ending page xs) ys) zs ≡ lay ending page (xs ++ (ys ++ zs))
-lay_parts ending page xs ys zs = sym (lay-append ending page xs (ys ++ zs) ∙ lay-append ending (lay ending page xs) ys zs)
+lay_parts : (ending : List ℕ) (page : Page) (xs ys zs : List Piece) →
+    lay ending (lay ending (lay ending page xs) ys) zs ≡ lay ending page (xs ++ (ys ++ zs))
+lay_parts ending page xs ys zs = sym (lay-append ending page xs (ys ++ zs)
+    ∙ lay-append ending (lay ending page xs) ys zs)
 
-lay_two : (ending : List ℕ) (page : Page) (xs zs : List Piece) → lay ending (lay ending page xs) zs ≡ lay ending page (xs ++ zs)
+lay_two : (ending : List ℕ) (page : Page) (xs zs : List Piece) →
+    lay ending (lay ending page xs) zs ≡ lay ending page (xs ++ zs)
 lay_two ending page xs zs = sym (lay-append ending page xs zs)
 
 -- what is known of the node when it is left
-left-known : (given : Given) (before : Before) (name : Name) (start : Point) (children : Forest) (captured : Bool) (state : State) → Knows state before →
+left-known : (given : Given) (before : Before) (name : Name) (start : Point) (children : Forest) (captured : Bool)
+    (state : State) → Knows state before →
     (record {
       called = fold counted state.log.called (calls_of given.bytes children);
       is_slurping = state.is_slurping;
@@ -247,25 +304,38 @@ left-known : (given : Given) (before : Before) (name : Name) (start : Point) (ch
     }) ≡ left_of given.bytes before children
 left-known given before name start children captured state knows =
     let calls : List (List ℕ) = before.calls ++ calls_of given.bytes children in
-    let L : List Called → Bool → Option Name → Spine → List AlignKind → Left = λ cs b o s k. record { called = cs; is_slurping = b; previous = o; spine = s; columns = k } in
+    let L : List Called → Bool → Option Name → Spine → List AlignKind →
+    Left = λ cs b o s k. record { called = cs; is_slurping = b; previous = o; spine = s; columns = k } in
     ap (λ cs. L cs state.is_slurping state.frame.passed.last state.frame.passed.spine (first_or [] state.tables))
-    (ap (λ called. fold counted called (calls_of given.bytes children)) knows.calls ∙ fold-tally before.calls (calls_of given.bytes children))
-    ∙ ap (λ b. L (tally calls) b state.frame.passed.last state.frame.passed.spine (first_or [] state.tables)) knows.slurping
-    ∙ ap (λ o. L (tally calls) (is_slurping before.marks) o state.frame.passed.spine (first_or [] state.tables)) knows.previous
+    (ap (λ called. fold counted called (calls_of given.bytes children)) knows.calls
+    ∙ fold-tally before.calls (calls_of given.bytes children))
+    ∙ ap (λ b. L (tally calls) b state.frame.passed.last state.frame.passed.spine (first_or [] state.tables))
+    knows.slurping
+    ∙ ap (λ o. L (tally calls) (is_slurping before.marks) o state.frame.passed.spine (first_or [] state.tables))
+    knows.previous
     ∙ ap (λ s. L (tally calls) (is_slurping before.marks) before.previous s (first_or [] state.tables)) knows.spine
     ∙ ap (λ k. L (tally calls) (is_slurping before.marks) before.previous (told_by before.spine) k) knows.columns
 
 -- a node is left behind its children, whose text is not captured
-node_step-streamed : (given : Given) (ahead : Ahead) (before : Before) (last : Bool) (name : Name) (start end : Point) (children : Forest) (state : State) → Knows state before →
-    exited given last false name end (after given (before_children name children before) children (entered given ahead (is_loose children) (columns_told name (Some children)) false name start state))
+node_step-streamed : (given : Given) (ahead : Ahead) (before : Before) (last : Bool) (name : Name) (start end : Point)
+    (children : Forest) (state : State) → Knows state before →
+    exited given last false name end (after given (before_children name children before) children
+    (entered given ahead (is_loose children) (columns_told name (Some children)) false name start state))
     ≡ after_node given ahead before last false name start end children state
 node_step-streamed given ahead before last name start end children state knows =
     let around = state.frame.around in
     let opened : List Piece = opening given around ahead name in
-    let inner : List Piece = printed given (inside given.options (is_loose children) name around) (before_children name children before) children in
+    let inner : List Piece = printed given (inside given.options (is_loose children) name around)
+    (before_children name children before) children in
     let spine : Spine = told_by (spine_inside name before.spine ++ spine_names children) in
-    let marks : List Mark = marks_of given.options (inside given.options (is_loose children) name around) (spine_inside name before.spine) children in
-    let close : Left → Option Name → Option Name → List Piece = λ left o p. closing given around left ahead (record { last = o; contributing = p; spine = spine }) last start end blank name in
+    let marks : List Mark = marks_of given.options (inside given.options (is_loose children) name around)
+    (spine_inside name before.spine) children in
+    let close : Left → Option Name → Option Name → List Piece =
+    λ left o p. closing given around left ahead (record {
+      last = o;
+      contributing = p;
+      spine = spine;
+    }) last start end blank name in
     let at : List (List AlignKind) → Page → Spine → State = λ tables page told. record state {
       tables = tables;
       log = (after_node given ahead before last false name start end children state).log;
@@ -273,26 +343,51 @@ node_step-streamed given ahead before last name start end children state knows =
       is_slurping = slurps_behind (own_marks around told name) (slurps_behind marks state.is_slurping);
       frame = record state.frame { passed = passing name spine state.frame.passed };
     } in
-    let left : List (List AlignKind) → Left = λ tables. record { called = fold counted state.log.called (calls_of given.bytes children); is_slurping = state.is_slurping; previous = state.frame.passed.last; spine = state.frame.passed.spine; columns = first_or [] tables } in
-    let laid : List (List AlignKind) → Left → Option Name → Option Name → Spine → State = λ tables l o p told. at tables (lay given.ending (lay given.ending (lay given.ending state.page opened) inner) (close l o p)) told in
-    ap (λ tables. laid tables (left tables) (or_else (last_name children) None) (or_else (last_contributing children) None) state.frame.passed.spine) (tables-restored name children state.tables)
-    ∙ ap (λ l. laid state.tables l (or_else (last_name children) None) (or_else (last_contributing children) None) state.frame.passed.spine) (left-known given before name start children false state knows)
-    ∙ ap (λ o. laid state.tables (left_of given.bytes before children) o (or_else (last_contributing children) None) state.frame.passed.spine) (or_else-none (last_name children))
-    ∙ ap (λ o. laid state.tables (left_of given.bytes before children) (last_name children) o state.frame.passed.spine) (or_else-none (last_contributing children))
-    ∙ ap (λ told. laid state.tables (left_of given.bytes before children) (last_name children) (last_contributing children) told) knows.spine
-    ∙ ap (λ page. at state.tables page (told_by before.spine)) (lay_parts given.ending state.page opened inner (close (left_of given.bytes before children) (last_name children) (last_contributing children)))
+    let left : List (List AlignKind) → Left = λ tables. record {
+      called = fold counted state.log.called (calls_of given.bytes children);
+      is_slurping = state.is_slurping;
+      previous = state.frame.passed.last;
+      spine = state.frame.passed.spine;
+      columns = first_or [] tables;
+    } in
+    let laid : List (List AlignKind) → Left → Option Name → Option Name → Spine →
+    State = λ tables l o p told. at tables (lay given.ending
+    (lay given.ending (lay given.ending state.page opened) inner) (close l o p)) told in
+    ap (λ tables. laid tables (left tables) (or_else (last_name children) None)
+    (or_else (last_contributing children) None) state.frame.passed.spine) (tables-restored name children state.tables)
+    ∙ ap (λ l. laid state.tables l (or_else (last_name children) None)
+    (or_else (last_contributing children) None) state.frame.passed.spine)
+    (left-known given before name start children false state knows)
+    ∙ ap (λ o. laid state.tables (left_of given.bytes before children) o
+    (or_else (last_contributing children) None) state.frame.passed.spine) (or_else-none (last_name children))
+    ∙ ap (λ o. laid state.tables (left_of given.bytes before children)
+    (last_name children) o state.frame.passed.spine) (or_else-none (last_contributing children))
+    ∙ ap (λ told. laid state.tables (left_of given.bytes before children) (last_name children)
+    (last_contributing children) told) knows.spine
+    ∙ ap (λ page. at state.tables page (told_by before.spine))
+    (lay_parts given.ending state.page opened inner (close (left_of given.bytes before children)
+    (last_name children) (last_contributing children)))
 
 -- a node is left behind its children, whose text is captured
-node_step-captured : (given : Given) (ahead : Ahead) (before : Before) (last : Bool) (name : Name) (start end : Point) (children : Forest) (state : State) → Knows state before →
-    exited given last true name end (after given (before_children name children before) children (entered given ahead (is_loose children) (columns_told name (Some children)) true name start state))
+node_step-captured : (given : Given) (ahead : Ahead) (before : Before) (last : Bool) (name : Name) (start end : Point)
+    (children : Forest) (state : State) → Knows state before →
+    exited given last true name end (after given (before_children name children before) children
+    (entered given ahead (is_loose children) (columns_told name (Some children)) true name start state))
     ≡ after_node given ahead before last true name start end children state
 node_step-captured given ahead before last name start end children state knows =
     let around = state.frame.around in
     let opened : List Piece = opening given around ahead name in
-    let inner : List Piece = printed given (inside given.options (is_loose children) name around) (before_children name children before) children in
+    let inner : List Piece = printed given (inside given.options (is_loose children) name around)
+    (before_children name children before) children in
     let spine : Spine = told_by (spine_inside name before.spine ++ spine_names children) in
-    let marks : List Mark = marks_of given.options (inside given.options (is_loose children) name around) (spine_inside name before.spine) children in
-    let close : Left → Option Name → Option Name → List Piece = λ left o p. closing given around left ahead (record { last = o; contributing = p; spine = spine }) last start end (lay given.ending blank inner) name in
+    let marks : List Mark = marks_of given.options (inside given.options (is_loose children) name around)
+    (spine_inside name before.spine) children in
+    let close : Left → Option Name → Option Name → List Piece =
+    λ left o p. closing given around left ahead (record {
+      last = o;
+      contributing = p;
+      spine = spine;
+    }) last start end (lay given.ending blank inner) name in
     let at : List (List AlignKind) → Page → Spine → State = λ tables page told. record state {
       tables = tables;
       log = (after_node given ahead before last true name start end children state).log;
@@ -300,208 +395,336 @@ node_step-captured given ahead before last name start end children state knows =
       is_slurping = slurps_behind (own_marks around told name) (slurps_behind marks state.is_slurping);
       frame = record state.frame { passed = passing name spine state.frame.passed };
     } in
-    let left : List (List AlignKind) → Left = λ tables. record { called = fold counted state.log.called (calls_of given.bytes children); is_slurping = state.is_slurping; previous = state.frame.passed.last; spine = state.frame.passed.spine; columns = first_or [] tables } in
-    let laid : List (List AlignKind) → Left → Option Name → Option Name → Spine → State = λ tables l o p told. at tables (lay given.ending (lay given.ending state.page opened) (close l o p)) told in
-    ap (λ tables. laid tables (left tables) (or_else (last_name children) None) (or_else (last_contributing children) None) state.frame.passed.spine) (tables-restored name children state.tables)
-    ∙ ap (λ l. laid state.tables l (or_else (last_name children) None) (or_else (last_contributing children) None) state.frame.passed.spine) (left-known given before name start children true state knows)
-    ∙ ap (λ o. laid state.tables (left_of given.bytes before children) o (or_else (last_contributing children) None) state.frame.passed.spine) (or_else-none (last_name children))
-    ∙ ap (λ o. laid state.tables (left_of given.bytes before children) (last_name children) o state.frame.passed.spine) (or_else-none (last_contributing children))
-    ∙ ap (λ told. laid state.tables (left_of given.bytes before children) (last_name children) (last_contributing children) told) knows.spine
-    ∙ ap (λ page. at state.tables page (told_by before.spine)) (lay_two given.ending state.page opened (close (left_of given.bytes before children) (last_name children) (last_contributing children)))
+    let left : List (List AlignKind) → Left = λ tables. record {
+      called = fold counted state.log.called (calls_of given.bytes children);
+      is_slurping = state.is_slurping;
+      previous = state.frame.passed.last;
+      spine = state.frame.passed.spine;
+      columns = first_or [] tables;
+    } in
+    let laid : List (List AlignKind) → Left → Option Name → Option Name → Spine →
+    State = λ tables l o p told. at tables (lay given.ending (lay given.ending state.page opened) (close l o p))
+    told in
+    ap (λ tables. laid tables (left tables) (or_else (last_name children) None)
+    (or_else (last_contributing children) None) state.frame.passed.spine) (tables-restored name children state.tables)
+    ∙ ap (λ l. laid state.tables l (or_else (last_name children) None)
+    (or_else (last_contributing children) None) state.frame.passed.spine)
+    (left-known given before name start children true state knows)
+    ∙ ap (λ o. laid state.tables (left_of given.bytes before children) o
+    (or_else (last_contributing children) None) state.frame.passed.spine) (or_else-none (last_name children))
+    ∙ ap (λ o. laid state.tables (left_of given.bytes before children)
+    (last_name children) o state.frame.passed.spine) (or_else-none (last_contributing children))
+    ∙ ap (λ told. laid state.tables (left_of given.bytes before children) (last_name children)
+    (last_contributing children) told) knows.spine
+    ∙ ap (λ page. at state.tables page (told_by before.spine))
+    (lay_two given.ending state.page opened (close (left_of given.bytes before children) (last_name children)
+    (last_contributing children)))
 
 -- what a node's children tell ahead decides by what its name reads alone
-opening-told : (given : Given) (around : Surroundings) (name : Name) (children : Forest) → opening given around (ahead_told name (Some children)) name ≡ opening given around (ahead_of children) name
+opening-told : (given : Given) (around : Surroundings) (name : Name) (children : Forest) →
+    opening given around (ahead_told name (Some children)) name ≡ opening given around (ahead_of children) name
 opening-told given around HeadingAtx children = refl
 opening-told given around _ children = refl
 
 abbrev told_ahead : (mark number label reference defined footnote : Option Position) → Ahead
-told_ahead mark number label reference defined footnote = record { mark = mark; number = number; label = label; reference = reference; defined = defined; footnote = footnote }
+told_ahead mark number label reference defined footnote = record {
+  mark = mark;
+  number = number;
+  label = label;
+  reference = reference;
+  defined = defined;
+  footnote = footnote;
+}
 
-link-told : (given : Given) (around : Surroundings) (left : Left) (passed : Passed) (last : Bool) (start end : Point) (inner : Page) (m n l r d f : Option Position) →
-    closing given around left (ahead_by (or_else r l)) passed last start end inner Link ≡ closing given around left (told_ahead m n l r d f) passed last start end inner Link
+link-told : (given : Given) (around : Surroundings) (left : Left) (passed : Passed) (last : Bool) (start end : Point)
+    (inner : Page) (m n l r d f : Option Position) →
+    closing given around left (ahead_by (or_else r l)) passed last start end inner Link
+    ≡ closing given around left (told_ahead m n l r d f) passed last start end inner Link
 link-told given around left passed last start end inner m n l None d f = refl
 link-told given around left passed last start end inner m n l (Some r) d f = refl
 
-image-told : (given : Given) (around : Surroundings) (left : Left) (passed : Passed) (last : Bool) (start end : Point) (inner : Page) (m n l r d f : Option Position) →
-    closing given around left (ahead_by (or_else r l)) passed last start end inner Image ≡ closing given around left (told_ahead m n l r d f) passed last start end inner Image
+image-told : (given : Given) (around : Surroundings) (left : Left) (passed : Passed) (last : Bool) (start end : Point)
+    (inner : Page) (m n l r d f : Option Position) →
+    closing given around left (ahead_by (or_else r l)) passed last start end inner Image
+    ≡ closing given around left (told_ahead m n l r d f) passed last start end inner Image
 image-told given around left passed last start end inner m n l None d f = refl
 image-told given around left passed last start end inner m n l (Some r) d f = refl
 
-closing-told : (given : Given) (around : Surroundings) (left : Left) (passed : Passed) (last : Bool) (start end : Point) (inner : Page) (name : Name) (children : Forest) →
-    closing given around left (ahead_told name (Some children)) passed last start end inner name ≡ closing given around left (ahead_of children) passed last start end inner name
+closing-told : (given : Given) (around : Surroundings) (left : Left) (passed : Passed) (last : Bool)
+    (start end : Point) (inner : Page) (name : Name) (children : Forest) →
+    closing given around left (ahead_told name (Some children)) passed last start end inner name
+    ≡ closing given around left (ahead_of children) passed last start end inner name
 closing-told given around left passed last start end inner Link children =
-    link-told given around left passed last start end inner (ahead_of children).mark (ahead_of children).number (ahead_of children).label (ahead_of children).reference (ahead_of children).defined (ahead_of children).footnote
+    link-told given around left passed last start end inner (ahead_of children).mark (ahead_of children).number
+    (ahead_of children).label (ahead_of children).reference (ahead_of children).defined (ahead_of children).footnote
 closing-told given around left passed last start end inner Image children =
-    image-told given around left passed last start end inner (ahead_of children).mark (ahead_of children).number (ahead_of children).label (ahead_of children).reference (ahead_of children).defined (ahead_of children).footnote
+    image-told given around left passed last start end inner (ahead_of children).mark (ahead_of children).number
+    (ahead_of children).label (ahead_of children).reference (ahead_of children).defined (ahead_of children).footnote
 closing-told given around left passed last start end inner _ children = refl
 
 called-told : (bytes : List ℕ) (called : List Called) (name : Name) (children : Forest) →
-    (if is_call name then counted called (identifier_at bytes (ahead_told name (Some children)).label) else called) ≡ (if is_call name then counted called (identifier_at bytes (ahead_of children).label) else called)
+    (if is_call name then counted called (identifier_at bytes (ahead_told name (Some children)).label) else called)
+    ≡ (if is_call name then counted called (identifier_at bytes (ahead_of children).label) else called)
 called-told bytes called GfmFootnoteCall children = refl
 called-told bytes called _ children = refl
 
 defined-told : (bytes : List ℕ) (definitions : List Defined) (page : Page) (name : Name) (children : Forest) →
-    (if is_link_definition name then definitions ++ record { identifier = identifier_at bytes (ahead_told name (Some children)).defined; target = page.notes.target } ∷ [] else definitions)
-    ≡ (if is_link_definition name then definitions ++ record { identifier = identifier_at bytes (ahead_of children).defined; target = page.notes.target } ∷ [] else definitions)
+    (if is_link_definition name then definitions ++ record
+    { identifier = identifier_at bytes (ahead_told name (Some children)).defined; target = page.notes.target } ∷ []
+    else definitions)
+    ≡ (if is_link_definition name then definitions ++ record
+    { identifier = identifier_at bytes (ahead_of children).defined; target = page.notes.target } ∷ []
+    else definitions)
 defined-told bytes definitions page Definition children = refl
 defined-told bytes definitions page _ children = refl
 
 noted-told : (bytes : List ℕ) (footnotes : List Footnote) (page : Page) (name : Name) (children : Forest) →
-    (if is_footnote_definition name then noted footnotes (record { identifier = identifier_at bytes (ahead_told name (Some children)).footnote; text = page.text }) else footnotes)
-    ≡ (if is_footnote_definition name then noted footnotes (record { identifier = identifier_at bytes (ahead_of children).footnote; text = page.text }) else footnotes)
+    (if is_footnote_definition name then noted footnotes
+    (record { identifier = identifier_at bytes (ahead_told name (Some children)).footnote; text = page.text })
+    else footnotes)
+    ≡ (if is_footnote_definition name then noted footnotes
+    (record { identifier = identifier_at bytes (ahead_of children).footnote; text = page.text }) else footnotes)
 noted-told bytes footnotes page GfmFootnoteDefinition children = refl
 noted-told bytes footnotes page _ children = refl
 
-after_node-told : (given : Given) (before : Before) (last captured : Bool) (name : Name) (start end : Point) (children : Forest) (state : State) →
-    after_node given (ahead_told name (Some children)) before last captured name start end children state ≡ after_node given (ahead_of children) before last captured name start end children state
+after_node-told : (given : Given) (before : Before) (last captured : Bool) (name : Name) (start end : Point)
+    (children : Forest) (state : State) →
+    after_node given (ahead_told name (Some children)) before last captured name start end children state
+    ≡ after_node given (ahead_of children) before last captured name start end children state
 after_node-told given before last captured name start end children state =
     let around = state.frame.around in
     let told : Ahead = ahead_told name (Some children) in
     let whole : State = after_node given told before last captured name start end children state in
-    let inner : List Piece = if captured then [] else printed given (inside given.options (is_loose children) name around) (before_children name children before) children in
+    let inner : List Piece = if captured then [] else printed given
+    (inside given.options (is_loose children) name around) (before_children name children before) children in
     let page : Page = inner_page given around before captured name children in
-    let close : Ahead → List Piece = λ ahead. closing given around (left_of given.bytes before children) ahead (passed_over (spine_inside name before.spine) children) last start end
-    (if captured then lay given.ending blank (printed given (inside given.options (is_loose children) name around) (before_children name children before) children) else blank) name in
-    let made : List Piece → List Piece → List Called → List Defined → List Footnote → State = λ opened closed called definitions footnotes. record whole {
+    let close : Ahead → List Piece = λ ahead. closing given around (left_of given.bytes before children) ahead
+    (passed_over (spine_inside name before.spine) children) last start end
+    (if captured then lay given.ending blank (printed given (inside given.options (is_loose children) name around)
+    (before_children name children before) children) else blank) name in
+    let made : List Piece → List Piece → List Called → List Defined → List Footnote →
+    State = λ opened closed called definitions footnotes. record whole {
       page = lay given.ending state.page (opened ++ (inner ++ closed));
       log = record { called = called; definitions = definitions; footnotes = footnotes };
     } in
     let calls : List Called = fold counted state.log.called (calls_of given.bytes children) in
-    let definitions : List Defined = state.log.definitions ++ definitions_of given (inside given.options (is_loose children) name around) (before_children name children before) children in
-    let footnotes : List Footnote = fold noted state.log.footnotes (footnotes_of given (inside given.options (is_loose children) name around) (before_children name children before) children) in
+    let definitions : List Defined = state.log.definitions
+    ++ definitions_of given (inside given.options (is_loose children) name around)
+    (before_children name children before) children in
+    let footnotes : List Footnote = fold noted state.log.footnotes
+    (footnotes_of given (inside given.options (is_loose children) name around)
+    (before_children name children before) children) in
     let plain = after_node given (ahead_of children) before last captured name start end children state in
-    ap (λ o. made o (close told) whole.log.called whole.log.definitions whole.log.footnotes) (opening-told given around name children)
-    ∙ ap (λ c. made (opening given around (ahead_of children) name) c whole.log.called whole.log.definitions whole.log.footnotes) (closing-told given around (left_of given.bytes before children) (passed_over (spine_inside name before.spine) children) last start end page name children)
-    ∙ ap (λ cs. made (opening given around (ahead_of children) name) (close (ahead_of children)) cs whole.log.definitions whole.log.footnotes) (called-told given.bytes calls name children)
-    ∙ ap (λ ds. made (opening given around (ahead_of children) name) (close (ahead_of children)) plain.log.called ds whole.log.footnotes) (defined-told given.bytes definitions page name children)
-    ∙ ap (λ fs. made (opening given around (ahead_of children) name) (close (ahead_of children)) plain.log.called plain.log.definitions fs) (noted-told given.bytes footnotes page name children)
+    ap (λ o. made o (close told) whole.log.called whole.log.definitions whole.log.footnotes)
+    (opening-told given around name children)
+    ∙ ap (λ c. made (opening given around (ahead_of children) name) c whole.log.called whole.log.definitions
+    whole.log.footnotes) (closing-told given around (left_of given.bytes before children)
+    (passed_over (spine_inside name before.spine) children) last start end page name children)
+    ∙ ap (λ cs. made (opening given around (ahead_of children) name)
+    (close (ahead_of children)) cs whole.log.definitions whole.log.footnotes)
+    (called-told given.bytes calls name children)
+    ∙ ap (λ ds. made (opening given around (ahead_of children) name)
+    (close (ahead_of children)) plain.log.called ds whole.log.footnotes)
+    (defined-told given.bytes definitions page name children)
+    ∙ ap (λ fs. made (opening given around (ahead_of children) name)
+    (close (ahead_of children)) plain.log.called plain.log.definitions fs)
+    (noted-told given.bytes footnotes page name children)
 
-node_step : (given : Given) (before : Before) (last captured : Bool) (name : Name) (start end : Point) (children : Forest) (state : State) → Knows state before →
-    exited given last captured name end (after given (before_children name children before) children (entered given (ahead_told name (Some children)) (is_loose children) (columns_told name (Some children)) captured name start state))
+node_step : (given : Given) (before : Before) (last captured : Bool) (name : Name) (start end : Point)
+    (children : Forest) (state : State) → Knows state before →
+    exited given last captured name end (after given (before_children name children before) children
+    (entered given (ahead_told name (Some children)) (is_loose children)
+    (columns_told name (Some children)) captured name start state))
     ≡ after_node given (ahead_of children) before last captured name start end children state
 node_step given before last true name start end children state knows =
-    node_step-captured given (ahead_told name (Some children)) before last name start end children state knows ∙ after_node-told given before last true name start end children state
+    node_step-captured given (ahead_told name (Some children)) before last name start end children state knows
+    ∙ after_node-told given before last true name start end children state
 node_step given before last false name start end children state knows =
-    node_step-streamed given (ahead_told name (Some children)) before last name start end children state knows ∙ after_node-told given before last false name start end children state
+    node_step-streamed given (ahead_told name (Some children)) before last name start end children state knows
+    ∙ after_node-told given before last false name start end children state
 
 -- one more entry of a log, and those after it
-log-step : {A : Type 0} (b : Bool) (xs ys zs : List A) (x : A) → (if b then (xs ++ ys) ++ x ∷ [] else xs ++ ys) ++ zs ≡ xs ++ (ys ++ ((if b then x ∷ [] else []) ++ zs))
+log-step : {A : Type 0} (b : Bool) (xs ys zs : List A) (x : A) →
+    (if b then (xs ++ ys) ++ x ∷ [] else xs ++ ys) ++ zs ≡ xs ++ (ys ++ ((if b then x ∷ [] else []) ++ zs))
 log-step true xs ys zs x = append_assoc (xs ++ ys) (x ∷ []) zs ∙ append_assoc xs ys (x ∷ zs)
 log-step false xs ys zs x = append_assoc xs ys zs
 
 -- a definition's page is captured
 definition_page : (name : Name) (identifier : List ℕ) (page : Page) (definitions : List Defined) →
-    (if is_link_definition name then definitions ++ record { identifier = identifier; target = (if is_captured name then page else blank).notes.target } ∷ [] else definitions)
-    ≡ (if is_link_definition name then definitions ++ record { identifier = identifier; target = page.notes.target } ∷ [] else definitions)
+    (if is_link_definition name then definitions ++ record {
+      identifier = identifier;
+      target = (if is_captured name then page else blank).notes.target;
+    } ∷ [] else definitions)
+    ≡ (if is_link_definition name then definitions ++ record { identifier = identifier; target = page.notes.target }
+    ∷ [] else definitions)
 definition_page Definition identifier page definitions = refl
 definition_page _ identifier page definitions = refl
 
 footnote_page : (name : Name) (identifier : List ℕ) (page : Page) (footnotes : List Footnote) →
-    (if is_footnote_definition name then noted footnotes (record { identifier = identifier; text = (if is_captured name then page else blank).text }) else footnotes)
-    ≡ (if is_footnote_definition name then noted footnotes (record { identifier = identifier; text = page.text }) else footnotes)
+    (if is_footnote_definition name then noted footnotes (record {
+      identifier = identifier;
+      text = (if is_captured name then page else blank).text;
+    }) else footnotes)
+    ≡ (if is_footnote_definition name then noted footnotes (record { identifier = identifier; text = page.text })
+    else footnotes)
 footnote_page GfmFootnoteDefinition identifier page footnotes = refl
 footnote_page _ identifier page footnotes = refl
 
 -- one more that is seen, and those after it
 fold-step : {A B : Type 0} (f : B → A → B) (b : Bool) (seen : B) (xs ys : List A) (x : A) →
-    fold f (if b then f (fold f seen xs) x else fold f seen xs) ys ≡ fold f seen (xs ++ ((if b then x ∷ [] else []) ++ ys))
+    fold f (if b then f (fold f seen xs) x else fold f seen xs) ys
+    ≡ fold f seen (xs ++ ((if b then x ∷ [] else []) ++ ys))
 fold-step f true seen xs ys x = sym (fold-append f seen xs (x ∷ ys))
 fold-step f false seen xs ys x = sym (fold-append f seen xs ys)
 
 -- the next sibling's state knows what stands before it
-next_knows : (given : Given) (before : Before) (last captured : Bool) (name : Name) (start end : Point) (children : Forest) (state : State) → Knows state before →
-    Knows (after_node given (ahead_of children) before last captured name start end children state) (before_next given state.frame.around name start end children before)
+next_knows : (given : Given) (before : Before) (last captured : Bool) (name : Name) (start end : Point)
+    (children : Forest) (state : State) → Knows state before →
+    Knows (after_node given (ahead_of children) before last captured name start end children state)
+    (before_next given state.frame.around name start end children before)
 next_knows given before last captured name start end children state knows =
     let own : List Mark = own_marks state.frame.around (told_by before.spine) name in
-    let marks : List Mark = marks_of given.options (inside given.options (is_loose children) name state.frame.around) (spine_inside name before.spine) children in
+    let marks : List Mark = marks_of given.options (inside given.options (is_loose children) name state.frame.around)
+    (spine_inside name before.spine) children in
     record {
       calls =
-          fold-step counted (is_call name) state.log.called (calls_of given.bytes children) [] (identifier_at given.bytes (ahead_of children).label)
+          fold-step counted (is_call name) state.log.called (calls_of given.bytes children) []
+          (identifier_at given.bytes (ahead_of children).label)
           ∙ ap (λ called. fold counted called (calls_of given.bytes (Node name start end children Empty))) knows.calls
           ∙ fold-tally before.calls (calls_of given.bytes (Node name start end children Empty));
       slurping =
           ap (λ s. slurps_behind own (slurps_behind marks s)) knows.slurping
-          ∙ sym (is_slurping-append (own ++ marks) before.marks ∙ slurps_behind-append own marks (is_slurping before.marks));
+          ∙ sym (is_slurping-append (own ++ marks) before.marks
+          ∙ slurps_behind-append own marks (is_slurping before.marks));
       previous = refl;
-      spine = elim (is_transparent name) as (λ b. (if b then told_by ((if b then before.spine else []) ++ spine_names children) else with_name name state.frame.passed.spine) ≡ told_by (before.spine ++ (if b then spine_names children else name ∷ []))) [
-        | true ↦ refl
-        | false ↦ ap (λ s. with_name name s) knows.spine ∙ sym (told_by-push before.spine name)
-      ];
+      spine = elim (is_transparent name) as (λ b. (if b then told_by ((if b then before.spine else [])
+          ++ spine_names children) else with_name name state.frame.passed.spine)
+          ≡ told_by (before.spine ++ (if b then spine_names children else name ∷ []))) [
+            | true ↦ refl
+            | false ↦ ap (λ s. with_name name s) knows.spine ∙ sym (told_by-push before.spine name)
+          ];
       columns = knows.columns;
     }
 
 -- a node and then its siblings
-after-node : (given : Given) (before : Before) (name : Name) (start end : Point) (children rest : Forest) (state : State) →
+after-node : (given : Given) (before : Before) (name : Name) (start end : Point) (children rest : Forest)
+    (state : State) →
     after given (before_next given state.frame.around name start end children before) rest
-    (after_node given (ahead_of children) before (state.frame.around.is_outermost && is_empty rest) (is_captured name) name start end children state)
+    (after_node given (ahead_of children) before (state.frame.around.is_outermost
+    && is_empty rest) (is_captured name) name start end children state)
     ≡ after given before (Node name start end children rest) state
 after-node given before name start end children rest state =
     let around = state.frame.around in
     let next : Before = before_next given around name start end children before in
-    let node : List Piece = printed_node given around (left_of given.bytes before children) (ahead_of children) (passed_over (spine_inside name before.spine) children) (around.is_outermost && is_empty rest) start end name (printed given (inside given.options (is_loose children) name around) (before_children name children before) children) in
+    let node : List Piece = printed_node given around (left_of given.bytes before children) (ahead_of children)
+    (passed_over (spine_inside name before.spine) children) (around.is_outermost
+    && is_empty rest) start end name (printed given (inside given.options (is_loose children) name around)
+    (before_children name children before) children) in
     let own : List Mark = own_marks around (told_by before.spine) name in
-    let marks : List Mark = marks_of given.options (inside given.options (is_loose children) name around) (spine_inside name before.spine) children in
+    let marks : List Mark = marks_of given.options (inside given.options (is_loose children) name around)
+    (spine_inside name before.spine) children in
     let later : List Mark = marks_of given.options around (spine_behind name children before.spine) rest in
-    let inner : Page = lay given.ending blank (printed given (inside given.options (is_loose children) name around) (before_children name children before) children) in
+    let inner : Page = lay given.ending blank (printed given (inside given.options (is_loose children) name around)
+    (before_children name children before) children) in
     let identifier : List ℕ = identifier_at given.bytes (ahead_of children).defined in
     let defined : Page → Defined = λ page. record { identifier = identifier; target = page.notes.target } in
-    let inner_definitions : List Defined = definitions_of given (inside given.options (is_loose children) name around) (before_children name children before) children in
+    let inner_definitions : List Defined = definitions_of given (inside given.options (is_loose children) name around)
+    (before_children name children before) children in
     let later_definitions : List Defined = definitions_of given around next rest in
     let label : List ℕ = identifier_at given.bytes (ahead_of children).label in
-    let inner_footnotes : List Footnote = footnotes_of given (inside given.options (is_loose children) name around) (before_children name children before) children in
+    let inner_footnotes : List Footnote = footnotes_of given (inside given.options (is_loose children) name around)
+    (before_children name children before) children in
     let later_footnotes : List Footnote = footnotes_of given around next rest in
-    let footnote : Footnote = record { identifier = identifier_at given.bytes (ahead_of children).footnote; text = inner.text } in
-    let left : Log = (after_node given (ahead_of children) before (around.is_outermost && is_empty rest) (is_captured name) name start end children state).log in
-    let logged : List Called → List Defined → List Footnote → State = λ cs ds fs. record (after given before (Node name start end children rest) state) { log = record { called = cs; definitions = ds; footnotes = fs } } in
+    let footnote : Footnote = record {
+      identifier = identifier_at given.bytes (ahead_of children).footnote;
+      text = inner.text;
+    } in
+    let left : Log = (after_node given (ahead_of children) before (around.is_outermost
+    && is_empty rest) (is_captured name) name start end children state).log in
+    let logged : List Called → List Defined → List Footnote →
+    State = λ cs ds fs. record (after given before (Node name start end children rest) state)
+    { log = record { called = cs; definitions = ds; footnotes = fs } } in
     let made : Page → Bool → Option Name → Option Name → List Name → State = λ page slurping o p names. record state {
-      log = (after given next rest (after_node given (ahead_of children) before (around.is_outermost && is_empty rest) (is_captured name) name start end children state)).log;
+      log = (after given next rest (after_node given (ahead_of children) before (around.is_outermost
+          && is_empty rest) (is_captured name) name start end children state)).log;
       page = page;
       is_slurping = slurping;
       frame = record state.frame { passed = record { last = o; contributing = p; spine = told_by names } };
     } in
     let own_contribution : Option Name = if contributes name then Some name else state.frame.passed.contributing in
-    ap (λ page. made page (slurps_behind later (slurps_behind own (slurps_behind marks state.is_slurping))) (or_else (last_name rest) (Some name)) (or_else (last_contributing rest) own_contribution) (spine_behind name children before.spine ++ spine_names rest))
+    ap (λ page. made page (slurps_behind later (slurps_behind own (slurps_behind marks state.is_slurping)))
+    (or_else (last_name rest) (Some name)) (or_else (last_contributing rest) own_contribution)
+    (spine_behind name children before.spine ++ spine_names rest))
     (lay_two given.ending state.page node (printed given around next rest))
-    ∙ ap (λ s. made (lay given.ending state.page (node ++ printed given around next rest)) s (or_else (last_name rest) (Some name)) (or_else (last_contributing rest) own_contribution) (spine_behind name children before.spine ++ spine_names rest))
-    (sym (slurps_behind-append (later ++ own) marks state.is_slurping ∙ slurps_behind-append later own (slurps_behind marks state.is_slurping)))
-    ∙ ap (λ o. made (lay given.ending state.page (node ++ printed given around next rest)) (slurps_behind (later ++ own ++ marks) state.is_slurping) o (or_else (last_contributing rest) own_contribution) (spine_behind name children before.spine ++ spine_names rest))
+    ∙ ap (λ s. made (lay given.ending state.page (node ++ printed given around next rest)) s
+    (or_else (last_name rest) (Some name)) (or_else (last_contributing rest) own_contribution)
+    (spine_behind name children before.spine ++ spine_names rest))
+    (sym (slurps_behind-append (later ++ own) marks state.is_slurping
+    ∙ slurps_behind-append later own (slurps_behind marks state.is_slurping)))
+    ∙ ap (λ o. made (lay given.ending state.page (node ++ printed given around next rest))
+    (slurps_behind (later ++ own ++ marks) state.is_slurping) o (or_else (last_contributing rest) own_contribution)
+    (spine_behind name children before.spine ++ spine_names rest))
     (or_else_last (last_name rest) name state.frame.passed.last)
-    ∙ ap (λ o. made (lay given.ending state.page (node ++ printed given around next rest)) (slurps_behind (later ++ own ++ marks) state.is_slurping) (or_else (last_name (Node name start end children rest)) state.frame.passed.last) o (spine_behind name children before.spine ++ spine_names rest))
+    ∙ ap (λ o. made (lay given.ending state.page (node ++ printed given around next rest))
+    (slurps_behind (later ++ own ++ marks) state.is_slurping)
+    (or_else (last_name (Node name start end children rest)) state.frame.passed.last) o
+    (spine_behind name children before.spine ++ spine_names rest))
     (or_else_assoc (last_contributing rest) (contributes name) name state.frame.passed.contributing)
-    ∙ ap (λ names. made (lay given.ending state.page (node ++ printed given around next rest)) (slurps_behind (later ++ own ++ marks) state.is_slurping) (or_else (last_name (Node name start end children rest)) state.frame.passed.last) (or_else (last_contributing (Node name start end children rest)) state.frame.passed.contributing) names)
+    ∙ ap (λ names. made (lay given.ending state.page (node ++ printed given around next rest))
+    (slurps_behind (later ++ own ++ marks) state.is_slurping)
+    (or_else (last_name (Node name start end children rest)) state.frame.passed.last)
+    (or_else (last_contributing (Node name start end children rest)) state.frame.passed.contributing) names)
     (append_assoc before.spine (if is_transparent name then spine_names children else name ∷ []) (spine_names rest))
-    ∙ ap (λ ds. logged (fold counted left.called (calls_of given.bytes rest)) (ds ++ later_definitions) (fold noted left.footnotes later_footnotes))
+    ∙ ap (λ ds. logged (fold counted left.called (calls_of given.bytes rest)) (ds
+    ++ later_definitions) (fold noted left.footnotes later_footnotes))
     (definition_page name identifier inner (state.log.definitions ++ inner_definitions))
-    ∙ ap (λ ds. logged (fold counted left.called (calls_of given.bytes rest)) ds (fold noted left.footnotes later_footnotes))
+    ∙ ap (λ ds. logged (fold counted left.called (calls_of given.bytes rest)) ds
+    (fold noted left.footnotes later_footnotes))
     (log-step (is_link_definition name) state.log.definitions inner_definitions later_definitions (defined inner))
-    ∙ ap (λ fs. logged (fold counted left.called (calls_of given.bytes rest)) (state.log.definitions ++ definitions_of given around before (Node name start end children rest)) fs)
-    (ap (λ fs. fold noted fs later_footnotes) (footnote_page name (identifier_at given.bytes (ahead_of children).footnote) inner (fold noted state.log.footnotes inner_footnotes))
+    ∙ ap (λ fs. logged (fold counted left.called (calls_of given.bytes rest)) (state.log.definitions
+    ++ definitions_of given around before (Node name start end children rest)) fs)
+    (ap (λ fs. fold noted fs later_footnotes) (footnote_page name
+    (identifier_at given.bytes (ahead_of children).footnote) inner (fold noted state.log.footnotes inner_footnotes))
     ∙ fold-step noted (is_footnote_definition name) state.log.footnotes inner_footnotes later_footnotes footnote)
-    ∙ ap (λ cs. logged cs (state.log.definitions ++ definitions_of given around before (Node name start end children rest)) (fold noted state.log.footnotes (footnotes_of given around before (Node name start end children rest))))
-    (fold-step counted (is_call name) state.log.called (calls_of given.bytes children) (calls_of given.bytes rest) label)
+    ∙ ap (λ cs. logged cs (state.log.definitions ++ definitions_of given around before
+    (Node name start end children rest)) (fold noted state.log.footnotes
+    (footnotes_of given around before (Node name start end children rest))))
+    (fold-step counted (is_call name) state.log.called (calls_of given.bytes children)
+    (calls_of given.bytes rest) label)
 
 -- running the events of some nodes, and what follows them
-pub run-flatten : (given : Given) (forest : Forest) (before : Before) (tail : List Event) (nodes : List (Option Forest)) (state : State) →
+pub run-flatten : (given : Given) (forest : Forest) (before : Before) (tail : List Event)
+    (nodes : List (Option Forest)) (state : State) →
     Knows state before → state.frame.around.is_outermost ≡ is_nil tail →
-    run given (flatten forest ++ tail) (children_of forest ++ nodes) state ≡ run given tail nodes (after given before forest state)
+    run given (flatten forest ++ tail) (children_of forest ++ nodes) state
+    ≡ run given tail nodes (after given before forest state)
 run-flatten given Empty before tail nodes state knows outer =
     ap (λ s. run given tail nodes s) (sym (after-nothing given before state knows))
 run-flatten given (Node name start end children rest) before tail nodes state knows outer =
     let captured : Bool = is_captured name in
     let told : Ahead = ahead_told name (Some children) in
-    let inner : State = entered given told (is_loose children) (columns_told name (Some children)) captured name start state in
+    let inner : State = entered given told (is_loose children)
+    (columns_told name (Some children)) captured name start state in
     let last : Bool = state.frame.around.is_outermost && is_empty rest in
     let left : State = after_node given (ahead_of children) before last captured name start end children state in
     let next : Before = before_next given state.frame.around name start end children before in
     let entered_in : Surroundings → State = λ around. record inner { frame = record inner.frame { around = around } } in
-    ap (λ around. run given ((flatten children ++ exiting name end ∷ flatten rest) ++ tail) ((children_of children ++ None ∷ children_of rest) ++ nodes) (entered_in around)) (inside-told given.options name children state.frame.around)
-    ∙ ap (λ es. run given es (children_of children ++ None ∷ children_of rest ++ nodes) inner) (append_assoc (flatten children) (exiting name end ∷ flatten rest) tail)
-    ∙ ap (λ cs. run given (flatten children ++ exiting name end ∷ (flatten rest ++ tail)) cs inner) (append_assoc (children_of children) (None ∷ children_of rest) nodes)
-    ∙ run-flatten given children (before_children name children before) (exiting name end ∷ (flatten rest ++ tail)) (None ∷ (children_of rest ++ nodes)) inner
+    ap (λ around. run given ((flatten children ++ exiting name end ∷ flatten rest)
+    ++ tail) ((children_of children ++ None ∷ children_of rest) ++ nodes) (entered_in around))
+    (inside-told given.options name children state.frame.around)
+    ∙ ap (λ es. run given es (children_of children ++ None ∷ children_of rest ++ nodes) inner)
+    (append_assoc (flatten children) (exiting name end ∷ flatten rest) tail)
+    ∙ ap (λ cs. run given (flatten children ++ exiting name end ∷ (flatten rest ++ tail)) cs inner)
+    (append_assoc (children_of children) (None ∷ children_of rest) nodes)
+    ∙ run-flatten given children (before_children name children before) (exiting name end
+    ∷ (flatten rest ++ tail)) (None ∷ (children_of rest ++ nodes)) inner
     (children_know given told before name start children captured state knows)
     (inside_outermost given.options (is_loose children) name state.frame.around)
-    ∙ ap (λ l. run given (flatten rest ++ tail) (children_of rest ++ nodes) (exited given l captured name end (after given (before_children name children before) children inner)))
+    ∙ ap (λ l. run given (flatten rest ++ tail) (children_of rest
+    ++ nodes) (exited given l captured name end (after given (before_children name children before) children inner)))
     (last-event rest tail ∙ ap (λ o. o && is_empty rest) (sym outer))
-    ∙ ap (λ s. run given (flatten rest ++ tail) (children_of rest ++ nodes) s) (node_step given before last captured name start end children state knows)
-    ∙ run-flatten given rest next tail nodes left (next_knows given before last captured name start end children state knows) outer
+    ∙ ap (λ s. run given (flatten rest ++ tail) (children_of rest ++ nodes) s)
+    (node_step given before last captured name start end children state knows)
+    ∙ run-flatten given rest next tail nodes left (next_knows given before last captured name start end children state
+    knows) outer
     ∙ ap (λ s. run given tail nodes s) (after-node given before name start end children rest state)

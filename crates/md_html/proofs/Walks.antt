@@ -16,7 +16,8 @@ use Rattle.md_printer.specs.Sources.{IsToldAt}
 use Rattle.md_printer.specs.Machine.{is_nil}
 
 -- a fact of an answer from another
-pub on_answer : {A E : Type 0} (P Q : A → Type 0) → ((a : A) → P a → Q a) → (result : Result A E) → IfOk result P → IfOk result Q
+pub on_answer : {A E : Type 0} (P Q : A → Type 0) → ((a : A) → P a → Q a) → (result : Result A E) → IfOk result P →
+    IfOk result Q
 on_answer P Q f (Ok a) p = f a p
 on_answer P Q f (Err e) p = tt
 
@@ -47,23 +48,28 @@ children-length (Node name start end children rest) =
     ∙ ap (λ n. length (flatten children) + suc n) (children-length rest)
     ∙ sym (length-append (flatten children) (_ ∷ flatten rest)))
 
-pub told-at : (document : Forest) (events : List Event) (index : ℕ) (event : Event) → flatten document ≡ events → slice_get events index ≡ Some event →
+pub told-at : (document : Forest) (events : List Event) (index : ℕ) (event : Event) → flatten document ≡ events →
+    slice_get events index ≡ Some event →
     slice_get (children_of document) index ≡ Some (get_or (children_of document) index None)
 told-at document events index event flat got =
     slice_get-get_or (children_of document) index None
-    (below (length (children_of document)) (length events) (children-length document ∙ ap (λ es. length es) flat) (slice_get_within events index event got))
+    (below (length (children_of document)) (length events) (children-length document
+    ∙ ap (λ es. length es) flat) (slice_get_within events index event got))
   where
     below : (m n : ℕ) → m ≡ n → index < n → index < m
     below m n e h = omega (arith, e, h)
 
 -- what is told of an event that enters a node is the node's children
-pub told-entered : (given : Document) (index : ℕ) (told : Option Forest) (children : Forest) → IsToldAt given index told → IsEnteredAt given index children → Some children ≡ told
+pub told-entered : (given : Document) (index : ℕ) (told : Option Forest) (children : Forest) →
+    IsToldAt given index told → IsEnteredAt given index children → Some children ≡ told
 told-entered given index told children there entered =
     same there.0 entered.0 (there.1 ∙ sym entered.1) there.2 entered.2
   where
     origin : Point
     origin = record { line = 0; column = 0; index = 0; vs = 0 }
 
-    same : (one other : Forest) → flatten one ≡ flatten other → slice_get (children_of one) index ≡ Some told → slice_get (children_of other) index ≡ Some (Some children) → Some children ≡ told
+    same : (one other : Forest) → flatten one ≡ flatten other → slice_get (children_of one) index ≡ Some told →
+        slice_get (children_of other) index ≡ Some (Some children) → Some children ≡ told
     same one other flat got found =
-        ap (λ o. unwrap_or o (Some children)) (sym found ∙ ap (λ f. slice_get (children_of f) index) (sym (flatten_one GfmTable origin one other flat)) ∙ got)
+        ap (λ o. unwrap_or o (Some children)) (sym found
+        ∙ ap (λ f. slice_get (children_of f) index) (sym (flatten_one GfmTable origin one other flat)) ∙ got)

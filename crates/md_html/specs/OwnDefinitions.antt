@@ -17,14 +17,16 @@ use Rattle.md_meaning.specs.Printed.{printed}
 abbrev pub defined_alone : Given → Forest → Defined
 defined_alone given children = record {
   identifier = identifier_at given.bytes (ahead_of children).defined;
-  target = (lay given.ending blank (printed given (inside given.options (is_loose children) Definition outermost) (before_children Definition children nothing_before) children)).notes.target;
+  target = (lay given.ending blank (printed given (inside given.options (is_loose children) Definition outermost)
+      (before_children Definition children nothing_before) children)).notes.target;
 }
 
 -- the definitions among some nodes, in the order of their exits, each by itself
 abbrev pub own_definitions : Given → Forest → List Defined
 own_definitions given Empty = []
 own_definitions given (Node name start end children rest) =
-    own_definitions given children ++ ((if is_link_definition name then defined_alone given children ∷ [] else []) ++ own_definitions given rest)
+    own_definitions given children ++ ((if is_link_definition name then defined_alone given children ∷ [] else [])
+    ++ own_definitions given rest)
 
 -- the events from an entry up to the other event of its node
 abbrev pub events_at : List Event → ℕ → Option ℕ → List Event

@@ -62,45 +62,73 @@ columns_next table value leads children collects columns = record {
 abbrev made : List ℕ → List (List AlignKind) → List AlignKind → Collected
 made starts tables pending = record { tables = tables; pending = pending; starts = starts }
 
-both_made : (starts : List ℕ) (tables others : List (List AlignKind)) (pending more : List AlignKind) → tables ≡ others → pending ≡ more → made starts tables pending ≡ made starts others more
+both_made : (starts : List ℕ) (tables others : List (List AlignKind)) (pending more : List AlignKind) →
+    tables ≡ others → pending ≡ more → made starts tables pending ≡ made starts others more
 both_made starts tables others pending more a b = ap (λ t. made starts t pending) a ∙ ap (λ p. made starts others p) b
 
 cond-nil : (collects : Bool) (none : List AlignKind) → cond collects none none ≡ none
 cond-nil true none = refl
 cond-nil false none = refl
 
-columns_part : (p : Part) (children : Forest) (collects : Bool) (columns : Collected) → exited_where p (told_over children nothing_told) collects (columns_behind children (collects_where p collects) (entered_where p columns)) ≡ columns_next (is_table_part p) (is_value_part p) (is_leads_part p) children collects columns
+columns_part : (p : Part) (children : Forest) (collects : Bool) (columns : Collected) →
+    exited_where p (told_over children nothing_told) collects
+    (columns_behind children (collects_where p collects) (entered_where p columns))
+    ≡ columns_next (is_table_part p) (is_value_part p) (is_leads_part p) children collects columns
 columns_part part.Table children collects columns =
     let pending = columns.pending in
     both_made columns.starts _ _ _ _
-    (append_assoc columns.tables (tables_of children) (drop (length pending) (pending ++ alignments children) ∷ []) ∙ ap (λ own. columns.tables ++ (tables_of children ++ own ∷ [])) (drop_at pending (alignments children) (length pending) refl))
-    (take_at pending (alignments children) (length pending) refl ∙ sym (append-nil pending) ∙ ap (λ none. pending ++ none) (sym (cond-nil collects [])))
+    (append_assoc columns.tables (tables_of children) (drop (length pending) (pending ++ alignments children) ∷ [])
+    ∙ ap (λ own. columns.tables ++ (tables_of children ++ own ∷ []))
+    (drop_at pending (alignments children) (length pending) refl))
+    (take_at pending (alignments children) (length pending) refl ∙ sym (append-nil pending)
+    ∙ ap (λ none. pending ++ none) (sym (cond-nil collects [])))
 columns_part part.Leads children collects columns =
-    both_made columns.starts _ _ _ _ (ap (λ tables. columns.tables ++ tables) (sym (append-nil (tables_of children)))) refl
+    both_made columns.starts _ _ _ _ (ap (λ tables. columns.tables ++ tables) (sym (append-nil (tables_of children))))
+    refl
 columns_part part.Value children collects columns =
-    both_made columns.starts _ _ _ _ (ap (λ tables. columns.tables ++ tables) (sym (append-nil (tables_of children)))) (by collects)
+    both_made columns.starts _ _ _ _ (ap (λ tables. columns.tables ++ tables) (sym (append-nil (tables_of children))))
+    (by collects)
   where
-    by : (c : Bool) → cond c ((columns.pending ++ []) ++ alignment (told_over children nothing_told) ∷ []) (columns.pending ++ []) ≡ columns.pending ++ cond c (alignment_of children ∷ []) []
+    by : (c : Bool) → cond c ((columns.pending ++ []) ++ alignment (told_over children nothing_told)
+        ∷ []) (columns.pending ++ []) ≡ columns.pending ++ cond c (alignment_of children ∷ []) []
     by true =
         ap (λ before. before ++ alignment (told_over children nothing_told) ∷ []) (append-nil columns.pending)
         ∙ ap (λ column. columns.pending ++ column ∷ []) (alignment-told children)
     by false = refl
 columns_part part.Apart children collects columns =
-    both_made columns.starts _ _ _ _ (ap (λ tables. columns.tables ++ tables) (sym (append-nil (tables_of children)))) (ap (λ none. columns.pending ++ none) (sym (cond-nil collects [])))
+    both_made columns.starts _ _ _ _ (ap (λ tables. columns.tables ++ tables) (sym (append-nil (tables_of children))))
+    (ap (λ none. columns.pending ++ none) (sym (cond-nil collects [])))
 
-columns_node : (name : Name) (children : Forest) (collects : Bool) (columns : Collected) → columns_exited name (told_over children nothing_told) collects (columns_behind children (collects_in name collects) (columns_entered name columns)) ≡ columns_next (is_table name) (is_delimiter_value name) (leads_to_values name) children collects columns
+columns_node : (name : Name) (children : Forest) (collects : Bool) (columns : Collected) →
+    columns_exited name (told_over children nothing_told) collects
+    (columns_behind children (collects_in name collects) (columns_entered name columns))
+    ≡ columns_next (is_table name) (is_delimiter_value name) (leads_to_values name) children collects columns
 columns_node name children collects columns =
     let parts = parted name in
     columns_part (part_of name) children collects columns
-    ∙ ap (λ b. columns_next b (is_value_part (part_of name)) (is_leads_part (part_of name)) children collects columns) parts.table
+    ∙ ap (λ b. columns_next b (is_value_part (part_of name)) (is_leads_part (part_of name)) children collects columns)
+    parts.table
     ∙ ap (λ b. columns_next (is_table name) b (is_leads_part (part_of name)) children collects columns) parts.value
     ∙ ap (λ b. columns_next (is_table name) (is_delimiter_value name) b children collects columns) parts.leads
 
-columns_rest : (name : Name) (children rest : Forest) (tables : List (List AlignKind)) (own : List AlignKind) (collects : Bool) (columns : Collected) → columns_behind rest collects (record { tables = columns.tables ++ (tables_of children ++ tables); pending = columns.pending ++ cond collects own []; starts = columns.starts }) ≡ record { tables = columns.tables ++ (tables_of children ++ (tables ++ tables_of rest)); pending = columns.pending ++ cond collects (own ++ alignments rest) []; starts = columns.starts }
+columns_rest : (name : Name) (children rest : Forest) (tables : List (List AlignKind)) (own : List AlignKind)
+    (collects : Bool) (columns : Collected) → columns_behind rest collects
+    (record {
+      tables = columns.tables ++ (tables_of children ++ tables);
+      pending = columns.pending ++ cond collects own [];
+      starts = columns.starts;
+    })
+    ≡ record {
+      tables = columns.tables ++ (tables_of children ++ (tables ++ tables_of rest));
+      pending = columns.pending ++ cond collects (own ++ alignments rest) [];
+      starts = columns.starts;
+    }
 columns_rest name children rest tables own collects columns =
     both_made columns.starts _ _ _ _
-    (append_assoc columns.tables (tables_of children ++ tables) (tables_of rest) ∙ ap (λ ts. columns.tables ++ ts) (append_assoc (tables_of children) tables (tables_of rest)))
-    (append_assoc columns.pending (cond collects own []) (cond collects (alignments rest) []) ∙ ap (λ more. columns.pending ++ more) (by collects))
+    (append_assoc columns.tables (tables_of children ++ tables) (tables_of rest)
+    ∙ ap (λ ts. columns.tables ++ ts) (append_assoc (tables_of children) tables (tables_of rest)))
+    (append_assoc columns.pending (cond collects own []) (cond collects (alignments rest) [])
+    ∙ ap (λ more. columns.pending ++ more) (by collects))
   where
     by : (c : Bool) → cond c own [] ++ cond c (alignments rest) [] ≡ cond c (own ++ alignments rest) []
     by true = refl
@@ -112,7 +140,9 @@ entered_tables _ columns = refl
 
 -- ---- a node's fact
 
-fact_same : (name : Name) (exit tables contributing index : ℕ) (children : Forest) (sought : Sought) (told : Told) → fact_of name exit tables contributing (sought_over index children (sought_inside name sought)) told ≡ fact_of name exit tables contributing (sought_over index children (search_of name)) told
+fact_same : (name : Name) (exit tables contributing index : ℕ) (children : Forest) (sought : Sought) (told : Told) →
+    fact_of name exit tables contributing (sought_over index children (sought_inside name sought)) told
+    ≡ fact_of name exit tables contributing (sought_over index children (search_of name)) told
 fact_same name exit tables contributing index children sought told = by (is_transparent name)
   where
     fact_where : Bool → Sought → Fact
@@ -123,7 +153,8 @@ fact_same name exit tables contributing index children sought told = by (is_tran
       has_resource = not through && own.has_resource;
     }
 
-    by : (through : Bool) → fact_where through (sought_over index children (cond through sought (search_of name))) ≡ fact_where through (sought_over index children (search_of name))
+    by : (through : Bool) → fact_where through (sought_over index children (cond through sought (search_of name)))
+        ≡ fact_where through (sought_over index children (search_of name))
     by true = refl
     by false = refl
 
@@ -133,11 +164,14 @@ pub length_one : {A : Type 0} (xs : List A) (x : A) → length (xs ++ x ∷ []) 
 length_one [] x = refl
 length_one (y ∷ xs) x = ap suc (length_one xs x)
 
-pub regrouped : {A : Type 0} (a b c : List A) (x y : A) → ((((a ++ x ∷ []) ++ b) ++ y ∷ []) ++ c) ≡ a ++ (x ∷ (b ++ (y ∷ c)))
+pub regrouped : {A : Type 0} (a b c : List A) (x y : A) →
+    ((((a ++ x ∷ []) ++ b) ++ y ∷ []) ++ c) ≡ a ++ (x ∷ (b ++ (y ∷ c)))
 regrouped a b c x y =
-    append_assoc ((a ++ x ∷ []) ++ b) (y ∷ []) c ∙ append_assoc (a ++ x ∷ []) b (y ∷ c) ∙ append_assoc a (x ∷ []) (b ++ (y ∷ c))
+    append_assoc ((a ++ x ∷ []) ++ b) (y ∷ []) c ∙ append_assoc (a ++ x ∷ []) b (y ∷ c)
+    ∙ append_assoc a (x ∷ []) (b ++ (y ∷ c))
 
-pub length_facts : (forest : Forest) (index tables : ℕ) (facts : List Fact) → length facts ≡ index → length (facts ++ facts_of index tables forest) ≡ behind index forest
+pub length_facts : (forest : Forest) (index tables : ℕ) (facts : List Fact) → length facts ≡ index →
+    length (facts ++ facts_of index tables forest) ≡ behind index forest
 length_facts Empty index tables facts e = ap length (append-nil facts) ∙ e
 length_facts (Node name start end children rest) index tables facts e =
     let fact = fact_at index tables name children in
@@ -146,22 +180,28 @@ length_facts (Node name start end children rest) index tables facts e =
     let exit = behind (suc index) children in
     let inside = length_facts children (suc index) tables (facts ++ fact ∷ []) (length_one facts fact ∙ ap suc e) in
     ap length (sym (regrouped facts inner (facts_of (suc exit) more rest) fact (partner_alone index)))
-    ∙ length_facts rest (suc exit) more (((facts ++ fact ∷ []) ++ inner) ++ partner_alone index ∷ []) (length_one ((facts ++ fact ∷ []) ++ inner) (partner_alone index) ∙ ap suc inside)
+    ∙ length_facts rest (suc exit) more (((facts ++ fact ∷ []) ++ inner) ++ partner_alone index
+    ∷ []) (length_one ((facts ++ fact ∷ []) ++ inner) (partner_alone index) ∙ ap suc inside)
 
-pub length_table : (name : Name) (xs : List (List AlignKind)) (x : List AlignKind) (n : ℕ) → length xs ≡ n → length (xs ++ cond (is_table name) (x ∷ []) []) ≡ tables_with name n
+pub length_table : (name : Name) (xs : List (List AlignKind)) (x : List AlignKind) (n : ℕ) → length xs ≡ n →
+    length (xs ++ cond (is_table name) (x ∷ []) []) ≡ tables_with name n
 length_table name xs x n e = by (is_table name)
   where
     by : (t : Bool) → length (xs ++ cond t (x ∷ []) []) ≡ cond t (suc n) n
     by true = length_one xs x ∙ ap suc e
     by false = ap length (append-nil xs) ∙ e
 
-pub length_tables : (forest : Forest) (tables : ℕ) (ended : List (List AlignKind)) → length ended ≡ tables → length (ended ++ tables_of forest) ≡ tables_behind tables forest
+pub length_tables : (forest : Forest) (tables : ℕ) (ended : List (List AlignKind)) → length ended ≡ tables →
+    length (ended ++ tables_of forest) ≡ tables_behind tables forest
 length_tables Empty tables ended e = ap length (append-nil ended) ∙ e
 length_tables (Node name start end children rest) tables ended e =
     let own = cond (is_table name) (alignments children ∷ []) [] in
-    let inside = length_table name (ended ++ tables_of children) (alignments children) (tables_behind tables children) (length_tables children tables ended e) in
-    ap length (sym (append_assoc ended (tables_of children) (own ++ tables_of rest)) ∙ sym (append_assoc (ended ++ tables_of children) own (tables_of rest)))
-    ∙ length_tables rest (tables_with name (tables_behind tables children)) ((ended ++ tables_of children) ++ own) inside
+    let inside = length_table name (ended ++ tables_of children) (alignments children) (tables_behind tables children)
+    (length_tables children tables ended e) in
+    ap length (sym (append_assoc ended (tables_of children) (own ++ tables_of rest))
+    ∙ sym (append_assoc (ended ++ tables_of children) own (tables_of rest)))
+    ∙ length_tables rest (tables_with name (tables_behind tables children)) ((ended ++ tables_of children)
+    ++ own) inside
 
 -- ---- the pass
 
@@ -169,7 +209,8 @@ abbrev state : List OpenNode → OpenNode → List ℕ → List Fact → Collect
 state round here definitions facts columns =
     record { facts = facts; columns = columns; definitions = definitions; here = here; round = round }
 
-passed_over-append : (xs ys : List Event) (pass : Passed) → passed_over (xs ++ ys) pass ≡ passed_over ys (passed_over xs pass)
+passed_over-append : (xs ys : List Event) (pass : Passed) →
+    passed_over (xs ++ ys) pass ≡ passed_over ys (passed_over xs pass)
 passed_over-append [] ys pass = refl
 passed_over-append (x ∷ xs) ys pass = passed_over-append xs ys (passed x.kind x.name pass)
 
@@ -195,14 +236,20 @@ inside_node index name pass = record {
 
 abbrev behind_node : ℕ → ℕ → Name → Forest → Passed → Passed
 behind_node index tables name children pass = record {
-  facts = ((pass.facts ++ fact_at index tables name children ∷ []) ++ facts_of (suc index) tables children) ++ partner_alone index ∷ [];
-  columns = columns_next (is_table name) (is_delimiter_value name) (leads_to_values name) children pass.here.collects pass.columns;
-  definitions = (pass.definitions ++ definitions_of (suc index) children) ++ cond (is_link_definition name) (index ∷ []) [];
+  facts = ((pass.facts ++ fact_at index tables name children ∷ []) ++ facts_of (suc index) tables children)
+      ++ partner_alone index ∷ [];
+  columns = columns_next (is_table name) (is_delimiter_value name)
+      (leads_to_values name) children pass.here.collects pass.columns;
+  definitions = (pass.definitions ++ definitions_of (suc index) children)
+      ++ cond (is_link_definition name) (index ∷ []) [];
   here = followed name (after (suc index) children (opened index name pass.here)) pass.here;
   round = pass.round;
 }
 
-exit_behind : (index tables : ℕ) (name : Name) (children : Forest) (pass : Passed) → length pass.facts ≡ index → length pass.columns.tables ≡ tables → passed_exit name (passed_forest (suc index) tables children (inside_node index name pass)) ≡ behind_node index tables name children pass
+exit_behind : (index tables : ℕ) (name : Name) (children : Forest) (pass : Passed) → length pass.facts ≡ index →
+    length pass.columns.tables ≡ tables → passed_exit name
+    (passed_forest (suc index) tables children (inside_node index name pass))
+    ≡ behind_node index tables name children pass
 exit_behind index tables name children pass e t =
     let inner = facts_of (suc index) tables children in
     let here = followed name (after (suc index) children (opened index name pass.here)) pass.here in
@@ -211,30 +258,45 @@ exit_behind index tables name children pass e t =
     let contributing = contributing_over (suc index) children 0 in
     let sought = sought_over (suc index) children (sought_inside name pass.here.sought) in
     let told = told_over children nothing_told in
-    let definitions = (pass.definitions ++ definitions_of (suc index) children) ++ cond (is_link_definition name) (index ∷ []) [] in
-    let exit_is : length found ≡ behind (suc index) children = length_facts children (suc index) tables (pass.facts ++ partner_alone 0 ∷ []) (length_one pass.facts (partner_alone 0) ∙ ap suc e) in
-    let tables_are : length ended ≡ tables_behind tables children = length_tables children tables (Collected.tables (columns_entered name pass.columns)) (ap length (entered_tables (part_of name) pass.columns) ∙ t) in
-    let fact_is : fact_of name (length found) (length ended) contributing sought told ≡ fact_at index tables name children =
+    let definitions = (pass.definitions ++ definitions_of (suc index) children)
+    ++ cond (is_link_definition name) (index ∷ []) [] in
+    let exit_is : length found ≡ behind (suc index) children =
+    length_facts children (suc index) tables (pass.facts ++ partner_alone 0
+    ∷ []) (length_one pass.facts (partner_alone 0) ∙ ap suc e) in
+    let tables_are : length ended ≡ tables_behind tables children =
+    length_tables children tables (Collected.tables (columns_entered name pass.columns))
+    (ap length (entered_tables (part_of name) pass.columns) ∙ t) in
+    let fact_is : fact_of name (length found) (length ended) contributing sought told
+    ≡ fact_at index tables name children =
     ap (λ n. fact_of name n (length ended) contributing sought told) exit_is
     ∙ ap (λ n. fact_of name (behind (suc index) children) n contributing sought told) tables_are
-    ∙ fact_same name (behind (suc index) children) (tables_behind tables children) contributing (suc index) children pass.here.sought told in
-    let put : set found index (fact_of name (length found) (length ended) contributing sought told) ≡ (pass.facts ++ fact_at index tables name children ∷ []) ++ inner =
+    ∙ fact_same name (behind (suc index) children) (tables_behind tables children) contributing
+    (suc index) children pass.here.sought told in
+    let put : set found index (fact_of name (length found) (length ended) contributing sought told)
+    ≡ (pass.facts ++ fact_at index tables name children ∷ []) ++ inner =
     ap (λ (f : Fact). set found index f) fact_is
-    ∙ ap (λ fs. set fs index (fact_at index tables name children)) (append_assoc pass.facts (partner_alone 0 ∷ []) inner)
+    ∙ ap (λ fs. set fs index (fact_at index tables name children))
+    (append_assoc pass.facts (partner_alone 0 ∷ []) inner)
     ∙ set_at pass.facts (partner_alone 0) inner (fact_at index tables name children) index e
     ∙ sym (append_assoc pass.facts (fact_at index tables name children ∷ []) inner) in
-    ap (λ fs. state pass.round here definitions (fs ++ partner_alone index ∷ []) (columns_exited name told pass.here.collects (columns_behind children (collects_in name pass.here.collects) (columns_entered name pass.columns)))) put
-    ∙ ap (λ columns. state pass.round here definitions (((pass.facts ++ fact_at index tables name children ∷ []) ++ inner) ++ partner_alone index ∷ []) columns) (columns_node name children pass.here.collects pass.columns)
+    ap (λ fs. state pass.round here definitions (fs ++ partner_alone index
+    ∷ []) (columns_exited name told pass.here.collects
+    (columns_behind children (collects_in name pass.here.collects) (columns_entered name pass.columns)))) put
+    ∙ ap (λ columns. state pass.round here definitions (((pass.facts ++ fact_at index tables name children ∷ [])
+    ++ inner) ++ partner_alone index ∷ []) columns) (columns_node name children pass.here.collects pass.columns)
 
 definitions_joined : (a b c d : List ℕ) → ((a ++ b) ++ c) ++ d ≡ a ++ (b ++ (c ++ d))
 definitions_joined a b c d = append_assoc (a ++ b) c d ∙ append_assoc a b (c ++ d)
 
-pub passed_over-flatten : (forest : Forest) (index tables : ℕ) (pass : Passed) → length pass.facts ≡ index → length pass.columns.tables ≡ tables → passed_over (flatten forest) pass ≡ passed_forest index tables forest pass
+pub passed_over-flatten : (forest : Forest) (index tables : ℕ) (pass : Passed) → length pass.facts ≡ index →
+    length pass.columns.tables ≡ tables → passed_over (flatten forest) pass ≡ passed_forest index tables forest pass
 passed_over-flatten Empty index tables pass e t =
     ap (λ ds. state pass.round pass.here ds pass.facts pass.columns) (sym (append-nil pass.definitions))
     ∙ ap (λ fs. state pass.round pass.here (pass.definitions ++ []) fs pass.columns) (sym (append-nil pass.facts))
     ∙ ap (λ columns. state pass.round pass.here (pass.definitions ++ []) (pass.facts ++ []) columns)
-    (both_made pass.columns.starts _ _ _ _ (sym (append-nil pass.columns.tables)) (sym (append-nil pass.columns.pending) ∙ ap (λ none. pass.columns.pending ++ none) (sym (cond-nil pass.here.collects []))))
+    (both_made pass.columns.starts _ _ _ _ (sym (append-nil pass.columns.tables))
+    (sym (append-nil pass.columns.pending) ∙ ap (λ none. pass.columns.pending
+    ++ none) (sym (cond-nil pass.here.collects []))))
 passed_over-flatten (Node name start end children rest) index tables pass e t =
     let exit = behind (suc index) children in
     let more = tables_with name (tables_behind tables children) in
@@ -246,33 +308,56 @@ passed_over-flatten (Node name start end children rest) index tables pass e t =
     let own = cond (is_table name) (alignments children ∷ []) [] in
     let all_here = after index (Node name start end children rest) pass.here in
     let all_defined = pass.definitions ++ definitions_of index (Node name start end children rest) in
-    let length_behind : length behind_it.facts ≡ suc exit = length_one ((pass.facts ++ fact ∷ []) ++ inner) (partner_alone index) ∙ ap suc (length_facts children (suc index) tables (pass.facts ++ fact ∷ []) (length_one pass.facts fact ∙ ap suc e)) in
+    let length_behind : length behind_it.facts ≡ suc exit =
+    length_one ((pass.facts ++ fact ∷ []) ++ inner) (partner_alone index)
+    ∙ ap suc (length_facts children (suc index) tables (pass.facts ++ fact ∷ []) (length_one pass.facts fact
+    ∙ ap suc e)) in
     let tables_behind_it : length behind_it.columns.tables ≡ more =
-    ap length (sym (append_assoc pass.columns.tables (tables_of children) own)) ∙ length_table name (pass.columns.tables ++ tables_of children) (alignments children) (tables_behind tables children) (length_tables children tables pass.columns.tables t) in
+    ap length (sym (append_assoc pass.columns.tables (tables_of children) own))
+    ∙ length_table name (pass.columns.tables ++ tables_of children) (alignments children)
+    (tables_behind tables children) (length_tables children tables pass.columns.tables t) in
     ap (λ i. passed_over (flatten children ++ last) (inside_node i name pass)) e
     ∙ passed_over-append (flatten children) last entered
-    ∙ ap (λ p. passed_over last p) (passed_over-flatten children (suc index) tables entered (length_one pass.facts (partner_alone 0) ∙ ap suc e) (ap length (entered_tables (part_of name) pass.columns) ∙ t))
+    ∙ ap (λ p. passed_over last p) (passed_over-flatten children (suc index) tables entered
+    (length_one pass.facts (partner_alone 0) ∙ ap suc e) (ap length (entered_tables (part_of name) pass.columns) ∙ t))
     ∙ ap (λ p. passed_over (flatten rest) p) (exit_behind index tables name children pass e t)
     ∙ passed_over-flatten rest (suc exit) more behind_it length_behind tables_behind_it
-    ∙ ap (λ ds. state pass.round all_here ds (behind_it.facts ++ facts_of (suc exit) more rest) (columns_behind rest pass.here.collects behind_it.columns)) (definitions_joined pass.definitions (definitions_of (suc index) children) (cond (is_link_definition name) (index ∷ []) []) (definitions_of (suc exit) rest))
-    ∙ ap (λ fs. state pass.round all_here all_defined fs (columns_behind rest pass.here.collects behind_it.columns)) (regrouped pass.facts inner (facts_of (suc exit) more rest) fact (partner_alone index))
-    ∙ ap (λ columns. state pass.round all_here all_defined (pass.facts ++ facts_of index tables (Node name start end children rest)) columns)
-    (columns_rest name children rest own (added (is_delimiter_value name) (leads_to_values name) children) pass.here.collects pass.columns)
+    ∙ ap (λ ds. state pass.round all_here ds (behind_it.facts
+    ++ facts_of (suc exit) more rest) (columns_behind rest pass.here.collects behind_it.columns))
+    (definitions_joined pass.definitions (definitions_of (suc index) children)
+    (cond (is_link_definition name) (index ∷ []) []) (definitions_of (suc exit) rest))
+    ∙ ap (λ fs. state pass.round all_here all_defined fs (columns_behind rest pass.here.collects behind_it.columns))
+    (regrouped pass.facts inner (facts_of (suc exit) more rest) fact (partner_alone index))
+    ∙ ap (λ columns. state pass.round all_here all_defined (pass.facts
+    ++ facts_of index tables (Node name start end children rest)) columns)
+    (columns_rest name children rest own (added (is_delimiter_value name) (leads_to_values name) children)
+    pass.here.collects pass.columns)
 
 -- one more event
-pub passed_more : (events : List Event) (index : ℕ) (d : Event) (pass before next : Passed) → index < length events → pass ≡ passed_over (take index events) before → next ≡ passed (Event.kind (get_or events index d)) (Event.name (get_or events index d)) pass → next ≡ passed_over (take (index + 1) events) before
+pub passed_more : (events : List Event) (index : ℕ) (d : Event) (pass before next : Passed) → index < length events →
+    pass ≡ passed_over (take index events) before → next
+    ≡ passed (Event.kind (get_or events index d)) (Event.name (get_or events index d)) pass →
+    next ≡ passed_over (take (index + 1) events) before
 passed_more events index d pass before next inside so_far step =
-    rw add-one (step ∙ ap (λ p. passed (Event.kind (get_or events index d)) (Event.name (get_or events index d)) p) so_far ∙ sym (ap (λ es. passed_over es before) (take-suc events index d inside) ∙ passed_over-append (take index events) (get_or events index d ∷ []) before))
+    rw add-one (step ∙ ap (λ p. passed (Event.kind (get_or events index d)) (Event.name (get_or events index d)) p)
+    so_far ∙ sym (ap (λ es. passed_over es before) (take-suc events index d inside)
+    ∙ passed_over-append (take index events) (get_or events index d ∷ []) before))
 
 -- from the first event on
-pub facts-flatten : (forest : Forest) (events : List Event) → flatten forest ≡ events → Passed.facts (passed_over events nothing_passed) ≡ facts_of 0 0 forest
+pub facts-flatten : (forest : Forest) (events : List Event) → flatten forest ≡ events →
+    Passed.facts (passed_over events nothing_passed) ≡ facts_of 0 0 forest
 facts-flatten forest events e =
-    ap (λ es. Passed.facts (passed_over es nothing_passed)) (sym e) ∙ ap (λ (p : Passed). p.facts) (passed_over-flatten forest 0 0 nothing_passed refl refl)
+    ap (λ es. Passed.facts (passed_over es nothing_passed)) (sym e)
+    ∙ ap (λ (p : Passed). p.facts) (passed_over-flatten forest 0 0 nothing_passed refl refl)
 
-pub tables-flatten : (forest : Forest) (events : List Event) → flatten forest ≡ events → Collected.tables (Passed.columns (passed_over events nothing_passed)) ≡ tables_of forest
+pub tables-flatten : (forest : Forest) (events : List Event) → flatten forest ≡ events →
+    Collected.tables (Passed.columns (passed_over events nothing_passed)) ≡ tables_of forest
 tables-flatten forest events e =
-    ap (λ es. Collected.tables (Passed.columns (passed_over es nothing_passed))) (sym e) ∙ ap (λ (p : Passed). p.columns.tables) (passed_over-flatten forest 0 0 nothing_passed refl refl)
+    ap (λ es. Collected.tables (Passed.columns (passed_over es nothing_passed))) (sym e)
+    ∙ ap (λ (p : Passed). p.columns.tables) (passed_over-flatten forest 0 0 nothing_passed refl refl)
 
-pub definitions-flatten : (forest : Forest) (events : List Event) → flatten forest ≡ events → Passed.definitions (passed_over events nothing_passed) ≡ definitions_of 0 forest
+pub definitions-flatten : (forest : Forest) (events : List Event) → flatten forest ≡ events →
+    Passed.definitions (passed_over events nothing_passed) ≡ definitions_of 0 forest
 definitions-flatten forest events e =
-    ap (λ es. Passed.definitions (passed_over es nothing_passed)) (sym e) ∙ ap (λ (p : Passed). p.definitions) (passed_over-flatten forest 0 0 nothing_passed refl refl)
+    ap (λ es. Passed.definitions (passed_over es nothing_passed)) (sym e)
+    ∙ ap (λ (p : Passed). p.definitions) (passed_over-flatten forest 0 0 nothing_passed refl refl)

@@ -48,7 +48,8 @@ quote_quote : (l : Last) → is_quote_last (quote_as l) ≡ false
 quote_quote final.QuotePrefix = refl
 quote_quote _ = refl
 
-quote_with : (name : Name) (own told : Told) → is_quote_last (Told.last (told_with name own told)) ≡ is_block_quote_prefix name
+quote_with : (name : Name) (own told : Told) → is_quote_last (Told.last (told_with name own told))
+    ≡ is_block_quote_prefix name
 quote_with BlankLineEnding own told = refl
 quote_with ListItem own told = quote_item (is_bare_last own.last)
 quote_with GfmTableDelimiterMarker own told = refl
@@ -71,7 +72,8 @@ marker_quote : (l : Last) → is_marker_last (quote_as l) ≡ false
 marker_quote final.QuotePrefix = refl
 marker_quote _ = refl
 
-marker_with : (name : Name) (own told : Told) → is_marker_last (Told.last (told_with name own told)) ≡ is_delimiter_marker name
+marker_with : (name : Name) (own told : Told) → is_marker_last (Told.last (told_with name own told))
+    ≡ is_delimiter_marker name
 marker_with BlankLineEnding own told = refl
 marker_with ListItem own told = marker_item (is_bare_last own.last)
 marker_with GfmTableDelimiterMarker own told = refl
@@ -104,7 +106,8 @@ nothing_with BlockQuotePrefix own told = refl
 nothing_with BlockQuote own told = nothing_quote own.last
 nothing_with _ own told = refl
 
-begins_with : (name : Name) (own told : Told) → Told.begins_with_marker (told_with name own told) ≡ (told.begins_with_marker || (is_delimiter_marker name && is_nothing told.last))
+begins_with : (name : Name) (own told : Told) → Told.begins_with_marker (told_with name own told)
+    ≡ (told.begins_with_marker || (is_delimiter_marker name && is_nothing told.last))
 begins_with BlankLineEnding own told = or-false told.begins_with_marker
 begins_with ListItem own told = or-false told.begins_with_marker
 begins_with GfmTableDelimiterMarker own told = refl
@@ -114,7 +117,8 @@ begins_with BlockQuotePrefix own told = or-false told.begins_with_marker
 begins_with BlockQuote own told = or-false told.begins_with_marker
 begins_with _ own told = or-false told.begins_with_marker
 
-without_with : (name : Name) (own told : Told) → Told.without_items (told_with name own told) ≡ (told.without_items || (is_blank_line_ending name && parts told.last))
+without_with : (name : Name) (own told : Told) → Told.without_items (told_with name own told)
+    ≡ (told.without_items || (is_blank_line_ending name && parts told.last))
 without_with BlankLineEnding own told = refl
 without_with ListItem own told = or-false told.without_items
 without_with GfmTableDelimiterMarker own told = or-false told.without_items
@@ -124,7 +128,8 @@ without_with BlockQuotePrefix own told = or-false told.without_items
 without_with BlockQuote own told = or-false told.without_items
 without_with _ own told = or-false told.without_items
 
-item_with : (name : Name) (own told : Told) → Told.of_item (told_with name own told) ≡ (told.of_item || (is_blank_line_ending name && loosens told.last))
+item_with : (name : Name) (own told : Told) → Told.of_item (told_with name own told)
+    ≡ (told.of_item || (is_blank_line_ending name && loosens told.last))
 item_with BlankLineEnding own told = refl
 item_with ListItem own told = or-false told.of_item
 item_with GfmTableDelimiterMarker own told = or-false told.of_item
@@ -134,7 +139,8 @@ item_with BlockQuotePrefix own told = or-false told.of_item
 item_with BlockQuote own told = or-false told.of_item
 item_with _ own told = or-false told.of_item
 
-loose_item_with : (name : Name) (own told : Told) → Told.has_loose_item (told_with name own told) ≡ (told.has_loose_item || (is_item name && own.of_item))
+loose_item_with : (name : Name) (own told : Told) → Told.has_loose_item (told_with name own told)
+    ≡ (told.has_loose_item || (is_item name && own.of_item))
 loose_item_with BlankLineEnding own told = or-false told.has_loose_item
 loose_item_with ListItem own told = refl
 loose_item_with GfmTableDelimiterMarker own told = or-false told.has_loose_item
@@ -157,7 +163,8 @@ parts_quote : (l : Last) → parts (quote_as l) ≡ true
 parts_quote final.QuotePrefix = refl
 parts_quote _ = refl
 
-parts_with : (name : Name) (own told : Told) → parts (Told.last (told_with name own told)) ≡ not (is_item name && is_bare_last own.last)
+parts_with : (name : Name) (own told : Told) → parts (Told.last (told_with name own told))
+    ≡ not (is_item name && is_bare_last own.last)
 parts_with BlankLineEnding own told = refl
 parts_with ListItem own told = parts_item (is_bare_last own.last)
 parts_with GfmTableDelimiterMarker own told = refl
@@ -180,7 +187,8 @@ loosens_quote : (l : Last) → loosens (quote_as l) ≡ true
 loosens_quote final.QuotePrefix = refl
 loosens_quote _ = refl
 
-loosens_with : (name : Name) (own told : Told) → loosens (Told.last (told_with name own told)) ≡ cond (is_space name) (not_prefix told.last) (not (is_item_prefix name))
+loosens_with : (name : Name) (own told : Told) → loosens (Told.last (told_with name own told))
+    ≡ cond (is_space name) (not_prefix told.last) (not (is_item_prefix name))
 loosens_with BlankLineEnding own told = refl
 loosens_with ListItem own told = loosens_item (is_bare_last own.last)
 loosens_with GfmTableDelimiterMarker own told = refl
@@ -203,7 +211,8 @@ prefix_quote : (l : Last) → not_prefix (quote_as l) ≡ true
 prefix_quote final.QuotePrefix = refl
 prefix_quote _ = refl
 
-prefix_with : (name : Name) (own told : Told) → not_prefix (Told.last (told_with name own told)) ≡ not (is_item_prefix name)
+prefix_with : (name : Name) (own told : Told) → not_prefix (Told.last (told_with name own told))
+    ≡ not (is_item_prefix name)
 prefix_with BlankLineEnding own told = refl
 prefix_with ListItem own told = prefix_item (is_bare_last own.last)
 prefix_with GfmTableDelimiterMarker own told = refl
@@ -225,7 +234,8 @@ bare_quote : (l : Last) → is_bare_last (quote_as l) ≡ is_quote_last l
 bare_quote final.QuotePrefix = refl
 bare_quote _ = refl
 
-bare_with : (name : Name) (own told : Told) → is_bare_last (Told.last (told_with name own told)) ≡ cond (is_space name) (is_bare_last (spaced told.last)) (bare_by name own.last)
+bare_with : (name : Name) (own told : Told) → is_bare_last (Told.last (told_with name own told))
+    ≡ cond (is_space name) (is_bare_last (spaced told.last)) (bare_by name own.last)
 bare_with BlankLineEnding own told = refl
 bare_with ListItem own told = bare_item (is_bare_last own.last)
 bare_with GfmTableDelimiterMarker own told = refl
@@ -248,7 +258,8 @@ bare_spaced_quote : (l : Last) → is_bare_last (spaced (quote_as l)) ≡ is_quo
 bare_spaced_quote final.QuotePrefix = refl
 bare_spaced_quote _ = refl
 
-bare_spaced_with : (name : Name) (own told : Told) → is_bare_last (spaced (Told.last (told_with name own told))) ≡ bare_by name own.last
+bare_spaced_with : (name : Name) (own told : Told) → is_bare_last (spaced (Told.last (told_with name own told)))
+    ≡ bare_by name own.last
 bare_spaced_with BlankLineEnding own told = refl
 bare_spaced_with ListItem own told = bare_spaced_item (is_bare_last own.last)
 bare_spaced_with GfmTableDelimiterMarker own told = refl
@@ -260,11 +271,13 @@ bare_spaced_with _ own told = refl
 
 -- ---- all children
 
-last_step : (test : Name → Bool) (o : Option Name) (name : Name) → option_map_or test o (test name) ≡ test (unwrap_or o name)
+last_step : (test : Name → Bool) (o : Option Name) (name : Name) →
+    option_map_or test o (test name) ≡ test (unwrap_or o name)
 last_step test None name = refl
 last_step test (Some other) name = refl
 
-quote_over : (forest : Forest) (told : Told) → is_quote_last (Told.last (told_over forest told)) ≡ option_map_or is_block_quote_prefix (last_name forest) (is_quote_last told.last)
+quote_over : (forest : Forest) (told : Told) → is_quote_last (Told.last (told_over forest told))
+    ≡ option_map_or is_block_quote_prefix (last_name forest) (is_quote_last told.last)
 quote_over Empty told = refl
 quote_over (Node name start end children rest) told =
     let own = told_over children nothing_told in
@@ -272,7 +285,8 @@ quote_over (Node name start end children rest) told =
     ∙ ap (λ b. option_map_or is_block_quote_prefix (last_name rest) b) (quote_with name own told)
     ∙ last_step is_block_quote_prefix (last_name rest) name
 
-marker_over : (forest : Forest) (told : Told) → is_marker_last (Told.last (told_over forest told)) ≡ option_map_or is_delimiter_marker (last_name forest) (is_marker_last told.last)
+marker_over : (forest : Forest) (told : Told) → is_marker_last (Told.last (told_over forest told))
+    ≡ option_map_or is_delimiter_marker (last_name forest) (is_marker_last told.last)
 marker_over Empty told = refl
 marker_over (Node name start end children rest) told =
     let own = told_over children nothing_told in
@@ -280,12 +294,14 @@ marker_over (Node name start end children rest) told =
     ∙ ap (λ b. option_map_or is_delimiter_marker (last_name rest) b) (marker_with name own told)
     ∙ last_step is_delimiter_marker (last_name rest) name
 
-begins_over : (forest : Forest) (told : Told) → Told.begins_with_marker (told_over forest told) ≡ (told.begins_with_marker || (begins_with_marker forest && is_nothing told.last))
+begins_over : (forest : Forest) (told : Told) → Told.begins_with_marker (told_over forest told)
+    ≡ (told.begins_with_marker || (begins_with_marker forest && is_nothing told.last))
 begins_over Empty told = or-false told.begins_with_marker
 begins_over (Node name start end children rest) told =
     let own = told_over children nothing_told in
     begins_over rest (told_with name own told)
-    ∙ ap (λ b. Told.begins_with_marker (told_with name own told) || (begins_with_marker rest && b)) (nothing_with name own told)
+    ∙ ap (λ b. Told.begins_with_marker (told_with name own told)
+    || (begins_with_marker rest && b)) (nothing_with name own told)
     ∙ by (begins_with_marker rest) (Told.begins_with_marker (told_with name own told))
     ∙ begins_with name own told
   where
@@ -295,15 +311,22 @@ begins_over (Node name start end children rest) told =
 
 -- nothing stands behind a marker in the last of some nodes behind another
 abbrev bare_behind : Last → Forest → Bool
-bare_behind l forest = cond (is_end forest) (cond (is_empty forest) (is_bare_last l) (is_bare_last (spaced l))) (ends_bare forest)
+bare_behind l forest = cond (is_end forest) (cond (is_empty forest) (is_bare_last l) (is_bare_last (spaced l)))
+    (ends_bare forest)
 
-bare_step : (rest : Forest) (name : Name) (children : Forest) (own told : Told) → is_quote_last own.last ≡ option_map_or is_block_quote_prefix (last_name children) false → bare_behind (Told.last (told_with name own told)) rest ≡ cond (is_space name && is_empty rest) (is_bare_last (spaced told.last)) (cond (is_end rest) (is_bare name children) (ends_bare rest))
+bare_step : (rest : Forest) (name : Name) (children : Forest) (own told : Told) →
+    is_quote_last own.last ≡ option_map_or is_block_quote_prefix (last_name children) false →
+    bare_behind (Told.last (told_with name own told)) rest
+    ≡ cond (is_space name && is_empty rest) (is_bare_last (spaced told.last))
+    (cond (is_end rest) (is_bare name children) (ends_bare rest))
 bare_step Empty name children own told quote =
     bare_with name own told
-    ∙ ap (λ b. cond (is_space name) (is_bare_last (spaced told.last)) (is_item_prefix name || (is_block_quote name && b))) quote
+    ∙ ap (λ b. cond (is_space name) (is_bare_last (spaced told.last)) (is_item_prefix name
+    || (is_block_quote name && b))) quote
     ∙ by (is_space name)
   where
-    by : (s : Bool) → cond s (is_bare_last (spaced told.last)) (is_bare name children) ≡ cond (s && true) (is_bare_last (spaced told.last)) (is_bare name children)
+    by : (s : Bool) → cond s (is_bare_last (spaced told.last)) (is_bare name children)
+        ≡ cond (s && true) (is_bare_last (spaced told.last)) (is_bare name children)
     by true = refl
     by false = refl
 bare_step (Node next start end inner rest) name children own told quote =
@@ -311,11 +334,15 @@ bare_step (Node next start end inner rest) name children own told quote =
     (bare_spaced_with name own told ∙ ap (λ b. is_item_prefix name || (is_block_quote name && b)) quote)
     ∙ by (is_space name)
   where
-    by : (s : Bool) → cond (is_space next && is_empty rest) (is_bare name children) (ends_bare (Node next start end inner rest)) ≡ cond (s && false) (is_bare_last (spaced told.last)) (cond (is_space next && is_empty rest) (is_bare name children) (ends_bare (Node next start end inner rest)))
+    by : (s : Bool) → cond (is_space next && is_empty rest) (is_bare name children)
+        (ends_bare (Node next start end inner rest)) ≡ cond (s
+        && false) (is_bare_last (spaced told.last)) (cond (is_space next
+        && is_empty rest) (is_bare name children) (ends_bare (Node next start end inner rest)))
     by true = refl
     by false = refl
 
-bare_over : (forest : Forest) (told : Told) → is_bare_last (Told.last (told_over forest told)) ≡ bare_behind told.last forest
+bare_over : (forest : Forest) (told : Told) → is_bare_last (Told.last (told_over forest told))
+    ≡ bare_behind told.last forest
 bare_over Empty told = refl
 bare_over (Node name start end children rest) told =
     let own = told_over children nothing_told in
@@ -330,22 +357,30 @@ ends_bare-end (Node name start end children Empty) = by name
     by _ = refl
 ends_bare-end (Node name start end children (Node next begin stop inner rest)) = by (is_space name)
   where
-    by : (s : Bool) → cond (s && false) false (ends_bare (Node name start end children (Node next begin stop inner rest))) ≡ ends_bare (Node name start end children (Node next begin stop inner rest))
+    by : (s : Bool) → cond (s && false) false (ends_bare
+        (Node name start end children (Node next begin stop inner rest)))
+        ≡ ends_bare (Node name start end children (Node next begin stop inner rest))
     by true = refl
     by false = refl
 
-without_over : (forest : Forest) (told : Told) → Told.without_items (told_over forest told) ≡ ((told.without_items || (begins_blank forest && parts told.last)) || has_parting_blank forest)
+without_over : (forest : Forest) (told : Told) → Told.without_items (told_over forest told)
+    ≡ ((told.without_items || (begins_blank forest && parts told.last)) || has_parting_blank forest)
 without_over Empty told = or-false told.without_items ∙ or-false (told.without_items || false)
 without_over (Node name start end children rest) told =
     let own = told_over children nothing_told in
     without_over rest (told_with name own told)
-    ∙ ap (λ b. (b || (begins_blank rest && parts (Told.last (told_with name own told)))) || has_parting_blank rest) (without_with name own told)
-    ∙ ap (λ b. ((told.without_items || (is_blank_line_ending name && parts told.last)) || (begins_blank rest && b)) || has_parting_blank rest)
-    (parts_with name own told ∙ ap (λ b. not (is_item name && b)) (bare_over children nothing_told ∙ ends_bare-end children))
-    ∙ or-assoc (told.without_items || (is_blank_line_ending name && parts told.last)) (begins_blank rest && not (is_item name && ends_bare children)) (has_parting_blank rest)
+    ∙ ap (λ b. (b || (begins_blank rest && parts (Told.last (told_with name own told))))
+    || has_parting_blank rest) (without_with name own told)
+    ∙ ap (λ b. ((told.without_items || (is_blank_line_ending name && parts told.last)) || (begins_blank rest && b))
+    || has_parting_blank rest)
+    (parts_with name own told ∙ ap (λ b. not (is_item name && b)) (bare_over children nothing_told
+    ∙ ends_bare-end children))
+    ∙ or-assoc (told.without_items || (is_blank_line_ending name && parts told.last)) (begins_blank rest
+    && not (is_item name && ends_bare children)) (has_parting_blank rest)
 
 -- the tests of an item, rearranged
-rearranged : (s p q r n i : Bool) → ((q && cond s n (not p)) || ((r && not p) || i)) ≡ (((s && q) && n) || ((not p && ((q && not s) || r)) || i))
+rearranged : (s p q r n i : Bool) → ((q && cond s n (not p)) || ((r && not p) || i))
+    ≡ (((s && q) && n) || ((not p && ((q && not s) || r)) || i))
 rearranged true true true true n i = refl
 rearranged true true true false n i = refl
 rearranged true true false true n i = refl
@@ -363,16 +398,28 @@ rearranged false false true false n i = refl
 rearranged false false false true n i = refl
 rearranged false false false false n i = refl
 
-item_over : (forest : Forest) (told : Told) → Told.of_item (told_over forest told) ≡ (told.of_item || ((begins_blank forest && loosens told.last) || ((begins_space_blank forest && not_prefix told.last) || has_inner_blank forest)))
+item_over : (forest : Forest) (told : Told) → Told.of_item (told_over forest told)
+    ≡ (told.of_item || ((begins_blank forest && loosens told.last)
+    || ((begins_space_blank forest && not_prefix told.last) || has_inner_blank forest)))
 item_over Empty told = or-false told.of_item
 item_over (Node name start end children rest) told =
     let own = told_over children nothing_told in
     item_over rest (told_with name own told)
-    ∙ ap (λ b. b || ((begins_blank rest && loosens (Told.last (told_with name own told))) || ((begins_space_blank rest && not_prefix (Told.last (told_with name own told))) || has_inner_blank rest))) (item_with name own told)
-    ∙ ap (λ b. (told.of_item || (is_blank_line_ending name && loosens told.last)) || ((begins_blank rest && b) || ((begins_space_blank rest && not_prefix (Told.last (told_with name own told))) || has_inner_blank rest))) (loosens_with name own told)
-    ∙ ap (λ b. (told.of_item || (is_blank_line_ending name && loosens told.last)) || ((begins_blank rest && cond (is_space name) (not_prefix told.last) (not (is_item_prefix name))) || ((begins_space_blank rest && b) || has_inner_blank rest))) (prefix_with name own told)
-    ∙ ap (λ b. (told.of_item || (is_blank_line_ending name && loosens told.last)) || b) (rearranged (is_space name) (is_item_prefix name) (begins_blank rest) (begins_space_blank rest) (not_prefix told.last) (has_inner_blank rest))
-    ∙ or-assoc told.of_item (is_blank_line_ending name && loosens told.last) (((is_space name && begins_blank rest) && not_prefix told.last) || has_inner_blank (Node name start end children rest))
+    ∙ ap (λ b. b || ((begins_blank rest && loosens (Told.last (told_with name own told)))
+    || ((begins_space_blank rest && not_prefix (Told.last (told_with name own told))) || has_inner_blank rest)))
+    (item_with name own told)
+    ∙ ap (λ b. (told.of_item || (is_blank_line_ending name && loosens told.last))
+    || ((begins_blank rest && b) || ((begins_space_blank rest && not_prefix (Told.last (told_with name own told)))
+    || has_inner_blank rest))) (loosens_with name own told)
+    ∙ ap (λ b. (told.of_item || (is_blank_line_ending name && loosens told.last))
+    || ((begins_blank rest && cond (is_space name) (not_prefix told.last) (not (is_item_prefix name)))
+    || ((begins_space_blank rest && b) || has_inner_blank rest))) (prefix_with name own told)
+    ∙ ap (λ b. (told.of_item || (is_blank_line_ending name && loosens told.last))
+    || b) (rearranged (is_space name) (is_item_prefix name) (begins_blank rest) (begins_space_blank rest)
+    (not_prefix told.last) (has_inner_blank rest))
+    ∙ or-assoc told.of_item (is_blank_line_ending name && loosens told.last)
+    (((is_space name && begins_blank rest) && not_prefix told.last)
+    || has_inner_blank (Node name start end children rest))
 
 and-true : (b : Bool) → (b && true) ≡ b
 and-true true = refl
@@ -382,24 +429,29 @@ and-true false = refl
 pub of_item-told : (children : Forest) → Told.of_item (told_over children nothing_told) ≡ is_loose_item children
 of_item-told children =
     item_over children nothing_told
-    ∙ ap (λ b. b || ((begins_space_blank children && true) || has_inner_blank children)) (and-true (begins_blank children))
+    ∙ ap (λ b. b || ((begins_space_blank children && true) || has_inner_blank children))
+    (and-true (begins_blank children))
     ∙ ap (λ b. begins_blank children || (b || has_inner_blank children)) (and-true (begins_space_blank children))
     ∙ sym (or-assoc (begins_blank children) (begins_space_blank children) (has_inner_blank children))
 
-loose_items_over : (forest : Forest) (told : Told) → Told.has_loose_item (told_over forest told) ≡ (told.has_loose_item || has_loose_item forest)
+loose_items_over : (forest : Forest) (told : Told) → Told.has_loose_item (told_over forest told)
+    ≡ (told.has_loose_item || has_loose_item forest)
 loose_items_over Empty told = or-false told.has_loose_item
 loose_items_over (Node name start end children rest) told =
     let own = told_over children nothing_told in
     loose_items_over rest (told_with name own told)
-    ∙ ap (λ b. b || has_loose_item rest) (loose_item_with name own told ∙ ap (λ b. told.has_loose_item || (is_item name && b)) (of_item-told children))
+    ∙ ap (λ b. b || has_loose_item rest) (loose_item_with name own told
+    ∙ ap (λ b. told.has_loose_item || (is_item name && b)) (of_item-told children))
     ∙ or-assoc told.has_loose_item (is_item name && is_loose_item children) (has_loose_item rest)
 
 -- a list's children, its items not looked at, and looked at
-pub without_items-told : (children : Forest) → Told.without_items (told_over children nothing_told) ≡ is_loose_without_items children
+pub without_items-told : (children : Forest) → Told.without_items (told_over children nothing_told)
+    ≡ is_loose_without_items children
 without_items-told children =
     without_over children nothing_told ∙ ap (λ b. b || has_parting_blank children) (and-true (begins_blank children))
 
-pub with_items-told : (children : Forest) → (Told.without_items (told_over children nothing_told) || Told.has_loose_item (told_over children nothing_told)) ≡ is_loose children
+pub with_items-told : (children : Forest) → (Told.without_items (told_over children nothing_told)
+    || Told.has_loose_item (told_over children nothing_told)) ≡ is_loose children
 with_items-told children =
     ap (λ b. b || Told.has_loose_item (told_over children nothing_told)) (without_items-told children)
     ∙ ap (λ b. is_loose_without_items children || b) (loose_items_over children nothing_told)
@@ -411,5 +463,7 @@ alignment-told children =
     by told.begins_with_marker (begins_with_marker children) (is_marker_last told.last) (ends_with_marker children)
     (begins_over children nothing_told ∙ and-true (begins_with_marker children)) (marker_over children nothing_told)
   where
-    by : (a b c d : Bool) → a ≡ b → c ≡ d → cond a (cond c align.Center align.Left) (cond c align.Right align.None) ≡ cond b (cond d align.Center align.Left) (cond d align.Right align.None)
-    by a b c d e f = ap (λ x. cond x (cond c align.Center align.Left) (cond c align.Right align.None)) e ∙ ap (λ y. cond b (cond y align.Center align.Left) (cond y align.Right align.None)) f
+    by : (a b c d : Bool) → a ≡ b → c ≡ d → cond a (cond c align.Center align.Left) (cond c align.Right align.None)
+        ≡ cond b (cond d align.Center align.Left) (cond d align.Right align.None)
+    by a b c d e f = ap (λ x. cond x (cond c align.Center align.Left) (cond c align.Right align.None)) e
+        ∙ ap (λ y. cond b (cond y align.Center align.Left) (cond y align.Right align.None)) f

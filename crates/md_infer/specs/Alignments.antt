@@ -9,24 +9,19 @@ use Rattle.md_base.specs.Children.{last_name}
 
 -- the first child is a marker, and the last one is
 abbrev pub begins_with_marker : Forest → Bool
-begins_with_marker Empty = false
-begins_with_marker (Node name start end children rest) = is_delimiter_marker name
+begins_with_marker nodes = elim nodes [ Empty ↦ false | Node name _ _ _ _ ↦ is_delimiter_marker name ]
 
 abbrev pub ends_with_marker : Forest → Bool
 ends_with_marker children = option_map_or is_delimiter_marker (last_name children) false
 
 -- the alignment of a column whose value has these children
 abbrev pub alignment_of : Forest → AlignKind
-alignment_of children =
-    if begins_with_marker children
-    then (if ends_with_marker children then Center else Left)
+alignment_of children = if begins_with_marker children then (if ends_with_marker children then Center else Left)
     else (if ends_with_marker children then Right else None)
 
 -- the alignments of a table with these children: one for each delimiter cell value that is reached through
 -- heads, delimiter rows and transparent nodes
 abbrev pub alignments : Forest → List AlignKind
 alignments Empty = []
-alignments (Node name start end children rest) =
-    (if is_delimiter_value name then alignment_of children ∷ []
-    else (if leads_to_values name then alignments children else []))
-    ++ alignments rest
+alignments (Node name start end children rest) = (if is_delimiter_value name then alignment_of children ∷ []
+    else (if leads_to_values name then alignments children else [])) ++ alignments rest

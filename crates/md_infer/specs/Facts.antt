@@ -78,7 +78,8 @@ partner_alone partner = record {
   has_resource = false;
 }
 
--- what is found at the events so far, the entries of the definitions that have ended, the innermost open node, and those round it, the next one first
+-- what is found at the events so far, the entries of the definitions that have ended, the innermost open node, and
+-- those round it, the next one first
 pub record Passed : Type 0 where
   pub facts : List Fact
   pub columns : Collected
@@ -173,7 +174,8 @@ tables_behind tables (Node name start end children rest) =
 -- what is found of a node that is entered at an index, where so many tables have ended
 abbrev pub fact_at : ℕ → ℕ → Name → Forest → Fact
 fact_at index tables name children =
-    fact_of name (behind (suc index) children) (tables_behind tables children) (contributing_over (suc index) children 0)
+    fact_of name (behind (suc index) children) (tables_behind tables children)
+    (contributing_over (suc index) children 0)
     (sought_over (suc index) children (search_of name)) (told_over children nothing_told)
 
 -- for each event of the nodes, in order, what is found at it: the first event has this index, and so many tables

@@ -8,18 +8,15 @@ use Rattle.md_base.specs.Children.{is_empty, last_name}
 
 -- the first child is a blank line ending
 abbrev pub begins_blank : Forest → Bool
-begins_blank Empty = false
-begins_blank (Node name start end children rest) = is_blank_line_ending name
+begins_blank nodes = elim nodes [ Empty ↦ false | Node name _ _ _ _ ↦ is_blank_line_ending name ]
 
 -- a space or tab, and behind it a blank line ending, come first
 abbrev pub begins_space_blank : Forest → Bool
-begins_space_blank Empty = false
-begins_space_blank (Node name start end children rest) = is_space name && begins_blank rest
+begins_space_blank nodes = elim nodes [ Empty ↦ false | Node name _ _ _ rest ↦ is_space name && begins_blank rest ]
 
 -- nothing is there but at most one space or tab
 abbrev pub is_end : Forest → Bool
-is_end Empty = true
-is_end (Node name start end children rest) = is_space name && is_empty rest
+is_end nodes = elim nodes [ Empty ↦ true | Node name _ _ _ rest ↦ is_space name && is_empty rest ]
 
 -- an item's prefix, or a block quote that ends in its prefix: nothing stands behind the marker
 abbrev pub is_bare : Name → Forest → Bool
@@ -44,8 +41,8 @@ is_loose_without_items children = begins_blank children || has_parting_blank chi
 -- a blank line ending stands behind a child that is no item's prefix, a space or tab between passed over
 abbrev pub has_inner_blank : Forest → Bool
 has_inner_blank Empty = false
-has_inner_blank (Node name start end children rest) =
-    not (is_item_prefix name) && (begins_blank rest && not (is_space name) || begins_space_blank rest) || has_inner_blank rest
+has_inner_blank (Node name start end children rest) = not (is_item_prefix name)
+    && (begins_blank rest && not (is_space name) || begins_space_blank rest) || has_inner_blank rest
 
 -- an item with these children is loose
 abbrev pub is_loose_item : Forest → Bool
@@ -58,4 +55,4 @@ has_loose_item (Node name start end children rest) = is_item name && is_loose_it
 
 -- a list with these children is loose
 abbrev pub is_loose : Forest → Bool
-is_loose children = is_loose_without_items children || has_loose_item children
+is_loose children = (begins_blank children || has_parting_blank children) || has_loose_item children

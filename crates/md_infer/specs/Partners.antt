@@ -13,13 +13,15 @@ behind index (Node name start end children rest) = behind (suc (behind (suc inde
 abbrev pub partners_of : ℕ → Forest → List ℕ
 partners_of index Empty = []
 partners_of index (Node name start end children rest) =
-    behind (suc index) children ∷ partners_of (suc index) children ++ index ∷ partners_of (suc (behind (suc index) children)) rest
+    behind (suc index) children ∷ partners_of (suc index) children ++ index
+    ∷ partners_of (suc (behind (suc index) children)) rest
 
 -- the index of the event that enters the last of some nodes that contributes to an item, where the first has an index
 abbrev pub last_contributing_at : ℕ → Forest → Option ℕ
 last_contributing_at index Empty = None
 last_contributing_at index (Node name start end children rest) =
-    or_else (last_contributing_at (suc (behind (suc index) children)) rest) (if contributes name then Some index else None)
+    or_else (last_contributing_at (suc (behind (suc index) children)) rest) (if contributes name then Some index
+    else None)
 
 -- the indices of the events that enter definitions among some nodes, in the order of their exits, where the first event
 -- has an index

@@ -52,7 +52,8 @@ start_pieces bytes (Some place) = number_pieces (without_zeros (text_of bytes pl
 -- an item's end stands on its own line, unless the item ends in its prefix, or in a paragraph of a tight list
 abbrev pub item_closing : Surroundings → Passed → List Piece
 item_closing around passed =
-    when (not (option_map_or is_item_prefix passed.contributing false || option_map_or is_paragraph passed.contributing false && is_tight around.container))
+    when (not (option_map_or is_item_prefix passed.contributing false
+    || option_map_or is_paragraph passed.contributing false && is_tight around.container))
     (Needed ∷ [])
     ++ said (codes "</li>")
 
@@ -82,7 +83,8 @@ setext_rank bytes start = if is_dash_at bytes start.index then 2 else 1
 -- the underline of a setext heading prints the heading, its text recalled
 abbrev pub setext_pieces : Given → Point → List Piece
 setext_pieces given start =
-    Needed ∷ Text (heading_opening (setext_rank given.bytes start)) ∷ Recalled ∷ Text (heading_closing (setext_rank given.bytes start)) ∷ []
+    Needed ∷ Text (heading_opening (setext_rank given.bytes start)) ∷ Recalled
+    ∷ Text (heading_closing (setext_rank given.bytes start)) ∷ []
 
 -- a line of code: its text, escaped, with the spaces of tabs that are cut at its ends
 abbrev pub chunk_pieces : Given → Point → Point → List Piece

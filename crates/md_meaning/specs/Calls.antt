@@ -10,12 +10,12 @@ pub record Called : Type 0 where
 -- the distinct ones of some identifiers, in the order in which each comes first
 abbrev pub distinct : List (List ℕ) → List (List ℕ)
 distinct [] = []
-distinct (identifier ∷ others) = identifier ∷ filter (λ other. not (bytes_eq other identifier)) (distinct others)
+distinct (first ∷ others) = first ∷ filter (λ other. not (bytes_eq other first)) (distinct others)
 
 -- how many of some calls have an identifier
 abbrev pub count_of : List (List ℕ) → List ℕ → ℕ
-count_of [] identifier = 0
-count_of (other ∷ others) identifier = (if bytes_eq other identifier then 1 else 0) + count_of others identifier
+count_of [] wanted = 0
+count_of (other ∷ others) wanted = (if bytes_eq other wanted then 1 else 0) + count_of others wanted
 
 -- the distinct identifiers of some calls, each with the count of its calls
 abbrev pub tally : List (List ℕ) → List Called
@@ -24,8 +24,10 @@ tally calls = map (λ identifier. record { identifier = identifier; count = coun
 -- the place of an identifier among some, from 1; behind them all where it isn't there
 abbrev pub number_among : List Called → List ℕ → ℕ
 number_among [] identifier = 1
-number_among (called ∷ others) identifier = if bytes_eq called.identifier identifier then 1 else suc (number_among others identifier)
+number_among (called ∷ others) identifier = if bytes_eq called.identifier identifier then 1
+    else suc (number_among others identifier)
 
 -- how often an identifier is called
 abbrev pub count_among : List Called → List ℕ → ℕ
-count_among others identifier = option_map_or (λ called. called.count) (find (λ called. bytes_eq called.identifier identifier) others) 0
+count_among others identifier = option_map_or (λ called. called.count)
+    (find (λ called. bytes_eq called.identifier identifier) others) 0

@@ -1,5 +1,5 @@
--- The machine's: what footnote calls print, and the section of footnotes at a document's end. The meaning reads
--- `Footnote` alone.
+-- The machine's: what footnote calls print, and the section of footnotes at a document's end.
+pub use Rattle.md_meaning.specs.Given.{Footnote}
 use Rattle.std.specs.Prelude.{ℕ, ◌-◌, zero, suc, Bool, true, ◌==◌, if◌then◌else◌, List, [], ◌∷◌, ◌++◌, length, take, drop, find, Option, option_map, bytes_eq, codes, string_bytes}
 use Rattle.std.specs.Option.{option_map_or}
 use Rattle.std.specs.Fmt.{decimal}
@@ -15,11 +15,6 @@ use Rattle.md_meaning.specs.Calls.{Called, number_among, count_among}
 use Rattle.md_meaning.specs.Places.{Left, identifier_at}
 use Rattle.md_meaning.specs.Texts.{outside_images}
 
--- a footnote: its identifier and the text of its definition
-pub record Footnote : Type 0 where
-  pub identifier : List ℕ
-  pub text : List ℕ
-
 -- a text that an option gives, escaped, or what stands where it gives none
 abbrev pub escaped_option : Option (List ℕ) → List ℕ → List ℕ
 escaped_option given default = option_map_or (encoded true) given default
@@ -28,7 +23,8 @@ abbrev pub prefix_of : CompileOptions → List ℕ
 prefix_of options = escaped_option (option_map string_bytes options.gfm_footnote_clobber_prefix) (codes "user-content-")
 
 abbrev pub back_label_of : CompileOptions → List ℕ
-back_label_of options = escaped_option (option_map string_bytes options.gfm_footnote_back_label) (codes "Back to content")
+back_label_of options = escaped_option (option_map string_bytes options.gfm_footnote_back_label)
+    (codes "Back to content")
 
 abbrev pub heading_label_of : CompileOptions → List ℕ
 heading_label_of options = escaped_option (option_map string_bytes options.gfm_footnote_label) (codes "Footnotes")
@@ -68,7 +64,8 @@ abbrev pub call_pieces : Given → Surroundings → Left → Ahead → List Piec
 call_pieces given around left ahead =
     let identifier = identifier_at given.bytes ahead.label in
     outside_images around
-    (call_tags given.options identifier (number_among left.called identifier) (suc (count_among left.called identifier)))
+    (call_tags given.options identifier (number_among left.called identifier)
+    (suc (count_among left.called identifier)))
 
 -- `<sup>` occurrence `</sup>`, from the second one on
 abbrev pub occurrence_mark : ℕ → List ℕ
@@ -141,7 +138,8 @@ items_pieces options footnotes (called ∷ others) =
 abbrev pub section_opening : CompileOptions → List Piece
 section_opening options =
     Needed ∷ Text (codes "<section data-footnotes=\"\" class=\"footnotes\"><") ∷ Text (tag_of options)
-    ∷ Text (codes " id=\"footnote-label\" ") ∷ Text (attributes_of options) ∷ Text (codes ">") ∷ Text (heading_label_of options)
+    ∷ Text (codes " id=\"footnote-label\" ") ∷ Text (attributes_of options) ∷ Text (codes ">")
+    ∷ Text (heading_label_of options)
     ∷ Text (codes "</") ∷ Text (tag_of options) ∷ Text (codes ">") ∷ Forced ∷ Text (codes "<ol>") ∷ []
 
 -- and its end

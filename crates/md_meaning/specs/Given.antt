@@ -10,6 +10,11 @@ pub record Defined : Type 0 where
   pub identifier : List ℕ
   pub target : Target
 
+-- a footnote: its identifier and the text of its definition
+pub record Footnote : Type 0 where
+  pub identifier : List ℕ
+  pub text : List ℕ
+
 -- the document's bytes, the names of references, the options, the line ending that is used, the definitions
 pub record Given : Type 0 where
   pub bytes : List ℕ
@@ -20,12 +25,12 @@ pub record Given : Type 0 where
 
 -- the text of a node that is one; a grammatical document has no other where it is read
 abbrev pub text_of : List ℕ → Point → Point → List ℕ
-text_of bytes start end = unwrap_or (text_between bytes start end) []
+text_of source start end = unwrap_or (text_between source start end) []
 
 -- the text of a label, by the indices of its points; a grammatical document has no other where it is read
 abbrev pub label_of : List ℕ → Point → Point → List ℕ
-label_of bytes start end = unwrap_or (label_between bytes start end) []
+label_of source start end = unwrap_or (label_between source start end) []
 
 -- the text with the spaces of the tabs that are cut at its ends
 abbrev pub serialized_of : List ℕ → Point → Point → List ℕ
-serialized_of bytes start end = unwrap_or (serialized_between bytes start end) []
+serialized_of source start end = unwrap_or (serialized_between source start end) []

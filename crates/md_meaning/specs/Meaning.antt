@@ -22,7 +22,7 @@ use Rattle.md_meaning.specs.Places.{first_ending}
 use Rattle.md_meaning.specs.Meaning.Layout.{layout}
 use Rattle.md_meaning.specs.Meaning.At.{Given}
 use Rattle.md_meaning.specs.Meaning.Before.{nothing_before, calls_of}
-use Rattle.md_meaning.specs.Meaning.Nodes.{Meant, meant}
+use Rattle.md_meaning.specs.Meaning.Nodes.{meant}
 use Rattle.md_meaning.specs.Meaning.Footnotes.{section}
 
 -- the line ending that is used: the text of the document's first, else that of the options
@@ -30,15 +30,8 @@ abbrev pub ending_at : CompileOptions → List ℕ → Option Position → List 
 ending_at options bytes place =
     option_map_or (λ found. text_of bytes found.start found.end) place (ending_text options.default_line_ending)
 
--- the text of a document, with the section of its footnotes
-abbrev pub text_by : Given → Meant → List ℕ
-text_by given document = layout given.ending (document.pieces ++ section given document.footnotes)
-
--- the same, given its definitions as well
-abbrev pub text_given : Given → Forest → List ℕ
-text_given given document = text_by given (meant given outermost nothing_before document)
-
--- the meaning of a document over its bytes
+-- the meaning of a document over its bytes, given its definitions as well; the section of its footnotes stands at
+-- the end
 abbrev pub meaning : CompileOptions → List (List ℕ × List ℕ) → List ℕ → Forest → List ℕ
 meaning options names bytes document =
     let ending = ending_at options bytes (first_ending document) in
@@ -51,4 +44,6 @@ meaning options names bytes document =
       definitions = [];
     }
     in
-    text_given (record alone { definitions = (meant alone outermost nothing_before document).definitions }) document
+    let given : Given = record alone { definitions = (meant alone outermost nothing_before document).definitions } in
+    let all = meant given outermost nothing_before document in
+    layout ending (all.pieces ++ section given all.footnotes)

@@ -4,8 +4,7 @@ use Rattle.std.specs.Option.{option_map_or}
 use Rattle.md_base.specs.declared.event.Point.{Point}
 use Rattle.md_base.specs.declared.event.Position.{Position}
 use Rattle.md_text.specs.Encode.{encoded}
-use Rattle.md_text.specs.Safe.{link_protocols, image_protocols}
-use Rattle.md_text.specs.Url.{sanitized, sanitized_with}
+use Rattle.md_text.specs.Url.{sanitized, sanitized_with, link_protocols, image_protocols}
 use Rattle.md_meaning.specs.declared.options.CompileOptions.{CompileOptions}
 use Rattle.md_meaning.specs.declared.facts.Surroundings.{Surroundings}
 use Rattle.md_meaning.specs.declared.facts.Ahead.{Ahead}
@@ -29,7 +28,8 @@ src_of options destination =
 -- where the first definition with an identifier leads
 abbrev pub defined_target : List Defined → List ℕ → Target
 defined_target definitions identifier =
-    option_map_or (λ defined. defined.target) (find (λ defined. bytes_eq defined.identifier identifier) definitions) nowhere
+    option_map_or (λ defined. defined.target) (find (λ defined. bytes_eq defined.identifier identifier) definitions)
+    nowhere
 
 -- the place of the label by which a link or an image refers: its reference, else the text of its label
 abbrev pub referring : Ahead → Option Position
@@ -56,7 +56,8 @@ link_end label = Text (codes ">") ∷ Text label ∷ Text (codes "</a>") ∷ []
 -- `<img src="` URL `" alt="` label `"`
 abbrev pub image_start : CompileOptions → List ℕ → List ℕ → List Piece
 image_start options destination label =
-    Text (codes "<img src=\"") ∷ Text (src_of options destination) ∷ Text (codes "\" alt=\"") ∷ Text label ∷ Text (codes "\"") ∷ []
+    Text (codes "<img src=\"") ∷ Text (src_of options destination) ∷ Text (codes "\" alt=\"") ∷ Text label
+    ∷ Text (codes "\"") ∷ []
 
 -- a link round its label, which leads to a target
 abbrev pub link_to : CompileOptions → Target → List ℕ → List Piece
@@ -64,7 +65,8 @@ link_to options target label = link_start options target.destination ++ (title_p
 
 -- an image whose alternative text is its label
 abbrev pub image_of : CompileOptions → Target → List ℕ → List Piece
-image_of options target label = image_start options target.destination label ++ (title_pieces target.title ++ said (codes " />"))
+image_of options target label = image_start options target.destination label
+    ++ (title_pieces target.title ++ said (codes " />"))
 
 -- a link: in an image its label alone
 abbrev pub link_pieces : Given → Surroundings → Ahead → Page → List Piece
@@ -80,4 +82,5 @@ image_pieces given around ahead inner =
 abbrev pub autolink_pieces : Given → List ℕ → Bool → Point → Point → List Piece
 autolink_pieces given prefix plain start end =
     if plain then said (encoded true (text_of given.bytes start end))
-    else link_start given.options (prefix ++ text_of given.bytes start end) ++ link_end (encoded true (text_of given.bytes start end))
+    else link_start given.options (prefix ++ text_of given.bytes start end)
+    ++ link_end (encoded true (text_of given.bytes start end))

@@ -49,7 +49,12 @@ blank = record { text = []; notes = no_notes }
 abbrev pub with_note : Note → Notes → Notes
 with_note (Heading text) notes = record notes { heading = text }
 with_note (Destination text) notes = record notes { target = record { destination = text; title = notes.target.title } }
-with_note (Title text) notes = record notes { target = record { destination = notes.target.destination; title = Some text } }
+with_note (Title text) notes = record notes {
+  target = record {
+    destination = notes.target.destination;
+    title = Some text;
+  };
+}
 with_note (Resource target) notes = record notes { resource = Some target }
 
 -- a byte that ends a line, CR or LF; and where there is no byte, a line begins as well
@@ -65,8 +70,7 @@ is_line_start text = ends_line (slice_get text (length text - 1))
 -- ending comes where no line starts, a forced one always, and the text of a heading where it is recalled
 abbrev pub lay_piece : List ℕ → Page → Piece → Page
 lay_piece ending page (Text text) = record page { text = page.text ++ text }
-lay_piece ending page Needed =
-    record page { text = if is_line_start page.text then page.text else page.text ++ ending }
+lay_piece ending page Needed = record page { text = if is_line_start page.text then page.text else page.text ++ ending }
 lay_piece ending page Forced = record page { text = page.text ++ ending }
 lay_piece ending page (Noted note) = record page { notes = with_note note page.notes }
 lay_piece ending page Recalled = record page { text = page.text ++ page.notes.heading }

@@ -1,14 +1,15 @@
 -- The machine's: what stands before a node, what its children tell ahead, and what they leave at their end. The meaning
 -- reads of it how labels, numbers, marks and the first line ending are found.
-use Rattle.std.specs.Prelude.{ℕ, ◌+◌, ◌-◌, Bool, nat_lt, slice_index, ◌&&◌, ◌==◌, if◌then◌else◌, List, [], ◌∷◌, ◌++◌, length, Option, Some, None, unwrap_or}
+use Rattle.std.specs.Prelude.{ℕ, Bool, nat_lt, slice_index, ◌&&◌, ◌==◌, if◌then◌else◌, List, [], ◌∷◌, ◌++◌, length, Option, Some, None, unwrap_or}
 use Rattle.md_base.specs.declared.event.Name.{Name}
 use Rattle.md_base.specs.declared.event.Point.{Point}
 use Rattle.md_base.specs.declared.event.Position.{Position}
 use Rattle.md_base.specs.Identifier.{normalized}
-use Rattle.md_base.specs.Place.{fits, byte_index, spaces_before, spaces_after}
+use Rattle.md_base.specs.Place.{fits}
 use Rattle.md_base.specs.Tree.{Forest, Empty, Node}
 use Rattle.md_base.specs.NameTests.{is_line_ending, is_label, is_label_text, is_reference, is_definition_label, is_footnote_prefix, is_footnote_label, is_call, is_heading_mark, is_item, is_item_prefix, is_item_value, is_table}
 use Rattle.md_base.specs.Children.{or_else, first_on_spine, spine_names, last_name, last_contributing}
+use Rattle.md_tree.specs.Rules.{place, columns}
 use Rattle.md_infer.specs.Looseness.{is_loose}
 use Rattle.md_infer.specs.Alignments.{alignments}
 use Rattle.md_base.specs.declared.event.AlignKind.{AlignKind}
@@ -26,10 +27,7 @@ position start end children = record { start = start; end = end }
 
 -- how long a mark is, the columns of tabs that are cut at its ends counted
 abbrev pub length_of : List ℕ → Position → ℕ
-length_of bytes place =
-    if fits bytes place.start place.end
-    then spaces_before place.start + (byte_index place.end - byte_index place.start) + spaces_after place.end
-    else 0
+length_of bytes place = if fits bytes place.start place.end then columns place.start place.end else 0
 
 -- a zero before other digits
 abbrev pub has_leading_zero : List ℕ → Bool
@@ -45,14 +43,14 @@ abbrev pub number_in_prefix : Forest → Option Position
 number_in_prefix children = first_on_spine is_item_value position children
 
 abbrev pub number_in_item : Forest → Option Position
-number_in_item children = unwrap_or (first_on_spine is_item_prefix (λ start end inner. number_in_prefix inner) children) None
+number_in_item children = unwrap_or (first_on_spine is_item_prefix
+    (λ start end inner. number_in_prefix inner) children) None
 
 -- the place of the line ending, blank or not, that exits first
 abbrev pub first_ending : Forest → Option Position
 first_ending Empty = None
-first_ending (Node name start end children rest) =
-    or_else (first_ending children)
-    (or_else (if is_line_ending name then Some (record { start = start; end = end }) else None) (first_ending rest))
+first_ending (Node name start end children rest) = or_else (first_ending children)
+    (or_else (if is_line_ending name then Some (place start end) else None) (first_ending rest))
 
 -- the place of the text in a label
 abbrev pub text_in_label : Forest → Option Position
@@ -76,8 +74,7 @@ ahead_of children = record {
 
 -- the identifier at a place
 abbrev pub identifier_at : List ℕ → Option Position → List ℕ
-identifier_at bytes None = []
-identifier_at bytes (Some place) = normalized (label_of bytes place.start place.end)
+identifier_at bytes place = elim place [ None ↦ [] | Some at ↦ normalized (label_of bytes at.start at.end) ]
 
 -- the identifiers of the footnote calls in some nodes, in the order of their exits
 abbrev pub calls_of : List ℕ → Forest → List (List ℕ)
@@ -120,7 +117,8 @@ before_next given around name start end children before = record {
   calls = before.calls ++ calls_of given.bytes (Node name start end children Empty);
   marks =
       own_marks around (told_by before.spine) name
-      ++ marks_of given.options (inside given.options (is_loose children) name around) (spine_inside name before.spine) children
+      ++ marks_of given.options (inside given.options (is_loose children) name around)
+      (spine_inside name before.spine) children
       ++ before.marks;
   previous = Some name;
   spine = spine_behind name children before.spine;
@@ -131,7 +129,11 @@ before_next given around name start end children before = record {
 -- begins behind some names where their parent is transparent
 abbrev pub passed_over : List Name → Forest → Passed
 passed_over spine children =
-    record { last = last_name children; contributing = last_contributing children; spine = told_by (spine ++ spine_names children) }
+    record {
+      last = last_name children;
+      contributing = last_contributing children;
+      spine = told_by (spine ++ spine_names children);
+    }
 
 -- what a node learns from what stands before it and round it, and of footnote calls before its end
 pub record Left : Type 0 where
@@ -143,4 +145,10 @@ pub record Left : Type 0 where
 
 abbrev pub left_of : List ℕ → Before → Forest → Left
 left_of bytes before children =
-    record { called = tally (before.calls ++ calls_of bytes children); is_slurping = is_slurping before.marks; previous = before.previous; spine = told_by before.spine; columns = before.columns }
+    record {
+      called = tally (before.calls ++ calls_of bytes children);
+      is_slurping = is_slurping before.marks;
+      previous = before.previous;
+      spine = told_by before.spine;
+      columns = before.columns;
+    }

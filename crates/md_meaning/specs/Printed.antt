@@ -1,4 +1,5 @@
--- The machine's: what each node prints before its children, and after them; a few print their children's text themselves.
+-- The machine's: what each node prints before its children, and after them; a few print their children's text
+-- themselves.
 use Rattle.std.specs.Prelude.{Bool, true, false, ◌&&◌, ◌||◌, if◌then◌else◌, List, [], ◌∷◌, ◌++◌, codes}
 use Rattle.md_base.specs.declared.event.Name.{Name}
 use Rattle.md_base.specs.declared.event.Name.TheVariants.{LineEnding, BlankLineEnding, BlockQuote, ListOrdered, ListUnordered, ListItem, Data, CharacterEscapeValue, CharacterReferenceValue, CodeIndented, AutolinkEmail, AutolinkProtocol, GfmAutolinkLiteralEmail, GfmAutolinkLiteralMailto, GfmAutolinkLiteralProtocol, GfmAutolinkLiteralWww, GfmAutolinkLiteralXmpp, GfmFootnoteDefinition, GfmFootnoteDefinitionLabelString, GfmFootnoteCall, Definition, DefinitionLabelString, DefinitionDestinationString, DefinitionTitleString, Link, Image, Resource, ResourceDestinationString, ResourceTitleString, ReferenceString, CodeFenced, CodeFencedFence, CodeFencedFenceInfo, CodeFencedFenceMeta, CodeFlowChunk, MathFlow, MathFlowFence, MathFlowFenceMeta, MathFlowChunk, CodeText, CodeTextData, MathText, MathTextData, HtmlFlow, HtmlFlowData, HtmlTextData, GfmTable, GfmTableHead, GfmTableBody, GfmTableRow, GfmTableCell, GfmTableDelimiterRow, HeadingAtx, HeadingSetextText, HeadingSetextUnderlineSequence, Emphasis, Strong, GfmStrikethrough, GfmTaskListItemCheck, GfmTaskListItemValueChecked, HardBreakEscape, HardBreakTrailing, Paragraph, ThematicBreak, Frontmatter}
@@ -24,7 +25,8 @@ use Rattle.md_meaning.specs.Blocks.{on_own_line, paragraph_opening, paragraph_cl
 -- what a node prints before its children
 abbrev pub opening : Given → Surroundings → Ahead → Name → List Piece
 opening given around ahead BlockQuote = on_own_line (codes "<blockquote>")
-opening given around ahead ListOrdered = on_own_line (codes "<ol") ++ (start_pieces given.bytes ahead.number ++ said (codes ">"))
+opening given around ahead ListOrdered = on_own_line (codes "<ol")
+    ++ (start_pieces given.bytes ahead.number ++ said (codes ">"))
 opening given around ahead ListUnordered = on_own_line (codes "<ul>")
 opening given around ahead ListItem = on_own_line (codes "<li>")
 opening given around ahead Paragraph = paragraph_opening around
@@ -78,18 +80,21 @@ text_closing given around left last start end inner Data = data_pieces given aro
 text_closing given around left last start end inner CharacterEscapeValue = data_pieces given around start end
 text_closing given around left last start end inner CodeTextData = data_pieces given around start end
 text_closing given around left last start end inner MathTextData = data_pieces given around start end
-text_closing given around left last start end inner CharacterReferenceValue = reference_pieces given around left start end
+text_closing given around left last start end inner CharacterReferenceValue =
+    reference_pieces given around left start end
 text_closing given around left last start end inner HtmlFlowData = html_pieces given around start end
 text_closing given around left last start end inner HtmlTextData = html_pieces given around start end
 text_closing given around left last start end inner CodeText = code_pieces around (codes "<code>") inner.text
-text_closing given around left last start end inner MathText = code_pieces around (codes "<code class=\"language-math math-inline\">") inner.text
+text_closing given around left last start end inner MathText =
+    code_pieces around (codes "<code class=\"language-math math-inline\">") inner.text
 text_closing given around left last start end inner Emphasis = outside_images around (said (codes "</em>"))
 text_closing given around left last start end inner Strong = outside_images around (said (codes "</strong>"))
 text_closing given around left last start end inner GfmStrikethrough = outside_images around (said (codes "</del>"))
 text_closing given around left last start end inner HardBreakEscape = outside_images around (said (codes "<br />"))
 text_closing given around left last start end inner HardBreakTrailing = outside_images around (said (codes "<br />"))
 text_closing given around left last start end inner GfmTaskListItemCheck = outside_images around (said (codes "/>"))
-text_closing given around left last start end inner GfmTaskListItemValueChecked = outside_images around (said (codes "checked=\"\" "))
+text_closing given around left last start end inner GfmTaskListItemValueChecked =
+    outside_images around (said (codes "checked=\"\" "))
 text_closing given around left last start end inner _ = []
 
 -- what a block prints after its children
@@ -100,7 +105,8 @@ block_closing given around left ahead passed start end ListUnordered = Forced �
 block_closing given around left ahead passed start end ListItem = item_closing around passed
 block_closing given around left ahead passed start end Paragraph = paragraph_closing around
 block_closing given around left ahead passed start end ThematicBreak = on_own_line (codes "<hr />")
-block_closing given around left ahead passed start end HeadingAtx = said (heading_closing (rank_of given.bytes ahead.mark))
+block_closing given around left ahead passed start end HeadingAtx =
+    said (heading_closing (rank_of given.bytes ahead.mark))
 block_closing given around left ahead passed start end HeadingSetextUnderlineSequence = setext_pieces given start
 block_closing given around left ahead passed start end CodeIndented = indented_closing passed
 block_closing given around left ahead passed start end CodeFenced = fenced_closing around passed
@@ -122,13 +128,19 @@ media_closing given around ahead start end inner ResourceTitleString = Noted (Ti
 media_closing given around ahead start end inner Resource = Noted (noted_resource inner.notes.target) ∷ []
 media_closing given around ahead start end inner Link = link_pieces given around ahead inner
 media_closing given around ahead start end inner Image = image_pieces given around ahead inner
-media_closing given around ahead start end inner AutolinkEmail = autolink_pieces given (codes "mailto:") around.in_image start end
+media_closing given around ahead start end inner AutolinkEmail =
+    autolink_pieces given (codes "mailto:") around.in_image start end
 media_closing given around ahead start end inner AutolinkProtocol = autolink_pieces given [] around.in_image start end
-media_closing given around ahead start end inner GfmAutolinkLiteralEmail = autolink_pieces given (codes "mailto:") (around.in_image || around.in_link) start end
-media_closing given around ahead start end inner GfmAutolinkLiteralMailto = autolink_pieces given [] (around.in_image || around.in_link) start end
-media_closing given around ahead start end inner GfmAutolinkLiteralProtocol = autolink_pieces given [] (around.in_image || around.in_link) start end
-media_closing given around ahead start end inner GfmAutolinkLiteralWww = autolink_pieces given (codes "http://") (around.in_image || around.in_link) start end
-media_closing given around ahead start end inner GfmAutolinkLiteralXmpp = autolink_pieces given [] (around.in_image || around.in_link) start end
+media_closing given around ahead start end inner GfmAutolinkLiteralEmail =
+    autolink_pieces given (codes "mailto:") (around.in_image || around.in_link) start end
+media_closing given around ahead start end inner GfmAutolinkLiteralMailto =
+    autolink_pieces given [] (around.in_image || around.in_link) start end
+media_closing given around ahead start end inner GfmAutolinkLiteralProtocol =
+    autolink_pieces given [] (around.in_image || around.in_link) start end
+media_closing given around ahead start end inner GfmAutolinkLiteralWww =
+    autolink_pieces given (codes "http://") (around.in_image || around.in_link) start end
+media_closing given around ahead start end inner GfmAutolinkLiteralXmpp =
+    autolink_pieces given [] (around.in_image || around.in_link) start end
 media_closing given around ahead start end inner _ = []
 
 -- what tables and footnote calls print after their children
@@ -150,30 +162,36 @@ closing given around left ahead passed last start end inner name =
     ++ gfm_closing given around left ahead passed inner name))
 
 -- what a node prints: `inner` is what its children print
-abbrev pub printed_node : Given → Surroundings → Left → Ahead → Passed → Bool → Point → Point → Name → List Piece → List Piece
+abbrev pub printed_node : Given → Surroundings → Left → Ahead → Passed → Bool → Point → Point → Name → List Piece →
+    List Piece
 printed_node given around left ahead passed last start end name inner =
     opening given around ahead name
     ++ ((if is_captured name then [] else inner)
-    ++ closing given around left ahead passed last start end (if is_captured name then lay given.ending blank inner else blank) name)
+    ++ closing given around left ahead passed last start end (if is_captured name then lay given.ending blank inner
+    else blank) name)
 
 -- what some nodes print, one after another
 abbrev pub printed : Given → Surroundings → Before → Forest → List Piece
 printed given around before Empty = []
 printed given around before (Node name start end children rest) =
-    printed_node given around (left_of given.bytes before children) (ahead_of children) (passed_over (spine_inside name before.spine) children)
+    printed_node given around (left_of given.bytes before children) (ahead_of children)
+    (passed_over (spine_inside name before.spine) children)
     (around.is_outermost && is_empty rest) start end name
-    (printed given (inside given.options (is_loose children) name around) (before_children name children before) children)
+    (printed given (inside given.options (is_loose children) name around)
+    (before_children name children before) children)
     ++ printed given around (before_next given around name start end children before) rest
 
 -- the definitions among some nodes, in the order of their exits, each with what its children note
 abbrev pub definitions_of : Given → Surroundings → Before → Forest → List Defined
 definitions_of given around before Empty = []
 definitions_of given around before (Node name start end children rest) =
-    definitions_of given (inside given.options (is_loose children) name around) (before_children name children before) children
+    definitions_of given (inside given.options (is_loose children) name around)
+    (before_children name children before) children
     ++ ((if is_link_definition name
     then record {
       identifier = identifier_at given.bytes (ahead_of children).defined;
-      target = (lay given.ending blank (printed given (inside given.options (is_loose children) name around) (before_children name children before) children)).notes.target;
+      target = (lay given.ending blank (printed given (inside given.options (is_loose children) name around)
+          (before_children name children before) children)).notes.target;
     } ∷ []
     else [])
     ++ definitions_of given around (before_next given around name start end children before) rest)
@@ -182,11 +200,13 @@ definitions_of given around before (Node name start end children rest) =
 abbrev pub footnotes_of : Given → Surroundings → Before → Forest → List Footnote
 footnotes_of given around before Empty = []
 footnotes_of given around before (Node name start end children rest) =
-    footnotes_of given (inside given.options (is_loose children) name around) (before_children name children before) children
+    footnotes_of given (inside given.options (is_loose children) name around)
+    (before_children name children before) children
     ++ ((if is_footnote_definition name
     then record {
       identifier = identifier_at given.bytes (ahead_of children).footnote;
-      text = (lay given.ending blank (printed given (inside given.options (is_loose children) name around) (before_children name children before) children)).text;
+      text = (lay given.ending blank (printed given (inside given.options (is_loose children) name around)
+          (before_children name children before) children)).text;
     } ∷ []
     else [])
     ++ footnotes_of given around (before_next given around name start end children before) rest)

@@ -28,29 +28,26 @@ outermost = record {
   is_escaping = true;
 }
 
-abbrev pub list_container : Bool → Container
-list_container loose = if loose then Another else TightList
-
 -- the surroundings of a node's children; `loose` says whether the node, as a list, is loose
 abbrev pub inside : CompileOptions → Bool → Name → Surroundings → Surroundings
-inside options loose BlockQuote around = record around { container = Another; is_outermost = false }
-inside options loose GfmFootnoteDefinition around = record around { container = Another; is_outermost = false }
-inside options loose ListOrdered around = record around { container = list_container loose; is_outermost = false }
-inside options loose ListUnordered around = record around { container = list_container loose; is_outermost = false }
-inside options loose Image around = record around { in_image = true; is_outermost = false }
-inside options loose Link around = record around { in_link = true; is_outermost = false }
-inside options loose GfmTable around = record around { in_table = true; is_outermost = false }
-inside options loose GfmTableHead around = record around { in_head = true; is_outermost = false }
-inside options loose CodeText around = record around { in_code = true; is_outermost = false }
-inside options loose MathText around = record around { in_code = true; is_outermost = false }
-inside options loose Definition around = record around { in_definition = true; is_outermost = false }
-inside options loose HtmlFlow around =
-    record around { is_escaping = not options.allow_dangerous_html; is_outermost = false }
-inside options loose HtmlText around =
-    record around { is_escaping = not options.allow_dangerous_html; is_outermost = false }
-inside options loose DefinitionDestinationString around = record around { is_escaping = false; is_outermost = false }
-inside options loose ResourceDestinationString around = record around { is_escaping = false; is_outermost = false }
-inside options loose _ around = record around { is_outermost = false }
+inside options loose name around = elim name [
+  | BlockQuote ↦ record around { container = Another; is_outermost = false }
+  | GfmFootnoteDefinition ↦ record around { container = Another; is_outermost = false }
+  | ListOrdered ↦ record around { container = if loose then Another else TightList; is_outermost = false }
+  | ListUnordered ↦ record around { container = if loose then Another else TightList; is_outermost = false }
+  | Image ↦ record around { in_image = true; is_outermost = false }
+  | Link ↦ record around { in_link = true; is_outermost = false }
+  | GfmTable ↦ record around { in_table = true; is_outermost = false }
+  | GfmTableHead ↦ record around { in_head = true; is_outermost = false }
+  | CodeText ↦ record around { in_code = true; is_outermost = false }
+  | MathText ↦ record around { in_code = true; is_outermost = false }
+  | Definition ↦ record around { in_definition = true; is_outermost = false }
+  | HtmlFlow ↦ record around { is_escaping = not options.allow_dangerous_html; is_outermost = false }
+  | HtmlText ↦ record around { is_escaping = not options.allow_dangerous_html; is_outermost = false }
+  | DefinitionDestinationString ↦ record around { is_escaping = false; is_outermost = false }
+  | ResourceDestinationString ↦ record around { is_escaping = false; is_outermost = false }
+  | _ ↦ record around { is_outermost = false }
+]
 
 -- where an exit lets the next line ending be slurped, and where one stops that
 pub data Mark : Type 0 where
@@ -59,9 +56,7 @@ pub data Mark : Type 0 where
 
 -- the latest of some marks, the latest first, is a setting one
 abbrev pub is_slurping : List Mark → Bool
-is_slurping [] = false
-is_slurping (Sets ∷ marks) = true
-is_slurping (Clears ∷ marks) = false
+is_slurping marks = elim marks [ Sets ∷ _ ↦ true | _ ↦ false ]
 
 -- two names or more pass a test
 abbrev pub two_pass : (Name → Bool) → List Name → Bool

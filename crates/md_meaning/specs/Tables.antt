@@ -24,7 +24,8 @@ cell_end in_head = if in_head then codes "</th>" else codes "</td>"
 -- a cell with its text
 abbrev pub cell_pieces : Bool → AlignKind → List ℕ → List Piece
 cell_pieces in_head kind text =
-    Needed ∷ Text (cell_start in_head) ∷ Text (align_attribute kind) ∷ Text (codes ">") ∷ Text text ∷ Text (cell_end in_head) ∷ []
+    Needed ∷ Text (cell_start in_head) ∷ Text (align_attribute kind) ∷ Text (codes ">") ∷ Text text
+    ∷ Text (cell_end in_head) ∷ []
 
 -- the cell of a column, if the table has that column
 abbrev pub cell_in : Bool → Option AlignKind → List ℕ → List Piece

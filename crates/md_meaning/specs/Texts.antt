@@ -110,4 +110,5 @@ code_pieces around tag text =
 abbrev pub task_pieces : Given → Surroundings → List Piece
 task_pieces given around =
     outside_images around
-    (Text (codes "<input type=\"checkbox\" ") ∷ (if given.options.gfm_task_list_item_checkable then [] else said (codes "disabled=\"\" ")))
+    (Text (codes "<input type=\"checkbox\" ") ∷ (if given.options.gfm_task_list_item_checkable then []
+    else said (codes "disabled=\"\" ")))

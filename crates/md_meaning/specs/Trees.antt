@@ -1,4 +1,5 @@
--- Worked trees by what they are about, each with the bytes that it lies over, the options where some are set, and the text
+-- Worked trees by what they are about, each with the bytes that it lies over, the options where some are set, and
+-- the text
 -- that is its meaning.
 pub mod Blocks
 pub mod Lists

@@ -1,14 +1,14 @@
 -- The page round a title and a safe text.
-use Rattle.std.proofs.Common.{◌≡◌, ℕ, Bool, true, ◌&&◌, List, [], ◌∷◌, ◌++◌, refl, sym, ap, ◌∙◌, subst, codes}
+use Rattle.std.proofs.Common.{◌≡◌, ℕ, true, List, [], ◌∷◌, ◌++◌, refl, sym, ap, ◌∙◌, subst}
 use Rattle.std.proofs.lemmas.Bool.{and_from}
 use Rattle.std.proofs.lemmas.List.{append-nil}
 use Rattle.md_text.specs.Encode.{encoded}
 use Rattle.md_text.specs.References.{is_escaped, read_back}
-use Rattle.md_text.specs.Html.{Forest, Empty, Text, is_filled, written, all_attributes}
+use Rattle.md_text.specs.Html.{Forest, Empty, Text, written, all_attributes}
 use Rattle.md_text.specs.Safe.{is_safe_image}
 use Rattle.md_text.proofs.EncodeLaws.{is_escaped-encoded, read_back-encoded}
 use Rattle.md_html.specs.Safe.{IsSafe}
-use Rattle.md_page.specs.Page.{page_tree, is_title, IsPage, IsPageOf, page_text}
+use Rattle.md_page.specs.Page.{is_title, IsPage, IsPageOf, page_text}
 use Rattle.md_page.proofs.Pages.{before_title, before_body, behind_body, page_written, one_page}
 
 -- a text as a title
@@ -34,8 +34,10 @@ page_given title body text e safe =
       body_in_grammar = safe.safe_links.reading.in_grammar;
       written_so =
           e ∙ sym (page_written head inside
-          ∙ ap (λ t. before_title ++ (t ++ (before_body ++ (written inside ++ behind_body)))) (titled_by-written escaped)
-          ∙ ap (λ b. before_title ++ (escaped ++ (before_body ++ (b ++ behind_body)))) safe.safe_links.reading.written_so);
+          ∙ ap (λ t. before_title ++ (t ++ (before_body ++ (written inside ++ behind_body))))
+          (titled_by-written escaped)
+          ∙ ap (λ b. before_title ++ (escaped ++ (before_body ++ (b ++ behind_body))))
+          safe.safe_links.reading.written_so);
     }
     in
     record {

@@ -1,8 +1,9 @@
 -- A page: a doctype, a head with a title, and a body of the HTML grammar.
+use Rattle.md_base.specs.Identifier.{is_nonempty}
 use Rattle.std.specs.Prelude.{◌≡◌, ℕ, Bool, true, false, IsTrue, ◌&&◌, List, [], ◌∷◌, ◌++◌, codes}
 use Rattle.md_text.specs.Encode.{encoded}
 use Rattle.md_text.specs.References.{is_escaped, read_back}
-use Rattle.md_text.specs.Html.{Attribute, Forest, Empty, Text, Void, Element, IsReading, is_filled, is_forest, all_attributes, written}
+use Rattle.md_text.specs.Html.{Attribute, Forest, Empty, Text, Void, Element, IsReading, is_forest, all_attributes, written}
 use Rattle.md_text.specs.Safe.{is_safe_link, is_safe_image}
 
 -- `charset="utf-8"`
@@ -20,7 +21,7 @@ page_tree title body =
 -- at most one text of the HTML grammar, and no tag
 abbrev pub is_title : Forest → Bool
 is_title Empty = true
-is_title (Text bytes Empty) = is_filled bytes && is_escaped bytes
+is_title (Text bytes Empty) = is_nonempty bytes && is_escaped bytes
 is_title _ = false
 
 -- the text is the page with this title and this body: `<!doctype html>`, a line feed, the element, a line feed
@@ -29,13 +30,15 @@ pub record IsPage (text : List ℕ) (title body : Forest) : Type 0 where
   pub body_in_grammar : IsTrue (is_forest body)
   pub written_so : text ≡ codes "<!doctype html>\n" ++ written (page_tree title body) ++ codes "\n"
 
--- the text is a page in exactly one way: its title, references read back, is the one given with U+FFFD for each NUL, and
+-- the text is a page in exactly one way: its title, references read back, is the one given with U+FFFD for each
+-- NUL, and
 -- its body is a reading of the one given, in which each link and each image has no protocol or a permitted one
 pub record IsPageOf (title body text : List ℕ) : Type 0 where
   pub head : Forest
   pub inside : Forest
   pub page : IsPage text head inside
-  pub only : (other_head other_inside : Forest) → IsPage text other_head other_inside → (other_head ≡ head) × (other_inside ≡ inside)
+  pub only : (other_head other_inside : Forest) → IsPage text other_head other_inside →
+      (other_head ≡ head) × (other_inside ≡ inside)
   pub titled : read_back (written head) ≡ encoded false title
   pub reading : IsReading body inside
   pub safe_links : IsTrue (all_attributes is_safe_link inside)

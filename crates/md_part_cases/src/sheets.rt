@@ -29,29 +29,42 @@ fn the_first_footnote_with_an_identifier_is_kept(rt: HostRuntime) -> Result<(), 
     Ok(())
 }
 
-#[test]
-fn a_sheet_is_laid_out(rt: HostRuntime) -> Result<(), Fail> {
-    let mut sheet = Sheet::new(rt.alloc());
+/// A paragraph's start behind a line ending that isn't needed, and before one that is.
+fn started(alloc: Global) -> Result<Sheet, AllocError> {
+    let mut sheet = Sheet::new(alloc);
     sheet.need("\n")?;
     sheet.put("<p>")?;
     sheet.need("\n")?;
     sheet.need("\n")?;
-    sheet.note_heading(String::from_str(rt.alloc(), "h")?);
+    Ok(sheet)
+}
+
+/// Puts a heading that was noted, and a text behind it.
+fn add_heading(alloc: Global, sheet: &mut Sheet) -> Result<(), AllocError> {
+    sheet.note_heading(String::from_str(alloc, "h")?);
     sheet.recall()?;
-    sheet.append(
-        rt.alloc(),
-        Rope::from_string(rt.alloc(), String::from_str(rt.alloc(), "eading")?),
-    )?;
+    let text = String::from_str(alloc, "eading")?;
+    sheet.append(alloc, Rope::from_string(alloc, text))
+}
+
+/// Notes a resource with this destination.
+fn note_resource(alloc: Global, sheet: &mut Sheet, destination: &str) -> Result<(), AllocError> {
     sheet.note_resource(Target {
-        destination: String::from_str(rt.alloc(), "r")?,
+        destination: String::from_str(alloc, destination)?,
         title: None,
     });
+    Ok(())
+}
+
+#[test]
+fn a_sheet_is_laid_out(rt: HostRuntime) -> Result<(), Fail> {
+    let mut sheet = started(rt.alloc())?;
+    add_heading(rt.alloc(), &mut sheet)?;
+    note_resource(rt.alloc(), &mut sheet, "r")?;
     let (text, notes) = sheet.into_parts();
     assert_eq!(rt; text.into_string(rt.alloc())?.as_str(), "<p>\nheading");
-    match notes.resource() {
-        Some(target) => assert_eq!(rt; target.destination.as_str(), "r"),
-        None => assert!(rt; false),
-    }
+    let destination = notes.resource().map(|target| target.destination.as_str());
+    assert_eq!(rt; destination, Some("r"));
     Ok(())
 }
 

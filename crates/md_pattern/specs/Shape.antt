@@ -25,17 +25,14 @@ prefix_in _ = role.Prefix
 
 -- a fence, which may say more where nothing is before it
 abbrev pub code_fence_after : Option Symbol → Role
-code_fence_after None = role.FirstCodeFence
-code_fence_after (Some before) = role.CodeFence
+code_fence_after before = elim before [ None ↦ role.FirstCodeFence | Some _ ↦ role.CodeFence ]
 
 abbrev pub math_fence_after : Option Symbol → Role
-math_fence_after None = role.FirstMathFence
-math_fence_after (Some before) = role.MathFence
+math_fence_after before = elim before [ None ↦ role.FirstMathFence | Some _ ↦ role.MathFence ]
 
 -- the label of a footnote call has a text
 abbrev pub label_in : Role → Role
-label_in role.FootnoteCall = role.CallLabel
-label_in _ = role.Label
+label_in around = elim around [ role.FootnoteCall ↦ role.CallLabel | _ ↦ role.Label ]
 
 -- the role that a name with this usual one has in a node of a role, after a symbol on its spine
 abbrev pub role_for : Role → Option Symbol → Role → Role
@@ -54,16 +51,15 @@ last_symbol before (next ∷ symbols) = last_symbol (Some next) symbols
 -- the role of the spine on which a node's children stand
 abbrev pub inner_role : Standing → Role → Option Symbol → Role
 inner_role Through around before = around
-inner_role Space around before = role.Childless
 inner_role (Solid symbol usual reading) around before = role_for around before usual
-inner_role Mdx around before = role.Childless
+inner_role _ around before = role.Childless
 
 -- the symbol before a node's first child on that spine
 abbrev pub inner_before : Standing → Option Symbol → Option Symbol
-inner_before Through before = before
-inner_before _ before = None
+inner_before standing before = elim standing [ Through ↦ before | _ ↦ None ]
 
--- what is said of nodes: of one by the role around it, the symbol before it on that spine, its name, start, end and children
+-- what is said of nodes: of one by the role around it, the symbol before it on that spine, its name, start, end and
+-- children
 abbrev pub Claim : Type 1
 Claim = Role → Option Symbol → Name → Point → Point → Forest → Type 0
 
@@ -84,7 +80,8 @@ IsStanding Mdx around before children = ⊥
 
 -- a node has its shape: it stands in no childless node, its own spine matches its pattern, and it is no name of MDX
 abbrev pub IsShapedNode : Claim
-IsShapedNode around before name start end children = (around ≢ role.Childless) × IsStanding (standing_of name) around before children
+IsShapedNode around before name start end children =
+    (around ≢ role.Childless) × IsStanding (standing_of name) around before children
 
 -- nodes have the shape of the grammar, in a node of a role after a symbol on its spine
 abbrev pub AreShaped : Forest → Role → Option Symbol → Type 0

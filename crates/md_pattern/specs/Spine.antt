@@ -4,7 +4,7 @@ use Rattle.md_pattern.specs.declared.kinds.Symbol.{Symbol}
 use Rattle.md_pattern.specs.declared.kinds.Symbol.TheVariants.{ReferenceMarker, ReferenceNumeric, ReferenceHexadecimal, ReferenceValue, SetextText, SetextUnderline, LineEnding}
 use Rattle.md_pattern.specs.declared.kinds.Role.{Role}
 use Rattle.md_pattern.specs.declared.kinds.Standing.{Standing}
-use Rattle.md_pattern.specs.declared.kinds.Standing.TheVariants.{Through, Space, Solid, Mdx}
+use Rattle.md_pattern.specs.declared.kinds.Standing.TheVariants.{Through, Solid}
 use Rattle.md_base.specs.Tree.{Forest, Empty, Node}
 use Rattle.md_pattern.specs.Standing.{standing_of}
 use Rattle.md_pattern.specs.Pattern.{Fits, pattern_of}
@@ -12,9 +12,8 @@ use Rattle.md_pattern.specs.Pattern.{Fits, pattern_of}
 -- what a node shows on the spine around it: itself, or where it is transparent its own spine
 abbrev pub shown : Standing → List Symbol → List Symbol
 shown Through inner = inner
-shown Space inner = []
 shown (Solid symbol usual reading) inner = symbol ∷ []
-shown Mdx inner = []
+shown _ inner = []
 
 -- the symbols of the nodes that are reached through transparent ones alone
 abbrev pub spine : Forest → List Symbol
@@ -23,8 +22,8 @@ spine (Node name start end children rest) = shown (standing_of name) (spine chil
 
 -- what follows the first symbol of a group on a spine: a reference's marks and value, a setext heading's underline
 abbrev pub IsTail : Symbol → List Symbol → Type 0
-IsTail ReferenceMarker tail =
-    (tail ≡ ReferenceValue ∷ []) ⊎ ((tail ≡ ReferenceNumeric ∷ ReferenceValue ∷ []) ⊎ (tail ≡ ReferenceNumeric ∷ ReferenceHexadecimal ∷ ReferenceValue ∷ []))
+IsTail ReferenceMarker tail = (tail ≡ ReferenceValue ∷ []) ⊎ ((tail ≡ ReferenceNumeric ∷ ReferenceValue ∷ [])
+    ⊎ (tail ≡ ReferenceNumeric ∷ ReferenceHexadecimal ∷ ReferenceValue ∷ []))
 IsTail SetextText tail = (endings : ℕ) × (tail ≡ replicate endings LineEnding ++ SetextUnderline ∷ [])
 IsTail _ tail = tail ≡ []
 
@@ -40,6 +39,6 @@ Matches role spine = (firsts : List Symbol) × IsGrouped firsts spine × Fits (p
 
 -- a group that has begun and isn't complete
 abbrev pub IsBegunGroup : List Symbol → Type 0
-IsBegunGroup group =
-    (group ≡ ReferenceMarker ∷ []) ⊎ ((group ≡ ReferenceMarker ∷ ReferenceNumeric ∷ [])
-    ⊎ ((group ≡ ReferenceMarker ∷ ReferenceNumeric ∷ ReferenceHexadecimal ∷ []) ⊎ ((endings : ℕ) × (group ≡ SetextText ∷ replicate endings LineEnding))))
+IsBegunGroup group = (group ≡ ReferenceMarker ∷ []) ⊎ ((group ≡ ReferenceMarker ∷ ReferenceNumeric ∷ [])
+    ⊎ ((group ≡ ReferenceMarker ∷ ReferenceNumeric ∷ ReferenceHexadecimal ∷ [])
+    ⊎ ((endings : ℕ) × (group ≡ SetextText ∷ replicate endings LineEnding))))

@@ -40,7 +40,8 @@ abbrev pub table : At → Name → List Piece
 table at name = gfm_closing at.given at.around at.left at.ahead at.passed at.inner name
 
 -- what a node prints is what its group prints
-pub closing-group : (at : At) (name : Name) → text at name ++ (block at name ++ (medium at name ++ table at name)) ≡ in_group (group_of name) (text at name) (block at name) (medium at name) (table at name)
+pub closing-group : (at : At) (name : Name) → text at name ++ (block at name ++ (medium at name ++ table at name))
+    ≡ in_group (group_of name) (text at name) (block at name) (medium at name) (table at name)
 closing-group at LineEnding = append-nil (text at LineEnding)
 closing-group at BlankLineEnding = append-nil (text at BlankLineEnding)
 closing-group at Emphasis = append-nil (text at Emphasis)
@@ -72,7 +73,8 @@ captured-group CodeText = refl
 captured-group _ = refl
 
 -- what a node's group prints is what the node prints
-pub printing-group : (ending : List ℕ) (at : At) (name : Name) (group : Group) → group ≡ group_of name → (state : State) →
+pub printing-group : (ending : List ℕ) (at : At) (name : Name) (group : Group) → group ≡ group_of name →
+    (state : State) →
     printing ending (in_group group (text at name) (block at name) (medium at name) (table at name)) state
     ≡ printing ending (text at name ++ (block at name ++ (medium at name ++ table at name))) state
 printing-group ending at name group same state =

@@ -11,7 +11,8 @@ split : (bs : List ℕ) (i : ℕ) → i < length bs → take i bs ++ get_or bs i
 split bs i h = ap (λ rest. take i bs ++ rest) (rw (add-one, ← drop-cons bs i 0) refl) ∙ take-append-drop i bs
 
 -- escaped, where what comes before the byte stays
-pub encoded-at : (html : Bool) (bs other : List ℕ) (i : ℕ) → i < length bs → encoded html (take i bs) ≡ take i bs → encoded_byte html (get_or bs i 0) ≡ other →
+pub encoded-at : (html : Bool) (bs other : List ℕ) (i : ℕ) → i < length bs → encoded html (take i bs) ≡ take i bs →
+    encoded_byte html (get_or bs i 0) ≡ other →
     take i bs ++ (other ++ encoded html (drop (i + 1) bs)) ≡ encoded html bs
 encoded-at html bs other i h plain same =
     ap (λ x. x ++ (other ++ encoded html (drop (i + 1) bs))) (sym plain)
@@ -20,7 +21,8 @@ encoded-at html bs other i h plain same =
     ∙ ap (λ x. encoded html x) (split bs i h)
 
 -- one more byte that stays
-pub plain-more : (html : Bool) (bs : List ℕ) (i : ℕ) → i < length bs → encoded html (take i bs) ≡ take i bs → encoded_byte html (get_or bs i 0) ≡ get_or bs i 0 ∷ [] →
+pub plain-more : (html : Bool) (bs : List ℕ) (i : ℕ) → i < length bs → encoded html (take i bs) ≡ take i bs →
+    encoded_byte html (get_or bs i 0) ≡ get_or bs i 0 ∷ [] →
     encoded html (take i bs ++ get_or bs i 0 ∷ []) ≡ take i bs ++ get_or bs i 0 ∷ []
 plain-more html bs i h plain same =
     encoded-append html (take i bs) (get_or bs i 0 ∷ [])
@@ -28,6 +30,8 @@ plain-more html bs i h plain same =
     ∙ ap (λ x. take i bs ++ (x ++ [])) same
 
 -- a text is printed in three parts
-pub printed-parts : (xs ys zs all : List ℕ) (state : State) → xs ++ (ys ++ zs) ≡ all → printing [] (said zs) (printing [] (said ys) (printing [] (said xs) state)) ≡ printing [] (said all) state
+pub printed-parts : (xs ys zs all : List ℕ) (state : State) → xs ++ (ys ++ zs) ≡ all →
+    printing [] (said zs) (printing [] (said ys) (printing [] (said xs) state)) ≡ printing [] (said all) state
 printed-parts xs ys zs all state same =
-    ap (λ text. record state { page = record state.page { text = text } }) (append_assoc (state.page.text ++ xs) ys zs ∙ append_assoc state.page.text xs (ys ++ zs) ∙ ap (λ x. state.page.text ++ x) same)
+    ap (λ text. record state { page = record state.page { text = text } }) (append_assoc (state.page.text ++ xs) ys zs
+    ∙ append_assoc state.page.text xs (ys ++ zs) ∙ ap (λ x. state.page.text ++ x) same)

@@ -39,13 +39,21 @@ pub record Log : Type 0 where
 
 -- what a node's children tell ahead, where its name reads this place
 abbrev pub ahead_by : Option Position → Ahead
-ahead_by place = record { mark = place; number = place; label = place; reference = None; defined = place; footnote = place }
+ahead_by place = record {
+  mark = place;
+  number = place;
+  label = place;
+  reference = None;
+  defined = place;
+  footnote = place;
+}
 
 -- what the children of a node of this name tell ahead
 abbrev pub ahead_told : Name → Option Forest → Ahead
 ahead_told name children = ahead_by (option_map_or (reads name) children None)
 
--- a node that is open: the surroundings of its children, where it starts and whether a line ending is slurped there, what
+-- a node that is open: the surroundings of its children, where it starts and whether a line ending is slurped
+-- there, what
 -- its children tell ahead, and what they tell so far
 pub record Frame : Type 0 where
   pub around : Surroundings
@@ -54,8 +62,10 @@ pub record Frame : Type 0 where
   pub ahead : Ahead
   pub passed : Passed
 
--- the page, those below it (the newest first), what was seen, whether the last mark is a setting one, the innermost node
--- that is open, those round it (the innermost first), and the alignments of the tables that are open (the innermost first)
+-- the page, those below it (the newest first), what was seen, whether the last mark is a setting one, the innermost
+-- node
+-- that is open, those round it (the innermost first), and the alignments of the tables that are open (the innermost
+-- first)
 pub record State : Type 0 where
   pub page : Page
   pub below : List Page
@@ -77,7 +87,15 @@ document_frame = record {
 
 -- before the first event
 abbrev pub beginning : State
-beginning = record { page = blank; below = []; log = record { called = []; definitions = []; footnotes = [] }; is_slurping = false; frame = document_frame; frames = []; tables = [] }
+beginning = record {
+  page = blank;
+  below = [];
+  log = record { called = []; definitions = []; footnotes = [] };
+  is_slurping = false;
+  frame = document_frame;
+  frames = [];
+  tables = [];
+}
 
 -- some pieces are laid on the page
 abbrev pub printing : List ℕ → List Piece → State → State
@@ -115,7 +133,10 @@ opening_frame options ahead loose name start state = record state {
 
 -- a table is entered, whose columns have these alignments, or no table
 abbrev pub entering_table : Bool → List AlignKind → State → State
-entering_table is_table columns state = record state { tables = if is_table then columns ∷ state.tables else state.tables }
+entering_table is_table columns state = record state {
+  tables = if is_table then columns ∷ state.tables
+      else state.tables;
+}
 
 -- a table is left, or no table
 abbrev pub leaving_table : Bool → State → State
@@ -142,7 +163,10 @@ passing_leaf name state = passing_child name (if is_transparent name then state.
 -- the innermost node is left
 abbrev pub leaving : Name → State → State
 leaving name state =
-    passing_child name state.frame.passed.spine (record state { frame = first_or document_frame state.frames; frames = others_of state.frames })
+    passing_child name state.frame.passed.spine (record state {
+      frame = first_or document_frame state.frames;
+      frames = others_of state.frames;
+    })
 
 -- what the innermost node learns from what stands before it
 abbrev pub left_in : State → Left
@@ -159,7 +183,8 @@ left_in state =
 -- what is printed where the innermost node is left
 abbrev pub closing_in : Given → Bool → Name → Point → Page → State → List Piece
 closing_in given last name end inner state =
-    closing given (first_or document_frame state.frames).around (left_in state) state.frame.ahead state.frame.passed last state.frame.start end inner name
+    closing given (first_or document_frame state.frames).around
+    (left_in state) state.frame.ahead state.frame.passed last state.frame.start end inner name
 
 -- what a node that is exited is seen for, with its children's page
 abbrev pub logging : List ℕ → Ahead → Name → Page → State → State
@@ -168,7 +193,10 @@ logging bytes ahead name inner state = record state {
     called = if is_call name then counted state.log.called (identifier_at bytes ahead.label) else state.log.called;
     definitions =
         if is_link_definition name
-        then state.log.definitions ++ record { identifier = identifier_at bytes ahead.defined; target = inner.notes.target } ∷ []
+        then state.log.definitions ++ record {
+          identifier = identifier_at bytes ahead.defined;
+          target = inner.notes.target;
+        } ∷ []
         else state.log.definitions;
     footnotes =
         if is_footnote_definition name
@@ -183,7 +211,8 @@ exited given last captured name end state =
     leaving name
     (printing given.ending
     (closing_in given last name end (if captured then state.page else blank) (leaving_table (is_table name) state))
-    (logging given.bytes state.frame.ahead name (if captured then state.page else blank) (leaving_table (is_table name) (releasing captured state))))
+    (logging given.bytes state.frame.ahead name (if captured then state.page
+    else blank) (leaving_table (is_table name) (releasing captured state))))
 
 -- there is no event
 abbrev pub is_nil : List Event → Bool
@@ -203,7 +232,8 @@ loose_told _ children = false
 -- an event, with the children of the node that it enters
 abbrev pub stepped : Given → Kind → Name → Point → Option Forest → Bool → State → State
 stepped given Enter name point children last state =
-    entered given (ahead_told name children) (loose_told name children) (columns_told name children) (is_captured name) name point state
+    entered given (ahead_told name children) (loose_told name children) (columns_told name children)
+    (is_captured name) name point state
 stepped given Exit name point children last state = exited given last (is_captured name) name point state
 
 -- the events one after another, each with the children of the node that it enters

@@ -105,11 +105,15 @@ when-forced s true = adds-forced s.p s.given.ending s.ending
 when-forced s false = adds-nil s.p s.given.ending
 
 -- an end on its own line where a test holds
-when-end : (s : Setting) (holds : Bool) (c : List ℕ) → Prints s (IsFramed c) ((when holds (Needed ∷ []) ++ said c) ++ [])
-when-end s holds c = prints-alone s (IsFramed c) (when holds (Needed ∷ []) ++ said c) (adds-framed s.p s.given.ending c (when holds (Needed ∷ [])) [] (when-needed s holds) (adds-nil s.p s.given.ending))
+when-end : (s : Setting) (holds : Bool) (c : List ℕ) → Prints s (IsFramed c) ((when holds (Needed ∷ []) ++ said c)
+    ++ [])
+when-end s holds c = prints-alone s (IsFramed c) (when holds (Needed ∷ [])
+    ++ said c) (adds-framed s.p s.given.ending c (when holds (Needed ∷ [])) [] (when-needed s holds)
+    (adds-nil s.p s.given.ending))
 
 -- the end of fenced code
-fenced-end : (s : Setting) (around : Surroundings) (passed : Passed) → Prints s (IsFramed code_end) (fenced_closing around passed ++ [])
+fenced-end : (s : Setting) (around : Surroundings) (passed : Passed) →
+    Prints s (IsFramed code_end) (fenced_closing around passed ++ [])
 fenced-end s around passed =
     let out : List Piece = when (runs_out around passed) (Forced ∷ []) in
     let line : List Piece = when passed.spine.has_chunk (Needed ∷ []) in
@@ -117,18 +121,23 @@ fenced-end s around passed =
     prints-alone s (IsFramed code_end) (fenced_closing around passed)
     (subst (Prints s (IsFramed code_end)) (append_assoc out line (Text code_end ∷ last))
     (adds-framed s.p s.given.ending code_end (out ++ line) last
-    (adds-append s.p s.given.ending Escaped Escaped Escaped out line escaped-append (when-forced s (runs_out around passed)) (when-needed s passed.spine.has_chunk))
+    (adds-append s.p s.given.ending Escaped Escaped Escaped out line escaped-append
+    (when-forced s (runs_out around passed)) (when-needed s passed.spine.has_chunk))
     (when-needed s (is_unclosed passed))))
 
 -- a block's tags on lines of their own
-block-pair : (s : Setting) (o c : List ℕ) → Bracket s.p o c → (inner : List Piece) → Prints s (Reads s) inner → Prints s (Reads s) (on_own_line o ++ (inner ++ on_own_line c))
+block-pair : (s : Setting) (o c : List ℕ) → Bracket s.p o c → (inner : List Piece) → Prints s (Reads s) inner →
+    Prints s (Reads s) (on_own_line o ++ (inner ++ on_own_line c))
 block-pair s o c bracket inner a =
-    adds-pair s.p s.given.ending o c (on_own_line o) inner (on_own_line c) bracket (framed-needed s.p s.given.ending o s.ending) a (framed-needed s.p s.given.ending c s.ending)
+    adds-pair s.p s.given.ending o c (on_own_line o) inner (on_own_line c) bracket
+    (framed-needed s.p s.given.ending o s.ending) a (framed-needed s.p s.given.ending c s.ending)
 
 -- a paragraph
-paragraph-node : (s : Setting) (tagged : Bool) (inner : List Piece) → Prints s (Reads s) inner → Prints s (Reads s) (when tagged (on_own_line (codes "<p>")) ++ (inner ++ (when tagged (said (codes "</p>")) ++ [])))
+paragraph-node : (s : Setting) (tagged : Bool) (inner : List Piece) → Prints s (Reads s) inner →
+    Prints s (Reads s) (when tagged (on_own_line (codes "<p>")) ++ (inner ++ (when tagged (said (codes "</p>")) ++ [])))
 paragraph-node s true inner a =
-    adds-pair s.p s.given.ending (codes "<p>") (codes "</p>") (on_own_line (codes "<p>")) inner (said (codes "</p>")) (bracket-plain s.p (codes "p") refl)
+    adds-pair s.p s.given.ending (codes "<p>") (codes "</p>") (on_own_line (codes "<p>")) inner (said (codes "</p>"))
+    (bracket-plain s.p (codes "p") refl)
     (framed-needed s.p s.given.ending (codes "<p>") s.ending) a (framed-text s.p s.given.ending (codes "</p>"))
 paragraph-node s false inner a = prints-alone s (Reads s) inner a
 
@@ -137,61 +146,87 @@ setext-fits bytes true = (omega arith, omega arith)
 setext-fits bytes false = (omega arith, omega arith)
 
 -- a line of code
-chunk-node : (s : Setting) (t : Spot) (inner : List Piece) → Prints s (λ x. x ≡ []) inner → Prints s (Reads s) (inner ++ (Text (encoded true (serialized_of s.given.bytes t.start t.end)) ∷ []))
+chunk-node : (s : Setting) (t : Spot) (inner : List Piece) → Prints s (λ x. x ≡ []) inner →
+    Prints s (Reads s) (inner ++ (Text (encoded true (serialized_of s.given.bytes t.start t.end)) ∷ []))
 chunk-node s t inner a =
     let x : List ℕ = encoded true (serialized_of s.given.bytes t.start t.end) in
-    prints-own s (Reads s) inner (said x) a (adds-text s.p s.given.ending (Reads s) x (text s.p x (is_escaped-encoded (serialized_of s.given.bytes t.start t.end))))
+    prints-own s (Reads s) inner (said x) a (adds-text s.p s.given.ending (Reads s) x
+    (text s.p x (is_escaped-encoded (serialized_of s.given.bytes t.start t.end))))
 
-flow-node : (s : Setting) (t : Spot) (name : Name) → t.around.is_escaping ≡ true → is_flow name ≡ true → IsFitAt s t name → (inner : List Piece) → Inside s t Blocks name inner → Prints s (Reads s) (node_pieces s t name inner)
+flow-node : (s : Setting) (t : Spot) (name : Name) → t.around.is_escaping ≡ true → is_flow name ≡ true →
+    IsFitAt s t name → (inner : List Piece) → Inside s t Blocks name inner →
+    Prints s (Reads s) (node_pieces s t name inner)
 flow-node s t BlankLineEnding e is fit inner a =
-    prints-own s (Reads s) inner (blank_line_pieces t.last) a (adds-escaped s.p s.given.ending (blank_line_pieces t.last) (when-needed s t.last))
-flow-node s t BlockQuote e is fit inner a = block-pair s (codes "<blockquote>") (codes "</blockquote>") (bracket-plain s.p (codes "blockquote") refl) inner a
+    prints-own s (Reads s) inner (blank_line_pieces t.last) a
+    (adds-escaped s.p s.given.ending (blank_line_pieces t.last) (when-needed s t.last))
+flow-node s t BlockQuote e is fit inner a = block-pair s (codes "<blockquote>") (codes "</blockquote>")
+    (bracket-plain s.p (codes "blockquote") refl) inner a
 flow-node s t ListOrdered e is fit inner a =
-    let opening = ordered-opening s.p s.given.ending s.ending s.given.options s.test s.given.bytes (ahead_of t.children).number fit in
-    adds-pair s.p s.given.ending opening.open_tag (codes "</ol>") (on_own_line (codes "<ol") ++ (start_pieces s.given.bytes (ahead_of t.children).number ++ said (codes ">"))) inner (Forced ∷ Text (codes "</ol>") ∷ [])
+    let opening = ordered-opening s.p s.given.ending s.ending s.given.options s.test s.given.bytes
+    (ahead_of t.children).number fit in
+    adds-pair s.p s.given.ending opening.open_tag (codes "</ol>") (on_own_line (codes "<ol")
+    ++ (start_pieces s.given.bytes (ahead_of t.children).number ++ said (codes ">"))) inner (Forced
+    ∷ Text (codes "</ol>") ∷ [])
     opening.bracket opening.adds a (framed-forced s.p s.given.ending (codes "</ol>") s.ending)
 flow-node s t ListUnordered e is fit inner a =
-    adds-pair s.p s.given.ending (codes "<ul>") (codes "</ul>") (on_own_line (codes "<ul>")) inner (Forced ∷ Text (codes "</ul>") ∷ []) (bracket-plain s.p (codes "ul") refl)
-    (framed-needed s.p s.given.ending (codes "<ul>") s.ending) a (framed-forced s.p s.given.ending (codes "</ul>") s.ending)
+    adds-pair s.p s.given.ending (codes "<ul>") (codes "</ul>") (on_own_line (codes "<ul>")) inner (Forced
+    ∷ Text (codes "</ul>") ∷ []) (bracket-plain s.p (codes "ul") refl)
+    (framed-needed s.p s.given.ending (codes "<ul>") s.ending) a
+    (framed-forced s.p s.given.ending (codes "</ul>") s.ending)
 flow-node s t ListItem e is fit inner a =
-    adds-pair s.p s.given.ending (codes "<li>") (codes "</li>") (on_own_line (codes "<li>")) inner (item_closing t.around t.passed ++ []) (bracket-plain s.p (codes "li") refl)
+    adds-pair s.p s.given.ending (codes "<li>") (codes "</li>") (on_own_line (codes "<li>")) inner
+    (item_closing t.around t.passed ++ []) (bracket-plain s.p (codes "li") refl)
     (framed-needed s.p s.given.ending (codes "<li>") s.ending) a (when-end s _ (codes "</li>"))
 flow-node s t Paragraph e is fit inner a = paragraph-node s (not (is_tight t.around.container)) inner a
 flow-node s t ThematicBreak e is fit inner a =
     adds-readings s.p s.given.ending inner (on_own_line (codes "<hr />")) a
-    (adds-readings s.p s.given.ending (Needed ∷ []) (said (codes "<hr />")) (adds-escaped s.p s.given.ending (Needed ∷ []) (adds-needed s.p s.given.ending s.ending))
+    (adds-readings s.p s.given.ending (Needed ∷ []) (said (codes "<hr />"))
+    (adds-escaped s.p s.given.ending (Needed ∷ []) (adds-needed s.p s.given.ending s.ending))
     (adds-flat s.p s.given.ending (Reads s) (said (codes "<hr />")) refl (void-read s.p (codes "hr") [] refl refl)))
 flow-node s t HeadingAtx e is fit inner a =
     let rank : ℕ = rank_of s.given.bytes (ahead_of t.children).mark in
-    adds-pair s.p s.given.ending (heading_opening rank) (heading_closing rank) (on_own_line (heading_opening rank)) inner (said (heading_closing rank)) (bracket-heading s.p rank fit)
-    (framed-needed s.p s.given.ending (heading_opening rank) s.ending) a (framed-text s.p s.given.ending (heading_closing rank))
+    adds-pair s.p s.given.ending (heading_opening rank) (heading_closing rank)
+    (on_own_line (heading_opening rank)) inner (said (heading_closing rank)) (bracket-heading s.p rank fit)
+    (framed-needed s.p s.given.ending (heading_opening rank) s.ending) a
+    (framed-text s.p s.given.ending (heading_closing rank))
 flow-node s t HeadingSetextText e is fit inner a =
-    adds-note s.p s.given.ending (Reads s) (Heading (page_of s inner).text) (nothing s.p) (page-holds s (Reads s) inner a)
+    adds-note s.p s.given.ending (Reads s) (Heading (page_of s inner).text) (nothing s.p)
+    (page-holds s (Reads s) inner a)
 flow-node s t HeadingSetextUnderlineSequence e is fit inner a =
     adds-readings s.p s.given.ending inner (setext_pieces s.given t.start) a
-    (adds-setext s.p s.given.ending s.ending (setext_rank s.given.bytes t.start) (setext-fits s.given.bytes (is_dash_at s.given.bytes t.start.index)))
+    (adds-setext s.p s.given.ending s.ending (setext_rank s.given.bytes t.start)
+    (setext-fits s.given.bytes (is_dash_at s.given.bytes t.start.index)))
 flow-node s t CodeIndented e is fit inner a =
-    adds-pair s.p s.given.ending (codes "<pre><code>") code_end (on_own_line (codes "<pre><code>")) inner (indented_closing t.passed ++ []) (bracket-code s.p)
+    adds-pair s.p s.given.ending (codes "<pre><code>") code_end (on_own_line (codes "<pre><code>")) inner
+    (indented_closing t.passed ++ []) (bracket-code s.p)
     (framed-needed s.p s.given.ending (codes "<pre><code>") s.ending) a (when-end s t.passed.spine.has_chunk code_end)
-flow-node s t CodeFenced e is fit inner a = adds-raw s.p s.given.ending s.ending code_tag inner (fenced_closing t.around t.passed ++ []) a (fenced-end s t.around t.passed)
-flow-node s t MathFlow e is fit inner a = adds-raw s.p s.given.ending s.ending math_tag inner (fenced_closing t.around t.passed ++ []) a (fenced-end s t.around t.passed)
+flow-node s t CodeFenced e is fit inner a = adds-raw s.p s.given.ending s.ending code_tag inner
+    (fenced_closing t.around t.passed ++ []) a (fenced-end s t.around t.passed)
+flow-node s t MathFlow e is fit inner a = adds-raw s.p s.given.ending s.ending math_tag inner
+    (fenced_closing t.around t.passed ++ []) a (fenced-end s t.around t.passed)
 flow-node s t CodeFlowChunk e is fit inner a = chunk-node s t inner a
 flow-node s t MathFlowChunk e is fit inner a = chunk-node s t inner a
 flow-node s t HtmlFlow e is fit inner a =
-    adds-readings s.p s.given.ending (Needed ∷ []) (inner ++ []) (adds-escaped s.p s.given.ending (Needed ∷ []) (adds-needed s.p s.given.ending s.ending)) (prints-alone s (Reads s) inner a)
+    adds-readings s.p s.given.ending (Needed ∷ []) (inner
+    ++ []) (adds-escaped s.p s.given.ending (Needed ∷ []) (adds-needed s.p s.given.ending s.ending))
+    (prints-alone s (Reads s) inner a)
 flow-node s t HtmlFlowData e is fit inner a =
-    prints-both s (Reads s) (join s.p) inner (html_pieces s.given t.around t.start t.end) a (adds-escaped s.p s.given.ending (html_pieces s.given t.around t.start t.end) (html-escaped s t e))
+    prints-both s (Reads s) (join s.p) inner (html_pieces s.given t.around t.start t.end) a
+    (adds-escaped s.p s.given.ending (html_pieces s.given t.around t.start t.end) (html-escaped s t e))
 flow-node s t _ e is fit inner a = absurd (lie is)
 
-hidden-node : (s : Setting) (t : Spot) (name : Name) → t.around.is_escaping ≡ true → is_hidden name ≡ true → (inner : List Piece) → Inside s t Blocks name inner → Prints s (Reads s) (node_pieces s t name inner)
+hidden-node : (s : Setting) (t : Spot) (name : Name) → t.around.is_escaping ≡ true → is_hidden name ≡ true →
+    (inner : List Piece) → Inside s t Blocks name inner → Prints s (Reads s) (node_pieces s t name inner)
 hidden-node s t CodeFencedFenceMeta e is inner a = adds-nothing s.p s.given.ending (Reads s) (nothing s.p)
 hidden-node s t MathFlowFenceMeta e is inner a = adds-nothing s.p s.given.ending (Reads s) (nothing s.p)
 hidden-node s t Frontmatter e is inner a = adds-nothing s.p s.given.ending (Reads s) (nothing s.p)
 hidden-node s t Definition e is inner a = adds-nothing s.p s.given.ending (Reads s) (nothing s.p)
 hidden-node s t DefinitionLabelString e is inner a = adds-nothing s.p s.given.ending (Reads s) (nothing s.p)
-hidden-node s t DefinitionDestinationString e is inner a = adds-note s.p s.given.ending (Reads s) (Destination (page_of s inner).text) (nothing s.p) tt
+hidden-node s t DefinitionDestinationString e is inner a =
+    adds-note s.p s.given.ending (Reads s) (Destination (page_of s inner).text) (nothing s.p) tt
 hidden-node s t DefinitionTitleString e is inner a =
-    adds-note s.p s.given.ending (Reads s) (Title (page_of s inner).text) (nothing s.p) (page-holds s (λ x. t.around.is_escaping ≡ true → Escaped x) inner a e)
+    adds-note s.p s.given.ending (Reads s) (Title (page_of s inner).text) (nothing s.p)
+    (page-holds s (λ x. t.around.is_escaping ≡ true → Escaped x) inner a e)
 hidden-node s t GfmFootnoteDefinition e is inner a = adds-nothing s.p s.given.ending (Reads s) (nothing s.p)
 hidden-node s t GfmFootnoteDefinitionLabelString e is inner a = adds-nothing s.p s.given.ending (Reads s) (nothing s.p)
 hidden-node s t GfmTableDelimiterRow e is inner a = adds-nothing s.p s.given.ending (Reads s) (nothing s.p)
@@ -199,25 +234,34 @@ hidden-node s t _ e is inner a = absurd (lie is)
 
 -- a row
 row-node : (s : Setting) (in_head : Bool) (kinds : List AlignKind) (inner : List Piece) → Prints s (Reads s) inner
-    → Prints s (Reads s) (on_own_line (codes "<tr>") ++ (inner ++ (empty_cells in_head kinds ++ on_own_line (codes "</tr>"))))
+    → Prints s (Reads s) (on_own_line (codes "<tr>") ++ (inner
+    ++ (empty_cells in_head kinds ++ on_own_line (codes "</tr>"))))
 row-node s in_head kinds inner a =
     subst (λ x. Prints s (Reads s) (on_own_line (codes "<tr>") ++ x))
     (append_assoc inner (empty_cells in_head kinds) (on_own_line (codes "</tr>")))
-    (block-pair s (codes "<tr>") (codes "</tr>") (bracket-plain s.p (codes "tr") refl) (inner ++ empty_cells in_head kinds)
-    (adds-readings s.p s.given.ending inner (empty_cells in_head kinds) a (adds-empty_cells s.p s.given.ending s.ending s.given.options s.test in_head kinds)))
+    (block-pair s (codes "<tr>") (codes "</tr>") (bracket-plain s.p (codes "tr") refl) (inner
+    ++ empty_cells in_head kinds)
+    (adds-readings s.p s.given.ending inner (empty_cells in_head kinds) a
+    (adds-empty_cells s.p s.given.ending s.ending s.given.options s.test in_head kinds)))
 
-table-node : (s : Setting) (t : Spot) (name : Name) → is_tabular name ≡ true → (inner : List Piece) → Inside s t Blocks name inner → Prints s (Reads s) (node_pieces s t name inner)
-table-node s t GfmTable is inner a = block-pair s (codes "<table>") (codes "</table>") (bracket-plain s.p (codes "table") refl) inner a
-table-node s t GfmTableHead is inner a = block-pair s (codes "<thead>") (codes "</thead>") (bracket-plain s.p (codes "thead") refl) inner a
+table-node : (s : Setting) (t : Spot) (name : Name) → is_tabular name ≡ true → (inner : List Piece) →
+    Inside s t Blocks name inner → Prints s (Reads s) (node_pieces s t name inner)
+table-node s t GfmTable is inner a = block-pair s (codes "<table>") (codes "</table>")
+    (bracket-plain s.p (codes "table") refl) inner a
+table-node s t GfmTableHead is inner a = block-pair s (codes "<thead>") (codes "</thead>")
+    (bracket-plain s.p (codes "thead") refl) inner a
 table-node s t GfmTableBody is inner a =
-    adds-pair s.p s.given.ending (codes "<tbody>") (codes "</tbody>") (said (codes "<tbody>")) inner (on_own_line (codes "</tbody>")) (bracket-plain s.p (codes "tbody") refl)
+    adds-pair s.p s.given.ending (codes "<tbody>") (codes "</tbody>") (said (codes "<tbody>")) inner
+    (on_own_line (codes "</tbody>")) (bracket-plain s.p (codes "tbody") refl)
     (framed-text s.p s.given.ending (codes "<tbody>")) a (framed-needed s.p s.given.ending (codes "</tbody>") s.ending)
 table-node s t GfmTableRow is inner a = row-node s t.around.in_head (drop t.passed.spine.cells t.left.columns) inner a
 table-node s t GfmTableCell is inner a =
-    adds-cell_in s.p s.given.ending s.ending s.given.options s.test t.around.in_head (slice_get t.left.columns t.left.spine.cells) (page_of s inner).text (page-holds s (Reads s) inner a)
+    adds-cell_in s.p s.given.ending s.ending s.given.options s.test t.around.in_head
+    (slice_get t.left.columns t.left.spine.cells) (page_of s inner).text (page-holds s (Reads s) inner a)
 table-node s t _ is inner a = absurd (lie is)
 
-silent-node : (s : Setting) (t : Spot) (name : Name) → is_silent name ≡ true → (inner : List Piece) → Inside s t Blocks name inner → Prints s (Reads s) (node_pieces s t name inner)
+silent-node : (s : Setting) (t : Spot) (name : Name) → is_silent name ≡ true → (inner : List Piece) →
+    Inside s t Blocks name inner → Prints s (Reads s) (node_pieces s t name inner)
 silent-node s t ListItemPrefix is inner a = prints-alone s (Reads s) inner a
 silent-node s t ListItemValue is inner a = prints-alone s (Reads s) inner a
 silent-node s t ListItemMarker is inner a = prints-alone s (Reads s) inner a
@@ -234,19 +278,24 @@ silent-node s t MdxJsxTextTag is inner a = prints-alone s (Reads s) inner a
 silent-node s t _ is inner a = absurd (lie is)
 
 -- each name is of one of the tables
-covered : (name : Name) → (is_transparent name || (is_part name || (is_string name || (is_span name || (is_in_media name || (is_autolink name || (is_flow name || (is_hidden name || (is_tabular name || is_silent name))))))))) ≡ true
+covered : (name : Name) → (is_transparent name || (is_part name
+    || (is_string name || (is_span name || (is_in_media name
+    || (is_autolink name || (is_flow name || (is_hidden name || (is_tabular name || is_silent name))))))))) ≡ true
 covered LineEnding = refl
 covered _ = refl
 
 -- blocks
-pub block-node : (s : Setting) (t : Spot) (name : Name) → t.around.is_escaping ≡ true → is_transparent name ≡ false → is_part name ≡ false → IsFitAt s t name → (inner : List Piece) → Inside s t Blocks name inner → Prints s (Reads s) (node_pieces s t name inner)
+pub block-node : (s : Setting) (t : Spot) (name : Name) → t.around.is_escaping ≡ true → is_transparent name ≡ false →
+    is_part name ≡ false → IsFitAt s t name → (inner : List Piece) → Inside s t Blocks name inner →
+    Prints s (Reads s) (node_pieces s t name inner)
 block-node s t name e solid whole fit inner a =
     elim (or_cases (is_transparent name) _ (covered name)) [
       | inl is ↦ absurd (lie (sym solid ∙ is))
       | inr c ↦ elim (or_cases (is_part name) _ c) [
         | inl is ↦ absurd (lie (sym whole ∙ is))
         | inr c ↦ elim (or_cases (is_string name) _ c) [
-          | inl is ↦ string-node s t Blocks name (narrow-wide s.p t.around.is_escaping t.around.in_image (Reads s) e (wide-reading s.p t.around.in_image)) is fit inner a
+          | inl is ↦ string-node s t Blocks name (narrow-wide s.p t.around.is_escaping t.around.in_image (Reads s) e
+              (wide-reading s.p t.around.in_image)) is fit inner a
           | inr c ↦ elim (or_cases (is_span name) _ c) [
             | inl is ↦ span-node s t Blocks name e (wide-reading s.p t.around.in_image) is inner a
             | inr c ↦ elim (or_cases (is_in_media name) _ c) [

@@ -55,7 +55,8 @@ is_first FirstFence = true
 is_first FirstMathFence = true
 is_first _ = false
 
-pub holds-nothing : (p : Attribute → Bool) (escaping in_image : Bool) (content : Content) → is_first content ≡ false → Holds p escaping in_image content []
+pub holds-nothing : (p : Attribute → Bool) (escaping in_image : Bool) (content : Content) → is_first content ≡ false →
+    Holds p escaping in_image content []
 holds-nothing p escaping in_image Blocks h = nothing p
 holds-nothing p escaping in_image Spans h = refl
 holds-nothing p escaping in_image Strings h = λ _. refl
@@ -68,20 +69,24 @@ holds-nothing p escaping in_image Done h = inl refl
 holds-nothing p escaping in_image Nothing h = refl
 
 -- what stays behind each name stays behind nodes
-pub after : (Q : Content → Type 0) → ((content : Content) (name : Name) → Q content → Q (content_past content name)) → (content : Content) (forest : Forest) → Q content → Q (content_after content forest)
+pub after : (Q : Content → Type 0) → ((content : Content) (name : Name) → Q content → Q (content_past content name)) →
+    (content : Content) (forest : Forest) → Q content → Q (content_after content forest)
 after Q past content Empty h = h
 after Q past content (Node name start end children rest) h =
     after Q past (cond (is_transparent name) (content_after content children) (content_past content name)) rest
-    (cond_both (is_transparent name) (content_after content children) (content_past content name) Q (λ _. after Q past content children h) (λ _. past content name h))
+    (cond_both (is_transparent name) (content_after content children) (content_past content name) Q
+    (λ _. after Q past content children h) (λ _. past content name h))
 
-suits-past : (escaping in_image : Bool) (content : Content) (name : Name) → Suits escaping in_image content → Suits escaping in_image (content_past content name)
+suits-past : (escaping in_image : Bool) (content : Content) (name : Name) → Suits escaping in_image content →
+    Suits escaping in_image (content_past content name)
 suits-past escaping in_image Blocks name h = h
 suits-past escaping in_image Spans name h = h
 suits-past escaping in_image Strings name h = tt
 suits-past escaping in_image FirstFence name h = tt
 suits-past escaping in_image FirstMathFence name h = tt
 suits-past escaping in_image Chunks name h = tt
-suits-past escaping in_image InfoAndMeta name h = cond_both (is_info name) MetaAlone Nothing (Suits escaping in_image) (λ _. tt) (λ _. tt)
+suits-past escaping in_image InfoAndMeta name h = cond_both (is_info name) MetaAlone Nothing (Suits escaping in_image)
+    (λ _. tt) (λ _. tt)
 suits-past escaping in_image MetaAlone name h = tt
 suits-past escaping in_image Done name h = tt
 suits-past escaping in_image Nothing name h = tt
@@ -101,10 +106,13 @@ later-past MetaAlone name h = refl
 later-past Done name h = refl
 later-past Nothing name h = refl
 
-pub suits-behind : (escaping in_image : Bool) (content : Content) (name : Name) (children : Forest) → Suits escaping in_image content → Suits escaping in_image (content_behind content name children)
+pub suits-behind : (escaping in_image : Bool) (content : Content) (name : Name) (children : Forest) →
+    Suits escaping in_image content → Suits escaping in_image (content_behind content name children)
 suits-behind escaping in_image content name children h =
-    cond_both (is_transparent name) (content_after content children) (content_past content name) (Suits escaping in_image)
-    (λ _. after (Suits escaping in_image) (suits-past escaping in_image) content children h) (λ _. suits-past escaping in_image content name h)
+    cond_both (is_transparent name) (content_after content children) (content_past content name)
+    (Suits escaping in_image)
+    (λ _. after (Suits escaping in_image) (suits-past escaping in_image) content children h)
+    (λ _. suits-past escaping in_image content name h)
 
 -- the two tests of fences are one
 same_fence : (name : Name) → is_fence name ≡ fence_name name
@@ -117,7 +125,8 @@ same_fences (name ∷ names) = (λ i. same_fence name i || same_fences names i)
 
 any-append : (xs ys : List Name) → list_any fence_name (xs ++ ys) ≡ (list_any fence_name xs || list_any fence_name ys)
 any-append [] ys = refl
-any-append (x ∷ xs) ys = ap (λ b. fence_name x || b) (any-append xs ys) ∙ by (fence_name x) (list_any fence_name xs) (list_any fence_name ys)
+any-append (x ∷ xs) ys = ap (λ b. fence_name x || b) (any-append xs ys)
+    ∙ by (fence_name x) (list_any fence_name xs) (list_any fence_name ys)
   where
     by : (a b c : Bool) → (a || (b || c)) ≡ ((a || b) || c)
     by true b c = refl
@@ -131,20 +140,24 @@ math_fence : (name : Name) → is_math_fence name ≡ true → fence_name name �
 math_fence MathFlowFence h = refl
 math_fence _ h = absurd (lie h)
 
-last_fence : (names : List Name) (name : Name) → fence_name name ≡ true → list_any fence_name (names ++ (name ∷ [])) ≡ true
-last_fence names name h = any-append names (name ∷ []) ∙ or_right (list_any fence_name names) (fence_name name || false) (or_left (fence_name name) false h)
+last_fence : (names : List Name) (name : Name) → fence_name name ≡ true →
+    list_any fence_name (names ++ (name ∷ [])) ≡ true
+last_fence names name h = any-append names (name ∷ []) ∙ or_right (list_any fence_name names) (fence_name name
+    || false) (or_left (fence_name name) false h)
 
 first_fence : (names more : List Name) → list_any fence_name names ≡ true → list_any fence_name (names ++ more) ≡ true
 first_fence names more h = any-append names more ∙ or_left (list_any fence_name names) (list_any fence_name more) h
 
-follows-past : (content : Content) (name : Name) (names : List Name) → may_stand content name ≡ true → Follows content names → Follows (content_past content name) (names ++ (name ∷ []))
+follows-past : (content : Content) (name : Name) (names : List Name) → may_stand content name ≡ true →
+    Follows content names → Follows (content_past content name) (names ++ (name ∷ []))
 follows-past Blocks name names h f = tt
 follows-past Spans name names h f = tt
 follows-past Strings name names h f = tt
 follows-past FirstFence name names h f = last_fence names name (code_fence name h)
 follows-past FirstMathFence name names h f = last_fence names name (math_fence name h)
 follows-past Chunks name names h f = first_fence names (name ∷ []) f
-follows-past InfoAndMeta name names h f = cond_both (is_info name) MetaAlone Nothing (λ content. Follows content (names ++ (name ∷ []))) (λ _. tt) (λ _. tt)
+follows-past InfoAndMeta name names h f = cond_both (is_info name) MetaAlone Nothing
+    (λ content. Follows content (names ++ (name ∷ []))) (λ _. tt) (λ _. tt)
 follows-past MetaAlone name names h f = tt
 follows-past Done name names h f = tt
 follows-past Nothing name names h f = tt
@@ -155,31 +168,45 @@ second true b e h = absurd (lie (sym e))
 second false b e h = h
 
 -- the part of the children of a node that is looked through
-through : (bytes : List ℕ) (content : Content) (name : Name) (children : Forest) → is_transparent name ≡ true → IsBuilt bytes (content_inside content name) children → IsBuilt bytes content children
-through bytes content name children e built = subst (λ b. IsBuilt bytes (cond b content (content_of name content)) children) e built
+through : (bytes : List ℕ) (content : Content) (name : Name) (children : Forest) → is_transparent name ≡ true →
+    IsBuilt bytes (content_inside content name) children → IsBuilt bytes content children
+through bytes content name children e built = subst (λ b. IsBuilt bytes
+    (cond b content (content_of name content)) children) e built
 
-follows-node : (content : Content) (name : Name) (names : List Name) (children : Forest) → (is_transparent name || may_stand content name) ≡ true → Follows content names
-    → (is_transparent name ≡ true → Follows (content_after content children) (names ++ spine_names children)) → Follows (content_behind content name children) (spine_behind name children names)
+follows-node : (content : Content) (name : Name) (names : List Name) (children : Forest) →
+    (is_transparent name || may_stand content name) ≡ true → Follows content names
+    → (is_transparent name ≡ true → Follows (content_after content children) (names ++ spine_names children)) →
+    Follows (content_behind content name children) (spine_behind name children names)
 follows-node content name names children stands f inner = by (is_transparent name) refl
   where
-    by : (through : Bool) → is_transparent name ≡ through → Follows (cond through (content_after content children) (content_past content name)) (names ++ (cond through (spine_names children) (name ∷ [])))
+    by : (through : Bool) → is_transparent name ≡ through →
+        Follows (cond through (content_after content children) (content_past content name)) (names
+        ++ (cond through (spine_names children) (name ∷ [])))
     by true e = inner e
     by false e = follows-past content name names (second (is_transparent name) (may_stand content name) e stands) f
 
-pub follows-after : (bytes : List ℕ) (content : Content) (names : List Name) (forest : Forest) → IsBuilt bytes content forest → Follows content names → Follows (content_after content forest) (names ++ spine_names forest)
+pub follows-after : (bytes : List ℕ) (content : Content) (names : List Name) (forest : Forest) →
+    IsBuilt bytes content forest → Follows content names →
+    Follows (content_after content forest) (names ++ spine_names forest)
 follows-after bytes content names Empty built f = subst (Follows content) (sym (append-nil names)) f
 follows-after bytes content names (Node name start end children rest) built f =
-    subst (Follows (content_after (content_behind content name children) rest)) (append_assoc names (cond (is_transparent name) (spine_names children) (name ∷ [])) (spine_names rest))
+    subst (Follows (content_after (content_behind content name children) rest))
+    (append_assoc names (cond (is_transparent name) (spine_names children) (name ∷ [])) (spine_names rest))
     (follows-after bytes (content_behind content name children) (spine_behind name children names) rest built.3
-    (follows-node content name names children built.0 f (λ e. follows-after bytes content names children (through bytes content name children e built.2) f)))
+    (follows-node content name names children built.0 f (λ e. follows-after bytes content names children
+    (through bytes content name children e built.2) f)))
 
-pub follows-behind : (bytes : List ℕ) (content : Content) (name : Name) (names : List Name) (children : Forest) → (is_transparent name || may_stand content name) ≡ true → IsBuilt bytes (content_inside content name) children → Follows content names
+pub follows-behind : (bytes : List ℕ) (content : Content) (name : Name) (names : List Name) (children : Forest) →
+    (is_transparent name || may_stand content name) ≡ true → IsBuilt bytes (content_inside content name) children →
+    Follows content names
     → Follows (content_behind content name children) (spine_behind name children names)
 follows-behind bytes content name names children stands built f =
-    follows-node content name names children stands f (λ e. follows-after bytes content names children (through bytes content name children e built) f)
+    follows-node content name names children stands f (λ e. follows-after bytes content names children
+    (through bytes content name children e built) f)
 
 -- HTML is escaped
-suits-escaping : (escaping escaped in_image : Bool) (content : Content) → escaped ≡ true → Suits escaping in_image content → Suits escaped in_image content
+suits-escaping : (escaping escaped in_image : Bool) (content : Content) → escaped ≡ true →
+    Suits escaping in_image content → Suits escaped in_image content
 suits-escaping escaping escaped in_image Blocks e h = e
 suits-escaping escaping escaped in_image Spans e h = (e, h.1)
 suits-escaping escaping escaped in_image Strings e h = tt
@@ -192,7 +219,8 @@ suits-escaping escaping escaped in_image Done e h = tt
 suits-escaping escaping escaped in_image Nothing e h = tt
 
 -- where an image or code may stand, special characters are escaped
-pub suits-wide : (escaping in_image : Bool) (content : Content) → (may_stand content Image || may_stand content CodeFenced) ≡ true → Suits escaping in_image content → escaping ≡ true
+pub suits-wide : (escaping in_image : Bool) (content : Content) →
+    (may_stand content Image || may_stand content CodeFenced) ≡ true → Suits escaping in_image content → escaping ≡ true
 suits-wide escaping in_image Blocks s h = h
 suits-wide escaping in_image Spans s h = h.0
 suits-wide escaping in_image Strings s h = absurd (lie s)
@@ -204,20 +232,31 @@ suits-wide escaping in_image MetaAlone s h = absurd (lie s)
 suits-wide escaping in_image Done s h = absurd (lie s)
 suits-wide escaping in_image Nothing s h = absurd (lie s)
 
-suits-code_fence : (escaping in_image : Bool) (content : Content) → Suits escaping in_image content → Suits escaping in_image (content_of CodeFencedFence content)
+suits-code_fence : (escaping in_image : Bool) (content : Content) → Suits escaping in_image content →
+    Suits escaping in_image (content_of CodeFencedFence content)
 suits-code_fence escaping in_image FirstFence h = h
 suits-code_fence escaping in_image _ h = tt
 
-suits-math_fence : (escaping in_image : Bool) (content : Content) → Suits escaping in_image (content_of MathFlowFence content)
+suits-math_fence : (escaping in_image : Bool) (content : Content) →
+    Suits escaping in_image (content_of MathFlowFence content)
 suits-math_fence escaping in_image FirstMathFence = tt
 suits-math_fence escaping in_image _ = tt
 
 -- the surroundings of a node's children suit them
-pub suits-inside : (options : CompileOptions) → options.allow_dangerous_html ≡ false → (loose : Bool) (around : Surroundings) (content : Content) (name : Name) → may_stand content name ≡ true → Suits around.is_escaping around.in_image content
-    → Suits (inside options loose name around).is_escaping (inside options loose name around).in_image (content_of name content)
-suits-inside options html loose around content HtmlFlow s h = suits-escaping around.is_escaping (not options.allow_dangerous_html) around.in_image content (ap not html) h
-suits-inside options html loose around content HtmlText s h = suits-escaping around.is_escaping (not options.allow_dangerous_html) around.in_image content (ap not html) h
-suits-inside options html loose around content Image s h = (suits-wide around.is_escaping around.in_image content (or_left (may_stand content Image) (may_stand content CodeFenced) s) h, refl)
+pub suits-inside : (options : CompileOptions) → options.allow_dangerous_html ≡ false →
+    (loose : Bool) (around : Surroundings) (content : Content) (name : Name) → may_stand content name ≡ true →
+    Suits around.is_escaping around.in_image content
+    → Suits (inside options loose name around).is_escaping (inside options loose name around).in_image
+    (content_of name content)
+suits-inside options html loose around content HtmlFlow s h =
+    suits-escaping around.is_escaping (not options.allow_dangerous_html) around.in_image content (ap not html) h
+suits-inside options html loose around content HtmlText s h =
+    suits-escaping around.is_escaping (not options.allow_dangerous_html) around.in_image content (ap not html) h
+suits-inside options html loose around content Image s h = (
+  suits-wide around.is_escaping around.in_image content
+      (or_left (may_stand content Image) (may_stand content CodeFenced) s) h,
+  refl,
+)
 suits-inside options html loose around content CodeText s h = tt
 suits-inside options html loose around content MathText s h = tt
 suits-inside options html loose around content DefinitionLabelString s h = tt
@@ -235,15 +274,20 @@ suits-inside options html loose around content BlankLineEnding s h = tt
 suits-inside options html loose around content CodeFlowChunk s h = tt
 suits-inside options html loose around content MathFlowChunk s h = tt
 suits-inside options html loose around content GfmTaskListItemValueChecked s h = tt
-suits-inside options html loose around content CodeFenced s h = suits-wide around.is_escaping around.in_image content (or_right (may_stand content Image) (may_stand content CodeFenced) s) h
+suits-inside options html loose around content CodeFenced s h =
+    suits-wide around.is_escaping around.in_image content
+    (or_right (may_stand content Image) (may_stand content CodeFenced) s) h
 suits-inside options html loose around content MathFlow s h = tt
-suits-inside options html loose around content CodeFencedFence s h = suits-code_fence around.is_escaping around.in_image content h
-suits-inside options html loose around content MathFlowFence s h = suits-math_fence around.is_escaping around.in_image content
+suits-inside options html loose around content CodeFencedFence s h =
+    suits-code_fence around.is_escaping around.in_image content h
+suits-inside options html loose around content MathFlowFence s h =
+    suits-math_fence around.is_escaping around.in_image content
 suits-inside options html loose around content GfmTaskListItemCheck s h = tt
 suits-inside options html loose around content _ s h = h
 
 -- where neither a line of code nor a fence may stand
-plain-follows : (content : Content) (name : Name) → (is_line name || is_fence name) ≡ false → may_stand content name ≡ true → Follows content []
+plain-follows : (content : Content) (name : Name) → (is_line name || is_fence name) ≡ false →
+    may_stand content name ≡ true → Follows content []
 plain-follows Blocks name plain s = tt
 plain-follows Spans name plain s = tt
 plain-follows Strings name plain s = tt
@@ -264,7 +308,8 @@ follows-math_fence FirstMathFence = tt
 follows-math_fence _ = tt
 
 -- nothing stands before a node's first child
-pub follows-inside : (content : Content) (name : Name) → may_stand content name ≡ true → Follows (content_of name content) []
+pub follows-inside : (content : Content) (name : Name) → may_stand content name ≡ true →
+    Follows (content_of name content) []
 follows-inside content CodeText s = tt
 follows-inside content MathText s = tt
 follows-inside content DefinitionLabelString s = tt
@@ -290,12 +335,14 @@ follows-inside content CodeFencedFence s = follows-code_fence content
 follows-inside content MathFlowFence s = follows-math_fence content
 follows-inside content name s = plain-follows content name refl s
 
-plain-later : (content : Content) (name : Name) → (is_code_fence name || is_math_fence name) ≡ false → may_stand content name ≡ true → IsLater content
+plain-later : (content : Content) (name : Name) → (is_code_fence name || is_math_fence name) ≡ false →
+    may_stand content name ≡ true → IsLater content
 plain-later Blocks name plain s = refl
 plain-later Spans name plain s = refl
 plain-later Strings name plain s = refl
 plain-later FirstFence name plain s = absurd (lie (sym plain ∙ or_left (is_code_fence name) (is_math_fence name) s))
-plain-later FirstMathFence name plain s = absurd (lie (sym plain ∙ or_right (is_code_fence name) (is_math_fence name) s))
+plain-later FirstMathFence name plain s = absurd (lie (sym plain
+    ∙ or_right (is_code_fence name) (is_math_fence name) s))
 plain-later Chunks name plain s = refl
 plain-later InfoAndMeta name plain s = refl
 plain-later MetaAlone name plain s = refl
@@ -314,7 +361,8 @@ later-after : (content : Content) (forest : Forest) → IsLater content → IsLa
 later-after content forest h = after IsLater later-past content forest h
 
 -- behind a fence no first one is to come
-later-fenced : (content : Content) (names : List Name) → Follows content names → list_any fence_name names ≡ true → IsLater content
+later-fenced : (content : Content) (names : List Name) → Follows content names → list_any fence_name names ≡ true →
+    IsLater content
 later-fenced FirstFence names f h = absurd (lie (sym f ∙ h))
 later-fenced FirstMathFence names f h = absurd (lie (sym f ∙ h))
 later-fenced Blocks names f h = refl
@@ -326,23 +374,33 @@ later-fenced MetaAlone names f h = refl
 later-fenced Done names f h = refl
 later-fenced Nothing names f h = refl
 
-fenced-after : (bytes : List ℕ) (content : Content) (children : Forest) → IsBuilt bytes content children → Follows content [] → list_any is_fence (spine_names children) ≡ true → IsLater (content_after content children)
+fenced-after : (bytes : List ℕ) (content : Content) (children : Forest) → IsBuilt bytes content children →
+    Follows content [] → list_any is_fence (spine_names children) ≡ true → IsLater (content_after content children)
 fenced-after bytes content children built f h =
-    later-fenced (content_after content children) (spine_names children) (follows-after bytes content [] children built f) (sym (same_fences (spine_names children)) ∙ h)
+    later-fenced (content_after content children) (spine_names children)
+    (follows-after bytes content [] children built f) (sym (same_fences (spine_names children)) ∙ h)
 
 -- behind a node's children no first fence is to come
-pub later-inside : (bytes : List ℕ) (content : Content) (name : Name) (start end : Point) (children : Forest) → may_stand content name ≡ true → IsFit bytes name start end children → IsBuilt bytes (content_of name content) children
+pub later-inside : (bytes : List ℕ) (content : Content) (name : Name) (start end : Point) (children : Forest) →
+    may_stand content name ≡ true → IsFit bytes name start end children →
+    IsBuilt bytes (content_of name content) children
     → IsLater (content_after (content_of name content) children)
-later-inside bytes content CodeFenced start end children s fit built = fenced-after bytes FirstFence children built refl fit
-later-inside bytes content MathFlow start end children s fit built = fenced-after bytes FirstMathFence children built refl fit
-later-inside bytes content CodeFencedFence start end children s fit built = later-after (content_of CodeFencedFence content) children (later-code_fence content)
-later-inside bytes content MathFlowFence start end children s fit built = later-after (content_of MathFlowFence content) children (later-math_fence content)
+later-inside bytes content CodeFenced start end children s fit built =
+    fenced-after bytes FirstFence children built refl fit
+later-inside bytes content MathFlow start end children s fit built =
+    fenced-after bytes FirstMathFence children built refl fit
+later-inside bytes content CodeFencedFence start end children s fit built =
+    later-after (content_of CodeFencedFence content) children (later-code_fence content)
+later-inside bytes content MathFlowFence start end children s fit built =
+    later-after (content_of MathFlowFence content) children (later-math_fence content)
 later-inside bytes content CodeText start end children s fit built = later-after Strings children refl
 later-inside bytes content MathText start end children s fit built = later-after Strings children refl
 later-inside bytes content DefinitionLabelString start end children s fit built = later-after Strings children refl
-later-inside bytes content DefinitionDestinationString start end children s fit built = later-after Strings children refl
+later-inside bytes content DefinitionDestinationString start end children s fit built =
+    later-after Strings children refl
 later-inside bytes content DefinitionTitleString start end children s fit built = later-after Strings children refl
-later-inside bytes content GfmFootnoteDefinitionLabelString start end children s fit built = later-after Strings children refl
+later-inside bytes content GfmFootnoteDefinitionLabelString start end children s fit built =
+    later-after Strings children refl
 later-inside bytes content ResourceDestinationString start end children s fit built = later-after Strings children refl
 later-inside bytes content ResourceTitleString start end children s fit built = later-after Strings children refl
 later-inside bytes content ReferenceString start end children s fit built = later-after Strings children refl
@@ -353,7 +411,9 @@ later-inside bytes content LineEnding start end children s fit built = later-aft
 later-inside bytes content BlankLineEnding start end children s fit built = later-after Nothing children refl
 later-inside bytes content CodeFlowChunk start end children s fit built = later-after Nothing children refl
 later-inside bytes content MathFlowChunk start end children s fit built = later-after Nothing children refl
-later-inside bytes content GfmTaskListItemValueChecked start end children s fit built = later-after Nothing children refl
+later-inside bytes content GfmTaskListItemValueChecked start end children s fit built =
+    later-after Nothing children refl
 later-inside bytes content Image start end children s fit built = later-after Spans children refl
 later-inside bytes content GfmTaskListItemCheck start end children s fit built = later-after Done children refl
-later-inside bytes content name start end children s fit built = later-after content children (plain-later content name refl s)
+later-inside bytes content name start end children s fit built =
+    later-after content children (plain-later content name refl s)

@@ -5,7 +5,7 @@ use Rattle.std.specs.Option.{option_map_or}
 use Rattle.std.specs.List.{list_all}
 use Rattle.std.proofs.lemmas.Bool.{agree_below_at, not_from_false}
 use Rattle.md_base.specs.declared.event.Position.{Position}
-use Rattle.md_text.specs.Html.{Attribute, HasReadingWith, opening_tag, closing_tag, is_tag, elements, all_pass}
+use Rattle.md_text.specs.Html.{Attribute, HasReadingWith, opening_tag, closing_tag, is_tag, elements}
 use Rattle.md_text.proofs.HtmlJoin.{text, join}
 use Rattle.md_meaning.specs.declared.options.CompileOptions.{CompileOptions}
 use Rattle.md_meaning.specs.Piece.{Piece, Text, Needed, Recalled}
@@ -18,31 +18,47 @@ use Rattle.md_safe.proofs.Texts.{Escaped, zeros-escaped}
 use Rattle.md_safe.proofs.Laid.{Adds, adds-append, adds-needed, adds-recalled}
 use Rattle.md_safe.proofs.Tags.{IsTest, attribute, IsFramed, Bracket, bracket-tag, bracket-two, element-read, void-read, adds-pair, adds-flat, framed-text, framed-needed, flat, are_texts}
 
-pub bracket-plain : (p : Attribute → Bool) (name : List ℕ) → is_tag elements name [] ≡ true → Bracket p (opening_tag name []) (closing_tag name)
+pub bracket-plain : (p : Attribute → Bool) (name : List ℕ) → is_tag elements name [] ≡ true →
+    Bracket p (opening_tag name []) (closing_tag name)
 bracket-plain p name h = bracket-tag p name [] h refl
 
 pub bracket-code : (p : Attribute → Bool) → Bracket p (codes "<pre><code>") code_end
-bracket-code p = bracket-two p (codes "<pre>") (codes "</pre>") (codes "<code>") (codes "</code>") (bracket-plain p (codes "pre") refl) (bracket-plain p (codes "code") refl)
+bracket-code p = bracket-two p (codes "<pre>") (codes "</pre>") (codes "<code>") (codes "</code>")
+    (bracket-plain p (codes "pre") refl) (bracket-plain p (codes "code") refl)
 
 -- a heading of a rank from 1 to 6
-pub bracket-heading : (p : Attribute → Bool) (rank : ℕ) → (1 ≤ rank) × (rank ≤ 6) → Bracket p (heading_opening rank) (heading_closing rank)
+pub bracket-heading : (p : Attribute → Bool) (rank : ℕ) → (1 ≤ rank) × (rank ≤ 6) →
+    Bracket p (heading_opening rank) (heading_closing rank)
 bracket-heading p rank h =
     let below : rank < 7 = omega (arith, h.1) in
     let some : rank ≢ 0 = (λ e. omega (arith, h.0, e)) in
     bracket-plain p (heading_name rank)
-    (agree_below_at (λ rank. is_tag elements (heading_name rank) []) (λ rank. not (rank == 0)) 7 rank refl below ∙ not_from_false (rank == 0) (ne_eqb rank 0 some))
+    (agree_below_at (λ rank. is_tag elements (heading_name rank) []) (λ rank. not (rank == 0)) 7 rank refl below
+    ∙ not_from_false (rank == 0) (ne_eqb rank 0 some))
 
 -- the heading that was noted
-pub adds-setext : (p : Attribute → Bool) (ending : List ℕ) → Escaped ending → (rank : ℕ) → (1 ≤ rank) × (rank ≤ 6) → Adds p ending (HasReadingWith p) (Needed ∷ Text (heading_opening rank) ∷ Recalled ∷ Text (heading_closing rank) ∷ [])
+pub adds-setext : (p : Attribute → Bool) (ending : List ℕ) → Escaped ending → (rank : ℕ) → (1 ≤ rank) × (rank ≤ 6) →
+    Adds p ending (HasReadingWith p) (Needed ∷ Text (heading_opening rank) ∷ Recalled ∷ Text (heading_closing rank)
+    ∷ [])
 adds-setext p ending h rank fits =
-    adds-pair p ending (heading_opening rank) (heading_closing rank) (Needed ∷ Text (heading_opening rank) ∷ []) (Recalled ∷ []) (Text (heading_closing rank) ∷ [])
-    (bracket-heading p rank fits) (framed-needed p ending (heading_opening rank) h) (adds-recalled p ending) (framed-text p ending (heading_closing rank))
+    adds-pair p ending (heading_opening rank) (heading_closing rank) (Needed ∷ Text (heading_opening rank)
+    ∷ []) (Recalled ∷ []) (Text (heading_closing rank) ∷ [])
+    (bracket-heading p rank fits) (framed-needed p ending (heading_opening rank) h) (adds-recalled p ending)
+    (framed-text p ending (heading_closing rank))
 
 -- some texts behind pieces that add an escaped one
-pub adds-framed_flat : (p : Attribute → Bool) (ending : List ℕ) (xs zs : List Piece) → are_texts zs ≡ true → Adds p ending Escaped xs → Adds p ending (IsFramed (flat zs)) (xs ++ zs)
+pub adds-framed_flat : (p : Attribute → Bool) (ending : List ℕ) (xs zs : List Piece) → are_texts zs ≡ true →
+    Adds p ending Escaped xs → Adds p ending (IsFramed (flat zs)) (xs ++ zs)
 adds-framed_flat p ending xs zs texts a =
     adds-append p ending Escaped (λ w. w ≡ flat zs) (IsFramed (flat zs)) xs zs
-    (λ x w f g. record { before = x; after = []; whole = ap (λ w. x ++ w) g ∙ ap (λ w. x ++ w) (sym (append-nil (flat zs))); escaped_before = f; escaped_after = refl })
+    (λ x w f g. record {
+      before = x;
+      after = [];
+      whole = ap (λ w. x ++ w) g
+          ∙ ap (λ w. x ++ w) (sym (append-nil (flat zs)));
+      escaped_before = f;
+      escaped_after = refl;
+    })
     a (adds-flat p ending (λ w. w ≡ flat zs) zs texts refl)
 
 -- the opening of a list, between pieces
@@ -54,51 +70,68 @@ pub record IsOpening (p : Attribute → Bool) (ending : List ℕ) (close : List 
 ol_start : (n : List ℕ) → Escaped n → is_tag elements (codes "ol") (attribute (codes "start") n ∷ []) ≡ true
 ol_start n h = rw h refl
 
-with_start : (p : Attribute → Bool) (ending : List ℕ) → Escaped ending → (options : CompileOptions) → IsTest p options → (n : List ℕ) → Escaped n
-    → IsOpening p ending (codes "</ol>") (Needed ∷ Text (codes "<ol") ∷ Text (codes " start=\"") ∷ Text n ∷ Text (codes "\"") ∷ Text (codes ">") ∷ [])
+with_start : (p : Attribute → Bool) (ending : List ℕ) → Escaped ending → (options : CompileOptions) →
+    IsTest p options → (n : List ℕ) → Escaped n
+    → IsOpening p ending (codes "</ol>") (Needed ∷ Text (codes "<ol") ∷ Text (codes " start=\"") ∷ Text n
+    ∷ Text (codes "\"") ∷ Text (codes ">") ∷ [])
 with_start p ending h options test n e =
     record {
       open_tag = codes "<ol start=\"" ++ (n ++ codes "\">");
-      adds = adds-framed_flat p ending (Needed ∷ []) (Text (codes "<ol") ∷ Text (codes " start=\"") ∷ Text n ∷ Text (codes "\"") ∷ Text (codes ">") ∷ []) refl (adds-needed p ending h);
+      adds = adds-framed_flat p ending (Needed ∷ []) (Text (codes "<ol") ∷ Text (codes " start=\"") ∷ Text n
+          ∷ Text (codes "\"") ∷ Text (codes ">") ∷ []) refl (adds-needed p ending h);
       bracket =
-          subst (λ o. Bracket p o (codes "</ol>")) (ap (λ x. codes "<ol start=\"" ++ x) (append_assoc n (34 ∷ []) (62 ∷ [])))
+          subst (λ o. Bracket p o (codes "</ol>")) (ap (λ x. codes "<ol start=\""
+          ++ x) (append_assoc n (34 ∷ []) (62 ∷ [])))
           (bracket-tag p (codes "ol") (attribute (codes "start") n ∷ []) (ol_start n e)
           (cc (test.other (codes "start") n refl)));
     }
 
-without_start : (p : Attribute → Bool) (ending : List ℕ) → Escaped ending → IsOpening p ending (codes "</ol>") (Needed ∷ Text (codes "<ol") ∷ Text (codes ">") ∷ [])
+without_start : (p : Attribute → Bool) (ending : List ℕ) → Escaped ending →
+    IsOpening p ending (codes "</ol>") (Needed ∷ Text (codes "<ol") ∷ Text (codes ">") ∷ [])
 without_start p ending h =
     record {
       open_tag = codes "<ol>";
-      adds = adds-framed_flat p ending (Needed ∷ []) (Text (codes "<ol") ∷ Text (codes ">") ∷ []) refl (adds-needed p ending h);
+      adds = adds-framed_flat p ending (Needed ∷ []) (Text (codes "<ol") ∷ Text (codes ">")
+          ∷ []) refl (adds-needed p ending h);
       bracket = bracket-plain p (codes "ol") refl;
     }
 
 -- an ordered list's opening
-pub ordered-opening : (p : Attribute → Bool) (ending : List ℕ) → Escaped ending → (options : CompileOptions) → IsTest p options → (bytes : List ℕ) (number : Option Position)
+pub ordered-opening : (p : Attribute → Bool) (ending : List ℕ) → Escaped ending → (options : CompileOptions) →
+    IsTest p options → (bytes : List ℕ) (number : Option Position)
     → option_map_or (λ place. list_all is_digit (text_of bytes place.start place.end)) number true ≡ true
     → IsOpening p ending (codes "</ol>") (on_own_line (codes "<ol") ++ (start_pieces bytes number ++ said (codes ">")))
 ordered-opening p ending h options test bytes None fits = without_start p ending h
-ordered-opening p ending h options test bytes (Some place) fits = by (bytes_eq (without_zeros (text_of bytes place.start place.end)) (codes "1"))
+ordered-opening p ending h options test bytes (Some place) fits =
+    by (bytes_eq (without_zeros (text_of bytes place.start place.end)) (codes "1"))
   where
-    by : (one : Bool) → IsOpening p ending (codes "</ol>") (on_own_line (codes "<ol") ++ ((cond one [] (Text (codes " start=\"") ∷ Text (without_zeros (text_of bytes place.start place.end)) ∷ Text (codes "\"") ∷ [])) ++ said (codes ">")))
+    by : (one : Bool) → IsOpening p ending (codes "</ol>") (on_own_line (codes "<ol")
+        ++ ((cond one [] (Text (codes " start=\"") ∷ Text (without_zeros (text_of bytes place.start place.end))
+        ∷ Text (codes "\"") ∷ [])) ++ said (codes ">")))
     by true = without_start p ending h
-    by false = with_start p ending h options test (without_zeros (text_of bytes place.start place.end)) (zeros-escaped (text_of bytes place.start place.end) fits)
+    by false = with_start p ending h options test (without_zeros (text_of bytes place.start place.end))
+        (zeros-escaped (text_of bytes place.start place.end) fits)
 
 -- code in a text
-pub adds-code : (p : Attribute → Bool) (ending : List ℕ) (x : List ℕ) → Escaped x → Adds p ending (HasReadingWith p) (Text (codes "<code>") ∷ Text x ∷ Text (codes "</code>") ∷ [])
+pub adds-code : (p : Attribute → Bool) (ending : List ℕ) (x : List ℕ) → Escaped x →
+    Adds p ending (HasReadingWith p) (Text (codes "<code>") ∷ Text x ∷ Text (codes "</code>") ∷ [])
 adds-code p ending x h =
     adds-flat p ending (HasReadingWith p) (Text (codes "<code>") ∷ Text x ∷ Text (codes "</code>") ∷ []) refl
     (element-read p (codes "code") [] x refl refl (text p x h))
 
-pub class-passes : (p : Attribute → Bool) (options : CompileOptions) → IsTest p options → (value : List ℕ) → all_pass p (attribute (codes "class") value ∷ []) ≡ true
+pub class-passes : (p : Attribute → Bool) (options : CompileOptions) → IsTest p options → (value : List ℕ) →
+    list_all p (attribute (codes "class") value ∷ []) ≡ true
 class-passes p options test value = cc (test.other (codes "class") value refl)
 
-pub adds-math : (p : Attribute → Bool) (ending : List ℕ) (options : CompileOptions) → IsTest p options → (x : List ℕ) → Escaped x
-    → Adds p ending (HasReadingWith p) (Text (codes "<code class=\"language-math math-inline\">") ∷ Text x ∷ Text (codes "</code>") ∷ [])
+pub adds-math : (p : Attribute → Bool) (ending : List ℕ) (options : CompileOptions) → IsTest p options →
+    (x : List ℕ) → Escaped x
+    → Adds p ending (HasReadingWith p) (Text (codes "<code class=\"language-math math-inline\">") ∷ Text x
+    ∷ Text (codes "</code>") ∷ [])
 adds-math p ending options test x h =
-    adds-flat p ending (HasReadingWith p) (Text (codes "<code class=\"language-math math-inline\">") ∷ Text x ∷ Text (codes "</code>") ∷ []) refl
-    (element-read p (codes "code") (attribute (codes "class") (codes "language-math math-inline") ∷ []) x refl (class-passes p options test (codes "language-math math-inline")) (text p x h))
+    adds-flat p ending (HasReadingWith p) (Text (codes "<code class=\"language-math math-inline\">") ∷ Text x
+    ∷ Text (codes "</code>") ∷ []) refl
+    (element-read p (codes "code") (attribute (codes "class") (codes "language-math math-inline")
+    ∷ []) x refl (class-passes p options test (codes "language-math math-inline")) (text p x h))
 
 -- what a task's mark adds to its tag
 abbrev pub IsDone : Bool → List ℕ → Type 0
@@ -108,7 +141,8 @@ IsDone in_image x = (x ≡ []) ⊎ ((in_image ≡ false) × (x ≡ codes "checke
 abbrev pub task_tag : Bool → List ℕ
 task_tag checkable = codes "<input type=\"checkbox\" " ++ cond checkable [] (codes "disabled=\"\" ")
 
-task-read : (p : Attribute → Bool) (options : CompileOptions) → IsTest p options → (checkable : Bool) (x : List ℕ) → (x ≡ []) ⊎ (x ≡ codes "checked=\"\" ") → HasReadingWith p (task_tag checkable ++ (x ++ codes "/>"))
+task-read : (p : Attribute → Bool) (options : CompileOptions) → IsTest p options → (checkable : Bool) (x : List ℕ) →
+    (x ≡ []) ⊎ (x ≡ codes "checked=\"\" ") → HasReadingWith p (task_tag checkable ++ (x ++ codes "/>"))
 task-read p options test checkable x done =
     elim done [
       | inl e ↦ subst (λ x. HasReadingWith p (task_tag checkable ++ (x ++ codes "/>"))) (sym e) (by checkable)
@@ -126,27 +160,38 @@ task-read p options test checkable x done =
 
     by : (checkable : Bool) → HasReadingWith p (task_tag checkable ++ codes "/>")
     by true = void-read p (codes "input") (attribute (codes "type") (codes "checkbox") ∷ []) refl (cc kind)
-    by false = void-read p (codes "input") (attribute (codes "type") (codes "checkbox") ∷ attribute (codes "disabled") [] ∷ []) refl (rw (kind, disabled) refl)
+    by false = void-read p (codes "input") (attribute (codes "type") (codes "checkbox")
+        ∷ attribute (codes "disabled") [] ∷ []) refl (rw (kind, disabled) refl)
 
     on : (checkable : Bool) → HasReadingWith p (task_tag checkable ++ (codes "checked=\"\" " ++ codes "/>"))
-    on true = void-read p (codes "input") (attribute (codes "type") (codes "checkbox") ∷ attribute (codes "checked") [] ∷ []) refl (rw (kind, checked) refl)
-    on false = void-read p (codes "input") (attribute (codes "type") (codes "checkbox") ∷ attribute (codes "disabled") [] ∷ attribute (codes "checked") [] ∷ []) refl (rw (kind, disabled, checked) refl)
+    on true = void-read p (codes "input") (attribute (codes "type") (codes "checkbox")
+        ∷ attribute (codes "checked") [] ∷ []) refl (rw (kind, checked) refl)
+    on false = void-read p (codes "input") (attribute (codes "type") (codes "checkbox")
+        ∷ attribute (codes "disabled") [] ∷ attribute (codes "checked") [] ∷ []) refl (rw (kind, disabled, checked) refl)
 
 -- a task outside images
-pub adds-task : (p : Attribute → Bool) (ending : List ℕ) (options : CompileOptions) → IsTest p options → (checkable in_image : Bool) (inner : List Piece) → Adds p ending (IsDone in_image) inner
-    → Adds p ending (HasReadingWith p) ((Text (codes "<input type=\"checkbox\" ") ∷ (cond checkable [] (said (codes "disabled=\"\" ")))) ++ (inner ++ said (codes "/>")))
+pub adds-task : (p : Attribute → Bool) (ending : List ℕ) (options : CompileOptions) → IsTest p options →
+    (checkable in_image : Bool) (inner : List Piece) → Adds p ending (IsDone in_image) inner
+    → Adds p ending (HasReadingWith p) ((Text (codes "<input type=\"checkbox\" ")
+    ∷ (cond checkable [] (said (codes "disabled=\"\" ")))) ++ (inner ++ said (codes "/>")))
 adds-task p ending options test checkable in_image inner a =
-    adds-append p ending (λ x. x ≡ task_tag checkable) (λ w. (x : List ℕ) × (w ≡ x ++ codes "/>") × ((x ≡ []) ⊎ (x ≡ codes "checked=\"\" "))) (HasReadingWith p)
-    (Text (codes "<input type=\"checkbox\" ") ∷ (cond checkable [] (said (codes "disabled=\"\" ")))) (inner ++ said (codes "/>"))
-    (λ x w f g. subst (HasReadingWith p) (ap (λ w. task_tag checkable ++ w) (sym g.1) ∙ ap (λ x. x ++ w) (sym f)) (task-read p options test checkable g.0 g.2))
+    adds-append p ending (λ x. x ≡ task_tag checkable) (λ w. (x : List ℕ) × (w ≡ x ++ codes "/>")
+    × ((x ≡ []) ⊎ (x ≡ codes "checked=\"\" "))) (HasReadingWith p)
+    (Text (codes "<input type=\"checkbox\" ") ∷ (cond checkable [] (said (codes "disabled=\"\" ")))) (inner
+    ++ said (codes "/>"))
+    (λ x w f g. subst (HasReadingWith p) (ap (λ w. task_tag checkable ++ w) (sym g.1)
+    ∙ ap (λ x. x ++ w) (sym f)) (task-read p options test checkable g.0 g.2))
     (first checkable)
-    (adds-append p ending (IsDone in_image) (λ x. x ≡ codes "/>") (λ w. (x : List ℕ) × (w ≡ x ++ codes "/>") × ((x ≡ []) ⊎ (x ≡ codes "checked=\"\" "))) inner (said (codes "/>"))
+    (adds-append p ending (IsDone in_image) (λ x. x ≡ codes "/>") (λ w. (x : List ℕ) × (w ≡ x ++ codes "/>")
+    × ((x ≡ []) ⊎ (x ≡ codes "checked=\"\" "))) inner (said (codes "/>"))
     (λ x y f g. (x, ap (λ y. x ++ y) g, elim f [ inl e ↦ inl e | inr e ↦ inr e.1 ]))
     a (adds-flat p ending (λ x. x ≡ codes "/>") (said (codes "/>")) refl refl))
   where
-    first : (checkable : Bool) → Adds p ending (λ x. x ≡ task_tag checkable) (Text (codes "<input type=\"checkbox\" ") ∷ (cond checkable [] (said (codes "disabled=\"\" "))))
+    first : (checkable : Bool) → Adds p ending (λ x. x ≡ task_tag checkable) (Text (codes "<input type=\"checkbox\" ")
+        ∷ (cond checkable [] (said (codes "disabled=\"\" "))))
     first true = adds-flat p ending (λ x. x ≡ task_tag true) (Text (codes "<input type=\"checkbox\" ") ∷ []) refl refl
-    first false = adds-flat p ending (λ x. x ≡ task_tag false) (Text (codes "<input type=\"checkbox\" ") ∷ Text (codes "disabled=\"\" ") ∷ []) refl refl
+    first false = adds-flat p ending (λ x. x ≡ task_tag false) (Text (codes "<input type=\"checkbox\" ")
+        ∷ Text (codes "disabled=\"\" ") ∷ []) refl refl
 
 -- a text that ends an opening tag of code and goes on with an escaped text
 pub record IsRaw (p : Attribute → Bool) (tag x : List ℕ) : Type 0 where
@@ -156,33 +201,45 @@ pub record IsRaw (p : Attribute → Bool) (tag x : List ℕ) : Type 0 where
   pub bracket : Bracket p (tag ++ (attributes ++ (62 ∷ []))) code_end
   pub escaped : Escaped body
 
-raw_regrouped : (e tag w y g c h : List ℕ) → e ++ (((tag ++ (w ++ (62 ∷ []))) ++ ((y ++ g) ++ c)) ++ h) ≡ (e ++ tag) ++ ((w ++ (62 ∷ y)) ++ (g ++ (c ++ h)))
+raw_regrouped : (e tag w y g c h : List ℕ) → e ++ (((tag ++ (w ++ (62 ∷ []))) ++ ((y ++ g) ++ c)) ++ h) ≡ (e ++ tag)
+    ++ ((w ++ (62 ∷ y)) ++ (g ++ (c ++ h)))
 raw_regrouped e tag w y g c h = simp append_assoc
 
 -- an escaped text and a tag's beginning
 abbrev pub IsBegun : List ℕ → List ℕ → Type 0
 IsBegun tag x = (e : List ℕ) × (x ≡ e ++ tag) × Escaped e
 
-raw-enclosed : (p : Attribute → Bool) (tag x y z : List ℕ) → IsBegun tag x → IsRaw p tag y → IsFramed code_end z → HasReadingWith p (x ++ (y ++ z))
+raw-enclosed : (p : Attribute → Bool) (tag x y z : List ℕ) → IsBegun tag x → IsRaw p tag y → IsFramed code_end z →
+    HasReadingWith p (x ++ (y ++ z))
 raw-enclosed p tag x y z a r c =
-    let inside : HasReadingWith p (r.body ++ c.before) = join p r.body c.before (text p r.body r.escaped) (text p c.before c.escaped_before) in
-    let all : HasReadingWith p (a.0 ++ (((tag ++ (r.attributes ++ (62 ∷ []))) ++ ((r.body ++ c.before) ++ code_end)) ++ c.after)) =
-    join p a.0 (((tag ++ (r.attributes ++ (62 ∷ []))) ++ ((r.body ++ c.before) ++ code_end)) ++ c.after) (text p a.0 a.2)
-    (join p ((tag ++ (r.attributes ++ (62 ∷ []))) ++ ((r.body ++ c.before) ++ code_end)) c.after (r.bracket (r.body ++ c.before) inside) (text p c.after c.escaped_after)) in
-    let parts : HasReadingWith p ((a.0 ++ tag) ++ ((r.attributes ++ (62 ∷ r.body)) ++ (c.before ++ (code_end ++ c.after)))) =
+    let inside : HasReadingWith p (r.body ++ c.before) =
+    join p r.body c.before (text p r.body r.escaped) (text p c.before c.escaped_before) in
+    let all : HasReadingWith p (a.0 ++ (((tag ++ (r.attributes ++ (62 ∷ []))) ++ ((r.body ++ c.before) ++ code_end))
+    ++ c.after)) =
+    join p a.0 (((tag ++ (r.attributes ++ (62 ∷ []))) ++ ((r.body ++ c.before) ++ code_end))
+    ++ c.after) (text p a.0 a.2)
+    (join p ((tag ++ (r.attributes ++ (62 ∷ []))) ++ ((r.body ++ c.before) ++ code_end)) c.after
+    (r.bracket (r.body ++ c.before) inside) (text p c.after c.escaped_after)) in
+    let parts : HasReadingWith p ((a.0 ++ tag) ++ ((r.attributes ++ (62 ∷ r.body))
+    ++ (c.before ++ (code_end ++ c.after)))) =
     subst (HasReadingWith p) (raw_regrouped a.0 tag r.attributes r.body c.before code_end c.after) all in
     subst (λ x. HasReadingWith p (x ++ (y ++ z))) (sym a.1)
     (subst (λ y. HasReadingWith p ((a.0 ++ tag) ++ (y ++ z))) (sym r.whole)
     (subst (λ z. HasReadingWith p ((a.0 ++ tag) ++ ((r.attributes ++ (62 ∷ r.body)) ++ z))) (sym c.whole) parts))
 
 -- fenced code or math
-pub adds-raw : (p : Attribute → Bool) (ending : List ℕ) → Escaped ending → (tag : List ℕ) (inner end : List Piece) → Adds p ending (IsRaw p tag) inner → Adds p ending (IsFramed code_end) end
+pub adds-raw : (p : Attribute → Bool) (ending : List ℕ) → Escaped ending → (tag : List ℕ) (inner end : List Piece) →
+    Adds p ending (IsRaw p tag) inner → Adds p ending (IsFramed code_end) end
     → Adds p ending (HasReadingWith p) ((Needed ∷ Text tag ∷ []) ++ (inner ++ end))
 adds-raw p ending h tag inner end a b =
-    adds-append p ending (IsBegun tag) (λ w. (y : List ℕ) × (z : List ℕ) × (w ≡ y ++ z) × IsRaw p tag y × IsFramed code_end z) (HasReadingWith p) (Needed ∷ Text tag ∷ []) (inner ++ end)
+    adds-append p ending (IsBegun tag) (λ w. (y : List ℕ) × (z : List ℕ) × (w ≡ y ++ z) × IsRaw p tag y
+    × IsFramed code_end z) (HasReadingWith p) (Needed ∷ Text tag ∷ []) (inner ++ end)
     (λ x w f g. subst (λ w. HasReadingWith p (x ++ w)) (sym g.2) (raw-enclosed p tag x g.0 g.1 f g.3 g.4))
-    (adds-append p ending Escaped (λ x. x ≡ tag) (IsBegun tag) (Needed ∷ []) (Text tag ∷ []) (λ x y f g. (x, ap (λ y. x ++ y) g, f)) (adds-needed p ending h) (adds-flat p ending (λ x. x ≡ tag) (Text tag ∷ []) refl (append-nil tag)))
-    (adds-append p ending (IsRaw p tag) (IsFramed code_end) (λ w. (y : List ℕ) × (z : List ℕ) × (w ≡ y ++ z) × IsRaw p tag y × IsFramed code_end z) inner end (λ y z f g. (y, z, refl, f, g)) a b)
+    (adds-append p ending Escaped (λ x. x ≡ tag) (IsBegun tag) (Needed ∷ []) (Text tag
+    ∷ []) (λ x y f g. (x, ap (λ y. x ++ y) g, f)) (adds-needed p ending h)
+    (adds-flat p ending (λ x. x ≡ tag) (Text tag ∷ []) refl (append-nil tag)))
+    (adds-append p ending (IsRaw p tag) (IsFramed code_end) (λ w. (y : List ℕ) × (z : List ℕ) × (w ≡ y ++ z)
+    × IsRaw p tag y × IsFramed code_end z) inner end (λ y z f g. (y, z, refl, f, g)) a b)
 
 -- the tags of fenced code, without the end of the second one, and of math
 abbrev pub code_tag : List ℕ
@@ -198,31 +255,40 @@ IsInCode p x = Bracket p (code_tag ++ (x ++ (62 ∷ []))) code_end
 pub bare-in_code : (p : Attribute → Bool) → IsInCode p []
 bare-in_code p = bracket-code p
 
-code_class : (v : List ℕ) → Escaped v → is_tag elements (codes "code") (attribute (codes "class") (codes "language-" ++ v) ∷ []) ≡ true
+code_class : (v : List ℕ) → Escaped v → is_tag elements (codes "code")
+    (attribute (codes "class") (codes "language-" ++ v) ∷ []) ≡ true
 code_class v h = rw h refl
 
-info_regrouped : (v : List ℕ) → codes "<pre>" ++ opening_tag (codes "code") (attribute (codes "class") (codes "language-" ++ v) ∷ []) ≡ code_tag ++ ((codes " class=\"language-" ++ (v ++ codes "\"")) ++ (62 ∷ []))
+info_regrouped : (v : List ℕ) → codes "<pre>" ++ opening_tag (codes "code")
+    (attribute (codes "class") (codes "language-" ++ v) ∷ []) ≡ code_tag
+    ++ ((codes " class=\"language-" ++ (v ++ codes "\"")) ++ (62 ∷ []))
 info_regrouped v = simp append_assoc
 
-pub info-in_code : (p : Attribute → Bool) (options : CompileOptions) → IsTest p options → (v : List ℕ) → Escaped v → IsInCode p (codes " class=\"language-" ++ (v ++ codes "\""))
+pub info-in_code : (p : Attribute → Bool) (options : CompileOptions) → IsTest p options → (v : List ℕ) → Escaped v →
+    IsInCode p (codes " class=\"language-" ++ (v ++ codes "\""))
 info-in_code p options test v h =
     subst (λ o. Bracket p o code_end) (info_regrouped v)
-    (bracket-two p (codes "<pre>") (codes "</pre>") (opening_tag (codes "code") (attribute (codes "class") (codes "language-" ++ v) ∷ [])) (codes "</code>")
+    (bracket-two p (codes "<pre>") (codes "</pre>") (opening_tag (codes "code")
+    (attribute (codes "class") (codes "language-" ++ v) ∷ [])) (codes "</code>")
     (bracket-plain p (codes "pre") refl)
-    (bracket-tag p (codes "code") (attribute (codes "class") (codes "language-" ++ v) ∷ []) (code_class v h) (class-passes p options test (codes "language-" ++ v))))
+    (bracket-tag p (codes "code") (attribute (codes "class") (codes "language-" ++ v)
+    ∷ []) (code_class v h) (class-passes p options test (codes "language-" ++ v))))
 
 pub raw-code : (p : Attribute → Bool) (x y : List ℕ) → IsInCode p x → Escaped y → IsRaw p code_tag (x ++ (62 ∷ y))
 raw-code p x y h e = record { attributes = x; body = y; whole = refl; bracket = h; escaped = e }
 
-pub raw-math : (p : Attribute → Bool) (options : CompileOptions) → IsTest p options → (y : List ℕ) → Escaped y → IsRaw p math_tag (62 ∷ y)
+pub raw-math : (p : Attribute → Bool) (options : CompileOptions) → IsTest p options → (y : List ℕ) → Escaped y →
+    IsRaw p math_tag (62 ∷ y)
 raw-math p options test y e =
     record {
       attributes = [];
       body = y;
       whole = refl;
       bracket =
-          bracket-two p (codes "<pre>") (codes "</pre>") (codes "<code class=\"language-math math-display\">") (codes "</code>")
+          bracket-two p (codes "<pre>") (codes "</pre>") (codes "<code class=\"language-math math-display\">")
+          (codes "</code>")
           (bracket-plain p (codes "pre") refl)
-          (bracket-tag p (codes "code") (attribute (codes "class") (codes "language-math math-display") ∷ []) refl (class-passes p options test (codes "language-math math-display")));
+          (bracket-tag p (codes "code") (attribute (codes "class") (codes "language-math math-display")
+          ∷ []) refl (class-passes p options test (codes "language-math math-display")));
       escaped = e;
     }

@@ -24,26 +24,36 @@ use Rattle.md_safe.proofs.Spot.{Setting, Spot, AreTitles, node_pieces, Prints, I
 use Rattle.md_safe.proofs.Nodes.{any-node, inside-alone}
 
 -- the surroundings of children suit them
-through-suits : (options : CompileOptions) (loose : Bool) (around : Surroundings) (content : Content) (name : Name) → is_transparent name ≡ true → Suits around.is_escaping around.in_image content
+through-suits : (options : CompileOptions) (loose : Bool) (around : Surroundings) (content : Content) (name : Name) →
+    is_transparent name ≡ true → Suits around.is_escaping around.in_image content
     → Suits (inside options loose name around).is_escaping (inside options loose name around).in_image content
 through-suits options loose around content (Other number) is h = h
 through-suits options loose around content BlockQuotePrefix is h = h
 through-suits options loose around content SpaceOrTab is h = h
 through-suits options loose around content _ is h = absurd (lie is)
 
-children-suit : (options : CompileOptions) → options.allow_dangerous_html ≡ false → (loose : Bool) (around : Surroundings) (content : Content) (name : Name) → (is_transparent name || may_stand content name) ≡ true → Suits around.is_escaping around.in_image content
-    → Suits (inside options loose name around).is_escaping (inside options loose name around).in_image (content_inside content name)
+children-suit : (options : CompileOptions) → options.allow_dangerous_html ≡ false →
+    (loose : Bool) (around : Surroundings) (content : Content) (name : Name) →
+    (is_transparent name || may_stand content name) ≡ true → Suits around.is_escaping around.in_image content
+    → Suits (inside options loose name around).is_escaping (inside options loose name around).in_image
+    (content_inside content name)
 children-suit options html loose around content name stands h = by (is_transparent name) refl
   where
-    by : (through : Bool) → is_transparent name ≡ through → Suits (inside options loose name around).is_escaping (inside options loose name around).in_image (cond through content (content_of name content))
+    by : (through : Bool) → is_transparent name ≡ through →
+        Suits (inside options loose name around).is_escaping (inside options loose name around).in_image
+        (cond through content (content_of name content))
     by true e = through-suits options loose around content name e h
-    by false e = suits-inside options html loose around content name (second (is_transparent name) (may_stand content name) e stands) h
+    by false e = suits-inside options html loose around content name
+        (second (is_transparent name) (may_stand content name) e stands) h
 
 -- what stands before a node's first child
-children-follow : (content : Content) (name : Name) (names : List Name) → (is_transparent name || may_stand content name) ≡ true → Follows content names → Follows (content_inside content name) (spine_inside name names)
+children-follow : (content : Content) (name : Name) (names : List Name) →
+    (is_transparent name || may_stand content name) ≡ true → Follows content names →
+    Follows (content_inside content name) (spine_inside name names)
 children-follow content name names stands f = by (is_transparent name) refl
   where
-    by : (through : Bool) → is_transparent name ≡ through → Follows (cond through content (content_of name content)) (cond through names [])
+    by : (through : Bool) → is_transparent name ≡ through →
+        Follows (cond through content (content_of name content)) (cond through names [])
     by true e = f
     by false e = follows-inside content name (second (is_transparent name) (may_stand content name) e stands)
 
@@ -60,70 +70,98 @@ spot_of given around before start end name children rest = record {
 }
 
 -- nodes print what may stand where they are, before what is printed behind them
-pub forest-prints : (s : Setting) (forest : Forest) (around : Surroundings) (before : Before) (content : Content) → IsBuilt s.given.bytes content forest → Suits around.is_escaping around.in_image content → Follows content before.spine
-    → (later : List Piece) → Prints s (Holds s.p around.is_escaping around.in_image (content_after content forest)) later → Prints s (Holds s.p around.is_escaping around.in_image content) (printed s.given around before forest ++ later)
+pub forest-prints : (s : Setting) (forest : Forest) (around : Surroundings) (before : Before) (content : Content) →
+    IsBuilt s.given.bytes content forest → Suits around.is_escaping around.in_image content →
+    Follows content before.spine
+    → (later : List Piece) → Prints s (Holds s.p around.is_escaping around.in_image (content_after content forest))
+    later → Prints s (Holds s.p around.is_escaping around.in_image content) (printed s.given around before forest
+    ++ later)
 forest-prints s Empty around before content built suits f later h = h
 forest-prints s (Node name start end children rest) around before content built suits f later h =
     let t : Spot = spot_of s.given around before start end name children rest in
     let around' : Surroundings = inside s.given.options (is_loose children) name around in
     let inner : List Piece = printed s.given around' (before_children name children before) children in
     let others : List Piece = printed s.given around (before_next s.given around name start end children before) rest in
-    subst (Prints s (Holds s.p around.is_escaping around.in_image content)) (sym (append_assoc (node_pieces s t name inner) others later))
+    subst (Prints s (Holds s.p around.is_escaping around.in_image content))
+    (sym (append_assoc (node_pieces s t name inner) others later))
     (any-node s t content name before.spine refl built.0 built.1 suits f inner (others ++ later) built.2
     (λ pieces g.
     forest-prints s children around' (before_children name children before) (content_inside content name) built.2
     (children-suit s.given.options s.test.html (is_loose children) around content name built.0 suits)
     (children-follow content name before.spine built.0 f) pieces g)
-    (forest-prints s rest around (before_next s.given around name start end children before) (content_behind content name children) built.3
+    (forest-prints s rest around (before_next s.given around name start end children before)
+    (content_behind content name children) built.3
     (suits-behind around.is_escaping around.in_image content name children suits)
     (follows-behind s.given.bytes content name before.spine children built.0 built.2 f) later h))
 
 -- the children of a node that isn't transparent print what may stand in it
-children-print : (s : Setting) (name : Name) (start end : Point) (children rest : Forest) (around : Surroundings) (before : Before) (content : Content) → is_transparent name ≡ false → IsBuilt s.given.bytes content (Node name start end children rest)
+children-print : (s : Setting) (name : Name) (start end : Point) (children rest : Forest) (around : Surroundings)
+    (before : Before) (content : Content) → is_transparent name ≡ false →
+    IsBuilt s.given.bytes content (Node name start end children rest)
     → Suits around.is_escaping around.in_image content → Follows content before.spine
-    → Inside s (spot_of s.given around before start end name children rest) content name (printed s.given (inside s.given.options (is_loose children) name around) (before_children name children before) children)
+    → Inside s (spot_of s.given around before start end name children rest) content name
+    (printed s.given (inside s.given.options (is_loose children) name around)
+    (before_children name children before) children)
 children-print s name start end children rest around before content solid built suits f =
     let t : Spot = spot_of s.given around before start end name children rest in
     let around' : Surroundings = inside s.given.options (is_loose children) name around in
     let may : may_stand content name ≡ true = second (is_transparent name) (may_stand content name) solid built.0 in
-    let same : content_inside content name ≡ content_of name content = ap (λ b. cond b content (content_of name content)) solid in
-    let within : IsBuilt s.given.bytes (content_of name content) children = subst (λ c. IsBuilt s.given.bytes c children) same built.2 in
-    inside-alone s t content name may built.1 within (printed s.given around' (before_children name children before) children)
+    let same : content_inside content name ≡ content_of name content =
+    ap (λ b. cond b content (content_of name content)) solid in
+    let within : IsBuilt s.given.bytes (content_of name content) children =
+    subst (λ c. IsBuilt s.given.bytes c children) same built.2 in
+    inside-alone s t content name may built.1 within (printed s.given around'
+    (before_children name children before) children)
     (λ pieces g.
     forest-prints s children around' (before_children name children before) (content_of name content) within
     (suits-inside s.given.options s.test.html (is_loose children) around content name may suits)
-    (subst (λ n. Follows (content_of name content) n) (sym (ap (λ b. cond b before.spine []) solid)) (follows-inside content name may)) pieces g)
+    (subst (λ n. Follows (content_of name content) n) (sym (ap (λ b. cond b before.spine []) solid))
+    (follows-inside content name may)) pieces g)
 
 titles-append : (xs ys : List Defined) → AreTitles xs → AreTitles ys → AreTitles (xs ++ ys)
 titles-append [] ys a b = b
 titles-append (x ∷ xs) ys a b = (a.0, titles-append xs ys a.1 b)
 
 -- the title of a definition that is one of the nodes
-defined-here : (s : Setting) (name : Name) (start end : Point) (children rest : Forest) (around : Surroundings) (before : Before) (content : Content) → IsBuilt s.given.bytes content (Node name start end children rest)
+defined-here : (s : Setting) (name : Name) (start end : Point) (children rest : Forest) (around : Surroundings)
+    (before : Before) (content : Content) → IsBuilt s.given.bytes content (Node name start end children rest)
     → Suits around.is_escaping around.in_image content → Follows content before.spine
     → is_link_definition name ≡ true
-    → IsEscapedTitle (lay s.given.ending blank (printed s.given (inside s.given.options (is_loose children) name around) (before_children name children before) children)).notes.target.title
+    → IsEscapedTitle (lay s.given.ending blank (printed s.given
+    (inside s.given.options (is_loose children) name around)
+    (before_children name children before) children)).notes.target.title
 defined-here s Definition start end children rest around before content built suits f is =
-    let inner : List Piece = printed s.given (inside s.given.options (is_loose children) Definition around) (before_children Definition children before) children in
-    (adds-blank s.p s.given.ending (Holds s.p around.is_escaping around.in_image content) inner (children-print s Definition start end children rest around before content refl built suits f)).1.title
+    let inner : List Piece = printed s.given (inside s.given.options (is_loose children) Definition around)
+    (before_children Definition children before) children in
+    (adds-blank s.p s.given.ending (Holds s.p around.is_escaping around.in_image content) inner
+    (children-print s Definition start end children rest around before content refl built suits f)).1.title
 defined-here s _ start end children rest around before content built suits f is = absurd (lie is)
 
 -- the titles of all definitions are escaped
-pub definitions-titles : (s : Setting) (forest : Forest) (around : Surroundings) (before : Before) (content : Content) → IsBuilt s.given.bytes content forest → Suits around.is_escaping around.in_image content → Follows content before.spine
+pub definitions-titles : (s : Setting) (forest : Forest) (around : Surroundings) (before : Before) (content : Content)
+    → IsBuilt s.given.bytes content forest → Suits around.is_escaping around.in_image content →
+    Follows content before.spine
     → AreTitles (definitions_of s.given around before forest)
 definitions-titles s Empty around before content built suits f = tt
 definitions-titles s (Node name start end children rest) around before content built suits f =
     let around' : Surroundings = inside s.given.options (is_loose children) name around in
     let inner : List Piece = printed s.given around' (before_children name children before) children in
-    let own : Defined = record { identifier = identifier_at s.given.bytes (ahead_of children).defined; target = (lay s.given.ending blank inner).notes.target } in
+    let own : Defined = record {
+      identifier = identifier_at s.given.bytes (ahead_of children).defined;
+      target = (lay s.given.ending blank inner).notes.target;
+    } in
     titles-append (definitions_of s.given around' (before_children name children before) children)
-    (cond (is_link_definition name) (own ∷ []) [] ++ definitions_of s.given around (before_next s.given around name start end children before) rest)
+    (cond (is_link_definition name) (own ∷ []) [] ++ definitions_of s.given around
+    (before_next s.given around name start end children before) rest)
     (definitions-titles s children around' (before_children name children before) (content_inside content name) built.2
     (children-suit s.given.options s.test.html (is_loose children) around content name built.0 suits)
     (children-follow content name before.spine built.0 f))
-    (titles-append (cond (is_link_definition name) (own ∷ []) []) (definitions_of s.given around (before_next s.given around name start end children before) rest)
-    (cond_both (is_link_definition name) (own ∷ []) [] AreTitles (λ is. (defined-here s name start end children rest around before content built suits f is, tt)) (λ _. tt))
-    (definitions-titles s rest around (before_next s.given around name start end children before) (content_behind content name children) built.3
+    (titles-append (cond (is_link_definition name) (own ∷ []) [])
+    (definitions_of s.given around (before_next s.given around name start end children before) rest)
+    (cond_both (is_link_definition name) (own ∷ []) [] AreTitles
+    (λ is. (defined-here s name start end children rest around before content built suits f is, tt)) (λ _. tt))
+    (definitions-titles s rest around (before_next s.given around name start end children before)
+    (content_behind content name children) built.3
     (suits-behind around.is_escaping around.in_image content name children suits)
     (follows-behind s.given.bytes content name before.spine children built.0 built.2 f)))
 
@@ -137,7 +175,9 @@ read-append s [] ys a b = b
 read-append s (x ∷ xs) ys a b = (a.0, read-append s xs ys a.1 b)
 
 -- a footnote stands among blocks
-noted-text : (s : Setting) (content : Content) (escaping in_image : Bool) → may_stand content GfmFootnoteDefinition ≡ true → (x : List ℕ) → Holds s.p escaping in_image content x → HasReadingWith s.p x
+noted-text : (s : Setting) (content : Content) (escaping in_image : Bool) →
+    may_stand content GfmFootnoteDefinition ≡ true → (x : List ℕ) → Holds s.p escaping in_image content x →
+    HasReadingWith s.p x
 noted-text s Blocks escaping in_image stands x h = h
 noted-text s Spans escaping in_image stands x h = absurd (lie stands)
 noted-text s Strings escaping in_image stands x h = absurd (lie stands)
@@ -149,31 +189,44 @@ noted-text s MetaAlone escaping in_image stands x h = absurd (lie stands)
 noted-text s Done escaping in_image stands x h = absurd (lie stands)
 noted-text s Nothing escaping in_image stands x h = absurd (lie stands)
 
-noted-here : (s : Setting) (name : Name) (start end : Point) (children rest : Forest) (around : Surroundings) (before : Before) (content : Content) → IsBuilt s.given.bytes content (Node name start end children rest)
+noted-here : (s : Setting) (name : Name) (start end : Point) (children rest : Forest) (around : Surroundings)
+    (before : Before) (content : Content) → IsBuilt s.given.bytes content (Node name start end children rest)
     → Suits around.is_escaping around.in_image content → Follows content before.spine
     → is_footnote_definition name ≡ true
-    → HasReadingWith s.p (lay s.given.ending blank (printed s.given (inside s.given.options (is_loose children) name around) (before_children name children before) children)).text
+    → HasReadingWith s.p (lay s.given.ending blank (printed s.given
+    (inside s.given.options (is_loose children) name around) (before_children name children before) children)).text
 noted-here s GfmFootnoteDefinition start end children rest around before content built suits f is =
-    let inner : List Piece = printed s.given (inside s.given.options (is_loose children) GfmFootnoteDefinition around) (before_children GfmFootnoteDefinition children before) children in
+    let inner : List Piece = printed s.given (inside s.given.options (is_loose children) GfmFootnoteDefinition around)
+    (before_children GfmFootnoteDefinition children before) children in
     noted-text s content around.is_escaping around.in_image built.0 (lay s.given.ending blank inner).text
-    (adds-blank s.p s.given.ending (Holds s.p around.is_escaping around.in_image content) inner (children-print s GfmFootnoteDefinition start end children rest around before content refl built suits f)).0
+    (adds-blank s.p s.given.ending (Holds s.p around.is_escaping around.in_image content) inner
+    (children-print s GfmFootnoteDefinition start end children rest around before content refl built suits f)).0
 noted-here s _ start end children rest around before content built suits f is = absurd (lie is)
 
 -- the texts of all footnotes have readings
-pub footnotes-read : (s : Setting) (forest : Forest) (around : Surroundings) (before : Before) (content : Content) → IsBuilt s.given.bytes content forest → Suits around.is_escaping around.in_image content → Follows content before.spine
+pub footnotes-read : (s : Setting) (forest : Forest) (around : Surroundings) (before : Before) (content : Content) →
+    IsBuilt s.given.bytes content forest → Suits around.is_escaping around.in_image content →
+    Follows content before.spine
     → AreRead s (footnotes_of s.given around before forest)
 footnotes-read s Empty around before content built suits f = tt
 footnotes-read s (Node name start end children rest) around before content built suits f =
     let around' : Surroundings = inside s.given.options (is_loose children) name around in
     let inner : List Piece = printed s.given around' (before_children name children before) children in
-    let own : Footnote = record { identifier = identifier_at s.given.bytes (ahead_of children).footnote; text = (lay s.given.ending blank inner).text } in
+    let own : Footnote = record {
+      identifier = identifier_at s.given.bytes (ahead_of children).footnote;
+      text = (lay s.given.ending blank inner).text;
+    } in
     read-append s (footnotes_of s.given around' (before_children name children before) children)
-    (cond (is_footnote_definition name) (own ∷ []) [] ++ footnotes_of s.given around (before_next s.given around name start end children before) rest)
+    (cond (is_footnote_definition name) (own ∷ []) [] ++ footnotes_of s.given around
+    (before_next s.given around name start end children before) rest)
     (footnotes-read s children around' (before_children name children before) (content_inside content name) built.2
     (children-suit s.given.options s.test.html (is_loose children) around content name built.0 suits)
     (children-follow content name before.spine built.0 f))
-    (read-append s (cond (is_footnote_definition name) (own ∷ []) []) (footnotes_of s.given around (before_next s.given around name start end children before) rest)
-    (cond_both (is_footnote_definition name) (own ∷ []) [] (AreRead s) (λ is. (noted-here s name start end children rest around before content built suits f is, tt)) (λ _. tt))
-    (footnotes-read s rest around (before_next s.given around name start end children before) (content_behind content name children) built.3
+    (read-append s (cond (is_footnote_definition name) (own ∷ []) [])
+    (footnotes_of s.given around (before_next s.given around name start end children before) rest)
+    (cond_both (is_footnote_definition name) (own ∷ []) [] (AreRead s)
+    (λ is. (noted-here s name start end children rest around before content built suits f is, tt)) (λ _. tt))
+    (footnotes-read s rest around (before_next s.given around name start end children before)
+    (content_behind content name children) built.3
     (suits-behind around.is_escaping around.in_image content name children suits)
     (follows-behind s.given.bytes content name before.spine children built.0 built.2 f)))

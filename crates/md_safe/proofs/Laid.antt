@@ -33,18 +33,21 @@ pub record Grows (p : Attribute → Bool) (holds : List ℕ → Type 0) (before 
 abbrev pub Adds : (Attribute → Bool) → List ℕ → (List ℕ → Type 0) → List Piece → Type 0
 Adds p ending holds pieces = (page : Page) → AreGood p page.notes → Grows p holds page (lay ending page pieces)
 
-pub lay-append : (ending : List ℕ) (page : Page) (xs ys : List Piece) → lay ending page (xs ++ ys) ≡ lay ending (lay ending page xs) ys
+pub lay-append : (ending : List ℕ) (page : Page) (xs ys : List Piece) →
+    lay ending page (xs ++ ys) ≡ lay ending (lay ending page xs) ys
 lay-append ending page [] ys = refl
 lay-append ending page (x ∷ xs) ys = lay-append ending (lay_piece ending page x) xs ys
 
 -- something else holds as well
-pub adds-weaker : (p : Attribute → Bool) (ending : List ℕ) (f g : List ℕ → Type 0) (pieces : List Piece) → ((x : List ℕ) → f x → g x) → Adds p ending f pieces → Adds p ending g pieces
+pub adds-weaker : (p : Attribute → Bool) (ending : List ℕ) (f g : List ℕ → Type 0) (pieces : List Piece) →
+    ((x : List ℕ) → f x → g x) → Adds p ending f pieces → Adds p ending g pieces
 adds-weaker p ending f g pieces weaker a page good =
     let r = a page good in
     record { added = r.added; behind = r.behind; it_holds = weaker r.added r.it_holds; good = r.good }
 
 -- one list after another
-pub adds-append : (p : Attribute → Bool) (ending : List ℕ) (f g h : List ℕ → Type 0) (xs ys : List Piece) → ((x y : List ℕ) → f x → g y → h (x ++ y)) → Adds p ending f xs → Adds p ending g ys → Adds p ending h (xs ++ ys)
+pub adds-append : (p : Attribute → Bool) (ending : List ℕ) (f g h : List ℕ → Type 0) (xs ys : List Piece) →
+    ((x y : List ℕ) → f x → g y → h (x ++ y)) → Adds p ending f xs → Adds p ending g ys → Adds p ending h (xs ++ ys)
 adds-append p ending f g h xs ys both a b page good =
     let r = a page good in
     let s = b (lay ending page xs) r.good in
@@ -57,9 +60,15 @@ adds-append p ending f g h xs ys both a b page good =
     })
 
 pub adds-nothing : (p : Attribute → Bool) (ending : List ℕ) (f : List ℕ → Type 0) → f [] → Adds p ending f []
-adds-nothing p ending f h page good = record { added = []; behind = sym (append-nil page.text); it_holds = h; good = good }
+adds-nothing p ending f h page good = record {
+  added = [];
+  behind = sym (append-nil page.text);
+  it_holds = h;
+  good = good;
+}
 
-pub adds-text : (p : Attribute → Bool) (ending : List ℕ) (f : List ℕ → Type 0) (x : List ℕ) → f x → Adds p ending f (Text x ∷ [])
+pub adds-text : (p : Attribute → Bool) (ending : List ℕ) (f : List ℕ → Type 0) (x : List ℕ) → f x →
+    Adds p ending f (Text x ∷ [])
 adds-text p ending f x h page good = record { added = x; behind = refl; it_holds = h; good = good }
 
 pub adds-forced : (p : Attribute → Bool) (ending : List ℕ) → Escaped ending → Adds p ending Escaped (Forced ∷ [])
@@ -73,7 +82,12 @@ adds-needed p ending h page good = by (is_line_start page.text)
     by false = record { added = ending; behind = refl; it_holds = h; good = good }
 
 pub adds-recalled : (p : Attribute → Bool) (ending : List ℕ) → Adds p ending (HasReadingWith p) (Recalled ∷ [])
-adds-recalled p ending page good = record { added = page.notes.heading; behind = refl; it_holds = good.heading; good = good }
+adds-recalled p ending page good = record {
+  added = page.notes.heading;
+  behind = refl;
+  it_holds = good.heading;
+  good = good;
+}
 
 -- a good note
 abbrev pub IsGoodNote : (Attribute → Bool) → Note → Type 0
@@ -82,21 +96,33 @@ IsGoodNote p (Destination x) = Unit {0}
 IsGoodNote p (Title x) = Escaped x
 IsGoodNote p (Resource target) = IsEscapedTitle target.title
 
-good-with_note : (p : Attribute → Bool) (note : Note) (notes : Notes) → IsGoodNote p note → AreGood p notes → AreGood p (with_note note notes)
+good-with_note : (p : Attribute → Bool) (note : Note) (notes : Notes) → IsGoodNote p note → AreGood p notes →
+    AreGood p (with_note note notes)
 good-with_note p (Heading x) notes h good = record { heading = h; title = good.title; resource = good.resource }
-good-with_note p (Destination x) notes h good = record { heading = good.heading; title = good.title; resource = good.resource }
+good-with_note p (Destination x) notes h good = record {
+  heading = good.heading;
+  title = good.title;
+  resource = good.resource;
+}
 good-with_note p (Title x) notes h good = record { heading = good.heading; title = h; resource = good.resource }
 good-with_note p (Resource target) notes h good = record { heading = good.heading; title = good.title; resource = h }
 
-pub adds-note : (p : Attribute → Bool) (ending : List ℕ) (f : List ℕ → Type 0) (note : Note) → f [] → IsGoodNote p note → Adds p ending f (Noted note ∷ [])
+pub adds-note : (p : Attribute → Bool) (ending : List ℕ) (f : List ℕ → Type 0) (note : Note) → f [] →
+    IsGoodNote p note → Adds p ending f (Noted note ∷ [])
 adds-note p ending f note h is page good =
-    record { added = []; behind = sym (append-nil page.text); it_holds = h; good = good-with_note p note page.notes is good }
+    record {
+      added = [];
+      behind = sym (append-nil page.text);
+      it_holds = h;
+      good = good-with_note p note page.notes is good;
+    }
 
 pub good-none : (p : Attribute → Bool) → AreGood p no_notes
 good-none p = record { heading = nothing p; title = tt; resource = tt }
 
 -- pieces laid out on a page of their own
-pub adds-blank : (p : Attribute → Bool) (ending : List ℕ) (f : List ℕ → Type 0) (pieces : List Piece) → Adds p ending f pieces → f (lay ending blank pieces).text × AreGood p (lay ending blank pieces).notes
+pub adds-blank : (p : Attribute → Bool) (ending : List ℕ) (f : List ℕ → Type 0) (pieces : List Piece) →
+    Adds p ending f pieces → f (lay ending blank pieces).text × AreGood p (lay ending blank pieces).notes
 adds-blank p ending f pieces a =
     let r = a blank (good-none p) in
     (subst f (sym r.behind) r.it_holds, r.good)

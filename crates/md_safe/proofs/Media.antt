@@ -1,13 +1,13 @@
 -- Links, images, calls and cells as they are printed have readings.
+use Rattle.std.specs.List.{list_all}
 use Rattle.std.proofs.Common.{◌≡◌, ℕ, ◌==◌, zero, suc, Bool, true, false, ◌&&◌, ◌||◌, cond, List, [], ◌∷◌, ◌++◌, refl, subst, append_assoc, codes}
 use Rattle.std.specs.Prelude.{Option, Some, None, option_map, string_bytes}
 use Rattle.std.specs.Fmt.{decimal}
 use Rattle.std.proofs.lemmas.Bool.{and_from, cond_both}
 use Rattle.md_base.specs.declared.event.AlignKind.{AlignKind}
 use Rattle.md_base.specs.declared.event.AlignKind.TheVariants as align
-use Rattle.md_text.specs.Url.{sanitized, sanitized_with}
-use Rattle.md_text.specs.Safe.{link_protocols, image_protocols}
-use Rattle.md_text.specs.Html.{Attribute, HasReadingWith, is_tag, elements, void_tags, all_pass}
+use Rattle.md_text.specs.Url.{sanitized, sanitized_with, link_protocols, image_protocols}
+use Rattle.md_text.specs.Html.{Attribute, HasReadingWith, is_tag, elements, void_tags}
 use Rattle.md_text.proofs.EncodeLaws.{is_escaped-encoded}
 use Rattle.md_text.proofs.EscapedLemmas.{escaped-append, sanitized-escaped, sanitized_with-escaped}
 use Rattle.md_text.proofs.HtmlJoin.{nothing, text, join}
@@ -22,83 +22,120 @@ use Rattle.md_safe.proofs.Tags.{IsTest, attribute, element-read, void-read, adds
 
 pub href-escaped : (options : CompileOptions) (x : List ℕ) → Escaped (href_of options x)
 href-escaped options x =
-    cond_both options.allow_dangerous_protocol (sanitized x) (sanitized_with link_protocols x) Escaped (λ _. sanitized-escaped x) (λ _. sanitized_with-escaped link_protocols x)
+    cond_both options.allow_dangerous_protocol (sanitized x) (sanitized_with link_protocols x) Escaped
+    (λ _. sanitized-escaped x) (λ _. sanitized_with-escaped link_protocols x)
 
 pub src-escaped : (options : CompileOptions) (x : List ℕ) → Escaped (src_of options x)
 src-escaped options x =
-    cond_both (options.allow_dangerous_protocol || options.allow_any_img_src) (sanitized x) (sanitized_with image_protocols x) Escaped (λ _. sanitized-escaped x) (λ _. sanitized_with-escaped image_protocols x)
+    cond_both (options.allow_dangerous_protocol || options.allow_any_img_src) (sanitized x)
+    (sanitized_with image_protocols x) Escaped (λ _. sanitized-escaped x)
+    (λ _. sanitized_with-escaped image_protocols x)
 
 -- tags with these attributes are of the table, where their values are escaped
 a_href : (v : List ℕ) → Escaped v → is_tag elements (codes "a") (attribute (codes "href") v ∷ []) ≡ true
 a_href v h = rw h refl
 
-a_href_title : (v t : List ℕ) → Escaped v → Escaped t → is_tag elements (codes "a") (attribute (codes "href") v ∷ attribute (codes "title") t ∷ []) ≡ true
+a_href_title : (v t : List ℕ) → Escaped v → Escaped t → is_tag elements (codes "a") (attribute (codes "href") v
+    ∷ attribute (codes "title") t ∷ []) ≡ true
 a_href_title v t h g = rw (h, g) refl
 
-img : (v t : List ℕ) → Escaped v → Escaped t → is_tag void_tags (codes "img") (attribute (codes "src") v ∷ attribute (codes "alt") t ∷ []) ≡ true
+img : (v t : List ℕ) → Escaped v → Escaped t → is_tag void_tags (codes "img") (attribute (codes "src") v
+    ∷ attribute (codes "alt") t ∷ []) ≡ true
 img v t h g = rw (h, g) refl
 
-img_title : (v t u : List ℕ) → Escaped v → Escaped t → Escaped u → is_tag void_tags (codes "img") (attribute (codes "src") v ∷ attribute (codes "alt") t ∷ attribute (codes "title") u ∷ []) ≡ true
+img_title : (v t u : List ℕ) → Escaped v → Escaped t → Escaped u →
+    is_tag void_tags (codes "img") (attribute (codes "src") v ∷ attribute (codes "alt") t
+    ∷ attribute (codes "title") u ∷ []) ≡ true
 img_title v t u h g k = rw (h, g, k) refl
 
-pass_two : (p : Attribute → Bool) (a b : Attribute) → p a ≡ true → p b ≡ true → all_pass p (a ∷ b ∷ []) ≡ true
+pass_two : (p : Attribute → Bool) (a b : Attribute) → p a ≡ true → p b ≡ true → list_all p (a ∷ b ∷ []) ≡ true
 pass_two p a b h g = and_from (p a) (p b && true) h (and_from (p b) true g refl)
 
-pass_one : (p : Attribute → Bool) (a : Attribute) → p a ≡ true → all_pass p (a ∷ []) ≡ true
+pass_one : (p : Attribute → Bool) (a : Attribute) → p a ≡ true → list_all p (a ∷ []) ≡ true
 pass_one p a h = and_from (p a) true h refl
 
-pass_three : (p : Attribute → Bool) (a b c : Attribute) → p a ≡ true → p b ≡ true → p c ≡ true → all_pass p (a ∷ b ∷ c ∷ []) ≡ true
+pass_three : (p : Attribute → Bool) (a b c : Attribute) → p a ≡ true → p b ≡ true → p c ≡ true →
+    list_all p (a ∷ b ∷ c ∷ []) ≡ true
 pass_three p a b c h g k = and_from (p a) (p b && (p c && true)) h (pass_two p b c g k)
 
-pass_four : (p : Attribute → Bool) (a b c d : Attribute) → p a ≡ true → p b ≡ true → p c ≡ true → p d ≡ true → all_pass p (a ∷ b ∷ c ∷ d ∷ []) ≡ true
+pass_four : (p : Attribute → Bool) (a b c d : Attribute) → p a ≡ true → p b ≡ true → p c ≡ true → p d ≡ true →
+    list_all p (a ∷ b ∷ c ∷ d ∷ []) ≡ true
 pass_four p a b c d h g k l = and_from (p a) (p b && (p c && (p d && true))) h (pass_three p b c d g k l)
 
 -- a link
-pub adds-link : (p : Attribute → Bool) (ending : List ℕ) (options : CompileOptions) (test : IsTest p options) (target : Target) (label : List ℕ) → IsEscapedTitle target.title → HasReadingWith p label → Adds p ending (HasReadingWith p) (link_to options target label)
+pub adds-link : (p : Attribute → Bool) (ending : List ℕ) (options : CompileOptions) (test : IsTest p options)
+    (target : Target) (label : List ℕ) → IsEscapedTitle target.title → HasReadingWith p label →
+    Adds p ending (HasReadingWith p) (link_to options target label)
 adds-link p ending options test target label h r = by target.title h
   where
-    by : (title : Option (List ℕ)) → IsEscapedTitle title → Adds p ending (HasReadingWith p) (link_start options target.destination ++ (title_pieces title ++ link_end label))
+    by : (title : Option (List ℕ)) → IsEscapedTitle title →
+        Adds p ending (HasReadingWith p) (link_start options target.destination ++ (title_pieces title ++ link_end label))
     by None h =
         adds-flat p ending (HasReadingWith p) (link_start options target.destination ++ link_end label) refl
         (element-read p (codes "a") (attribute (codes "href") (href_of options target.destination) ∷ []) label
         (a_href (href_of options target.destination) (href-escaped options target.destination))
         (pass_one p (attribute (codes "href") (href_of options target.destination)) (test.link target.destination)) r)
     by (Some title) h =
-        adds-flat p ending (HasReadingWith p) (link_start options target.destination ++ (title_pieces (Some title) ++ link_end label)) refl
-        (element-read p (codes "a") (attribute (codes "href") (href_of options target.destination) ∷ attribute (codes "title") title ∷ []) label
+        adds-flat p ending (HasReadingWith p) (link_start options target.destination
+        ++ (title_pieces (Some title) ++ link_end label)) refl
+        (element-read p (codes "a") (attribute (codes "href") (href_of options target.destination)
+        ∷ attribute (codes "title") title ∷ []) label
         (a_href_title (href_of options target.destination) title (href-escaped options target.destination) h)
-        (pass_two p (attribute (codes "href") (href_of options target.destination)) (attribute (codes "title") title) (test.link target.destination) (test.other (codes "title") title refl)) r)
+        (pass_two p (attribute (codes "href") (href_of options target.destination)) (attribute (codes "title") title)
+        (test.link target.destination) (test.other (codes "title") title refl)) r)
 
 -- a link with no title
-pub adds-autolink : (p : Attribute → Bool) (ending : List ℕ) (options : CompileOptions) (test : IsTest p options) (destination label : List ℕ) → HasReadingWith p label → Adds p ending (HasReadingWith p) (link_start options destination ++ link_end label)
-adds-autolink p ending options test destination label r = adds-link p ending options test (record { destination = destination; title = None }) label tt r
+pub adds-autolink : (p : Attribute → Bool) (ending : List ℕ) (options : CompileOptions) (test : IsTest p options)
+    (destination label : List ℕ) → HasReadingWith p label →
+    Adds p ending (HasReadingWith p) (link_start options destination ++ link_end label)
+adds-autolink p ending options test destination label r =
+    adds-link p ending options test (record { destination = destination; title = None }) label tt r
 
 -- an image
-pub adds-image : (p : Attribute → Bool) (ending : List ℕ) (options : CompileOptions) (test : IsTest p options) (target : Target) (label : List ℕ) → IsEscapedTitle target.title → Escaped label → Adds p ending (HasReadingWith p) (image_of options target label)
+pub adds-image : (p : Attribute → Bool) (ending : List ℕ) (options : CompileOptions) (test : IsTest p options)
+    (target : Target) (label : List ℕ) → IsEscapedTitle target.title → Escaped label →
+    Adds p ending (HasReadingWith p) (image_of options target label)
 adds-image p ending options test target label h e = by target.title h
   where
-    by : (title : Option (List ℕ)) → IsEscapedTitle title → Adds p ending (HasReadingWith p) (image_of options (record { destination = target.destination; title = title }) label)
+    by : (title : Option (List ℕ)) → IsEscapedTitle title →
+        Adds p ending (HasReadingWith p) (image_of options (record {
+          destination = target.destination;
+          title = title;
+        }) label)
     by None h =
-        adds-flat p ending (HasReadingWith p) (image_of options (record { destination = target.destination; title = None }) label) refl
-        (void-read p (codes "img") (attribute (codes "src") (src_of options target.destination) ∷ attribute (codes "alt") label ∷ [])
+        adds-flat p ending (HasReadingWith p) (image_of options (record {
+          destination = target.destination;
+          title = None;
+        }) label) refl
+        (void-read p (codes "img") (attribute (codes "src") (src_of options target.destination)
+        ∷ attribute (codes "alt") label ∷ [])
         (img (src_of options target.destination) label (src-escaped options target.destination) e)
-        (pass_two p (attribute (codes "src") (src_of options target.destination)) (attribute (codes "alt") label) (test.image target.destination) (test.other (codes "alt") label refl)))
+        (pass_two p (attribute (codes "src") (src_of options target.destination)) (attribute (codes "alt") label)
+        (test.image target.destination) (test.other (codes "alt") label refl)))
     by (Some title) h =
-        adds-flat p ending (HasReadingWith p) (image_of options (record { destination = target.destination; title = Some title }) label) refl
-        (void-read p (codes "img") (attribute (codes "src") (src_of options target.destination) ∷ attribute (codes "alt") label ∷ attribute (codes "title") title ∷ [])
+        adds-flat p ending (HasReadingWith p) (image_of options (record {
+          destination = target.destination;
+          title = Some title;
+        }) label) refl
+        (void-read p (codes "img") (attribute (codes "src") (src_of options target.destination)
+        ∷ attribute (codes "alt") label ∷ attribute (codes "title") title ∷ [])
         (img_title (src_of options target.destination) label title (src-escaped options target.destination) e h)
-        (pass_three p (attribute (codes "src") (src_of options target.destination)) (attribute (codes "alt") label) (attribute (codes "title") title)
+        (pass_three p (attribute (codes "src") (src_of options target.destination)) (attribute (codes "alt") label)
+        (attribute (codes "title") title)
         (test.image target.destination) (test.other (codes "alt") label refl) (test.other (codes "title") title refl)))
 
 -- a text of the options, escaped
-escaped_option-escaped : (given : Option (List ℕ)) (default : List ℕ) → Escaped default → Escaped (escaped_option given default)
+escaped_option-escaped : (given : Option (List ℕ)) (default : List ℕ) → Escaped default →
+    Escaped (escaped_option given default)
 escaped_option-escaped None default h = h
 escaped_option-escaped (Some x) default h = is_escaped-encoded x
 
 pub label-escaped : (options : CompileOptions) → Escaped (heading_label_of options)
-label-escaped options = escaped_option-escaped (option_map string_bytes options.gfm_footnote_label) (codes "Footnotes") refl
+label-escaped options = escaped_option-escaped (option_map string_bytes options.gfm_footnote_label)
+    (codes "Footnotes") refl
 
-id-escaped : (options : CompileOptions) (kind identifier : List ℕ) → Escaped kind → Escaped (id_of options kind identifier)
+id-escaped : (options : CompileOptions) (kind identifier : List ℕ) → Escaped kind →
+    Escaped (id_of options kind identifier)
 id-escaped options kind identifier h =
     escaped-append (prefix_of options) (kind ++ sanitized identifier)
     (escaped_option-escaped (option_map string_bytes options.gfm_footnote_clobber_prefix) (codes "user-content-") refl)
@@ -108,38 +145,53 @@ pub footnote_id-escaped : (options : CompileOptions) (identifier : List ℕ) →
 footnote_id-escaped options identifier = id-escaped options (codes "fn-") identifier refl
 
 suffix-escaped : (occurrence : ℕ) → Escaped (occurrence_suffix occurrence)
-suffix-escaped occurrence = cond_both (occurrence == 1) [] (45 ∷ decimal occurrence) Escaped (λ _. refl) (λ _. decimal-escaped occurrence)
+suffix-escaped occurrence = cond_both (occurrence == 1) [] (45
+    ∷ decimal occurrence) Escaped (λ _. refl) (λ _. decimal-escaped occurrence)
 
-call_id-escaped : (options : CompileOptions) (identifier : List ℕ) (occurrence : ℕ) → Escaped (call_id options identifier occurrence)
+call_id-escaped : (options : CompileOptions) (identifier : List ℕ) (occurrence : ℕ) →
+    Escaped (call_id options identifier occurrence)
 call_id-escaped options identifier occurrence =
-    escaped-append (id_of options (codes "fnref-") identifier) (occurrence_suffix occurrence) (id-escaped options (codes "fnref-") identifier refl) (suffix-escaped occurrence)
+    escaped-append (id_of options (codes "fnref-") identifier) (occurrence_suffix occurrence)
+    (id-escaped options (codes "fnref-") identifier refl) (suffix-escaped occurrence)
 
-a_call : (v w : List ℕ) → Escaped v → Escaped w → is_tag elements (codes "a") (attribute (codes "href") (35 ∷ v) ∷ attribute (codes "id") w ∷ attribute (codes "data-footnote-ref") [] ∷ attribute (codes "aria-describedby") (codes "footnote-label") ∷ []) ≡ true
+a_call : (v w : List ℕ) → Escaped v → Escaped w → is_tag elements (codes "a") (attribute (codes "href") (35 ∷ v)
+    ∷ attribute (codes "id") w ∷ attribute (codes "data-footnote-ref") []
+    ∷ attribute (codes "aria-describedby") (codes "footnote-label") ∷ []) ≡ true
 a_call v w h g = rw (h, g) refl
 
 abbrev call_text : List ℕ → List ℕ → List ℕ → List ℕ
 call_text v w n =
-    codes "<sup><a href=\"#" ++ (v ++ (codes "\" id=\"" ++ (w ++ (codes "\" data-footnote-ref=\"\" aria-describedby=\"footnote-label\">" ++ (n ++ codes "</a></sup>")))))
+    codes "<sup><a href=\"#" ++ (v ++ (codes "\" id=\"" ++ (w
+    ++ (codes "\" data-footnote-ref=\"\" aria-describedby=\"footnote-label\">" ++ (n ++ codes "</a></sup>")))))
 
-call-read : (p : Attribute → Bool) (options : CompileOptions) (test : IsTest p options) (v w n : List ℕ) → Escaped v → Escaped w → Escaped n → HasReadingWith p (call_text v w n)
+call-read : (p : Attribute → Bool) (options : CompileOptions) (test : IsTest p options) (v w n : List ℕ) → Escaped v →
+    Escaped w → Escaped n → HasReadingWith p (call_text v w n)
 call-read p options test v w n h g k =
     subst (HasReadingWith p) (by v w n)
     (element-read p (codes "sup") []
-    (codes "<a href=\"#" ++ (v ++ (codes "\" id=\"" ++ (w ++ (codes "\" data-footnote-ref=\"\" aria-describedby=\"footnote-label\">" ++ (n ++ codes "</a>"))))))
+    (codes "<a href=\"#" ++ (v ++ (codes "\" id=\"" ++ (w
+    ++ (codes "\" data-footnote-ref=\"\" aria-describedby=\"footnote-label\">" ++ (n ++ codes "</a>"))))))
     refl refl
-    (element-read p (codes "a") (attribute (codes "href") (35 ∷ v) ∷ attribute (codes "id") w ∷ attribute (codes "data-footnote-ref") [] ∷ attribute (codes "aria-describedby") (codes "footnote-label") ∷ []) n
+    (element-read p (codes "a") (attribute (codes "href") (35 ∷ v) ∷ attribute (codes "id") w
+    ∷ attribute (codes "data-footnote-ref") [] ∷ attribute (codes "aria-describedby") (codes "footnote-label") ∷ []) n
     (a_call v w h g)
-    (pass_four p (attribute (codes "href") (35 ∷ v)) (attribute (codes "id") w) (attribute (codes "data-footnote-ref") []) (attribute (codes "aria-describedby") (codes "footnote-label"))
-    (test.anchor v) (test.other (codes "id") w refl) (test.other (codes "data-footnote-ref") [] refl) (test.other (codes "aria-describedby") (codes "footnote-label") refl))
+    (pass_four p (attribute (codes "href") (35 ∷ v)) (attribute (codes "id") w)
+    (attribute (codes "data-footnote-ref") []) (attribute (codes "aria-describedby") (codes "footnote-label"))
+    (test.anchor v) (test.other (codes "id") w refl) (test.other (codes "data-footnote-ref") [] refl)
+    (test.other (codes "aria-describedby") (codes "footnote-label") refl))
     (text p n k)))
   where
     by : (v w n : List ℕ)
-        → codes "<sup>" ++ ((codes "<a href=\"#" ++ (v ++ (codes "\" id=\"" ++ (w ++ (codes "\" data-footnote-ref=\"\" aria-describedby=\"footnote-label\">" ++ (n ++ codes "</a>")))))) ++ codes "</sup>")
+        → codes "<sup>" ++ ((codes "<a href=\"#" ++ (v ++ (codes "\" id=\""
+        ++ (w ++ (codes "\" data-footnote-ref=\"\" aria-describedby=\"footnote-label\">" ++ (n ++ codes "</a>"))))))
+        ++ codes "</sup>")
         ≡ call_text v w n
     by v w n = simp append_assoc
 
 -- a call
-pub adds-call : (p : Attribute → Bool) (ending : List ℕ) (options : CompileOptions) (test : IsTest p options) (identifier : List ℕ) (number occurrence : ℕ) → Adds p ending (HasReadingWith p) (call_tags options identifier number occurrence)
+pub adds-call : (p : Attribute → Bool) (ending : List ℕ) (options : CompileOptions) (test : IsTest p options)
+    (identifier : List ℕ) (number occurrence : ℕ) → Adds p ending (HasReadingWith p)
+    (call_tags options identifier number occurrence)
 adds-call p ending options test identifier number occurrence =
     adds-flat p ending (HasReadingWith p) (call_tags options identifier number occurrence) refl
     (call-read p options test (footnote_id options identifier) (call_id options identifier occurrence) (decimal number)
@@ -147,32 +199,45 @@ adds-call p ending options test identifier number occurrence =
 
 mark-read : (p : Attribute → Bool) (occurrence : ℕ) → HasReadingWith p (occurrence_mark occurrence)
 mark-read p occurrence =
-    cond_both (occurrence == 1) [] (codes "<sup>" ++ (decimal occurrence ++ codes "</sup>")) (HasReadingWith p) (λ _. nothing p)
-    (λ _. element-read p (codes "sup") [] (decimal occurrence) refl refl (text p (decimal occurrence) (decimal-escaped occurrence)))
+    cond_both (occurrence == 1) [] (codes "<sup>" ++ (decimal occurrence ++ codes "</sup>")) (HasReadingWith p)
+    (λ _. nothing p)
+    (λ _. element-read p (codes "sup") [] (decimal occurrence) refl refl
+    (text p (decimal occurrence) (decimal-escaped occurrence)))
 
-a_back : (v t : List ℕ) → Escaped v → Escaped t → is_tag elements (codes "a") (attribute (codes "href") (35 ∷ v) ∷ attribute (codes "data-footnote-backref") [] ∷ attribute (codes "aria-label") t ∷ attribute (codes "class") (codes "data-footnote-backref") ∷ []) ≡ true
+a_back : (v t : List ℕ) → Escaped v → Escaped t → is_tag elements (codes "a") (attribute (codes "href") (35 ∷ v)
+    ∷ attribute (codes "data-footnote-backref") [] ∷ attribute (codes "aria-label") t
+    ∷ attribute (codes "class") (codes "data-footnote-backref") ∷ []) ≡ true
 a_back v t h g = rw (h, g) refl
 
-back-read : (p : Attribute → Bool) (options : CompileOptions) (test : IsTest p options) (v t m : List ℕ) → Escaped v → Escaped t → HasReadingWith p m
-    → HasReadingWith p (codes "<a href=\"#" ++ (v ++ (codes "\" data-footnote-backref=\"\" aria-label=\"" ++ (t ++ (codes "\" class=\"data-footnote-backref\">" ++ (arrow ++ (m ++ codes "</a>")))))))
+back-read : (p : Attribute → Bool) (options : CompileOptions) (test : IsTest p options) (v t m : List ℕ) → Escaped v →
+    Escaped t → HasReadingWith p m
+    → HasReadingWith p (codes "<a href=\"#" ++ (v ++ (codes "\" data-footnote-backref=\"\" aria-label=\""
+    ++ (t ++ (codes "\" class=\"data-footnote-backref\">" ++ (arrow ++ (m ++ codes "</a>")))))))
 back-read p options test v t m h g r =
-    element-read p (codes "a") (attribute (codes "href") (35 ∷ v) ∷ attribute (codes "data-footnote-backref") [] ∷ attribute (codes "aria-label") t ∷ attribute (codes "class") (codes "data-footnote-backref") ∷ [])
+    element-read p (codes "a") (attribute (codes "href") (35 ∷ v) ∷ attribute (codes "data-footnote-backref") []
+    ∷ attribute (codes "aria-label") t ∷ attribute (codes "class") (codes "data-footnote-backref") ∷ [])
     (arrow ++ m) (a_back v t h g)
-    (pass_four p (attribute (codes "href") (35 ∷ v)) (attribute (codes "data-footnote-backref") []) (attribute (codes "aria-label") t) (attribute (codes "class") (codes "data-footnote-backref"))
-    (test.anchor v) (test.other (codes "data-footnote-backref") [] refl) (test.other (codes "aria-label") t refl) (test.other (codes "class") (codes "data-footnote-backref") refl))
+    (pass_four p (attribute (codes "href") (35 ∷ v)) (attribute (codes "data-footnote-backref") [])
+    (attribute (codes "aria-label") t) (attribute (codes "class") (codes "data-footnote-backref"))
+    (test.anchor v) (test.other (codes "data-footnote-backref") [] refl) (test.other (codes "aria-label") t refl)
+    (test.other (codes "class") (codes "data-footnote-backref") refl))
     (join p arrow m (text p arrow refl) r)
 
-backreference-read : (p : Attribute → Bool) (options : CompileOptions) (test : IsTest p options) (identifier : List ℕ) (occurrence : ℕ) → HasReadingWith p (backreference options identifier occurrence)
+backreference-read : (p : Attribute → Bool) (options : CompileOptions) (test : IsTest p options) (identifier : List ℕ)
+    (occurrence : ℕ) → HasReadingWith p (backreference options identifier occurrence)
 backreference-read p options test identifier occurrence =
-    back-read p options test (call_id options identifier occurrence) (back_label_of options) (occurrence_mark occurrence) (call_id-escaped options identifier occurrence)
+    back-read p options test (call_id options identifier occurrence) (back_label_of options)
+    (occurrence_mark occurrence) (call_id-escaped options identifier occurrence)
     (escaped_option-escaped (option_map string_bytes options.gfm_footnote_back_label) (codes "Back to content") refl)
     (mark-read p occurrence)
 
 -- the ways back to calls
-pub backreferences-read : (p : Attribute → Bool) (options : CompileOptions) (test : IsTest p options) (identifier : List ℕ) (count : ℕ) → HasReadingWith p (backreferences options identifier count)
+pub backreferences-read : (p : Attribute → Bool) (options : CompileOptions) (test : IsTest p options)
+    (identifier : List ℕ) (count : ℕ) → HasReadingWith p (backreferences options identifier count)
 backreferences-read p options test identifier zero = nothing p
 backreferences-read p options test identifier (suc count) =
-    join p (backreferences options identifier count) ((cond (count == 0) [] (32 ∷ [])) ++ backreference options identifier (suc count))
+    join p (backreferences options identifier count) ((cond (count == 0) [] (32 ∷ []))
+    ++ backreference options identifier (suc count))
     (backreferences-read p options test identifier count)
     (join p (cond (count == 0) [] (32 ∷ [])) (backreference options identifier (suc count))
     (cond_both (count == 0) [] (32 ∷ []) (HasReadingWith p) (λ _. nothing p) (λ _. text p (32 ∷ []) refl))
@@ -180,28 +245,60 @@ backreferences-read p options test identifier (suc count) =
 
 -- a cell's texts
 abbrev cell_texts : Bool → AlignKind → List ℕ → List Piece
-cell_texts in_head kind x = Text (cond in_head (codes "<th") (codes "<td")) ∷ Text (align_attribute kind) ∷ Text (codes ">") ∷ Text x ∷ Text (cond in_head (codes "</th>") (codes "</td>")) ∷ []
+cell_texts in_head kind x = Text (cond in_head (codes "<th") (codes "<td")) ∷ Text (align_attribute kind)
+    ∷ Text (codes ">") ∷ Text x ∷ Text (cond in_head (codes "</th>") (codes "</td>")) ∷ []
 
-cell-flat : (p : Attribute → Bool) (ending : List ℕ) (options : CompileOptions) (test : IsTest p options) (in_head : Bool) (kind : AlignKind) (x : List ℕ) → HasReadingWith p x
+cell-flat : (p : Attribute → Bool) (ending : List ℕ) (options : CompileOptions) (test : IsTest p options)
+    (in_head : Bool) (kind : AlignKind) (x : List ℕ) → HasReadingWith p x
     → Adds p ending (HasReadingWith p) (cell_texts in_head kind x)
-cell-flat p ending options test true align.Left x r = adds-flat p ending (HasReadingWith p) (cell_texts true align.Left x) refl (element-read p (codes "th") (attribute (codes "align") (codes "left") ∷ []) x refl (pass_one p (attribute (codes "align") (codes "left")) (test.other (codes "align") (codes "left") refl)) r)
-cell-flat p ending options test true align.Right x r = adds-flat p ending (HasReadingWith p) (cell_texts true align.Right x) refl (element-read p (codes "th") (attribute (codes "align") (codes "right") ∷ []) x refl (pass_one p (attribute (codes "align") (codes "right")) (test.other (codes "align") (codes "right") refl)) r)
-cell-flat p ending options test true align.Center x r = adds-flat p ending (HasReadingWith p) (cell_texts true align.Center x) refl (element-read p (codes "th") (attribute (codes "align") (codes "center") ∷ []) x refl (pass_one p (attribute (codes "align") (codes "center")) (test.other (codes "align") (codes "center") refl)) r)
-cell-flat p ending options test true align.None x r = adds-flat p ending (HasReadingWith p) (cell_texts true align.None x) refl (element-read p (codes "th") [] x refl refl r)
-cell-flat p ending options test false align.Left x r = adds-flat p ending (HasReadingWith p) (cell_texts false align.Left x) refl (element-read p (codes "td") (attribute (codes "align") (codes "left") ∷ []) x refl (pass_one p (attribute (codes "align") (codes "left")) (test.other (codes "align") (codes "left") refl)) r)
-cell-flat p ending options test false align.Right x r = adds-flat p ending (HasReadingWith p) (cell_texts false align.Right x) refl (element-read p (codes "td") (attribute (codes "align") (codes "right") ∷ []) x refl (pass_one p (attribute (codes "align") (codes "right")) (test.other (codes "align") (codes "right") refl)) r)
-cell-flat p ending options test false align.Center x r = adds-flat p ending (HasReadingWith p) (cell_texts false align.Center x) refl (element-read p (codes "td") (attribute (codes "align") (codes "center") ∷ []) x refl (pass_one p (attribute (codes "align") (codes "center")) (test.other (codes "align") (codes "center") refl)) r)
-cell-flat p ending options test false align.None x r = adds-flat p ending (HasReadingWith p) (cell_texts false align.None x) refl (element-read p (codes "td") [] x refl refl r)
+cell-flat p ending options test true align.Left x r = adds-flat p ending (HasReadingWith p)
+    (cell_texts true align.Left x) refl (element-read p (codes "th") (attribute (codes "align") (codes "left")
+    ∷ []) x refl (pass_one p (attribute (codes "align") (codes "left"))
+    (test.other (codes "align") (codes "left") refl)) r)
+cell-flat p ending options test true align.Right x r = adds-flat p ending (HasReadingWith p)
+    (cell_texts true align.Right x) refl (element-read p (codes "th") (attribute (codes "align") (codes "right")
+    ∷ []) x refl (pass_one p (attribute (codes "align") (codes "right"))
+    (test.other (codes "align") (codes "right") refl)) r)
+cell-flat p ending options test true align.Center x r = adds-flat p ending (HasReadingWith p)
+    (cell_texts true align.Center x) refl (element-read p (codes "th") (attribute (codes "align") (codes "center")
+    ∷ []) x refl (pass_one p (attribute (codes "align") (codes "center"))
+    (test.other (codes "align") (codes "center") refl)) r)
+cell-flat p ending options test true align.None x r = adds-flat p ending (HasReadingWith p)
+    (cell_texts true align.None x) refl (element-read p (codes "th") [] x refl refl r)
+cell-flat p ending options test false align.Left x r = adds-flat p ending (HasReadingWith p)
+    (cell_texts false align.Left x) refl (element-read p (codes "td") (attribute (codes "align") (codes "left")
+    ∷ []) x refl (pass_one p (attribute (codes "align") (codes "left"))
+    (test.other (codes "align") (codes "left") refl)) r)
+cell-flat p ending options test false align.Right x r = adds-flat p ending (HasReadingWith p)
+    (cell_texts false align.Right x) refl (element-read p (codes "td") (attribute (codes "align") (codes "right")
+    ∷ []) x refl (pass_one p (attribute (codes "align") (codes "right"))
+    (test.other (codes "align") (codes "right") refl)) r)
+cell-flat p ending options test false align.Center x r =
+    adds-flat p ending (HasReadingWith p) (cell_texts false align.Center x) refl
+    (element-read p (codes "td") (attribute (codes "align") (codes "center")
+    ∷ []) x refl (pass_one p (attribute (codes "align") (codes "center"))
+    (test.other (codes "align") (codes "center") refl)) r)
+cell-flat p ending options test false align.None x r = adds-flat p ending (HasReadingWith p)
+    (cell_texts false align.None x) refl (element-read p (codes "td") [] x refl refl r)
 
-adds-cell : (p : Attribute → Bool) (ending : List ℕ) → Escaped ending → (options : CompileOptions) (test : IsTest p options) (in_head : Bool) (kind : AlignKind) (x : List ℕ) → HasReadingWith p x → Adds p ending (HasReadingWith p) (cell_pieces in_head kind x)
+adds-cell : (p : Attribute → Bool) (ending : List ℕ) → Escaped ending →
+    (options : CompileOptions) (test : IsTest p options) (in_head : Bool) (kind : AlignKind) (x : List ℕ) →
+    HasReadingWith p x → Adds p ending (HasReadingWith p) (cell_pieces in_head kind x)
 adds-cell p ending h options test in_head kind x r =
-    adds-readings p ending (Needed ∷ []) (cell_texts in_head kind x) (adds-escaped p ending (Needed ∷ []) (adds-needed p ending h)) (cell-flat p ending options test in_head kind x r)
+    adds-readings p ending (Needed ∷ []) (cell_texts in_head kind x)
+    (adds-escaped p ending (Needed ∷ []) (adds-needed p ending h)) (cell-flat p ending options test in_head kind x r)
 
-pub adds-cell_in : (p : Attribute → Bool) (ending : List ℕ) → Escaped ending → (options : CompileOptions) (test : IsTest p options) (in_head : Bool) (kind : Option AlignKind) (x : List ℕ) → HasReadingWith p x → Adds p ending (HasReadingWith p) (cell_in in_head kind x)
+pub adds-cell_in : (p : Attribute → Bool) (ending : List ℕ) → Escaped ending →
+    (options : CompileOptions) (test : IsTest p options) (in_head : Bool) (kind : Option AlignKind) (x : List ℕ) →
+    HasReadingWith p x → Adds p ending (HasReadingWith p) (cell_in in_head kind x)
 adds-cell_in p ending h options test in_head None x r = adds-nothing p ending (HasReadingWith p) (nothing p)
 adds-cell_in p ending h options test in_head (Some kind) x r = adds-cell p ending h options test in_head kind x r
 
-pub adds-empty_cells : (p : Attribute → Bool) (ending : List ℕ) → Escaped ending → (options : CompileOptions) (test : IsTest p options) (in_head : Bool) (kinds : List AlignKind) → Adds p ending (HasReadingWith p) (empty_cells in_head kinds)
+pub adds-empty_cells : (p : Attribute → Bool) (ending : List ℕ) → Escaped ending →
+    (options : CompileOptions) (test : IsTest p options) (in_head : Bool) (kinds : List AlignKind) →
+    Adds p ending (HasReadingWith p) (empty_cells in_head kinds)
 adds-empty_cells p ending h options test in_head [] = adds-nothing p ending (HasReadingWith p) (nothing p)
 adds-empty_cells p ending h options test in_head (kind ∷ kinds) =
-    adds-readings p ending (cell_pieces in_head kind []) (empty_cells in_head kinds) (adds-cell p ending h options test in_head kind [] (nothing p)) (adds-empty_cells p ending h options test in_head kinds)
+    adds-readings p ending (cell_pieces in_head kind []) (empty_cells in_head kinds)
+    (adds-cell p ending h options test in_head kind [] (nothing p))
+    (adds-empty_cells p ending h options test in_head kinds)

@@ -34,24 +34,39 @@ bracket-after p o c h bracket r x rx =
 -- the section's tag and its heading
 abbrev heading_text : List ℕ → List ℕ → List ℕ → List ℕ
 heading_text tag attributes label =
-    codes "<section data-footnotes=\"\" class=\"footnotes\"><" ++ (tag ++ (codes " id=\"footnote-label\" " ++ (attributes ++ (codes ">" ++ (label ++ (codes "</" ++ (tag ++ codes ">")))))))
+    codes "<section data-footnotes=\"\" class=\"footnotes\"><"
+    ++ (tag ++ (codes " id=\"footnote-label\" " ++ (attributes
+    ++ (codes ">" ++ (label ++ (codes "</" ++ (tag ++ codes ">")))))))
 
-heading-bracket : (s : Setting) (label : List ℕ) → Escaped label → Bracket s.p (heading_text (codes "h2") (codes "class=\"sr-only\"") label) (codes "</section>")
+heading-bracket : (s : Setting) (label : List ℕ) → Escaped label →
+    Bracket s.p (heading_text (codes "h2") (codes "class=\"sr-only\"") label) (codes "</section>")
 heading-bracket s label h =
-    bracket-after s.p (codes "<section data-footnotes=\"\" class=\"footnotes\">") (codes "</section>") (codes "<h2 id=\"footnote-label\" class=\"sr-only\">" ++ (label ++ codes "</h2>"))
-    (bracket-tag s.p (codes "section") (attribute (codes "data-footnotes") [] ∷ attribute (codes "class") (codes "footnotes") ∷ []) refl
+    bracket-after s.p (codes "<section data-footnotes=\"\" class=\"footnotes\">") (codes "</section>")
+    (codes "<h2 id=\"footnote-label\" class=\"sr-only\">" ++ (label ++ codes "</h2>"))
+    (bracket-tag s.p (codes "section") (attribute (codes "data-footnotes") []
+    ∷ attribute (codes "class") (codes "footnotes") ∷ []) refl
     (rw (s.test.other (codes "data-footnotes") [] refl, s.test.other (codes "class") (codes "footnotes") refl) refl))
-    (element-read s.p (codes "h2") (attribute (codes "id") (codes "footnote-label") ∷ attribute (codes "class") (codes "sr-only") ∷ []) label refl
-    (rw (s.test.other (codes "id") (codes "footnote-label") refl, s.test.other (codes "class") (codes "sr-only") refl) refl)
+    (element-read s.p (codes "h2") (attribute (codes "id") (codes "footnote-label")
+    ∷ attribute (codes "class") (codes "sr-only") ∷ []) label refl
+    (rw (
+      s.test.other (codes "id") (codes "footnote-label") refl,
+      s.test.other (codes "class") (codes "sr-only") refl,
+    ) refl)
     (text s.p label h))
 
-section-bracket : (s : Setting) → s.given.options.gfm_footnote_label_tag_name ≡ None → s.given.options.gfm_footnote_label_attributes ≡ None
-    → Bracket s.p (heading_text (tag_of s.given.options) (attributes_of s.given.options) (heading_label_of s.given.options)) (codes "</section>")
+section-bracket : (s : Setting) → s.given.options.gfm_footnote_label_tag_name ≡ None →
+    s.given.options.gfm_footnote_label_attributes ≡ None
+    → Bracket s.p (heading_text (tag_of s.given.options) (attributes_of s.given.options)
+    (heading_label_of s.given.options)) (codes "</section>")
 section-bracket s no_tag no_attributes =
-    let tag : tag_of s.given.options ≡ codes "h2" = ap (λ o. escaped_option (option_map string_bytes o) (codes "h2")) no_tag in
-    let attributes : attributes_of s.given.options ≡ codes "class=\"sr-only\"" = ap (λ o. option_map_or string_bytes o (codes "class=\"sr-only\"")) no_attributes in
-    subst (λ tag. Bracket s.p (heading_text tag (attributes_of s.given.options) (heading_label_of s.given.options)) (codes "</section>")) (sym tag)
-    (subst (λ attributes. Bracket s.p (heading_text (codes "h2") attributes (heading_label_of s.given.options)) (codes "</section>")) (sym attributes)
+    let tag : tag_of s.given.options ≡ codes "h2" = ap (λ o. escaped_option (option_map string_bytes o) (codes "h2"))
+    no_tag in
+    let attributes : attributes_of s.given.options ≡ codes "class=\"sr-only\"" =
+    ap (λ o. option_map_or string_bytes o (codes "class=\"sr-only\"")) no_attributes in
+    subst (λ tag. Bracket s.p (heading_text tag (attributes_of s.given.options) (heading_label_of s.given.options))
+    (codes "</section>")) (sym tag)
+    (subst (λ attributes. Bracket s.p (heading_text (codes "h2") attributes (heading_label_of s.given.options))
+    (codes "</section>")) (sym attributes)
     (heading-bracket s (heading_label_of s.given.options) (label-escaped s.given.options)))
 
 -- a text is what stands before the CR and LF at its end, and these
@@ -65,27 +80,41 @@ ends [] = record { endings = []; whole = refl; are = refl }
 ends (byte ∷ bytes) = by (is_line_ends (byte ∷ bytes)) refl (ends bytes)
   where
     by : (all : Bool) → is_line_ends (byte ∷ bytes) ≡ all → Ends bytes → Ends (byte ∷ bytes)
-    by true e later = record { endings = byte ∷ bytes; whole = ap (λ b. cond b [] (byte ∷ without_endings bytes) ++ (byte ∷ bytes)) (sym e); are = e }
+    by true e later = record {
+      endings = byte ∷ bytes;
+      whole =
+          ap (λ b. cond b [] (byte ∷ without_endings bytes) ++ (byte ∷ bytes)) (sym e);
+      are = e;
+    }
     by false e later =
         record {
           endings = later.endings;
-          whole = ap (λ x. byte ∷ x) later.whole ∙ ap (λ b. cond b [] (byte ∷ without_endings bytes) ++ later.endings) (sym e);
+          whole = ap (λ x. byte ∷ x) later.whole ∙ ap (λ b. cond b [] (byte ∷ without_endings bytes)
+              ++ later.endings) (sym e);
           are = later.are;
         }
 
 -- where a paragraph ends a text, the ways back stand before its end
-in_paragraph : (p : Attribute → Bool) (x back : List ℕ) → HasReadingWith p x → HasReadingWith p back → ends_in_paragraph x ≡ true → HasReadingWith p (take (paragraph_end x) x ++ ((32 ∷ back) ++ drop (paragraph_end x) x))
+in_paragraph : (p : Attribute → Bool) (x back : List ℕ) → HasReadingWith p x → HasReadingWith p back →
+    ends_in_paragraph x ≡ true → HasReadingWith p (take (paragraph_end x) x
+    ++ ((32 ∷ back) ++ drop (paragraph_end x) x))
 in_paragraph p x back r rb h =
     let e = ends x in
     let n : ℕ = paragraph_end x in
     let fits : n ≤ length (without_endings x) = omega arith in
-    let tag : drop n (without_endings x) ≡ codes "</p>" = (bytes_eq-Decides (drop n (without_endings x)) (codes "</p>")).0 h in
-    let last : drop n x ≡ codes "</p>" ++ e.endings = ap (λ y. drop n y) e.whole ∙ drop-append-le n (without_endings x) e.endings fits ∙ ap (λ y. y ++ e.endings) tag in
-    let cut : x ≡ take n x ++ codes "</p>" ++ e.endings = sym (take-append-drop n x) ∙ ap (λ y. take n x ++ y) last ∙ sym (append_assoc (take n x) (codes "</p>") e.endings) in
+    let tag : drop n (without_endings x) ≡ codes "</p>" =
+    (bytes_eq-Decides (drop n (without_endings x)) (codes "</p>")).0 h in
+    let last : drop n x ≡ codes "</p>" ++ e.endings = ap (λ y. drop n y) e.whole
+    ∙ drop-append-le n (without_endings x) e.endings fits ∙ ap (λ y. y ++ e.endings) tag in
+    let cut : x ≡ take n x ++ codes "</p>" ++ e.endings = sym (take-append-drop n x) ∙ ap (λ y. take n x ++ y) last
+    ∙ sym (append_assoc (take n x) (codes "</p>") e.endings) in
     let put : HasReadingWith p (take n x ++ (32 ∷ back) ++ codes "</p>" ++ e.endings) =
-    paragraph_takes p (take n x) e.endings (32 ∷ back) e.are (subst (HasReadingWith p) cut r) (join p (32 ∷ []) back (text p (32 ∷ []) refl) rb) in
+    paragraph_takes p (take n x) e.endings (32 ∷ back) e.are (subst (HasReadingWith p) cut r)
+    (join p (32 ∷ []) back (text p (32 ∷ []) refl) rb) in
     subst (HasReadingWith p)
-    (append_assoc (take n x ++ (32 ∷ back)) (codes "</p>") e.endings ∙ append_assoc (take n x) (32 ∷ back) (codes "</p>" ++ e.endings) ∙ ap (λ y. take n x ++ ((32 ∷ back) ++ y)) (sym last))
+    (append_assoc (take n x ++ (32 ∷ back)) (codes "</p>") e.endings
+    ∙ append_assoc (take n x) (32 ∷ back) (codes "</p>" ++ e.endings)
+    ∙ ap (λ y. take n x ++ ((32 ∷ back) ++ y)) (sym last))
     put
 
 body-prints : (s : Setting) (x back : List ℕ) → Reads s x → Reads s back → Prints s (Reads s) (body_pieces x back)
@@ -94,85 +123,114 @@ body-prints s x back r rb =
     (Text (take (paragraph_end x) x) ∷ Text (32 ∷ []) ∷ Text back ∷ Text (drop (paragraph_end x) x) ∷ [])
     (Text x ∷ Needed ∷ Text back ∷ []) (Prints s (Reads s))
     (λ is.
-    adds-flat s.p s.given.ending (Reads s) (Text (take (paragraph_end x) x) ∷ Text (32 ∷ []) ∷ Text back ∷ Text (drop (paragraph_end x) x) ∷ []) refl
-    (subst (Reads s) (ap (λ y. take (paragraph_end x) x ++ (32 ∷ (back ++ y))) (sym (append-nil (drop (paragraph_end x) x)))) (in_paragraph s.p x back r rb is)))
+    adds-flat s.p s.given.ending (Reads s) (Text (take (paragraph_end x) x) ∷ Text (32 ∷ []) ∷ Text back
+    ∷ Text (drop (paragraph_end x) x) ∷ []) refl
+    (subst (Reads s) (ap (λ y. take (paragraph_end x) x ++ (32 ∷ (back ++ y)))
+    (sym (append-nil (drop (paragraph_end x) x)))) (in_paragraph s.p x back r rb is)))
     (λ _.
-    adds-readings s.p s.given.ending (Text x ∷ []) (Needed ∷ Text back ∷ []) (adds-text s.p s.given.ending (Reads s) x r)
-    (adds-readings s.p s.given.ending (Needed ∷ []) (Text back ∷ []) (adds-escaped s.p s.given.ending (Needed ∷ []) (adds-needed s.p s.given.ending s.ending)) (adds-text s.p s.given.ending (Reads s) back rb)))
+    adds-readings s.p s.given.ending (Text x ∷ []) (Needed ∷ Text back
+    ∷ []) (adds-text s.p s.given.ending (Reads s) x r)
+    (adds-readings s.p s.given.ending (Needed ∷ []) (Text back
+    ∷ []) (adds-escaped s.p s.given.ending (Needed ∷ []) (adds-needed s.p s.given.ending s.ending))
+    (adds-text s.p s.given.ending (Reads s) back rb)))
 
 -- an item
 li_id : (v : List ℕ) → Escaped v → is_tag elements (codes "li") (attribute (codes "id") v ∷ []) ≡ true
 li_id v h = rw h refl
 
-item-bracket : (s : Setting) (v : List ℕ) → Escaped v → Bracket s.p (codes "<li id=\"" ++ (v ++ (codes "\">" ++ []))) (codes "</li>")
+item-bracket : (s : Setting) (v : List ℕ) → Escaped v → Bracket s.p (codes "<li id=\""
+    ++ (v ++ (codes "\">" ++ []))) (codes "</li>")
 item-bracket s v h =
     subst (λ o. Bracket s.p o (codes "</li>")) (ap (λ x. codes "<li id=\"" ++ x) (append_assoc v (34 ∷ []) (62 ∷ [])))
     (bracket-tag s.p (codes "li") (attribute (codes "id") v ∷ []) (li_id v h) (cc (s.test.other (codes "id") v refl)))
 
-item-opening : (s : Setting) (v : List ℕ) → Prints s (IsFramed (codes "<li id=\"" ++ (v ++ (codes "\">" ++ [])))) (Forced ∷ Text (codes "<li id=\"") ∷ Text v ∷ Text (codes "\">") ∷ Forced ∷ [])
+item-opening : (s : Setting) (v : List ℕ) → Prints s (IsFramed (codes "<li id=\"" ++ (v ++ (codes "\">" ++ []))))
+    (Forced ∷ Text (codes "<li id=\"") ∷ Text v ∷ Text (codes "\">") ∷ Forced ∷ [])
 item-opening s v =
     let o : List ℕ = codes "<li id=\"" ++ (v ++ (codes "\">" ++ [])) in
-    adds-append s.p s.given.ending (IsFramed o) Escaped (IsFramed o) (Forced ∷ Text (codes "<li id=\"") ∷ Text v ∷ Text (codes "\">") ∷ []) (Forced ∷ [])
+    adds-append s.p s.given.ending (IsFramed o) Escaped (IsFramed o) (Forced ∷ Text (codes "<li id=\"") ∷ Text v
+    ∷ Text (codes "\">") ∷ []) (Forced ∷ [])
     (λ x y f g.
     record {
       before = f.before;
       after = f.after ++ y;
-      whole = ap (λ x. x ++ y) f.whole ∙ append_assoc f.before (o ++ f.after) y ∙ ap (λ x. f.before ++ x) (append_assoc o f.after y);
+      whole = ap (λ x. x ++ y) f.whole ∙ append_assoc f.before (o ++ f.after) y
+          ∙ ap (λ x. f.before ++ x) (append_assoc o f.after y);
       escaped_before = f.escaped_before;
       escaped_after = escaped-append f.after y f.escaped_after g;
     })
-    (adds-framed_flat s.p s.given.ending (Forced ∷ []) (Text (codes "<li id=\"") ∷ Text v ∷ Text (codes "\">") ∷ []) refl (adds-forced s.p s.given.ending s.ending))
+    (adds-framed_flat s.p s.given.ending (Forced ∷ []) (Text (codes "<li id=\"") ∷ Text v ∷ Text (codes "\">")
+    ∷ []) refl (adds-forced s.p s.given.ending s.ending))
     (adds-forced s.p s.given.ending s.ending)
 
-item-prints : (s : Setting) (x identifier : List ℕ) (count : ℕ) → Reads s x → Prints s (Reads s) (item_pieces s.given.options x identifier count)
+item-prints : (s : Setting) (x identifier : List ℕ) (count : ℕ) → Reads s x →
+    Prints s (Reads s) (item_pieces s.given.options x identifier count)
 item-prints s x identifier count r =
     let v : List ℕ = footnote_id s.given.options identifier in
     let back : List ℕ = backreferences s.given.options identifier count in
     adds-pair s.p s.given.ending (codes "<li id=\"" ++ (v ++ (codes "\">" ++ []))) (codes "</li>")
-    (Forced ∷ Text (codes "<li id=\"") ∷ Text v ∷ Text (codes "\">") ∷ Forced ∷ []) (body_pieces x back) (Needed ∷ Text (codes "</li>") ∷ [])
+    (Forced ∷ Text (codes "<li id=\"") ∷ Text v ∷ Text (codes "\">") ∷ Forced ∷ []) (body_pieces x back) (Needed
+    ∷ Text (codes "</li>") ∷ [])
     (item-bracket s v (footnote_id-escaped s.given.options identifier)) (item-opening s v)
     (body-prints s x back r (backreferences-read s.p s.given.options s.test identifier count))
     (framed-needed s.p s.given.ending (codes "</li>") s.ending)
 
-footnote-read : (s : Setting) (footnotes : List Footnote) (identifier : List ℕ) → AreRead s footnotes → Reads s (footnote_text footnotes identifier)
+footnote-read : (s : Setting) (footnotes : List Footnote) (identifier : List ℕ) → AreRead s footnotes →
+    Reads s (footnote_text footnotes identifier)
 footnote-read s [] identifier h = nothing s.p
-footnote-read s (footnote ∷ others) identifier h = by (bytes_eq footnote.identifier identifier) (footnote-read s others identifier h.1)
+footnote-read s (footnote ∷ others) identifier h = by (bytes_eq footnote.identifier identifier)
+    (footnote-read s others identifier h.1)
   where
-    by : (is : Bool) → Reads s (footnote_text others identifier) → Reads s (option_map_or (λ footnote. footnote.text) (cond is (Some footnote) (find (λ footnote. bytes_eq footnote.identifier identifier) others)) [])
+    by : (is : Bool) → Reads s (footnote_text others identifier) →
+        Reads s (option_map_or (λ footnote. footnote.text)
+        (cond is (Some footnote) (find (λ footnote. bytes_eq footnote.identifier identifier) others)) [])
     by true later = h.0
     by false later = later
 
-items-print : (s : Setting) (footnotes : List Footnote) (called : List Called) → AreRead s footnotes → Prints s (Reads s) (items_pieces s.given.options footnotes called)
+items-print : (s : Setting) (footnotes : List Footnote) (called : List Called) → AreRead s footnotes →
+    Prints s (Reads s) (items_pieces s.given.options footnotes called)
 items-print s footnotes [] h = adds-nothing s.p s.given.ending (Reads s) (nothing s.p)
 items-print s footnotes (called ∷ others) h =
-    adds-readings s.p s.given.ending (item_pieces s.given.options (footnote_text footnotes called.identifier) called.identifier called.count) (items_pieces s.given.options footnotes others)
-    (item-prints s (footnote_text footnotes called.identifier) called.identifier called.count (footnote-read s footnotes called.identifier h))
+    adds-readings s.p s.given.ending (item_pieces s.given.options
+    (footnote_text footnotes called.identifier) called.identifier called.count)
+    (items_pieces s.given.options footnotes others)
+    (item-prints s (footnote_text footnotes called.identifier) called.identifier called.count
+    (footnote-read s footnotes called.identifier h))
     (items-print s footnotes others h)
 
 -- the beginning of the section
 abbrev head_texts : CompileOptions → List Piece
 head_texts options =
     Text (codes "<section data-footnotes=\"\" class=\"footnotes\"><") ∷ Text (tag_of options)
-    ∷ Text (codes " id=\"footnote-label\" ") ∷ Text (attributes_of options) ∷ Text (codes ">") ∷ Text (heading_label_of options)
+    ∷ Text (codes " id=\"footnote-label\" ") ∷ Text (attributes_of options) ∷ Text (codes ">")
+    ∷ Text (heading_label_of options)
     ∷ Text (codes "</") ∷ Text (tag_of options) ∷ Text (codes ">") ∷ []
 
 -- items between the tags of the list and of the section
-section-around : (s : Setting) → s.given.options.gfm_footnote_label_tag_name ≡ None → s.given.options.gfm_footnote_label_attributes ≡ None → (items : List Piece) → Prints s (Reads s) items
+section-around : (s : Setting) → s.given.options.gfm_footnote_label_tag_name ≡ None →
+    s.given.options.gfm_footnote_label_attributes ≡ None → (items : List Piece) → Prints s (Reads s) items
     → Prints s (Reads s) (section_opening s.given.options ++ (items ++ section_closing))
 section-around s no_tag no_attributes items a =
     let ol : List Piece = Forced ∷ Text (codes "<ol>") ∷ [] in
     let end : List Piece = Forced ∷ Text (codes "</ol>") ∷ [] in
     let last : List Piece = Forced ∷ Text (codes "</section>") ∷ Forced ∷ [] in
     subst (λ x. Prints s (Reads s) ((Needed ∷ head_texts s.given.options) ++ (ol ++ x))) (append_assoc items end last)
-    (adds-pair s.p s.given.ending (flat (head_texts s.given.options)) (codes "</section>") (Needed ∷ head_texts s.given.options) (ol ++ (items ++ end)) last
+    (adds-pair s.p s.given.ending (flat (head_texts s.given.options)) (codes "</section>") (Needed
+    ∷ head_texts s.given.options) (ol ++ (items ++ end)) last
     (section-bracket s no_tag no_attributes)
-    (adds-framed_flat s.p s.given.ending (Needed ∷ []) (head_texts s.given.options) refl (adds-needed s.p s.given.ending s.ending))
+    (adds-framed_flat s.p s.given.ending (Needed ∷ []) (head_texts s.given.options) refl
+    (adds-needed s.p s.given.ending s.ending))
     (adds-pair s.p s.given.ending (codes "<ol>") (codes "</ol>") ol items end (bracket-plain s.p (codes "ol") refl)
-    (framed-forced s.p s.given.ending (codes "<ol>") s.ending) a (framed-forced s.p s.given.ending (codes "</ol>") s.ending))
-    (adds-framed s.p s.given.ending (codes "</section>") (Forced ∷ []) (Forced ∷ []) (adds-forced s.p s.given.ending s.ending) (adds-forced s.p s.given.ending s.ending)))
+    (framed-forced s.p s.given.ending (codes "<ol>") s.ending) a
+    (framed-forced s.p s.given.ending (codes "</ol>") s.ending))
+    (adds-framed s.p s.given.ending (codes "</section>") (Forced ∷ []) (Forced
+    ∷ []) (adds-forced s.p s.given.ending s.ending) (adds-forced s.p s.given.ending s.ending)))
 
-pub section-prints : (s : Setting) → s.given.options.gfm_footnote_label_tag_name ≡ None → s.given.options.gfm_footnote_label_attributes ≡ None → (footnotes : List Footnote) (called : List Called) → AreRead s footnotes
+pub section-prints : (s : Setting) → s.given.options.gfm_footnote_label_tag_name ≡ None →
+    s.given.options.gfm_footnote_label_attributes ≡ None → (footnotes : List Footnote) (called : List Called) →
+    AreRead s footnotes
     → Prints s (Reads s) (section_pieces s.given.options footnotes called)
 section-prints s no_tag no_attributes footnotes [] h = adds-nothing s.p s.given.ending (Reads s) (nothing s.p)
 section-prints s no_tag no_attributes footnotes (called ∷ others) h =
-    section-around s no_tag no_attributes (items_pieces s.given.options footnotes (called ∷ others)) (items-print s footnotes (called ∷ others) h)
+    section-around s no_tag no_attributes (items_pieces s.given.options footnotes (called ∷ others))
+    (items-print s footnotes (called ∷ others) h)

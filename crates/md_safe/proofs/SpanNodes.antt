@@ -26,7 +26,8 @@ use Rattle.md_safe.proofs.Contents.{Holds, lie}
 use Rattle.md_safe.proofs.Spot.{Setting, Spot, node_pieces, Here, Prints, Inside, IsWide, encoded-escaped, prints-alone, prints-both, target-title}
 
 -- tags outside images round what stands in a node
-pub prints-pair : (s : Setting) (in_image : Bool) (holds : List ℕ → Type 0) → IsWide s.p in_image holds → (o c : List ℕ) → Bracket s.p o c → (inner : List Piece) → Prints s holds inner
+pub prints-pair : (s : Setting) (in_image : Bool) (holds : List ℕ → Type 0) → IsWide s.p in_image holds →
+    (o c : List ℕ) → Bracket s.p o c → (inner : List Piece) → Prints s holds inner
     → Prints s holds ((cond in_image [] (said o)) ++ (inner ++ ((cond in_image [] (said c)) ++ [])))
 prints-pair s true holds w o c bracket inner a = prints-alone s holds inner a
 prints-pair s false holds w o c bracket inner a =
@@ -35,22 +36,28 @@ prints-pair s false holds w o c bracket inner a =
     (adds-weaker s.p s.given.ending holds (HasReadingWith s.p) inner w.read a) (framed-text s.p s.given.ending c))
 
 -- a text in images, what has a reading outside them
-pub prints-outside : (s : Setting) (in_image : Bool) (holds : List ℕ → Type 0) → IsWide s.p in_image holds → (xs ys : List Piece) → Prints s holds xs → (in_image ≡ false → Prints s (HasReadingWith s.p) ys) → Prints s holds (cond in_image xs ys)
+pub prints-outside : (s : Setting) (in_image : Bool) (holds : List ℕ → Type 0) → IsWide s.p in_image holds →
+    (xs ys : List Piece) → Prints s holds xs → (in_image ≡ false → Prints s (HasReadingWith s.p) ys) →
+    Prints s holds (cond in_image xs ys)
 prints-outside s true holds w xs ys a b = a
-prints-outside s false holds w xs ys a b = adds-weaker s.p s.given.ending (HasReadingWith s.p) holds ys (w.outside refl) (b refl)
+prints-outside s false holds w xs ys a b = adds-weaker s.p s.given.ending (HasReadingWith s.p) holds ys
+    (w.outside refl) (b refl)
 
 -- the page of what stands in a node
 abbrev pub page_of : Setting → List Piece → Page
 page_of s inner = lay s.given.ending blank inner
 
-pub page-holds : (s : Setting) (holds : List ℕ → Type 0) (inner : List Piece) → Prints s holds inner → holds (page_of s inner).text
+pub page-holds : (s : Setting) (holds : List ℕ → Type 0) (inner : List Piece) → Prints s holds inner →
+    holds (page_of s inner).text
 page-holds s holds inner a = (adds-blank s.p s.given.ending holds inner a).0
 
-pub page-good : (s : Setting) (holds : List ℕ → Type 0) (inner : List Piece) → Prints s holds inner → AreGood s.p (page_of s inner).notes
+pub page-good : (s : Setting) (holds : List ℕ → Type 0) (inner : List Piece) → Prints s holds inner →
+    AreGood s.p (page_of s inner).notes
 page-good s holds inner a = (adds-blank s.p s.given.ending holds inner a).1
 
 -- an escaped text
-pub prints-escaped : (s : Setting) (in_image : Bool) (holds : List ℕ → Type 0) → IsWide s.p in_image holds → (x : List ℕ) → Escaped x → Prints s holds (said x)
+pub prints-escaped : (s : Setting) (in_image : Bool) (holds : List ℕ → Type 0) → IsWide s.p in_image holds →
+    (x : List ℕ) → Escaped x → Prints s holds (said x)
 prints-escaped s in_image holds w x h = adds-text s.p s.given.ending holds x (w.own x h)
 
 code_text-escaped : (t : Spot) (x : List ℕ) → Escaped x → Escaped (code_text t.around x)
@@ -59,59 +66,83 @@ code_text-escaped t x h =
     (cond_both t.around.in_table (unescaped_pipes x) x Escaped (λ _. pipes-escaped x h) (λ _. h))
 
 -- HTML, escaped
-pub html-escaped : (s : Setting) (t : Spot) → t.around.is_escaping ≡ true → Prints s Escaped (html_pieces s.given t.around t.start t.end)
+pub html-escaped : (s : Setting) (t : Spot) → t.around.is_escaping ≡ true →
+    Prints s Escaped (html_pieces s.given t.around t.start t.end)
 html-escaped s t e =
-    let x : List ℕ = cond (s.given.options.gfm_tagfilter && s.given.options.allow_dangerous_html) (tag_filtered (text_of s.given.bytes t.start t.end)) (text_of s.given.bytes t.start t.end) in
+    let x : List ℕ = cond (s.given.options.gfm_tagfilter
+    && s.given.options.allow_dangerous_html) (tag_filtered (text_of s.given.bytes t.start t.end))
+    (text_of s.given.bytes t.start t.end) in
     adds-text s.p s.given.ending Escaped (encoded t.around.is_escaping x) (encoded-escaped t.around.is_escaping x e)
 
 -- nothing where nothing is printed
-pub prints-nothing : (s : Setting) (in_image : Bool) (holds : List ℕ → Type 0) → IsWide s.p in_image holds → Prints s holds []
+pub prints-nothing : (s : Setting) (in_image : Bool) (holds : List ℕ → Type 0) → IsWide s.p in_image holds →
+    Prints s holds []
 prints-nothing s in_image holds w = adds-nothing s.p s.given.ending holds (w.own [] refl)
 
 break-read : (s : Setting) → Prints s (HasReadingWith s.p) (said (codes "<br />"))
-break-read s = adds-flat s.p s.given.ending (HasReadingWith s.p) (said (codes "<br />")) refl (void-read s.p (codes "br") [] refl refl)
+break-read s = adds-flat s.p s.given.ending (HasReadingWith s.p) (said (codes "<br />")) refl
+    (void-read s.p (codes "br") [] refl refl)
 
 done-nothing : (x : List ℕ) → IsDone true x → x ≡ []
 done-nothing x done = elim done [ inl e ↦ e | inr outside ↦ absurd (lie (sym outside.0)) ]
 
 -- a task
-task-node : (s : Setting) (in_image : Bool) (holds : List ℕ → Type 0) → IsWide s.p in_image holds → (inner : List Piece) → Prints s (IsDone in_image) inner
-    → Prints s holds ((cond in_image [] (Text (codes "<input type=\"checkbox\" ") ∷ (cond s.given.options.gfm_task_list_item_checkable [] (said (codes "disabled=\"\" "))))) ++ (inner ++ ((cond in_image [] (said (codes "/>"))) ++ [])))
+task-node : (s : Setting) (in_image : Bool) (holds : List ℕ → Type 0) → IsWide s.p in_image holds →
+    (inner : List Piece) → Prints s (IsDone in_image) inner
+    → Prints s holds ((cond in_image [] (Text (codes "<input type=\"checkbox\" ")
+    ∷ (cond s.given.options.gfm_task_list_item_checkable [] (said (codes "disabled=\"\" ")))))
+    ++ (inner ++ ((cond in_image [] (said (codes "/>"))) ++ [])))
 task-node s true holds w inner a =
-    prints-alone s holds inner (adds-weaker s.p s.given.ending (IsDone true) holds inner (λ x done. subst holds (sym (done-nothing x done)) (w.own [] refl)) a)
+    prints-alone s holds inner (adds-weaker s.p s.given.ending (IsDone true) holds inner
+    (λ x done. subst holds (sym (done-nothing x done)) (w.own [] refl)) a)
 task-node s false holds w inner a =
     adds-weaker s.p s.given.ending (HasReadingWith s.p) holds
-    ((Text (codes "<input type=\"checkbox\" ") ∷ (cond s.given.options.gfm_task_list_item_checkable [] (said (codes "disabled=\"\" ")))) ++ (inner ++ said (codes "/>")))
+    ((Text (codes "<input type=\"checkbox\" ") ∷ (cond s.given.options.gfm_task_list_item_checkable []
+    (said (codes "disabled=\"\" ")))) ++ (inner ++ said (codes "/>")))
     (w.outside refl)
     (adds-task s.p s.given.ending s.given.options s.test s.given.options.gfm_task_list_item_checkable false inner a)
 
-pub span-node : (s : Setting) (t : Spot) (content : Content) (name : Name) → t.around.is_escaping ≡ true → IsWide s.p t.around.in_image (Here s t content) → is_span name ≡ true → (inner : List Piece) → Inside s t content name inner
+pub span-node : (s : Setting) (t : Spot) (content : Content) (name : Name) → t.around.is_escaping ≡ true →
+    IsWide s.p t.around.in_image (Here s t content) → is_span name ≡ true → (inner : List Piece) →
+    Inside s t content name inner
     → Prints s (Here s t content) (node_pieces s t name inner)
 span-node s t content HtmlText e w is inner a =
-    prints-alone s (Here s t content) inner (subst (λ b. Prints s (Holds s.p b t.around.in_image content) inner) (ap not s.test.html ∙ sym e) a)
+    prints-alone s (Here s t content) inner (subst (λ b. Prints s (Holds s.p b t.around.in_image content) inner)
+    (ap not s.test.html ∙ sym e) a)
 span-node s t content HtmlTextData e w is inner a =
     prints-both s (Here s t content) w.both inner (html_pieces s.given t.around t.start t.end) a
-    (adds-weaker s.p s.given.ending Escaped (Here s t content) (html_pieces s.given t.around t.start t.end) w.own (html-escaped s t e))
-span-node s t content Emphasis e w is inner a = prints-pair s t.around.in_image (Here s t content) w (codes "<em>") (codes "</em>") (bracket-plain s.p (codes "em") refl) inner a
-span-node s t content Strong e w is inner a = prints-pair s t.around.in_image (Here s t content) w (codes "<strong>") (codes "</strong>") (bracket-plain s.p (codes "strong") refl) inner a
-span-node s t content GfmStrikethrough e w is inner a = prints-pair s t.around.in_image (Here s t content) w (codes "<del>") (codes "</del>") (bracket-plain s.p (codes "del") refl) inner a
+    (adds-weaker s.p s.given.ending Escaped (Here s t content) (html_pieces s.given t.around t.start t.end) w.own
+    (html-escaped s t e))
+span-node s t content Emphasis e w is inner a = prints-pair s t.around.in_image (Here s t content) w (codes "<em>")
+    (codes "</em>") (bracket-plain s.p (codes "em") refl) inner a
+span-node s t content Strong e w is inner a = prints-pair s t.around.in_image (Here s t content) w (codes "<strong>")
+    (codes "</strong>") (bracket-plain s.p (codes "strong") refl) inner a
+span-node s t content GfmStrikethrough e w is inner a = prints-pair s t.around.in_image (Here s t content) w
+    (codes "<del>") (codes "</del>") (bracket-plain s.p (codes "del") refl) inner a
 span-node s t content CodeText e w is inner a =
     let x : List ℕ = code_text t.around (page_of s inner).text in
-    let h : Escaped x = code_text-escaped t (page_of s inner).text (page-holds s (λ x. t.around.is_escaping ≡ true → Escaped x) inner a e) in
+    let h : Escaped x = code_text-escaped t (page_of s inner).text (page-holds s (λ x. t.around.is_escaping ≡ true →
+    Escaped x) inner a e) in
     prints-alone s (Here s t content) (code_pieces t.around (codes "<code>") (page_of s inner).text)
-    (prints-outside s t.around.in_image (Here s t content) w (said x) (Text (codes "<code>") ∷ Text x ∷ Text (codes "</code>") ∷ [])
+    (prints-outside s t.around.in_image (Here s t content) w (said x) (Text (codes "<code>") ∷ Text x
+    ∷ Text (codes "</code>") ∷ [])
     (prints-escaped s t.around.in_image (Here s t content) w x h) (λ _. adds-code s.p s.given.ending x h))
 span-node s t content MathText e w is inner a =
     let x : List ℕ = code_text t.around (page_of s inner).text in
-    let h : Escaped x = code_text-escaped t (page_of s inner).text (page-holds s (λ x. t.around.is_escaping ≡ true → Escaped x) inner a e) in
-    prints-alone s (Here s t content) (code_pieces t.around (codes "<code class=\"language-math math-inline\">") (page_of s inner).text)
-    (prints-outside s t.around.in_image (Here s t content) w (said x) (Text (codes "<code class=\"language-math math-inline\">") ∷ Text x ∷ Text (codes "</code>") ∷ [])
-    (prints-escaped s t.around.in_image (Here s t content) w x h) (λ _. adds-math s.p s.given.ending s.given.options s.test x h))
+    let h : Escaped x = code_text-escaped t (page_of s inner).text (page-holds s (λ x. t.around.is_escaping ≡ true →
+    Escaped x) inner a e) in
+    prints-alone s (Here s t content) (code_pieces t.around (codes "<code class=\"language-math math-inline\">")
+    (page_of s inner).text)
+    (prints-outside s t.around.in_image (Here s t content) w (said x)
+    (Text (codes "<code class=\"language-math math-inline\">") ∷ Text x ∷ Text (codes "</code>") ∷ [])
+    (prints-escaped s t.around.in_image (Here s t content) w x h)
+    (λ _. adds-math s.p s.given.ending s.given.options s.test x h))
 span-node s t content Link e w is inner a =
     let page : Page = page_of s inner in
     let h : Here s t content page.text = page-holds s (Here s t content) inner a in
     prints-alone s (Here s t content) (link_pieces s.given t.around (ahead_of t.children) page)
-    (prints-outside s t.around.in_image (Here s t content) w (said page.text) (link_to s.given.options (target_of s.given (ahead_of t.children) page.notes) page.text)
+    (prints-outside s t.around.in_image (Here s t content) w (said page.text)
+    (link_to s.given.options (target_of s.given (ahead_of t.children) page.notes) page.text)
     (adds-text s.p s.given.ending (Here s t content) page.text h)
     (λ _.
     adds-link s.p s.given.ending s.given.options s.test (target_of s.given (ahead_of t.children) page.notes) page.text
@@ -120,66 +151,92 @@ span-node s t content Image e w is inner a =
     let page : Page = page_of s inner in
     let h : Escaped page.text = page-holds s Escaped inner a in
     prints-alone s (Here s t content) (image_pieces s.given t.around (ahead_of t.children) page)
-    (prints-outside s t.around.in_image (Here s t content) w (said page.text) (image_of s.given.options (target_of s.given (ahead_of t.children) page.notes) page.text)
+    (prints-outside s t.around.in_image (Here s t content) w (said page.text)
+    (image_of s.given.options (target_of s.given (ahead_of t.children) page.notes) page.text)
     (prints-escaped s t.around.in_image (Here s t content) w page.text h)
     (λ _.
     adds-image s.p s.given.ending s.given.options s.test (target_of s.given (ahead_of t.children) page.notes) page.text
     (target-title s (ahead_of t.children) page (page-good s Escaped inner a).resource) h))
 span-node s t content HardBreakEscape e w is inner a =
     prints-both s (Here s t content) w.both inner (outside_images t.around (said (codes "<br />"))) a
-    (prints-outside s t.around.in_image (Here s t content) w [] (said (codes "<br />")) (prints-nothing s t.around.in_image (Here s t content) w) (λ _. break-read s))
+    (prints-outside s t.around.in_image (Here s t content) w [] (said (codes "<br />"))
+    (prints-nothing s t.around.in_image (Here s t content) w) (λ _. break-read s))
 span-node s t content HardBreakTrailing e w is inner a =
     prints-both s (Here s t content) w.both inner (outside_images t.around (said (codes "<br />"))) a
-    (prints-outside s t.around.in_image (Here s t content) w [] (said (codes "<br />")) (prints-nothing s t.around.in_image (Here s t content) w) (λ _. break-read s))
+    (prints-outside s t.around.in_image (Here s t content) w [] (said (codes "<br />"))
+    (prints-nothing s t.around.in_image (Here s t content) w) (λ _. break-read s))
 span-node s t content GfmTaskListItemCheck e w is inner a = task-node s t.around.in_image (Here s t content) w inner a
 span-node s t content GfmFootnoteCall e w is inner a =
     let identifier : List ℕ = identifier_at s.given.bytes (ahead_of t.children).label in
-    prints-outside s t.around.in_image (Here s t content) w [] (call_tags s.given.options identifier (number_among t.left.called identifier) (suc (count_among t.left.called identifier)))
+    prints-outside s t.around.in_image (Here s t content) w []
+    (call_tags s.given.options identifier (number_among t.left.called identifier)
+    (suc (count_among t.left.called identifier)))
     (prints-nothing s t.around.in_image (Here s t content) w)
-    (λ _. adds-call s.p s.given.ending s.given.options s.test identifier (number_among t.left.called identifier) (suc (count_among t.left.called identifier)))
+    (λ _. adds-call s.p s.given.ending s.given.options s.test identifier (number_among t.left.called identifier)
+    (suc (count_among t.left.called identifier)))
 span-node s t content _ e w is inner a = absurd (lie is)
 
 -- what stands in links, images and calls
-pub media-node : (s : Setting) (t : Spot) (content : Content) (name : Name) → t.around.is_escaping ≡ true → IsWide s.p t.around.in_image (Here s t content) → is_in_media name ≡ true → (inner : List Piece) → Inside s t content name inner
+pub media-node : (s : Setting) (t : Spot) (content : Content) (name : Name) → t.around.is_escaping ≡ true →
+    IsWide s.p t.around.in_image (Here s t content) → is_in_media name ≡ true → (inner : List Piece) →
+    Inside s t content name inner
     → Prints s (Here s t content) (node_pieces s t name inner)
 media-node s t content Label e w is inner a = prints-alone s (Here s t content) inner a
 media-node s t content LabelText e w is inner a = prints-alone s (Here s t content) inner a
 media-node s t content Resource e w is inner a =
-    adds-note s.p s.given.ending (Here s t content) (noted_resource (page_of s inner).notes.target) (w.own [] refl) (page-good s (Here s t content) inner a).title
+    adds-note s.p s.given.ending (Here s t content) (noted_resource (page_of s inner).notes.target) (w.own [] refl)
+    (page-good s (Here s t content) inner a).title
 media-node s t content ResourceDestinationString e w is inner a =
     adds-note s.p s.given.ending (Here s t content) (Destination (page_of s inner).text) (w.own [] refl) tt
 media-node s t content ResourceTitleString e w is inner a =
-    adds-note s.p s.given.ending (Here s t content) (Title (page_of s inner).text) (w.own [] refl) (page-holds s (λ x. t.around.is_escaping ≡ true → Escaped x) inner a e)
+    adds-note s.p s.given.ending (Here s t content) (Title (page_of s inner).text) (w.own [] refl)
+    (page-holds s (λ x. t.around.is_escaping ≡ true → Escaped x) inner a e)
 media-node s t content ReferenceString e w is inner a = prints-nothing s t.around.in_image (Here s t content) w
 media-node s t content _ e w is inner a = absurd (lie is)
 
 -- an autolink, which is plain at least in images
-link-node : (s : Setting) (t : Spot) (holds : List ℕ → Type 0) → IsWide s.p t.around.in_image holds → (prefix : List ℕ) (plain : Bool) → (plain ≡ false → t.around.in_image ≡ false) → (inner : List Piece) → Prints s holds inner
+link-node : (s : Setting) (t : Spot) (holds : List ℕ → Type 0) → IsWide s.p t.around.in_image holds →
+    (prefix : List ℕ) (plain : Bool) → (plain ≡ false → t.around.in_image ≡ false) → (inner : List Piece) →
+    Prints s holds inner
     → Prints s holds (inner ++ (autolink_pieces s.given prefix plain t.start t.end ++ []))
 link-node s t holds w prefix plain outside inner a =
     prints-both s holds w.both inner (autolink_pieces s.given prefix plain t.start t.end) a
     (cond_both plain (said (encoded true (text_of s.given.bytes t.start t.end)))
-    (link_start s.given.options (prefix ++ text_of s.given.bytes t.start t.end) ++ link_end (encoded true (text_of s.given.bytes t.start t.end))) (Prints s holds)
-    (λ _. prints-escaped s t.around.in_image holds w (encoded true (text_of s.given.bytes t.start t.end)) (is_escaped-encoded (text_of s.given.bytes t.start t.end)))
+    (link_start s.given.options (prefix ++ text_of s.given.bytes t.start t.end)
+    ++ link_end (encoded true (text_of s.given.bytes t.start t.end))) (Prints s holds)
+    (λ _. prints-escaped s t.around.in_image holds w (encoded true (text_of s.given.bytes t.start t.end))
+    (is_escaped-encoded (text_of s.given.bytes t.start t.end)))
     (λ no.
     adds-weaker s.p s.given.ending (HasReadingWith s.p) holds
-    (link_start s.given.options (prefix ++ text_of s.given.bytes t.start t.end) ++ link_end (encoded true (text_of s.given.bytes t.start t.end)))
+    (link_start s.given.options (prefix ++ text_of s.given.bytes t.start t.end)
+    ++ link_end (encoded true (text_of s.given.bytes t.start t.end)))
     (w.outside (outside no))
-    (adds-autolink s.p s.given.ending s.given.options s.test (prefix ++ text_of s.given.bytes t.start t.end) (encoded true (text_of s.given.bytes t.start t.end))
-    (text s.p (encoded true (text_of s.given.bytes t.start t.end)) (is_escaped-encoded (text_of s.given.bytes t.start t.end))))))
+    (adds-autolink s.p s.given.ending s.given.options s.test (prefix
+    ++ text_of s.given.bytes t.start t.end) (encoded true (text_of s.given.bytes t.start t.end))
+    (text s.p (encoded true (text_of s.given.bytes t.start t.end))
+    (is_escaped-encoded (text_of s.given.bytes t.start t.end))))))
 
-literal-node : (s : Setting) (t : Spot) (holds : List ℕ → Type 0) → IsWide s.p t.around.in_image holds → (prefix : List ℕ) (inner : List Piece) → Prints s holds inner
-    → Prints s holds (inner ++ (autolink_pieces s.given prefix (t.around.in_image || t.around.in_link) t.start t.end ++ []))
+literal-node : (s : Setting) (t : Spot) (holds : List ℕ → Type 0) → IsWide s.p t.around.in_image holds →
+    (prefix : List ℕ) (inner : List Piece) → Prints s holds inner
+    → Prints s holds (inner ++ (autolink_pieces s.given prefix (t.around.in_image || t.around.in_link) t.start t.end
+    ++ []))
 literal-node s t holds w prefix inner a =
-    link-node s t holds w prefix (t.around.in_image || t.around.in_link) (λ no. (or_parts t.around.in_image t.around.in_link no).0) inner a
+    link-node s t holds w prefix (t.around.in_image || t.around.in_link)
+    (λ no. (or_parts t.around.in_image t.around.in_link no).0) inner a
 
-pub autolink-node : (s : Setting) (t : Spot) (content : Content) (name : Name) → IsWide s.p t.around.in_image (Here s t content) → is_autolink name ≡ true → (inner : List Piece) → Inside s t content name inner
+pub autolink-node : (s : Setting) (t : Spot) (content : Content) (name : Name) →
+    IsWide s.p t.around.in_image (Here s t content) → is_autolink name ≡ true → (inner : List Piece) →
+    Inside s t content name inner
     → Prints s (Here s t content) (node_pieces s t name inner)
-autolink-node s t content AutolinkEmail w is inner a = link-node s t (Here s t content) w (codes "mailto:") t.around.in_image (λ no. no) inner a
-autolink-node s t content AutolinkProtocol w is inner a = link-node s t (Here s t content) w [] t.around.in_image (λ no. no) inner a
-autolink-node s t content GfmAutolinkLiteralEmail w is inner a = literal-node s t (Here s t content) w (codes "mailto:") inner a
+autolink-node s t content AutolinkEmail w is inner a = link-node s t (Here s t content) w
+    (codes "mailto:") t.around.in_image (λ no. no) inner a
+autolink-node s t content AutolinkProtocol w is inner a =
+    link-node s t (Here s t content) w [] t.around.in_image (λ no. no) inner a
+autolink-node s t content GfmAutolinkLiteralEmail w is inner a =
+    literal-node s t (Here s t content) w (codes "mailto:") inner a
 autolink-node s t content GfmAutolinkLiteralMailto w is inner a = literal-node s t (Here s t content) w [] inner a
 autolink-node s t content GfmAutolinkLiteralProtocol w is inner a = literal-node s t (Here s t content) w [] inner a
-autolink-node s t content GfmAutolinkLiteralWww w is inner a = literal-node s t (Here s t content) w (codes "http://") inner a
+autolink-node s t content GfmAutolinkLiteralWww w is inner a =
+    literal-node s t (Here s t content) w (codes "http://") inner a
 autolink-node s t content GfmAutolinkLiteralXmpp w is inner a = literal-node s t (Here s t content) w [] inner a
 autolink-node s t content _ w is inner a = absurd (lie is)

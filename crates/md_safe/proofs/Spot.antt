@@ -51,7 +51,8 @@ pub record Spot : Type 0 where
 
 -- what a node prints
 abbrev pub node_pieces : Setting → Spot → Name → List Piece → List Piece
-node_pieces s t name inner = printed_node s.given t.around t.left (ahead_of t.children) t.passed t.last t.start t.end name inner
+node_pieces s t name inner = printed_node s.given t.around t.left
+    (ahead_of t.children) t.passed t.last t.start t.end name inner
 
 -- what is asked of a node
 abbrev pub IsFitAt : Setting → Spot → Name → Type 0
@@ -68,7 +69,8 @@ Prints s holds pieces = Adds s.p s.given.ending holds pieces
 -- the children print what may stand in the node
 abbrev pub Inside : Setting → Spot → Content → Name → List Piece → Type 0
 Inside s t content name inner =
-    Adds s.p s.given.ending (Holds s.p (inside s.given.options (is_loose t.children) name t.around).is_escaping (inside s.given.options (is_loose t.children) name t.around).in_image (content_of name content)) inner
+    Adds s.p s.given.ending (Holds s.p (inside s.given.options (is_loose t.children) name t.around).is_escaping
+    (inside s.given.options (is_loose t.children) name t.around).in_image (content_of name content)) inner
 
 -- holds of a text that is escaped where that is asked for, and of two such texts
 pub record IsNarrow (escaping : Bool) (holds : List ℕ → Type 0) : Type 0 where
@@ -86,9 +88,15 @@ pub wide-reading : (p : Attribute → Bool) (in_image : Bool) → IsWide p in_im
 wide-reading p in_image = record { own = text p; both = join p; outside = λ _ x h. h; read = λ x h. h }
 
 pub wide-escaped : (p : Attribute → Bool) (in_image : Bool) → in_image ≡ true → IsWide p in_image Escaped
-wide-escaped p in_image is = record { own = λ x h. h; both = escaped-append; outside = λ no x h. absurd (cc (is, no)); read = text p }
+wide-escaped p in_image is = record {
+  own = λ x h. h;
+  both = escaped-append;
+  outside = λ no x h. absurd (cc (is, no));
+  read = text p;
+}
 
-pub narrow-wide : (p : Attribute → Bool) (escaping in_image : Bool) (holds : List ℕ → Type 0) → escaping ≡ true → IsWide p in_image holds → IsNarrow escaping holds
+pub narrow-wide : (p : Attribute → Bool) (escaping in_image : Bool) (holds : List ℕ → Type 0) → escaping ≡ true →
+    IsWide p in_image holds → IsNarrow escaping holds
 narrow-wide p escaping in_image holds e w = record { own = λ x h. w.own x (h e); both = w.both }
 
 pub narrow-escaping : (escaping : Bool) → IsNarrow escaping (λ x. escaping ≡ true → Escaped x)
@@ -99,31 +107,42 @@ pub encoded-escaped : (escaping : Bool) (x : List ℕ) → escaping ≡ true →
 encoded-escaped escaping x e = subst (λ b. Escaped (encoded b x)) (sym e) (is_escaped-encoded x)
 
 -- with nothing behind it
-pub prints-alone : (s : Setting) (holds : List ℕ → Type 0) (xs : List Piece) → Prints s holds xs → Prints s holds (xs ++ [])
+pub prints-alone : (s : Setting) (holds : List ℕ → Type 0) (xs : List Piece) → Prints s holds xs →
+    Prints s holds (xs ++ [])
 prints-alone s holds xs a = subst (Prints s holds) (sym (append-nil xs)) a
 
 -- what stands in a node, and what it prints behind that
-pub prints-both : (s : Setting) (holds : List ℕ → Type 0) → ((x y : List ℕ) → holds x → holds y → holds (x ++ y)) → (xs ys : List Piece) → Prints s holds xs → Prints s holds ys → Prints s holds (xs ++ (ys ++ []))
-prints-both s holds both xs ys a b = adds-append s.p s.given.ending holds holds holds xs (ys ++ []) both a (prints-alone s holds ys b)
+pub prints-both : (s : Setting) (holds : List ℕ → Type 0) → ((x y : List ℕ) → holds x → holds y → holds (x ++ y)) →
+    (xs ys : List Piece) → Prints s holds xs → Prints s holds ys → Prints s holds (xs ++ (ys ++ []))
+prints-both s holds both xs ys a b = adds-append s.p s.given.ending holds holds holds xs (ys
+    ++ []) both a (prints-alone s holds ys b)
 
 -- nothing in the node, and what it prints
-pub prints-own : (s : Setting) (holds : List ℕ → Type 0) (xs ys : List Piece) → Prints s (λ x. x ≡ []) xs → Prints s holds ys → Prints s holds (xs ++ (ys ++ []))
+pub prints-own : (s : Setting) (holds : List ℕ → Type 0) (xs ys : List Piece) → Prints s (λ x. x ≡ []) xs →
+    Prints s holds ys → Prints s holds (xs ++ (ys ++ []))
 prints-own s holds xs ys a b =
-    adds-append s.p s.given.ending (λ x. x ≡ []) holds holds xs (ys ++ []) (λ x y e h. subst (λ x. holds (x ++ y)) (sym e) h) a (prints-alone s holds ys b)
+    adds-append s.p s.given.ending (λ x. x ≡ []) holds holds xs (ys
+    ++ []) (λ x y e h. subst (λ x. holds (x ++ y)) (sym e) h) a (prints-alone s holds ys b)
 
 -- the title of a definition is escaped
-defined-title : (definitions : List Defined) (identifier : List ℕ) → AreTitles definitions → IsEscapedTitle (defined_target definitions identifier).title
+defined-title : (definitions : List Defined) (identifier : List ℕ) → AreTitles definitions →
+    IsEscapedTitle (defined_target definitions identifier).title
 defined-title [] identifier h = tt
-defined-title (defined ∷ others) identifier h = by (bytes_eq defined.identifier identifier) (defined-title others identifier h.1)
+defined-title (defined ∷ others) identifier h = by (bytes_eq defined.identifier identifier)
+    (defined-title others identifier h.1)
   where
     by : (is : Bool) → IsEscapedTitle (defined_target others identifier).title
-        → IsEscapedTitle (option_map_or (λ defined. defined.target) (cond is (Some defined) (find (λ defined. bytes_eq defined.identifier identifier) others)) nowhere).title
+        → IsEscapedTitle (option_map_or (λ defined. defined.target)
+        (cond is (Some defined) (find (λ defined. bytes_eq defined.identifier identifier) others)) nowhere).title
     by true later = h.0
     by false later = later
 
-pub target-title : (s : Setting) (ahead : Ahead) (page : Page) → IsGoodTarget page.notes.resource → IsEscapedTitle (target_of s.given ahead page.notes).title
+pub target-title : (s : Setting) (ahead : Ahead) (page : Page) → IsGoodTarget page.notes.resource →
+    IsEscapedTitle (target_of s.given ahead page.notes).title
 target-title s ahead page good = by page.notes.resource good
   where
-    by : (resource : Option Target) → IsGoodTarget resource → IsEscapedTitle (unwrap_or resource (defined_target s.given.definitions (identifier_at s.given.bytes (referring ahead)))).title
+    by : (resource : Option Target) → IsGoodTarget resource →
+        IsEscapedTitle (unwrap_or resource (defined_target s.given.definitions
+        (identifier_at s.given.bytes (referring ahead)))).title
     by None h = defined-title s.given.definitions (identifier_at s.given.bytes (referring ahead)) s.titles
     by (Some target) h = h

@@ -17,33 +17,46 @@ use Rattle.md_safe.proofs.Contents.{lie}
 use Rattle.md_safe.proofs.Spot.{Setting, Spot, node_pieces, IsFitAt, Here, Prints, Inside, IsNarrow, encoded-escaped, prints-alone, prints-both, prints-own}
 
 -- a text, encoded where that is asked for
-data-node : (s : Setting) (t : Spot) (content : Content) → IsNarrow t.around.is_escaping (Here s t content) → (inner : List Piece) → Prints s (Here s t content) inner → (x : List ℕ)
+data-node : (s : Setting) (t : Spot) (content : Content) → IsNarrow t.around.is_escaping (Here s t content) →
+    (inner : List Piece) → Prints s (Here s t content) inner → (x : List ℕ)
     → Prints s (Here s t content) (inner ++ (Text (encoded t.around.is_escaping x) ∷ []))
 data-node s t content n inner a x =
     prints-both s (Here s t content) n.both inner (said (encoded t.around.is_escaping x)) a
-    (adds-text s.p s.given.ending (Here s t content) (encoded t.around.is_escaping x) (n.own (encoded t.around.is_escaping x) (encoded-escaped t.around.is_escaping x)))
+    (adds-text s.p s.given.ending (Here s t content) (encoded t.around.is_escaping x)
+    (n.own (encoded t.around.is_escaping x) (encoded-escaped t.around.is_escaping x)))
 
 -- a line ending
-pub line_ending-escaped : (s : Setting) (t : Spot) → is_line_ends (text_of s.given.bytes t.start t.end) ≡ true → Prints s Escaped (line_ending_pieces s.given t.around t.left t.start t.end)
+pub line_ending-escaped : (s : Setting) (t : Spot) → is_line_ends (text_of s.given.bytes t.start t.end) ≡ true →
+    Prints s Escaped (line_ending_pieces s.given t.around t.left t.start t.end)
 line_ending-escaped s t h =
-    cond_both t.around.in_code (said (32 ∷ [])) (cond (is_dropped t.around t.left) [] (said (text_of s.given.bytes t.start t.end))) (Prints s Escaped)
+    cond_both t.around.in_code (said (32 ∷ [])) (cond (is_dropped t.around t.left) []
+    (said (text_of s.given.bytes t.start t.end))) (Prints s Escaped)
     (λ _. adds-text s.p s.given.ending Escaped (32 ∷ []) refl)
     (λ _.
     cond_both (is_dropped t.around t.left) [] (said (text_of s.given.bytes t.start t.end)) (Prints s Escaped)
     (λ _. adds-nothing s.p s.given.ending Escaped refl)
-    (λ _. adds-text s.p s.given.ending Escaped (text_of s.given.bytes t.start t.end) (line_ends-escaped (text_of s.given.bytes t.start t.end) h)))
+    (λ _. adds-text s.p s.given.ending Escaped (text_of s.given.bytes t.start t.end)
+    (line_ends-escaped (text_of s.given.bytes t.start t.end) h)))
 
-pub string-node : (s : Setting) (t : Spot) (content : Content) (name : Name) → IsNarrow t.around.is_escaping (Here s t content) → is_string name ≡ true → IsFitAt s t name → (inner : List Piece) → Inside s t content name inner
+pub string-node : (s : Setting) (t : Spot) (content : Content) (name : Name) →
+    IsNarrow t.around.is_escaping (Here s t content) → is_string name ≡ true → IsFitAt s t name →
+    (inner : List Piece) → Inside s t content name inner
     → Prints s (Here s t content) (node_pieces s t name inner)
 string-node s t content LineEnding n is fit inner a =
     prints-own s (Here s t content) inner (line_ending_pieces s.given t.around t.left t.start t.end) a
-    (adds-weaker s.p s.given.ending Escaped (Here s t content) (line_ending_pieces s.given t.around t.left t.start t.end) (λ x h. n.own x (λ _. h)) (line_ending-escaped s t fit))
+    (adds-weaker s.p s.given.ending Escaped (Here s t content)
+    (line_ending_pieces s.given t.around t.left t.start t.end) (λ x h. n.own x (λ _. h))
+    (line_ending-escaped s t fit))
 string-node s t content Data n is fit inner a = data-node s t content n inner a (text_of s.given.bytes t.start t.end)
-string-node s t content CharacterEscapeValue n is fit inner a = data-node s t content n inner a (text_of s.given.bytes t.start t.end)
-string-node s t content CodeTextData n is fit inner a = data-node s t content n inner a (text_of s.given.bytes t.start t.end)
-string-node s t content MathTextData n is fit inner a = data-node s t content n inner a (text_of s.given.bytes t.start t.end)
+string-node s t content CharacterEscapeValue n is fit inner a =
+    data-node s t content n inner a (text_of s.given.bytes t.start t.end)
+string-node s t content CodeTextData n is fit inner a = data-node s t content n inner a
+    (text_of s.given.bytes t.start t.end)
+string-node s t content MathTextData n is fit inner a = data-node s t content n inner a
+    (text_of s.given.bytes t.start t.end)
 string-node s t content CharacterReferenceValue n is fit inner a =
-    data-node s t content n inner a (unwrap_or (decoded s.given.names (marker_of t.left.spine.last) (text_of s.given.bytes t.start t.end)) [])
+    data-node s t content n inner a (unwrap_or (decoded s.given.names (marker_of t.left.spine.last)
+    (text_of s.given.bytes t.start t.end)) [])
 string-node s t content CharacterReferenceMarker n is fit inner a = prints-alone s (Here s t content) inner a
 string-node s t content CharacterReferenceMarkerNumeric n is fit inner a = prints-alone s (Here s t content) inner a
 string-node s t content CharacterReferenceMarkerHexadecimal n is fit inner a = prints-alone s (Here s t content) inner a

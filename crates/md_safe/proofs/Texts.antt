@@ -21,9 +21,11 @@ is_plain b = not ((b == 0) || (b == 60) || (b == 62) || (b == 34)) && not (b == 
 
 plain_first : (b : ℕ) (rest : List ℕ) → is_plain b ≡ true → Escaped rest → Escaped (b ∷ rest)
 plain_first b rest plain h =
-    by ((b == 0) || (b == 60) || (b == 62) || (b == 34)) (b == 38) (and_parts (not ((b == 0) || (b == 60) || (b == 62) || (b == 34))) (not (b == 38)) plain)
+    by ((b == 0) || (b == 60) || (b == 62) || (b == 34)) (b == 38)
+    (and_parts (not ((b == 0) || (b == 60) || (b == 62) || (b == 34))) (not (b == 38)) plain)
   where
-    by : (special and : Bool) → (not special ≡ true) × (not and ≡ true) → ((cond special false (cond and (completes_reference rest) true)) && is_escaped rest) ≡ true
+    by : (special and : Bool) → (not special ≡ true) × (not and ≡ true) →
+        ((cond special false (cond and (completes_reference rest) true)) && is_escaped rest) ≡ true
     by true and e = absurd (cc (e.0))
     by false true e = absurd (cc (e.1))
     by false false e = h
@@ -80,8 +82,10 @@ onto-escaped : (k n : ℕ) (acc : List ℕ) → Escaped acc → Escaped (digits_
 onto-escaped zero n acc h = h
 onto-escaped (suc k) n acc h =
     let l : n % 10 < 10 = omega arith in
-    let first : Escaped (digit_glyph false (n % 10) ∷ acc) = plain_first (digit_glyph false (n % 10)) acc (glyph-plain (n % 10) l) h in
-    cond_both (n / 10 == 0) (digit_glyph false (n % 10) ∷ acc) (digits_onto k 10 false (n / 10) (digit_glyph false (n % 10) ∷ acc)) Escaped
+    let first : Escaped (digit_glyph false (n % 10) ∷ acc) =
+    plain_first (digit_glyph false (n % 10)) acc (glyph-plain (n % 10) l) h in
+    cond_both (n / 10 == 0) (digit_glyph false (n % 10) ∷ acc)
+    (digits_onto k 10 false (n / 10) (digit_glyph false (n % 10) ∷ acc)) Escaped
     (λ _. first) (λ _. onto-escaped k (n / 10) (digit_glyph false (n % 10) ∷ acc) first)
 
 pub decimal-escaped : (n : ℕ) → Escaped (decimal n)
@@ -115,25 +119,32 @@ trim_last b (c ∷ text) h =
     let r = trim_last c text h in
     record { front = b ∷ r.front; whole = ap (λ x. b ∷ x) r.whole; cut = ap (λ x. b ∷ x) r.cut }
 
-cut_last : (c n : ℕ) (text : List ℕ) → n ≡ length text → is_space (slice_get (c ∷ text) n) ≡ true → Escaped (c ∷ text) → Escaped (take n (c ∷ text))
+cut_last : (c n : ℕ) (text : List ℕ) → n ≡ length text → is_space (slice_get (c ∷ text) n) ≡ true →
+    Escaped (c ∷ text) → Escaped (take n (c ∷ text))
 cut_last c n text size last h =
     let r = trim_last c text (subst (λ n. is_space (slice_get (c ∷ text) n) ≡ true) size last) in
     let front : Escaped (r.front ++ []) = escaped-without 32 r.front [] refl (subst Escaped r.whole h) in
-    subst (λ n. Escaped (take n (c ∷ text))) (sym size) (subst Escaped (sym r.cut) (subst Escaped (append-nil r.front) front))
+    subst (λ n. Escaped (take n (c ∷ text))) (sym size) (subst Escaped (sym r.cut)
+    (subst Escaped (append-nil r.front) front))
 
-later : (b c n : ℕ) (text : List ℕ) → n ≡ suc (length text) → is_space (slice_get (b ∷ c ∷ text) n) ≡ true → is_space (slice_get (c ∷ text) (length text)) ≡ true
+later : (b c n : ℕ) (text : List ℕ) → n ≡ suc (length text) → is_space (slice_get (b ∷ c ∷ text) n) ≡ true →
+    is_space (slice_get (c ∷ text) (length text)) ≡ true
 later b c n text size h = subst (λ n. is_space (slice_get (b ∷ c ∷ text) n) ≡ true) size h
 
 trim_both : (text : List ℕ) → Escaped text → is_padded text ≡ true → Escaped (slice_range text 1 (length text - 1))
 trim_both [] h padded = refl
 trim_both (b ∷ []) h padded = refl
 trim_both (b ∷ c ∷ text) h padded =
-    let all = and_parts (is_space (slice_get (b ∷ c ∷ text) 0) && is_space (slice_get (b ∷ c ∷ text) (length (b ∷ c ∷ text) - 1))) (not (is_blank (b ∷ c ∷ text))) padded in
-    let ends = and_parts (is_space (slice_get (b ∷ c ∷ text) 0)) (is_space (slice_get (b ∷ c ∷ text) (length (b ∷ c ∷ text) - 1))) all.0 in
+    let all = and_parts (is_space (slice_get (b ∷ c ∷ text) 0)
+    && is_space (slice_get (b ∷ c ∷ text) (length (b ∷ c ∷ text) - 1))) (not (is_blank (b ∷ c ∷ text))) padded in
+    let ends = and_parts (is_space (slice_get (b ∷ c ∷ text) 0))
+    (is_space (slice_get (b ∷ c ∷ text) (length (b ∷ c ∷ text) - 1))) all.0 in
     let size : length (b ∷ c ∷ text) - 1 ≡ suc (length text) = omega arith in
     let cut : length (b ∷ c ∷ text) - 1 - 1 ≡ length text = omega arith in
     let last : is_space (slice_get (c ∷ text) (length text)) ≡ true = later b c _ text size ends.1 in
-    cut_last c _ text cut (subst (λ n. is_space (slice_get (c ∷ text) n) ≡ true) (sym cut) last) (escaped-tail b (c ∷ text) h)
+    cut_last c _ text cut (subst (λ n. is_space (slice_get (c ∷ text) n) ≡ true) (sym cut) last)
+    (escaped-tail b (c ∷ text) h)
 
 pub trimmed-escaped : (text : List ℕ) → Escaped text → Escaped (trimmed text)
-trimmed-escaped text h = cond_both (is_padded text) (slice_range text 1 (length text - 1)) text Escaped (trim_both text h) (λ _. h)
+trimmed-escaped text h = cond_both (is_padded text) (slice_range text 1 (length text - 1)) text Escaped
+    (trim_both text h) (λ _. h)

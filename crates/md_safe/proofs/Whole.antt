@@ -1,4 +1,5 @@
 -- The meaning of a document has a reading in which each attribute passes a test.
+use Rattle.std.specs.Str.{bytes_eq}
 use Rattle.std.proofs.Common.{◌≡◌, ℕ, ◌||◌, Bool, true, false, not, cond, List, [], ◌++◌, refl, sym, ap, subst, codes}
 use Rattle.std.specs.Prelude.{Option, Some, None}
 use Rattle.std.specs.Option.{option_map_or}
@@ -9,12 +10,11 @@ use Rattle.md_base.specs.declared.event.Point.{Point}
 use Rattle.md_base.specs.declared.event.Position.{Position}
 use Rattle.md_text.specs.declared.line_ending.LineEnding.{LineEnding as Ending}
 use Rattle.md_text.specs.declared.line_ending.LineEnding.TheVariants.{CarriageReturnLineFeed, CarriageReturn, LineFeed}
-use Rattle.md_text.specs.Bytes.{same_text}
 use Rattle.md_text.specs.Laws.{is_line_ends}
 use Rattle.md_text.specs.LineEnding.{ending_text}
 use Rattle.md_text.specs.Html.{Attribute, any_attribute, HasReadingWith, HasOneReadingWith}
-use Rattle.md_text.specs.Safe.{is_safe_link, is_safe_image, is_safe_value, link_protocols, image_protocols}
-use Rattle.md_text.specs.Url.{sanitized, sanitized_with}
+use Rattle.md_text.specs.Safe.{is_safe_link, is_safe_image, is_safe_value}
+use Rattle.md_text.specs.Url.{sanitized, sanitized_with, link_protocols, image_protocols}
 use Rattle.md_text.proofs.HtmlReading.{only_reading}
 use Rattle.md_text.proofs.ProtocolLemmas.{kept-link, kept-image}
 use Rattle.md_base.specs.Tree.{Forest, Empty, Node}
@@ -45,64 +45,86 @@ use Rattle.md_safe.proofs.Section.{section-prints}
 abbrev IsEnding : List ℕ → Option Position → Type 0
 IsEnding bytes place = option_map_or (λ found. is_line_ends (text_of bytes found.start found.end)) place true ≡ true
 
-first_of_two : (bytes : List ℕ) (first second : Option Position) → IsEnding bytes first → IsEnding bytes second → IsEnding bytes (or_else first second)
+first_of_two : (bytes : List ℕ) (first second : Option Position) → IsEnding bytes first → IsEnding bytes second →
+    IsEnding bytes (or_else first second)
 first_of_two bytes None second f g = g
 first_of_two bytes (Some place) second f g = f
 
-own-ending : (bytes : List ℕ) (name : Name) (start end : Point) (children : Forest) → IsFit bytes name start end children → IsEnding bytes (cond (is_line_ending name) (Some (record { start = start; end = end })) None)
+own-ending : (bytes : List ℕ) (name : Name) (start end : Point) (children : Forest) →
+    IsFit bytes name start end children → IsEnding bytes
+    (cond (is_line_ending name) (Some (record { start = start; end = end })) None)
 own-ending bytes LineEnding start end children fit = fit
 own-ending bytes BlankLineEnding start end children fit = fit
 own-ending bytes _ start end children fit = refl
 
 -- the first line ending of a document is one
-first-is_ending : (bytes : List ℕ) (content : Content) (forest : Forest) → IsBuilt bytes content forest → IsEnding bytes (first_ending forest)
+first-is_ending : (bytes : List ℕ) (content : Content) (forest : Forest) → IsBuilt bytes content forest →
+    IsEnding bytes (first_ending forest)
 first-is_ending bytes content Empty built = refl
 first-is_ending bytes content (Node name start end children rest) built =
     let own : Option Position = cond (is_line_ending name) (Some (record { start = start; end = end })) None in
-    first_of_two bytes (first_ending children) (or_else own (first_ending rest)) (first-is_ending bytes (content_inside content name) children built.2)
-    (first_of_two bytes own (first_ending rest) (own-ending bytes name start end children built.1) (first-is_ending bytes (content_behind content name children) rest built.3))
+    first_of_two bytes (first_ending children) (or_else own (first_ending rest))
+    (first-is_ending bytes (content_inside content name) children built.2)
+    (first_of_two bytes own (first_ending rest) (own-ending bytes name start end children built.1)
+    (first-is_ending bytes (content_behind content name children) rest built.3))
 
 default-escaped : (ending : Ending) → Escaped (ending_text ending)
 default-escaped CarriageReturnLineFeed = refl
 default-escaped CarriageReturn = refl
 default-escaped LineFeed = refl
 
-ending-escaped : (options : CompileOptions) (bytes : List ℕ) (place : Option Position) → IsEnding bytes place → Escaped (ending_at options bytes place)
+ending-escaped : (options : CompileOptions) (bytes : List ℕ) (place : Option Position) → IsEnding bytes place →
+    Escaped (ending_at options bytes place)
 ending-escaped options bytes None h = default-escaped options.default_line_ending
 ending-escaped options bytes (Some place) h = line_ends-escaped (text_of bytes place.start place.end) h
 
 -- blocks stand behind blocks
 blocks-stay : (forest : Forest) → content_after Blocks forest ≡ Blocks
-blocks-stay forest = after (λ content. content ≡ Blocks) (λ content name e. ap (λ content. content_past content name) e) Blocks forest refl
+blocks-stay forest = after (λ content. content ≡ Blocks)
+    (λ content name e. ap (λ content. content_past content name) e) Blocks forest refl
 
 -- a document before its section
-document-prints : (s : Setting) (document : Forest) → IsBuilt s.given.bytes Blocks document → KeepsGrammar s.given.options
-    → HasReadingWith s.p (lay s.given.ending blank (printed s.given outermost nothing_before document ++ section_pieces s.given.options (footnotes_of s.given outermost nothing_before document) (tally (calls_of s.given.bytes document)))).text
+document-prints : (s : Setting) (document : Forest) → IsBuilt s.given.bytes Blocks document →
+    KeepsGrammar s.given.options
+    → HasReadingWith s.p (lay s.given.ending blank (printed s.given outermost nothing_before document
+    ++ section_pieces s.given.options (footnotes_of s.given outermost nothing_before document)
+    (tally (calls_of s.given.bytes document)))).text
 document-prints s document built keeps =
-    let section : List Piece = section_pieces s.given.options (footnotes_of s.given outermost nothing_before document) (tally (calls_of s.given.bytes document)) in
+    let section : List Piece = section_pieces s.given.options (footnotes_of s.given outermost nothing_before document)
+    (tally (calls_of s.given.bytes document)) in
     let last : Prints s (Reads s) section =
-    section-prints s keeps.usual_tag keeps.usual_attributes (footnotes_of s.given outermost nothing_before document) (tally (calls_of s.given.bytes document))
+    section-prints s keeps.usual_tag keeps.usual_attributes (footnotes_of s.given outermost nothing_before document)
+    (tally (calls_of s.given.bytes document))
     (footnotes-read s document outermost nothing_before Blocks built refl tt) in
     (adds-blank s.p s.given.ending (Reads s) (printed s.given outermost nothing_before document ++ section)
     (forest-prints s document outermost nothing_before Blocks built refl tt section
     (subst (λ content. Prints s (Holds s.p true false content) section) (sym (blocks-stay document)) last))).0
 
 -- the meaning has a reading in which each attribute passes the test
-meaning-reads : (p : Attribute → Bool) (bytes : List ℕ) (names : List (List ℕ × List ℕ)) (options : CompileOptions) (document : Forest) → IsTest p options → IsBuilt bytes Blocks document → KeepsGrammar options
+meaning-reads : (p : Attribute → Bool) (bytes : List ℕ) (names : List (List ℕ × List ℕ)) (options : CompileOptions)
+    (document : Forest) → IsTest p options → IsBuilt bytes Blocks document → KeepsGrammar options
     → HasReadingWith p (meaning options names bytes document)
 meaning-reads p bytes names options document test built keeps =
     let ending : List ℕ = ending_at options bytes (first_ending document) in
-    let escaped : Escaped ending = ending-escaped options bytes (first_ending document) (first-is_ending bytes Blocks document built) in
+    let escaped : Escaped ending = ending-escaped options bytes (first_ending document)
+    (first-is_ending bytes Blocks document built) in
     let alone : Given = record { bytes = bytes; names = names; options = options; ending = ending; definitions = [] } in
     let first : Setting = record { p = p; given = alone; test = test; ending = escaped; titles = tt } in
-    let titles : AreTitles (definitions_of alone outermost nothing_before document) = definitions-titles first document outermost nothing_before Blocks built refl tt in
+    let titles : AreTitles (definitions_of alone outermost nothing_before document) =
+    definitions-titles first document outermost nothing_before Blocks built refl tt in
     let given : Given = record alone { definitions = definitions_of alone outermost nothing_before document } in
     let s : Setting = record { p = p; given = given; test = test; ending = escaped; titles = titles } in
     document-prints s document built keeps
 
 -- any attribute passes
 any-test : (options : CompileOptions) → KeepsGrammar options → IsTest any_attribute options
-any-test options keeps = record { other = λ name value h. refl; link = λ destination. refl; anchor = λ rest. refl; image = λ destination. refl; html = keeps.escapes_html }
+any-test options keeps = record {
+  other = λ name value h. refl;
+  link = λ destination. refl;
+  anchor = λ rest. refl;
+  image = λ destination. refl;
+  html = keeps.escapes_html;
+}
 
 not_true : (b : Bool) → not b ≡ true → b ≡ false
 not_true true e = sym e
@@ -113,9 +135,11 @@ link-test : (options : CompileOptions) → KeepsLinks options → IsTest is_safe
 link-test options keeps = record {
   other = λ name value h.
       ap (λ b. cond b (is_safe_value link_protocols value) true)
-      (not_true (same_text name (codes "href")) (and_parts (not (same_text name (codes "href"))) (not (same_text name (codes "src"))) h).0);
+      (not_true (bytes_eq name (codes "href")) (and_parts (not (bytes_eq name (codes "href")))
+      (not (bytes_eq name (codes "src"))) h).0);
   link = λ destination.
-      subst (λ b. is_safe_value link_protocols (cond b (sanitized destination) (sanitized_with link_protocols destination)) ≡ true) (sym keeps.permitted_links) (kept-link destination);
+      subst (λ b. is_safe_value link_protocols (cond b (sanitized destination)
+      (sanitized_with link_protocols destination)) ≡ true) (sym keeps.permitted_links) (kept-link destination);
   anchor = λ rest. refl;
   image = λ destination. refl;
   html = keeps.grammar.escapes_html;
@@ -126,23 +150,36 @@ image-test : (options : CompileOptions) → KeepsImages options → IsTest is_sa
 image-test options keeps = record {
   other = λ name value h.
       ap (λ b. cond b (is_safe_value image_protocols value) true)
-      (not_true (same_text name (codes "src")) (and_parts (not (same_text name (codes "href"))) (not (same_text name (codes "src"))) h).1);
+      (not_true (bytes_eq name (codes "src")) (and_parts (not (bytes_eq name (codes "href")))
+      (not (bytes_eq name (codes "src"))) h).1);
   link = λ destination. refl;
   anchor = λ rest. refl;
   image = λ destination.
-      subst (λ b. is_safe_value image_protocols (cond (b || options.allow_any_img_src) (sanitized destination) (sanitized_with image_protocols destination)) ≡ true) (sym keeps.links.permitted_links)
-      (subst (λ b. is_safe_value image_protocols (cond b (sanitized destination) (sanitized_with image_protocols destination)) ≡ true) (sym keeps.permitted_images) (kept-image destination));
+      subst (λ b. is_safe_value image_protocols (cond (b
+      || options.allow_any_img_src) (sanitized destination) (sanitized_with image_protocols destination))
+      ≡ true) (sym keeps.links.permitted_links)
+      (subst (λ b. is_safe_value image_protocols (cond b (sanitized destination)
+      (sanitized_with image_protocols destination)) ≡ true) (sym keeps.permitted_images) (kept-image destination));
   html = keeps.links.grammar.escapes_html;
 }
 
-pub one-reading : (bytes : List ℕ) (names : List (List ℕ × List ℕ)) (options : CompileOptions) (document : Forest) → IsBuilt bytes Blocks document → KeepsGrammar options → HasOneReadingWith any_attribute (meaning options names bytes document)
+pub one-reading : (bytes : List ℕ) (names : List (List ℕ × List ℕ)) (options : CompileOptions) (document : Forest) →
+    IsBuilt bytes Blocks document → KeepsGrammar options →
+    HasOneReadingWith any_attribute (meaning options names bytes document)
 one-reading bytes names options document built keeps =
-    only_reading any_attribute (meaning options names bytes document) (meaning-reads any_attribute bytes names options document (any-test options keeps) built keeps)
+    only_reading any_attribute (meaning options names bytes document)
+    (meaning-reads any_attribute bytes names options document (any-test options keeps) built keeps)
 
-pub safe-links : (bytes : List ℕ) (names : List (List ℕ × List ℕ)) (options : CompileOptions) (document : Forest) → IsBuilt bytes Blocks document → KeepsLinks options → HasOneReadingWith is_safe_link (meaning options names bytes document)
+pub safe-links : (bytes : List ℕ) (names : List (List ℕ × List ℕ)) (options : CompileOptions) (document : Forest) →
+    IsBuilt bytes Blocks document → KeepsLinks options →
+    HasOneReadingWith is_safe_link (meaning options names bytes document)
 safe-links bytes names options document built keeps =
-    only_reading is_safe_link (meaning options names bytes document) (meaning-reads is_safe_link bytes names options document (link-test options keeps) built keeps.grammar)
+    only_reading is_safe_link (meaning options names bytes document)
+    (meaning-reads is_safe_link bytes names options document (link-test options keeps) built keeps.grammar)
 
-pub safe-images : (bytes : List ℕ) (names : List (List ℕ × List ℕ)) (options : CompileOptions) (document : Forest) → IsBuilt bytes Blocks document → KeepsImages options → HasOneReadingWith is_safe_image (meaning options names bytes document)
+pub safe-images : (bytes : List ℕ) (names : List (List ℕ × List ℕ)) (options : CompileOptions) (document : Forest) →
+    IsBuilt bytes Blocks document → KeepsImages options →
+    HasOneReadingWith is_safe_image (meaning options names bytes document)
 safe-images bytes names options document built keeps =
-    only_reading is_safe_image (meaning options names bytes document) (meaning-reads is_safe_image bytes names options document (image-test options keeps) built keeps.links.grammar)
+    only_reading is_safe_image (meaning options names bytes document)
+    (meaning-reads is_safe_image bytes names options document (image-test options keeps) built keeps.links.grammar)

@@ -19,16 +19,19 @@ built kind name point = do
   p ← point
   Some (record { kind = k; name = n; point = p })
 
-unplaced : (kind : Option Kind) (name : Option Name) (point : Option Point) → point ≡ None → None ≡ built kind name point
+unplaced : (kind : Option Kind) (name : Option Name) (point : Option Point) → point ≡ None →
+    None ≡ built kind name point
 unplaced None name point e = refl
 unplaced (Some k) None point e = refl
 unplaced (Some k) (Some n) None e = refl
 unplaced (Some k) (Some n) (Some p) e = cc
 
 -- a sign and a name with no space behind it
-pub without_place : (line : List ℕ) (sign : ℕ) (rest : List ℕ) → line ≡ sign ∷ rest → after_first is_space rest ≡ [] → None ≡ event_of line
+pub without_place : (line : List ℕ) (sign : ℕ) (rest : List ℕ) → line ≡ sign ∷ rest → after_first is_space rest ≡ [] →
+    None ≡ event_of line
 without_place line sign rest e nothing =
-    unplaced (kind_of sign) (name_of (before_first is_space rest)) (point_of (after_first is_space rest)) (ap point_of nothing) ∙ ap event_of (sym e)
+    unplaced (kind_of sign) (name_of (before_first is_space rest)) (point_of (after_first is_space rest))
+    (ap point_of nothing) ∙ ap event_of (sym e)
 
 pub event_line_has_bytes : (line : List ℕ) (event : Event) → Some event ≡ event_of line → 0 < length line
 event_line_has_bytes [] event e = cc
@@ -36,13 +39,18 @@ event_line_has_bytes (sign ∷ rest) event e = omega arith
 
 -- ---- the first line
 
-pub lines_at : (input : List ℕ) → true ≡ list_any is_line_feed input → lines_of input ≡ before_first is_line_feed input ∷ lines_of (after_first is_line_feed input)
+pub lines_at : (input : List ℕ) → true ≡ list_any is_line_feed input →
+    lines_of input ≡ before_first is_line_feed input ∷ lines_of (after_first is_line_feed input)
 lines_at input some =
-    slice_split_first is_line_feed input 0 (ltb-true (position_or_len is_line_feed input) (length input) (sym (any_by_place is_line_feed input) ∙ sym some))
+    slice_split_first is_line_feed input 0 (ltb-true (position_or_len is_line_feed input) (length input)
+    (sym (any_by_place is_line_feed input) ∙ sym some))
 
-pub lines_cut : (input line following : List ℕ) → true ≡ list_any is_line_feed input → line ≡ before_first is_line_feed input → following ≡ after_first is_line_feed input → lines_of input ≡ line ∷ lines_of following
+pub lines_cut : (input line following : List ℕ) → true ≡ list_any is_line_feed input →
+    line ≡ before_first is_line_feed input → following ≡ after_first is_line_feed input →
+    lines_of input ≡ line ∷ lines_of following
 lines_cut input line following some front back =
-    lines_at input some ∙ ap (λ l. l ∷ lines_of (after_first is_line_feed input)) (sym front) ∙ ap (λ f. line ∷ lines_of f) (sym back)
+    lines_at input some ∙ ap (λ l. l ∷ lines_of (after_first is_line_feed input)) (sym front)
+    ∙ ap (λ f. line ∷ lines_of f) (sym back)
 
 pub lines_alone : (input : List ℕ) → list_any is_line_feed input ≡ false → lines_of input ≡ input ∷ []
 lines_alone [] e = refl

@@ -19,18 +19,23 @@ use Rattle.md_script.specs.SafeRun.{ExplainsSafeEvents, ExplainsSafeRun, safe_ru
 use Rattle.md_script.specs.declared.error.SafeRunError.{SafeRunError}
 use Rattle.md_script.specs.declared.error.SafeRunError.TheVariants as unsafe_run
 
-pub refused : (events : List Event) (bytes : List ℕ) (why : CompileError) → IsRefusal (document_of events bytes) why → ExplainsEvents events bytes (run_error_of why)
+pub refused : (events : List Event) (bytes : List ℕ) (why : CompileError) → IsRefusal (document_of events bytes) why →
+    ExplainsEvents events bytes (run_error_of why)
 refused events bytes refusal.Memory h = tt
 refused events bytes (refusal.Event index rule) h = h
 
 -- what the conversion of a refusal gives
-pub told : {T : Type 0} (r : Result T RunError) (why : CompileError) (given events : List Event) (bytes : List ℕ) → given ≡ events → IsErrAnd r (λ made. made ≡ run_error_of why) → IsRefusal (document_of given bytes) why → IfErr r (λ error. ExplainsEvents events bytes error)
+pub told : {T : Type 0} (r : Result T RunError) (why : CompileError) (given events : List Event) (bytes : List ℕ) →
+    given ≡ events → IsErrAnd r (λ made. made ≡ run_error_of why) → IsRefusal (document_of given bytes) why →
+    IfErr r (λ error. ExplainsEvents events bytes error)
 told (Ok x) why given events bytes same h refusal = tt
 told (Err made) why given events bytes same h refusal =
-    subst (λ es. ExplainsEvents es bytes made) same (subst (λ error. ExplainsEvents given bytes error) (sym h) (refused given bytes why refusal))
+    subst (λ es. ExplainsEvents es bytes made) same (subst (λ error. ExplainsEvents given bytes error) (sym h)
+    (refused given bytes why refusal))
 
 -- a script that was read, with what the compiler answers
-pub explained : (input : List ℕ) (events : List Event) (bytes : List ℕ) (options : CompileOptions) (why : RunError) → StandsFor input events bytes options → ExplainsEvents events bytes why → ExplainsRun input why
+pub explained : (input : List ℕ) (events : List Event) (bytes : List ℕ) (options : CompileOptions) (why : RunError) →
+    StandsFor input events bytes options → ExplainsEvents events bytes why → ExplainsRun input why
 explained input events bytes options error.Memory stands h = tt
 explained input events bytes options (error.Line number) stands h = absurd h
 explained input events bytes options (error.Event index rule) stands h =
@@ -43,23 +48,43 @@ unread input (error.Line number) h = h
 unread input (error.Event index rule) h = absurd h
 
 -- what is said of a refusal in five claims is said in one
-pub refusal_of : (given : Document) (why : SafeError) → OfCompile (IsOrder given) why → OfCompile (IsMdx given) why → OfCompile (IsOfNode given) why → OfCompile (IsLost given) why → OfCompile (IsOutside given) why → OfCompile (IsRefusal given) why
+pub refusal_of : (given : Document) (why : SafeError) → OfCompile (IsOrder given) why → OfCompile (IsMdx given) why →
+    OfCompile (IsOfNode given) why → OfCompile (IsLost given) why → OfCompile (IsOutside given) why →
+    OfCompile (IsRefusal given) why
 refusal_of given safe.Options order mdx of_node lost outside = tt
 refusal_of given (safe.Compile cause) order mdx of_node lost outside =
     record { order = order; mdx = mdx; of_node = of_node; lost = lost; outside = outside }
 
-refused_safely : (events : List Event) (bytes : List ℕ) (options : CompileOptions) (why : SafeError) → IsRefusedFor options why → OfCompile (IsRefusal (document_of events bytes)) why → ExplainsSafeEvents events bytes options (safe_run_error_of why)
+refused_safely : (events : List Event) (bytes : List ℕ) (options : CompileOptions) (why : SafeError) →
+    IsRefusedFor options why → OfCompile (IsRefusal (document_of events bytes)) why →
+    ExplainsSafeEvents events bytes options (safe_run_error_of why)
 refused_safely events bytes options safe.Options unsafe refusal = unsafe
-refused_safely events bytes options (safe.Compile cause) keeps refusal = refused events bytes cause refusal
+refused_safely events bytes options (safe.Compile cause) keeps refusal = (keeps, refused events bytes cause refusal)
 
 -- what the conversion of a safe compiler's error gives
-pub told_safely : {T : Type 0} (r : Result T SafeRunError) (why : SafeError) (given events : List Event) (bytes : List ℕ) (options : CompileOptions) → given ≡ events → IsErrAnd r (λ made. made ≡ safe_run_error_of why) → IsRefusedFor options why → OfCompile (IsRefusal (document_of given bytes)) why → IfErr r (λ error. ExplainsSafeEvents events bytes options error)
+pub told_safely : {T : Type 0} (r : Result T SafeRunError) (why : SafeError) (given events : List Event)
+    (bytes : List ℕ) (options : CompileOptions) → given ≡ events → IsErrAnd r (λ made. made ≡ safe_run_error_of why) →
+    IsRefusedFor options why → OfCompile (IsRefusal (document_of given bytes)) why →
+    IfErr r (λ error. ExplainsSafeEvents events bytes options error)
 told_safely (Ok x) why given events bytes options same h refused_for refusal = tt
 told_safely (Err made) why given events bytes options same h refused_for refusal =
-    subst (λ es. ExplainsSafeEvents es bytes options made) same (subst (λ error. ExplainsSafeEvents given bytes options error) (sym h) (refused_safely given bytes options why refused_for refusal))
+    subst (λ es. ExplainsSafeEvents es bytes options made) same
+    (subst (λ error. ExplainsSafeEvents given bytes options error) (sym h)
+    (refused_safely given bytes options why refused_for refusal))
 
 -- a script that was read, with what the safe compiler answers
-pub explained_safely : (input : List ℕ) (events : List Event) (bytes : List ℕ) (options : CompileOptions) (why : SafeRunError) → StandsFor input events bytes options → ExplainsSafeEvents events bytes options why → ExplainsSafeRun input why
+pub explained_safely : (input : List ℕ) (events : List Event) (bytes : List ℕ) (options : CompileOptions)
+    (why : SafeRunError) → StandsFor input events bytes options → ExplainsSafeEvents events bytes options why →
+    ExplainsSafeRun input why
 explained_safely input events bytes options unsafe_run.Options stands h =
     record { events = events; bytes = bytes; options = options; stands = stands; unsafe = h }
-explained_safely input events bytes options (unsafe_run.Run error) stands h = explained input events bytes options error stands h
+explained_safely input events bytes options (unsafe_run.Run error.Memory) stands h = tt
+explained_safely input events bytes options (unsafe_run.Run (error.Line number)) stands h = absurd h.1
+explained_safely input events bytes options (unsafe_run.Run (error.Event index rule)) stands h =
+    record { events = events; bytes = bytes; options = options; stands = stands; safe = h.0; refused = h.1 }
+
+-- a script that wasn't read
+pub unread_safely : (input : List ℕ) (why : RunError) → Explains input why → ExplainsSafeRun input (unsafe_run.Run why)
+unread_safely input error.Memory h = tt
+unread_safely input (error.Line number) h = h
+unread_safely input (error.Event index rule) h = absurd h

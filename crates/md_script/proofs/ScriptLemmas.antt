@@ -18,7 +18,8 @@ use Rattle.md_script.specs.Setting.{is_setting, option_name, is_new, HasOptions}
 use Rattle.md_script.proofs.SettingLemmas.{is_marked, setting_is_marked, event_is_unmarked, new_by_marked, options_by_marked}
 
 -- what is known while lines are read: those seen, and what the reader holds
-pub record Progress (input : List ℕ) (number : ℕ) (events : List Event) (settings : List (List ℕ)) (rest : List ℕ) : Type 0 where
+pub record Progress (input : List ℕ) (number : ℕ) (events : List Event) (settings : List (List ℕ))
+    (rest : List ℕ) : Type 0 where
   pub seen : List (List ℕ)
   pub whole : lines_of input ≡ seen ++ lines_of rest
   pub reads : ReadsAfter [] seen
@@ -28,12 +29,28 @@ pub record Progress (input : List ℕ) (number : ℕ) (events : List Event) (set
   pub short : 2 * number + length rest ≤ length input
 
 pub at_start : (input : List ℕ) → Progress input 0 [] [] input
-at_start input = record { seen = []; whole = refl; reads = tt; says = refl; sets = refl; counted = refl; short = omega arith }
+at_start input = record {
+  seen = [];
+  whole = refl;
+  reads = tt;
+  says = refl;
+  sets = refl;
+  counted = refl;
+  short = omega arith;
+}
 
-reads_push : (earlier seen : List (List ℕ)) (line : List ℕ) → ReadsAfter earlier seen → is_readable_after (earlier ++ seen) line ≡ true → ReadsAfter earlier (seen ++ line ∷ [])
-reads_push earlier [] line reads readable = (subst (λ lines. is_readable_after lines line ≡ true) (append-nil earlier) readable, tt)
-reads_push earlier (first ∷ seen) line reads readable =
-    (reads.0, reads_push (earlier ++ first ∷ []) seen line reads.1 (subst (λ lines. is_readable_after lines line ≡ true) (sym (append_assoc earlier (first ∷ []) seen)) readable))
+reads_push : (earlier seen : List (List ℕ)) (line : List ℕ) → ReadsAfter earlier seen →
+    is_readable_after (earlier ++ seen) line ≡ true → ReadsAfter earlier (seen ++ line ∷ [])
+reads_push earlier [] line reads readable = (
+  subst (λ lines. is_readable_after lines line
+      ≡ true) (append-nil earlier) readable,
+  tt,
+)
+reads_push earlier (first ∷ seen) line reads readable = (
+  reads.0,
+  reads_push (earlier ++ first ∷ []) seen line reads.1
+      (subst (λ lines. is_readable_after lines line ≡ true) (sym (append_assoc earlier (first ∷ []) seen)) readable),
+)
 
 cons_append : (first : Option Event) (xs ys : List Event) → cons_option first (xs ++ ys) ≡ cons_option first xs ++ ys
 cons_append None xs ys = refl
@@ -43,18 +60,22 @@ cons_alone : (said : Option Event) → option_to_list said ≡ cons_option said 
 cons_alone None = refl
 cons_alone (Some event) = refl
 
-says_push : (seen : List (List ℕ)) (line : List ℕ) → filter_map event_of seen ++ option_to_list (event_of line) ≡ filter_map event_of (seen ++ line ∷ [])
+says_push : (seen : List (List ℕ)) (line : List ℕ) → filter_map event_of seen ++ option_to_list (event_of line)
+    ≡ filter_map event_of (seen ++ line ∷ [])
 says_push [] line = cons_alone (event_of line)
 says_push (first ∷ seen) line =
-    sym (cons_append (event_of first) (filter_map event_of seen) (option_to_list (event_of line))) ∙ ap (cons_option (event_of first)) (says_push seen line)
+    sym (cons_append (event_of first) (filter_map event_of seen) (option_to_list (event_of line)))
+    ∙ ap (cons_option (event_of first)) (says_push seen line)
 
-cond_append : (test : Bool) (x : List ℕ) (xs ys : List (List ℕ)) → cond test (x ∷ (xs ++ ys)) (xs ++ ys) ≡ cond test (x ∷ xs) xs ++ ys
+cond_append : (test : Bool) (x : List ℕ) (xs ys : List (List ℕ)) →
+    cond test (x ∷ (xs ++ ys)) (xs ++ ys) ≡ cond test (x ∷ xs) xs ++ ys
 cond_append true x xs ys = refl
 cond_append false x xs ys = refl
 
 filter-append : (q : List ℕ → Bool) (xs ys : List (List ℕ)) → filter q (xs ++ ys) ≡ filter q xs ++ filter q ys
 filter-append q [] ys = refl
-filter-append q (x ∷ xs) ys = ap (λ rest. cond (q x) (x ∷ rest) rest) (filter-append q xs ys) ∙ cond_append (q x) x (filter q xs) (filter q ys)
+filter-append q (x ∷ xs) ys = ap (λ rest. cond (q x) (x ∷ rest) rest) (filter-append q xs ys)
+    ∙ cond_append (q x) x (filter q xs) (filter q ys)
 
 -- ---- one line more
 
@@ -62,11 +83,14 @@ filter-append q (x ∷ xs) ys = ap (λ rest. cond (q x) (x ∷ rest) rest) (filt
 abbrev pub takes : List (List ℕ) → List ℕ → Bool
 takes settings line = is_some (event_of line) || is_setting line && is_new settings (option_name line)
 
-readable_by_marked : (seen : List (List ℕ)) (line : List ℕ) → takes (filter is_marked seen) line ≡ is_readable_after seen line
-readable_by_marked seen line = ap (λ new. is_some (event_of line) || is_setting line && new) (new_by_marked seen (option_name line))
+readable_by_marked : (seen : List (List ℕ)) (line : List ℕ) →
+    takes (filter is_marked seen) line ≡ is_readable_after seen line
+readable_by_marked seen line = ap (λ new. is_some (event_of line) || is_setting line
+    && new) (new_by_marked seen (option_name line))
 
 -- a line that is read is kept unless it is an event
-kept_line : (settings : List (List ℕ)) (line : List ℕ) (said : Option Event) → said ≡ event_of line → takes settings line ≡ true → cond (is_some said) [] (line ∷ []) ≡ filter is_marked (line ∷ [])
+kept_line : (settings : List (List ℕ)) (line : List ℕ) (said : Option Event) → said ≡ event_of line →
+    takes settings line ≡ true → cond (is_some said) [] (line ∷ []) ≡ filter is_marked (line ∷ [])
 kept_line settings line (Some event) e taken = sym (ap (λ t. cond t (line ∷ []) []) (event_is_unmarked line event e))
 kept_line settings line None e taken =
     let second : (is_setting line && is_new settings (option_name line)) ≡ true =
@@ -77,29 +101,39 @@ read_line_has_bytes : (settings : List (List ℕ)) (line : List ℕ) → takes s
 read_line_has_bytes settings [] taken = cc
 read_line_has_bytes settings (b ∷ line) taken = omega arith
 
-pub line_more : {input rest : List ℕ} {number : ℕ} {events : List Event} {settings : List (List ℕ)} → Progress input number events settings rest → (line following : List ℕ) → lines_of rest ≡ line ∷ lines_of following → length line + length following + 1 ≡ length rest → takes settings line ≡ true → Progress input (number + 1) (events ++ option_to_list (event_of line)) (settings ++ cond (is_some (event_of line)) [] (line ∷ [])) following
+pub line_more : {input rest : List ℕ} {number : ℕ} {events : List Event} {settings : List (List ℕ)} →
+    Progress input number events settings rest → (line following : List ℕ) →
+    lines_of rest ≡ line ∷ lines_of following → length line + length following + 1 ≡ length rest →
+    takes settings line ≡ true → Progress input (number + 1) (events ++ option_to_list (event_of line)) (settings
+    ++ cond (is_some (event_of line)) [] (line ∷ [])) following
 line_more {input} {rest} {number} {events} {settings} known line following cut size taken =
     let readable : is_readable_after known.seen line ≡ true =
     sym (readable_by_marked known.seen line) ∙ ap (λ kept. takes kept line) (sym known.sets) ∙ taken in
     record {
       seen = known.seen ++ line ∷ [];
-      whole = known.whole ∙ ap (λ lines. known.seen ++ lines) cut ∙ sym (append_assoc known.seen (line ∷ []) (lines_of following));
+      whole = known.whole ∙ ap (λ lines. known.seen ++ lines) cut
+          ∙ sym (append_assoc known.seen (line ∷ []) (lines_of following));
       reads = reads_push [] known.seen line known.reads readable;
       says = ap (λ said. said ++ option_to_list (event_of line)) known.says ∙ says_push known.seen line;
       sets =
           ap (λ kept. settings ++ kept) (kept_line settings line (event_of line) refl taken)
-          ∙ ap (λ kept. kept ++ filter is_marked (line ∷ [])) known.sets ∙ sym (filter-append is_marked known.seen (line ∷ []));
+          ∙ ap (λ kept. kept ++ filter is_marked (line ∷ [])) known.sets
+          ∙ sym (filter-append is_marked known.seen (line ∷ []));
       counted = omega (arith, known.counted, length_push known.seen line);
       short = omega (arith, known.short, size, read_line_has_bytes settings line taken);
     }
 
 -- a plain line more
-pub plain_more : {input rest : List ℕ} {number : ℕ} {events : List Event} {settings : List (List ℕ)} → Progress input number events settings rest → (event : Event) (following : List ℕ) → BeginsWithEvent rest event following → Progress input (number + 1) (events ++ event ∷ []) settings following
+pub plain_more : {input rest : List ℕ} {number : ℕ} {events : List Event} {settings : List (List ℕ)} →
+    Progress input number events settings rest → (event : Event) (following : List ℕ) →
+    BeginsWithEvent rest event following → Progress input (number + 1) (events ++ event ∷ []) settings following
 plain_more {input} {rest} {number} {events} {settings} known event following read =
     let line = read.line in
-    let taken : takes settings line ≡ true = ap (λ said. is_some said || is_setting line && is_new settings (option_name line)) read.says in
+    let taken : takes settings line ≡ true = ap (λ said. is_some said || is_setting line
+    && is_new settings (option_name line)) read.says in
     let more = line_more known line following read.cut read.size taken in
-    let said = subst (λ said. Progress input (number + 1) (events ++ option_to_list said) (settings ++ cond (is_some said) [] (line ∷ [])) following) read.says more in
+    let said = subst (λ said. Progress input (number + 1) (events ++ option_to_list said) (settings
+    ++ cond (is_some said) [] (line ∷ [])) following) read.says more in
     subst (λ kept. Progress input (number + 1) (events ++ event ∷ []) kept following) (append-nil settings) said
 
 -- ---- the line that ends the script
@@ -107,7 +141,10 @@ plain_more {input} {rest} {number} {events} {settings} known event following rea
 is_end : (line : List ℕ) → bytes_eq line end_line ≡ true → line ≡ end_line
 is_end line h = (bytes_eq-Decides line end_line).0 h
 
-pub script_ends : {input rest : List ℕ} {number : ℕ} {events : List Event} {settings : List (List ℕ)} → Progress input number events settings rest → (line bytes : List ℕ) (document : List (List ℕ)) (options : CompileOptions) → lines_of rest ≡ line ∷ document → bytes_eq line end_line ≡ true → bytes ≡ join_with_byte 10 document → HasOptions settings options → StandsFor input events bytes options
+pub script_ends : {input rest : List ℕ} {number : ℕ} {events : List Event} {settings : List (List ℕ)} →
+    Progress input number events settings rest → (line bytes : List ℕ) (document : List (List ℕ))
+    (options : CompileOptions) → lines_of rest ≡ line ∷ document → bytes_eq line end_line ≡ true →
+    bytes ≡ join_with_byte 10 document → HasOptions settings options → StandsFor input events bytes options
 script_ends {settings} known line bytes document options cut ends joined has = record {
   body = known.seen;
   document = document;
@@ -121,10 +158,17 @@ script_ends {settings} known line bytes document options cut ends joined has = r
 }
 
 -- the document behind the line, or none
-pub script_ends_at : {input rest : List ℕ} {number : ℕ} {events : List Event} {settings : List (List ℕ)} → Progress input number events settings rest → (line : List ℕ) (following : Option (Bor (List ℕ))) (document empty : Bor (List ℕ)) (options : CompileOptions) → MatchOption following (lines_of rest ≡ line ∷ []) (λ f. lines_of rest ≡ line ∷ lines_of f.now) → bytes_eq line end_line ≡ true → document ≡ unwrap_or following empty → empty.now ≡ [] → HasOptions settings options → StandsFor input events document.now options
-script_ends_at known line None document empty options cut ends is nothing has = script_ends known line document.now [] options cut ends (ap (λ d. d.now) is ∙ nothing) has
+pub script_ends_at : {input rest : List ℕ} {number : ℕ} {events : List Event} {settings : List (List ℕ)} →
+    Progress input number events settings rest → (line : List ℕ) (following : Option (Bor (List ℕ)))
+    (document empty : Bor (List ℕ)) (options : CompileOptions) →
+    MatchOption following (lines_of rest ≡ line ∷ []) (λ f. lines_of rest ≡ line ∷ lines_of f.now) →
+    bytes_eq line end_line ≡ true → document ≡ unwrap_or following empty → empty.now ≡ [] →
+    HasOptions settings options → StandsFor input events document.now options
+script_ends_at known line None document empty options cut ends is nothing has =
+    script_ends known line document.now [] options cut ends (ap (λ d. d.now) is ∙ nothing) has
 script_ends_at known line (Some f) document empty options cut ends is nothing has =
-    script_ends known line document.now (lines_of f.now) options cut ends (ap (λ d. d.now) is ∙ sym (join_with_byte-slice_split 10 f.now)) has
+    script_ends known line document.now (lines_of f.now) options cut ends (ap (λ d. d.now) is
+    ∙ sym (join_with_byte-slice_split 10 f.now)) has
 
 -- ---- a line that can't be read, and no line
 
@@ -132,7 +176,8 @@ end_unreadable : (earlier : List (List ℕ)) → is_readable_after earlier end_l
 end_unreadable earlier = refl
 
 -- what stops the reading and what ends a script don't go together
-clash : (before earlier others body document : List (List ℕ)) → earlier ++ others ≡ body ++ end_line ∷ document → ReadsAfter before earlier → ReadsAfter before body → StopsAfter (before ++ earlier) others → ⊥
+clash : (before earlier others body document : List (List ℕ)) → earlier ++ others ≡ body ++ end_line ∷ document →
+    ReadsAfter before earlier → ReadsAfter before body → StopsAfter (before ++ earlier) others → ⊥
 clash before [] [] [] document e reads script stops = cc
 clash before [] (line ∷ others) [] document e reads script stops =
     let same : line ≡ end_line = cc in
@@ -140,7 +185,8 @@ clash before [] (line ∷ others) [] document e reads script stops =
 clash before [] [] (first ∷ body) document e reads script stops = cc
 clash before [] (line ∷ others) (first ∷ body) document e reads script stops =
     let same : first ≡ line = cc in
-    true≢false (sym script.0 ∙ ap (is_readable_after before) same ∙ ap (λ b. is_readable_after b line) (sym (append-nil before)) ∙ stops.1)
+    true≢false (sym script.0 ∙ ap (is_readable_after before) same
+    ∙ ap (λ b. is_readable_after b line) (sym (append-nil before)) ∙ stops.1)
 clash before (line ∷ earlier) others [] document e reads script stops =
     let same : line ≡ end_line = cc in
     true≢false (sym reads.0 ∙ ap (is_readable_after before) same ∙ end_unreadable before)
@@ -152,10 +198,16 @@ clash before (line ∷ earlier) others (first ∷ body) document e reads script 
     (subst (λ lines. StopsAfter lines others) (sym (append_assoc before (line ∷ []) earlier)) stops)
 
 explained : {input : List ℕ} {number : ℕ} → IsFirstUnreadable input number → Explains input (Line number)
-explained why =
-    ((λ (body, document, script). clash [] why.earlier why.others body document (sym why.whole ∙ script.whole) why.reads script.reads why.stops), why)
+explained why = (
+  (λ (body, document, script). clash [] why.earlier why.others body document (sym why.whole
+      ∙ script.whole) why.reads script.reads why.stops),
+  why,
+)
 
-pub line_stops : {input rest : List ℕ} {number : ℕ} {events : List Event} {settings : List (List ℕ)} → Progress input number events settings rest → (line : List ℕ) (following : Option (Bor (List ℕ))) → MatchOption following (lines_of rest ≡ line ∷ []) (λ f. lines_of rest ≡ line ∷ lines_of f.now) → bytes_eq line end_line ≡ false → takes settings line ≡ false → Explains input (Line (number + 1))
+pub line_stops : {input rest : List ℕ} {number : ℕ} {events : List Event} {settings : List (List ℕ)} →
+    Progress input number events settings rest → (line : List ℕ) (following : Option (Bor (List ℕ))) →
+    MatchOption following (lines_of rest ≡ line ∷ []) (λ f. lines_of rest ≡ line ∷ lines_of f.now) →
+    bytes_eq line end_line ≡ false → takes settings line ≡ false → Explains input (Line (number + 1))
 line_stops {settings} known line None cut other nothing = explained (record {
   earlier = known.seen;
   others = line ∷ [];
@@ -173,12 +225,15 @@ line_stops {settings} known line (Some f) cut other nothing = explained (record 
   counted = ap (λ n. n + 1) known.counted;
 })
 
-pub input_stops : {input rest : List ℕ} {number : ℕ} {events : List Event} {settings : List (List ℕ)} → Progress input number events settings rest → (line : List ℕ) → lines_of rest ≡ line ∷ [] → takes settings line ≡ true → Explains input (Line (number + 1 + 1))
+pub input_stops : {input rest : List ℕ} {number : ℕ} {events : List Event} {settings : List (List ℕ)} →
+    Progress input number events settings rest → (line : List ℕ) → lines_of rest ≡ line ∷ [] →
+    takes settings line ≡ true → Explains input (Line (number + 1 + 1))
 input_stops {settings} known line cut taken = explained (record {
   earlier = known.seen ++ line ∷ [];
   others = [];
   whole = known.whole ∙ ap (λ lines. known.seen ++ lines) cut ∙ sym (append-nil (known.seen ++ line ∷ []));
-  reads = reads_push [] known.seen line known.reads (sym (readable_by_marked known.seen line) ∙ ap (λ kept. takes kept line) (sym known.sets) ∙ taken);
+  reads = reads_push [] known.seen line known.reads (sym (readable_by_marked known.seen line)
+      ∙ ap (λ kept. takes kept line) (sym known.sets) ∙ taken);
   stops = tt;
   counted = omega (arith, known.counted, length_push known.seen line);
 })

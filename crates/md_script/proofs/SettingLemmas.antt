@@ -19,7 +19,9 @@ use Rattle.md_script.specs.Setting.{is_setting, is_equals, option_name, is_name,
 abbrev chosen : List ℕ → Bool → Option (List ℕ)
 chosen bytes test = cond test (Some bytes) None
 
-pub read_text : {E : Type 0} (bytes : List ℕ) (Fault : E → Type 0) (r : Result (Bor (List ℕ)) E) → MatchResult r (λ s. (s.now ≡ bytes) × IsUtf8 bytes) (λ e. (¬ IsUtf8 bytes) × Fault e) → option_copied (result_ok r) ≡ text_when true bytes
+pub read_text : {E : Type 0} (bytes : List ℕ) (Fault : E → Type 0) (r : Result (Bor (List ℕ)) E) →
+    MatchResult r (λ s. (s.now ≡ bytes) × IsUtf8 bytes) (λ e. (¬ IsUtf8 bytes) × Fault e) →
+    option_copied (result_ok r) ≡ text_when true bytes
 read_text bytes Fault (Ok s) h = ap Some h.0 ∙ sym (ap (chosen bytes) (is_utf8-from_IsUtf8 bytes h.1))
 read_text bytes Fault (Err e) h =
     elim (cases_Bool (is_utf8 bytes)) [
@@ -27,7 +29,8 @@ read_text bytes Fault (Err e) h =
       | inr bad ↦ sym (ap (chosen bytes) bad)
     ]
 
-pub reads_as_text : {E : Type 0} (bytes : List ℕ) (Fault : E → Type 0) (r : Result (Bor (List ℕ)) E) → MatchResult r (λ s. (s.now ≡ bytes) × IsUtf8 bytes) (λ e. (¬ IsUtf8 bytes) × Fault e) → is_ok r ≡ is_utf8 bytes
+pub reads_as_text : {E : Type 0} (bytes : List ℕ) (Fault : E → Type 0) (r : Result (Bor (List ℕ)) E) →
+    MatchResult r (λ s. (s.now ≡ bytes) × IsUtf8 bytes) (λ e. (¬ IsUtf8 bytes) × Fault e) → is_ok r ≡ is_utf8 bytes
 reads_as_text bytes Fault (Ok s) h = sym (is_utf8-from_IsUtf8 bytes h.1)
 reads_as_text bytes Fault (Err e) h =
     elim (cases_Bool (is_utf8 bytes)) [
@@ -46,7 +49,8 @@ setting_is_marked (sign ∷ rest) h =
     ap (λ t. is_some (cond t (Some (before_first is_equals rest)) None)) (and_parts (eqb sign 33) _ h).0
 
 marked_says_nothing : (sign : ℕ) (rest : List ℕ) (event : Event) → sign ≡ 33 → Some event ≡ event_of (sign ∷ rest) → ⊥
-marked_says_nothing sign rest event mark e = let no : Some event ≡ event_of (33 ∷ rest) = e ∙ ap (λ s. event_of (s ∷ rest)) mark in cc
+marked_says_nothing sign rest event mark e = let no : Some event ≡ event_of (33 ∷ rest) = e
+    ∙ ap (λ s. event_of (s ∷ rest)) mark in cc
 
 pub event_is_unmarked : (line : List ℕ) (event : Event) → Some event ≡ event_of line → is_marked line ≡ false
 event_is_unmarked [] event e = cc
@@ -57,7 +61,9 @@ event_is_unmarked (sign ∷ rest) event e =
     ]
 
 module _ {A : Type 0} (p q : A → Bool) (outside : (x : A) → q x ≡ false → p x ≡ false) where
-  any-filter_step : (here : Bool) (line : A) (lines : List A) → q line ≡ here → list_any p (filter q lines) ≡ list_any p lines → list_any p (cond here (line ∷ filter q lines) (filter q lines)) ≡ (p line || list_any p lines)
+  any-filter_step : (here : Bool) (line : A) (lines : List A) → q line ≡ here →
+      list_any p (filter q lines) ≡ list_any p lines → list_any p (cond here (line ∷ filter q lines) (filter q lines))
+      ≡ (p line || list_any p lines)
   any-filter_step true line lines h ih = ap (λ t. p line || t) ih
   any-filter_step false line lines h ih = ih ∙ sym (ap (λ t. t || list_any p lines) (outside line h))
 
@@ -65,7 +71,9 @@ module _ {A : Type 0} (p q : A → Bool) (outside : (x : A) → q x ≡ false �
   any-filter [] = refl
   any-filter (line ∷ lines) = any-filter_step (q line) line lines refl (any-filter lines)
 
-  find-filter_step : (here : Bool) (line : A) (lines : List A) → q line ≡ here → find p (filter q lines) ≡ find p lines → find p (cond here (line ∷ filter q lines) (filter q lines)) ≡ cond (p line) (Some line) (find p lines)
+  find-filter_step : (here : Bool) (line : A) (lines : List A) → q line ≡ here →
+      find p (filter q lines) ≡ find p lines → find p (cond here (line ∷ filter q lines) (filter q lines))
+      ≡ cond (p line) (Some line) (find p lines)
   find-filter_step true line lines h ih = ap (λ t. cond (p line) (Some line) t) ih
   find-filter_step false line lines h ih = ih ∙ sym (ap (λ t. cond t (Some line) (find p lines)) (outside line h))
 
@@ -78,23 +86,30 @@ names_nothing name None h = refl
 names_nothing name (Some other) h = cc
 
 given_by_marked : (lines : List (List ℕ)) (name : List ℕ) → is_given (filter is_marked lines) name ≡ is_given lines name
-given_by_marked lines name = any-filter (λ line. is_name name (option_name line)) is_marked (λ line h. names_nothing name (option_name line) h) lines
+given_by_marked lines name = any-filter (λ line. is_name name (option_name line)) is_marked
+    (λ line h. names_nothing name (option_name line) h) lines
 
-text_by_marked : (lines : List (List ℕ)) (name : List ℕ) → text_given (filter is_marked lines) name ≡ text_given lines name
-text_by_marked lines name = ap (option_and_then value_of) (find-filter (λ line. is_name name (option_name line)) is_marked (λ line h. names_nothing name (option_name line) h) lines)
+text_by_marked : (lines : List (List ℕ)) (name : List ℕ) →
+    text_given (filter is_marked lines) name ≡ text_given lines name
+text_by_marked lines name = ap (option_and_then value_of)
+    (find-filter (λ line. is_name name (option_name line)) is_marked
+    (λ line h. names_nothing name (option_name line) h) lines)
 
-pub new_by_marked : (lines : List (List ℕ)) (option : Option (List ℕ)) → is_new (filter is_marked lines) option ≡ is_new lines option
+pub new_by_marked : (lines : List (List ℕ)) (option : Option (List ℕ)) →
+    is_new (filter is_marked lines) option ≡ is_new lines option
 new_by_marked lines None = refl
 new_by_marked lines (Some name) = ap not (given_by_marked lines name)
 
-pub options_by_marked : (lines : List (List ℕ)) (options : CompileOptions) → HasOptions (filter is_marked lines) options → HasOptions lines options
+pub options_by_marked : (lines : List (List ℕ)) (options : CompileOptions) →
+    HasOptions (filter is_marked lines) options → HasOptions lines options
 options_by_marked lines options h = record {
   any_img_src = h.any_img_src ∙ given_by_marked lines (codes "allow_any_img_src");
   dangerous_html = h.dangerous_html ∙ given_by_marked lines (codes "allow_dangerous_html");
   dangerous_protocol = h.dangerous_protocol ∙ given_by_marked lines (codes "allow_dangerous_protocol");
   checkable = h.checkable ∙ given_by_marked lines (codes "gfm_task_list_item_checkable");
   tagfilter = h.tagfilter ∙ given_by_marked lines (codes "gfm_tagfilter");
-  ending = h.ending ∙ ap (λ text. unwrap_or (option_and_then ending_named text) LineFeed) (text_by_marked lines ending_name);
+  ending = h.ending ∙ ap (λ text. unwrap_or (option_and_then ending_named text) LineFeed)
+      (text_by_marked lines ending_name);
   back_label = h.back_label ∙ text_by_marked lines (codes "gfm_footnote_back_label");
   clobber_prefix = h.clobber_prefix ∙ text_by_marked lines (codes "gfm_footnote_clobber_prefix");
   label = h.label ∙ text_by_marked lines (codes "gfm_footnote_label");

@@ -18,4 +18,5 @@ module _ (p : ℕ → Bool) where
   any_by_place (x ∷ xs) = any_step (p x) (list_any p xs) (position_or_len p xs) (length xs) (any_by_place xs)
 
   pub any_from_position : (xs : List ℕ) → is_some (position p xs) ≡ list_any p xs
-  any_from_position xs = some_when (ltb (position_or_len p xs) (length xs)) (position_or_len p xs) ∙ sym (any_by_place xs)
+  any_from_position xs = some_when (ltb (position_or_len p xs) (length xs)) (position_or_len p xs)
+      ∙ sym (any_by_place xs)

@@ -18,7 +18,8 @@ value >>= next = option_and_then next value
 -- `Other` and its number
 abbrev pub other_name : List ℕ → Option Name
 other_name text =
-    if bytes_eq (take 5 text) (codes "Other") then (number_of 5 (drop 5 text) >>= λ number. if nat_le number 65535 then Some (Other number) else None) else None
+    if bytes_eq (take 5 text) (codes "Other") then (number_of 5 (drop 5 text) >>= λ number. if nat_le number 65535
+    then Some (Other number) else None) else None
 
 abbrev pub otherwise : {A : Type 0} → Option A → Option A → Option A
 otherwise (Some value) other = Some value

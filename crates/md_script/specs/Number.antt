@@ -6,4 +6,5 @@ use Rattle.std.specs.Str.Parse.{digits_value}
 -- the number that digits write, where there are one or more and at most so many
 abbrev pub number_of : ℕ → List ℕ → Option ℕ
 number_of most digits =
-    if nat_le 1 (length digits) && nat_le (length digits) most && all_ascii_digits digits then Some (digits_value 10 digits) else None
+    if nat_le 1 (length digits) && nat_le (length digits) most && all_ascii_digits digits
+    then Some (digits_value 10 digits) else None

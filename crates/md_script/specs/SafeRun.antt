@@ -1,20 +1,42 @@
 -- What `run_safe` answers: a safe text, or why there is none.
-use Rattle.std.specs.Prelude.{ℕ, List}
+use Rattle.std.specs.Prelude.{◌≡◌, ℕ, List}
 use Rattle.md_base.specs.declared.event.Event.{Event}
+use Rattle.md_base.specs.Tree.{Forest, flatten}
+use Rattle.md_tree.specs.declared.rule.Rule.{Rule}
+use Rattle.md_tree.specs.declared.rule.CompileError.TheVariants as refusal
+use Rattle.md_tree.specs.Grammar.{IsChecked}
+use Rattle.md_tree.specs.Refusal.{IsRefusal}
+use Rattle.md_meaning.specs.Meaning.{meaning}
 use Rattle.md_meaning.specs.declared.options.CompileOptions.{CompileOptions}
 use Rattle.md_safe.specs.Options.{KeepsImages}
 use Rattle.md_html.specs.declared.safe_html.SafeError.{SafeError}
 use Rattle.md_html.specs.declared.safe_html.SafeError.TheVariants as safe
 use Rattle.md_script.specs.declared.error.SafeRunError.{SafeRunError}
 use Rattle.md_script.specs.declared.error.SafeRunError.TheVariants.{Options, Run}
+use Rattle.md_script.specs.declared.error.RunError.TheVariants as error
 use Rattle.md_script.specs.Error.{run_error_of}
-use Rattle.md_script.specs.Run.{ExplainsEvents, ExplainsRun}
+use Rattle.md_script.specs.Run.{reference_names, document_of, ExplainsEvents, ExplainsRun}
 use Rattle.md_script.specs.Script.{StandsFor}
 
--- why events give no safe text: their options aren't safe, or they give no text
+-- the options are safe, the events are of the grammar over the bytes, and the text is the meaning of their document
+pub record IsSafelyCompiled (events : List Event) (bytes : List ℕ) (options : CompileOptions)
+    (text : List ℕ) : Type 0 where
+  pub safe : KeepsImages options
+  pub grammatical : IsChecked (document_of events bytes)
+  pub means : (document : Forest) → flatten document ≡ events → text ≡ meaning options reference_names bytes document
+
+-- why events give no safe text: their options aren't safe, or they are and the events give no text
 abbrev pub ExplainsSafeEvents : List Event → List ℕ → CompileOptions → SafeRunError → Type 0
 ExplainsSafeEvents events bytes options Options = KeepsImages options → ⊥
-ExplainsSafeEvents events bytes options (Run error) = ExplainsEvents events bytes error
+ExplainsSafeEvents events bytes options (Run error) = KeepsImages options × ExplainsEvents events bytes error
+
+-- the text is that of what the input stands for, whose options are safe
+pub record IsSafeTextOf (input text : List ℕ) : Type 0 where
+  pub events : List Event
+  pub bytes : List ℕ
+  pub options : CompileOptions
+  pub stands : StandsFor input events bytes options
+  pub compiled : IsSafelyCompiled events bytes options text
 
 -- the options of what the input stands for aren't safe
 pub record IsUnsafe (input : List ℕ) : Type 0 where
@@ -24,10 +46,21 @@ pub record IsUnsafe (input : List ℕ) : Type 0 where
   pub stands : StandsFor input events bytes options
   pub unsafe : KeepsImages options → ⊥
 
+-- an event of what the input stands for is refused, and its options are safe
+pub record IsSafelyRefusedAt (input : List ℕ) (index : ℕ) (rule : Rule) : Type 0 where
+  pub events : List Event
+  pub bytes : List ℕ
+  pub options : CompileOptions
+  pub stands : StandsFor input events bytes options
+  pub safe : KeepsImages options
+  pub refused : IsRefusal (document_of events bytes) (refusal.Event index rule)
+
 -- why a script gives no safe text
 abbrev pub ExplainsSafeRun : List ℕ → SafeRunError → Type 0
 ExplainsSafeRun input Options = IsUnsafe input
-ExplainsSafeRun input (Run error) = ExplainsRun input error
+ExplainsSafeRun input (Run error.Memory) = Unit {0}
+ExplainsSafeRun input (Run (error.Line number)) = ExplainsRun input (error.Line number)
+ExplainsSafeRun input (Run (error.Event index rule)) = IsSafelyRefusedAt input index rule
 
 -- the error of a compiler as one of a script
 abbrev pub safe_run_error_of : SafeError → SafeRunError

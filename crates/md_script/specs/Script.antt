@@ -37,7 +37,8 @@ abbrev pub IsReadable : List ℕ → Type 0
 IsReadable input = (body : List (List ℕ)) × (document : List (List ℕ)) × IsScript input body document
 
 -- it stands for these events over these bytes, under these options
-pub record StandsFor (input : List ℕ) (events : List event.Event) (bytes : List ℕ) (options : CompileOptions) : Type 0 where
+pub record StandsFor (input : List ℕ) (events : List event.Event) (bytes : List ℕ)
+    (options : CompileOptions) : Type 0 where
   pub body : List (List ℕ)
   pub document : List (List ℕ)
   pub script : IsScript input body document

@@ -1,6 +1,7 @@
--- What `serve` does: it reads a script to its end, runs it, and writes its text. What a reader has left and what a writer
+-- What `serve` does: it reads a script to its end, runs it, and writes its text. What a reader has left and what a
+-- writer
 -- holds is known or not; where it isn't, nothing is claimed of it.
-use Rattle.std.specs.Prelude.{◌≡◌, ℕ, List, codes, Option}
+use Rattle.std.specs.Prelude.{◌≡◌, ℕ, List, ◌++◌, codes, Option}
 use Rattle.std.specs.Io.KnownBytes.{Keeps, Appends, Consumes, IsAtEnd}
 use Rattle.md_script.specs.declared.error.RunError.{RunError}
 use Rattle.md_script.specs.declared.error.RunError.TheVariants.{Memory, Line, Event}
@@ -49,11 +50,18 @@ ExplainsServe left leaves (Run (Event index rule)) = IsTold left leaves (Event i
 ExplainsServe left leaves Input = Unit {0}
 ExplainsServe left leaves Output = (text : List ℕ) × IsRun left leaves text
 
--- nothing was written, but where writing failed
-abbrev pub IsUnwritten : Option (List ℕ) → Option (List ℕ) → ServeError → Type 0
-IsUnwritten held holds (Run cause) = Keeps held holds
-IsUnwritten held holds Input = Keeps held holds
-IsUnwritten held holds Output = Unit {0}
+-- the front of a text was written, and nothing else
+pub record IsCutOff (held holds : Option (List ℕ)) (text : List ℕ) : Type 0 where
+  pub front : List ℕ
+  pub others : List ℕ
+  pub whole : text ≡ front ++ others
+  pub written : Appends held holds front
+
+-- nothing was written, but where writing failed: there the front of the text of what was read
+abbrev pub IsUnwritten : Option (List ℕ) → Option (List ℕ) → Option (List ℕ) → Option (List ℕ) → ServeError → Type 0
+IsUnwritten left leaves held holds (Run cause) = Keeps held holds
+IsUnwritten left leaves held holds Input = Keeps held holds
+IsUnwritten left leaves held holds Output = (text : List ℕ) × IsRun left leaves text × IsCutOff held holds text
 
 -- reading failed, or memory ran out
 abbrev pub IsBeforeRun : ServeError → Type 0

@@ -15,7 +15,8 @@ texts_of = map (λ text. text.now)
 -- the options that are off or on
 abbrev pub flag_names : List (List ℕ)
 flag_names =
-    codes "allow_any_img_src" ∷ codes "allow_dangerous_html" ∷ codes "allow_dangerous_protocol" ∷ codes "gfm_task_list_item_checkable"
+    codes "allow_any_img_src" ∷ codes "allow_dangerous_html" ∷ codes "allow_dangerous_protocol"
+    ∷ codes "gfm_task_list_item_checkable"
     ∷ codes "gfm_tagfilter" ∷ []
 
 -- the options that are texts
@@ -43,14 +44,16 @@ is_equals byte = byte == 61
 
 -- a name and a value that may stand round the first `=`
 abbrev pub is_assignment : List ℕ → List ℕ → Bool
-is_assignment name value = if bytes_eq name ending_name then is_some (ending_named value) else is_among text_names name && is_utf8 value
+is_assignment name value = if bytes_eq name ending_name then is_some (ending_named value)
+    else is_among text_names name && is_utf8 value
 
 -- `!`, and then the name of an option that is turned on, or an assignment
 abbrev pub is_setting : List ℕ → Bool
 is_setting [] = false
 is_setting (sign ∷ rest) =
     sign == 33
-    && (if list_any is_equals rest then is_assignment (before_first is_equals rest) (after_first is_equals rest) else is_among flag_names rest)
+    && (if list_any is_equals rest then is_assignment (before_first is_equals rest) (after_first is_equals rest)
+    else is_among flag_names rest)
 
 -- the name behind `!`
 abbrev pub option_name : List ℕ → Option (List ℕ)
@@ -85,9 +88,14 @@ pub record HasOptions (lines : List (List ℕ)) (options : CompileOptions) : Typ
   pub dangerous_protocol : options.allow_dangerous_protocol ≡ is_given lines (codes "allow_dangerous_protocol")
   pub checkable : options.gfm_task_list_item_checkable ≡ is_given lines (codes "gfm_task_list_item_checkable")
   pub tagfilter : options.gfm_tagfilter ≡ is_given lines (codes "gfm_tagfilter")
-  pub ending : options.default_line_ending ≡ unwrap_or (option_and_then ending_named (text_given lines ending_name)) LineFeed
-  pub back_label : option_map string_bytes options.gfm_footnote_back_label ≡ text_given lines (codes "gfm_footnote_back_label")
-  pub clobber_prefix : option_map string_bytes options.gfm_footnote_clobber_prefix ≡ text_given lines (codes "gfm_footnote_clobber_prefix")
+  pub ending : options.default_line_ending ≡ unwrap_or (option_and_then ending_named (text_given lines ending_name))
+      LineFeed
+  pub back_label : option_map string_bytes options.gfm_footnote_back_label
+      ≡ text_given lines (codes "gfm_footnote_back_label")
+  pub clobber_prefix : option_map string_bytes options.gfm_footnote_clobber_prefix
+      ≡ text_given lines (codes "gfm_footnote_clobber_prefix")
   pub label : option_map string_bytes options.gfm_footnote_label ≡ text_given lines (codes "gfm_footnote_label")
-  pub label_attributes : option_map string_bytes options.gfm_footnote_label_attributes ≡ text_given lines (codes "gfm_footnote_label_attributes")
-  pub label_tag_name : option_map string_bytes options.gfm_footnote_label_tag_name ≡ text_given lines (codes "gfm_footnote_label_tag_name")
+  pub label_attributes : option_map string_bytes options.gfm_footnote_label_attributes
+      ≡ text_given lines (codes "gfm_footnote_label_attributes")
+  pub label_tag_name : option_map string_bytes options.gfm_footnote_label_tag_name
+      ≡ text_given lines (codes "gfm_footnote_label_tag_name")

@@ -1,6 +1,6 @@
 ghost use Rattle.std.specs.Prelude.{string_bytes, IfOk, IfErr};
 ghost use Rattle.md_script.specs.Run.{IsCompiled, ExplainsEvents, IsTextOf, ExplainsRun};
-ghost use Rattle.md_script.specs.SafeRun.{ExplainsSafeEvents, ExplainsSafeRun};
+ghost use Rattle.md_script.specs.SafeRun.{IsSafelyCompiled, ExplainsSafeEvents, IsSafeTextOf, ExplainsSafeRun};
 
 use crate::error::{RunError, SafeRunError};
 use crate::script::{Script, read_script};
@@ -55,7 +55,7 @@ fn compile_script(alloc: Global, script: &Script) -> Result<String, RunError>
 ///
 /// `SafeRunError::Options` where the script can be read and its options aren't safe; else as [`run`].
 pub fn run_safe(alloc: Global, input: &[u8]) -> Result<SafeHtml, SafeRunError>
-    ensures text { IfOk result (λ html. IsTextOf input.now html) }
+    ensures text { IfOk result (λ html. IsSafeTextOf input.now html) }
     ensures err { IfErr result (λ error. ExplainsSafeRun input.now error) }
 {
     let script = read_script(alloc, input)?;
@@ -64,7 +64,7 @@ pub fn run_safe(alloc: Global, input: &[u8]) -> Result<SafeHtml, SafeRunError>
 
 fn compile_safely(alloc: Global, script: &Script) -> Result<SafeHtml, SafeRunError>
     ensures text { IfOk result (λ html.
-        IsCompiled script.now.events.items script.now.document.now script.now.options html) }
+        IsSafelyCompiled script.now.events.items script.now.document.now script.now.options html) }
     ensures err { IfErr result (λ error.
         ExplainsSafeEvents script.now.events.items script.now.document.now script.now.options error) }
 {

@@ -2,7 +2,7 @@
 
 ghost use Rattle.std.specs.Prelude.{◌≡◌, ◌<◌, IfOk, OnOk, IfErr, length};
 ghost use Rattle.std.specs.Io.KnownBytes.{Appends};
-ghost use Rattle.md_script.specs.Serve.{IsReadWhole, IsServed, ExplainsServe, IsUnwritten, IsBeforeRun};
+ghost use Rattle.md_script.specs.Serve.{IsReadWhole, IsServed, ExplainsServe, IsUnwritten, IsCutOff, IsBeforeRun};
 ghost use Rattle.md_script.specs.declared.serving.ServeError.TheVariants as error;
 
 use crate::error::RunError;
@@ -25,7 +25,7 @@ pub enum ServeError {
     Run(RunError),
     /// Reading failed, or none of 16,777,216 reads met the end.
     Input,
-    /// Writing failed; a part of the text may have been written.
+    /// Writing failed; the front of the text may have been written.
     Output,
 }
 
@@ -90,7 +90,8 @@ impl From<AllocError> for ServeError {
 /// # Errors
 ///
 /// `ServeError::Run` where the script gives no text, or memory runs out; `ServeError::Input` where a read fails, or none of
-/// 16,777,216 reads meets the end. With both nothing was written. `ServeError::Output` where a write fails.
+/// 16,777,216 reads meets the end. With both nothing was written. `ServeError::Output` where a write fails; the front of
+/// the text was written then, or nothing.
 pub fn serve<R: Read, W: Write>(
     alloc: Global,
     reader: &mut R,
@@ -99,7 +100,8 @@ pub fn serve<R: Read, W: Write>(
     ensures ok { OnOk result
         (IsServed (R.remaining reader.old) (R.remaining reader.new) (W.contents writer.old) (W.contents writer.new)) }
     ensures err { IfErr result (ExplainsServe (R.remaining reader.old) (R.remaining reader.new)) }
-    ensures unwritten { IfErr result (IsUnwritten (W.contents writer.old) (W.contents writer.new)) }
+    ensures unwritten { IfErr result (IsUnwritten
+        (R.remaining reader.old) (R.remaining reader.new) (W.contents writer.old) (W.contents writer.new)) }
 {
     let input = read_input(alloc, reader)?;
     let text = run(alloc, input.as_slice())?;
@@ -141,6 +143,7 @@ fn buffer(alloc: Global) -> Result<Vec<u8>, AllocError>
 fn write_text<W: Write>(writer: &mut W, text: &[u8]) -> Result<(), ServeError>
     ensures ok { OnOk result (Appends (W.contents writer.old) (W.contents writer.new) text.now) }
     ensures err { IfErr result (λ e. e ≡ error.Output) }
+    ensures cut_off { IfErr result (λ _. IsCutOff (W.contents writer.old) (W.contents writer.new) text.now) }
 {
     let mut rest = text;
     while !rest.is_empty() {

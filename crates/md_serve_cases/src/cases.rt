@@ -1,5 +1,6 @@
 //! Readers and writers over memory, of which a read or a write fails.
 
+use crate::append_text;
 use md_html::Rule;
 use md_script::{RunError, ServeError, serve};
 use std::alloc::Global;
@@ -148,6 +149,14 @@ fn reads_of(rt: &impl AllocGlobal, script: &[u8]) -> usize {
 #[test]
 fn a_text_is_written(rt: HostRuntime) {
     answers(&rt, BREAK, (0, 0), (Ok(()), BREAK_TEXT));
+}
+
+#[test]
+fn a_text_is_appended(rt: HostRuntime) -> Result<(), Fail> {
+    let mut texts = Vec::from_slice(rt.alloc(), b"<p>a</p>")?;
+    assert_eq!(&rt; append_text(rt.alloc(), BREAK, &mut texts), Ok(()));
+    assert_eq!(&rt; texts.as_slice(), b"<p>a</p><hr />".as_slice());
+    Ok(())
 }
 
 /// Also where the bytes before it are a script that can be read.

@@ -1,5 +1,9 @@
-//! Cases of `serve`: what is read and written, and reads and writes that fail.
+//! Cases of `serve`: over memory, where its clauses say everything, and what is read and written where reads and writes
+//! fail.
 #![tactic(auto)]
 
 #[cfg(test)]
 mod cases;
+mod memory;
+
+pub use memory::append_text;

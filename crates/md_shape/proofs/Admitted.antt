@@ -1,4 +1,5 @@
 -- What matches the pattern of a role may stand in each node that has it.
+use denote.Enum.Bare.{sameb}
 use Rattle.std.proofs.Common.{◌≡◌, inl, inr, ℕ, zero, suc, Bool, true, false, ◌&&◌, ◌||◌, List, [], ◌∷◌, ◌++◌, length, replicate, refl, sym, subst, arith}
 use Rattle.std.specs.List.{list_all, list_any}
 use Rattle.std.proofs.lemmas.Bool.{and_parts, and_from, false≢true}
@@ -11,7 +12,7 @@ use Rattle.md_pattern.specs.declared.kinds.Times.{Times}
 use Rattle.md_pattern.specs.declared.kinds.Times.TheVariants.{Once, Maybe, Many}
 use Rattle.md_pattern.specs.declared.kinds.Class.{Class}
 use Rattle.md_pattern.specs.declared.kinds.Item.{Item}
-use Rattle.md_pattern.specs.Pattern.{members, takes, same_symbol, pattern_of, Fits, IsCount}
+use Rattle.md_pattern.specs.Pattern.{members, takes, pattern_of, Fits, IsCount}
 use Rattle.md_pattern.specs.Spine.{IsTail, IsGrouped, Matches}
 use Rattle.md_shape.specs.Built.{Content, Blocks, Spans, Strings, FirstFence, FirstMathFence, Chunks, InfoAndMeta, MetaAlone, Done, Nothing}
 use Rattle.md_shape.proofs.Symbols.{may_show, past, admits, same_content, item_admits, pattern_admits}
@@ -20,21 +21,26 @@ lie : false ≡ true → ⊥
 lie h = false≢true h
 
 -- what may stand at the beginning may stand behind others
-may_show-behind : (content : Content) (symbol : Symbol) → may_show false content symbol ≡ true → may_show true content symbol ≡ true
+may_show-behind : (content : Content) (symbol : Symbol) → may_show false content symbol ≡ true →
+    may_show true content symbol ≡ true
 may_show-behind Chunks symbol h = absurd (lie h)
 may_show-behind _ symbol h = h
 
-pub shown_behind : (behind : Bool) (content : Content) (symbol : Symbol) → may_show behind content symbol ≡ true → may_show true content symbol ≡ true
+pub shown_behind : (behind : Bool) (content : Content) (symbol : Symbol) → may_show behind content symbol ≡ true →
+    may_show true content symbol ≡ true
 shown_behind true content symbol h = h
 shown_behind false content symbol h = may_show-behind content symbol h
 
-admits-behind : (content : Content) (symbols : List Symbol) → admits false content symbols ≡ true → admits true content symbols ≡ true
+admits-behind : (content : Content) (symbols : List Symbol) → admits false content symbols ≡ true →
+    admits true content symbols ≡ true
 admits-behind content [] h = refl
 admits-behind content (symbol ∷ symbols) h =
     let parts = and_parts (may_show false content symbol) (admits true (past content symbol) symbols) h in
-    and_from (may_show true content symbol) (admits true (past content symbol) symbols) (may_show-behind content symbol parts.0) parts.1
+    and_from (may_show true content symbol) (admits true (past content symbol) symbols)
+    (may_show-behind content symbol parts.0) parts.1
 
-admits-later : (behind : Bool) (content : Content) (symbols : List Symbol) → admits behind content symbols ≡ true → admits true content symbols ≡ true
+admits-later : (behind : Bool) (content : Content) (symbols : List Symbol) → admits behind content symbols ≡ true →
+    admits true content symbols ≡ true
 admits-later true content symbols h = h
 admits-later false content symbols h = admits-behind content symbols h
 
@@ -52,13 +58,16 @@ same_content-is Nothing Nothing h = refl
 same_content-is _ _ h = absurd (lie h)
 
 -- what holds of each member of a class holds of each symbol that it takes
-pub taken : (test : Symbol → Bool) (symbols : List Symbol) (symbol : Symbol) → list_any (λ member. same_symbol member symbol) symbols ≡ true → list_all test symbols ≡ true → test symbol ≡ true
+pub taken : (test : Symbol → Bool) (symbols : List Symbol) (symbol : Symbol) →
+    list_any (λ member. sameb the_type member symbol) symbols ≡ true → list_all test symbols ≡ true → test symbol ≡ true
 taken test [] symbol seen h = absurd (lie seen)
 taken test (member ∷ symbols) symbol seen h =
     let parts = and_parts (test member) (list_all test symbols) h in
-    by (same_symbol member symbol) refl seen parts.0 (λ later. taken test symbols symbol later parts.1)
+    by (sameb the_type member symbol) refl seen parts.0 (λ later. taken test symbols symbol later parts.1)
   where
-    by : (same : Bool) → same_symbol member symbol ≡ same → (same || list_any (λ m. same_symbol m symbol) symbols) ≡ true → test member ≡ true → (list_any (λ m. same_symbol m symbol) symbols ≡ true → test symbol ≡ true) → test symbol ≡ true
+    by : (same : Bool) → sameb the_type member symbol ≡ same →
+        (same || list_any (λ m. sameb the_type m symbol) symbols) ≡ true → test member ≡ true →
+        (list_any (λ m. sameb the_type m symbol) symbols ≡ true → test symbol ≡ true) → test symbol ≡ true
     by true e seen here later = subst (λ s. test s ≡ true) (same_true the_type tt member symbol e) here
     by false e seen here later = later seen
 
@@ -68,20 +77,27 @@ one_admits left behind content member = may_show behind content member && left t
 
 -- the rest may stand behind what is left
 abbrev Admits : (Bool → Content → Bool) → List Symbol → Type 0
-Admits left others = (behind : Bool) (content : Content) → left behind content ≡ true → admits behind content others ≡ true
+Admits left others = (behind : Bool) (content : Content) → left behind content ≡ true →
+    admits behind content others ≡ true
 
-one : (class : Class) (left : Bool → Content → Bool) (others own : List Symbol) → Admits left others → length own ≡ 1 → list_all (takes class) own ≡ true → (behind : Bool) (content : Content) → list_all (one_admits left behind content) (members class) ≡ true → admits behind content (own ++ others) ≡ true
+one : (class : Class) (left : Bool → Content → Bool) (others own : List Symbol) → Admits left others →
+    length own ≡ 1 → list_all (takes class) own ≡ true → (behind : Bool) (content : Content) →
+    list_all (one_admits left behind content) (members class) ≡ true → admits behind content (own ++ others) ≡ true
 one class left others [] rest count own_taken behind content h = absurd (omega arith)
 one class left others (symbol ∷ []) rest count own_taken behind content h =
-    let here = taken (one_admits left behind content) (members class) symbol (and_parts (takes class symbol) true own_taken).0 h in
+    let here = taken (one_admits left behind content) (members class) symbol
+    (and_parts (takes class symbol) true own_taken).0 h in
     let parts = and_parts (may_show behind content symbol) (left true (past content symbol)) here in
-    and_from (may_show behind content symbol) (admits true (past content symbol) others) parts.0 (rest true (past content symbol) parts.1)
+    and_from (may_show behind content symbol) (admits true (past content symbol) others) parts.0
+    (rest true (past content symbol) parts.1)
 one class left others (symbol ∷ another ∷ own) rest count own_taken behind content h = absurd (omega arith)
 
 abbrev pub stays : Bool → Content → Symbol → Bool
 stays behind content member = may_show behind content member && same_content (past content member) content
 
-several : (class : Class) (others own : List Symbol) (behind : Bool) (content : Content) → list_all (takes class) own ≡ true → list_all (stays behind content) (members class) ≡ true → admits behind content others ≡ true → admits behind content (own ++ others) ≡ true
+several : (class : Class) (others own : List Symbol) (behind : Bool) (content : Content) →
+    list_all (takes class) own ≡ true → list_all (stays behind content) (members class) ≡ true →
+    admits behind content others ≡ true → admits behind content (own ++ others) ≡ true
 several class others [] behind content own_taken h rest = rest
 several class others (symbol ∷ own) behind content own_taken h rest =
     let own_parts = and_parts (takes class symbol) (list_all (takes class) own) own_taken in
@@ -91,10 +107,15 @@ several class others (symbol ∷ own) behind content own_taken h rest =
     (subst (λ c. admits true c (own ++ others) ≡ true) (sym (same_content-is (past content symbol) content parts.1))
     (admits-later behind content (own ++ others) (several class others own behind content own_parts.1 h rest)))
 
-item_fits : (times : Times) (class : Class) (left : Bool → Content → Bool) (others own : List Symbol) → Admits left others → IsCount times (length own) → list_all (takes class) own ≡ true → (behind : Bool) (content : Content) → item_admits times (members class) left behind content ≡ true → admits behind content (own ++ others) ≡ true
-item_fits Once class left others own rest count own_taken behind content h = one class left others own rest count own_taken behind content h
+item_fits : (times : Times) (class : Class) (left : Bool → Content → Bool) (others own : List Symbol) →
+    Admits left others → IsCount times (length own) → list_all (takes class) own ≡ true →
+    (behind : Bool) (content : Content) → item_admits times (members class) left behind content ≡ true →
+    admits behind content (own ++ others) ≡ true
+item_fits Once class left others own rest count own_taken behind content h =
+    one class left others own rest count own_taken behind content h
 item_fits Maybe class left others [] rest count own_taken behind content h =
-    rest behind content (and_parts (left behind content) (list_all (one_admits left behind content) (members class)) h).0
+    rest behind content (and_parts (left behind content)
+    (list_all (one_admits left behind content) (members class)) h).0
 item_fits Maybe class left others (symbol ∷ own) rest count own_taken behind content h =
     one class left others (symbol ∷ own) rest (omega arith) own_taken behind content
     (and_parts (left behind content) (list_all (one_admits left behind content) (members class)) h).1
@@ -103,40 +124,54 @@ item_fits Many class left others own rest count own_taken behind content h =
     several class others own behind content own_taken parts.1 (rest behind content parts.0)
 
 -- what fits a pattern may stand where the pattern may
-fits : (items : List Item) (firsts : List Symbol) → Fits items firsts → (behind : Bool) (content : Content) → pattern_admits items behind content ≡ true → admits behind content firsts ≡ true
+fits : (items : List Item) (firsts : List Symbol) → Fits items firsts → (behind : Bool) (content : Content) →
+    pattern_admits items behind content ≡ true → admits behind content firsts ≡ true
 fits [] firsts fit behind content h = subst (λ symbols. admits behind content symbols ≡ true) (sym fit) refl
 fits (item ∷ items) firsts fit behind content h =
     subst (λ symbols. admits behind content symbols ≡ true) (sym fit.2)
-    (item_fits item.times item.class (λ b c. pattern_admits items b c) fit.1 fit.0 (λ b c left. fits items fit.1 fit.5 b c left) fit.4 fit.3 behind content h)
+    (item_fits item.times item.class (λ b c. pattern_admits items b c) fit.1 fit.0
+    (λ b c left. fits items fit.1 fit.5 b c left) fit.4 fit.3 behind content h)
 
 -- what follows in a group may stand behind its first symbol
-endings_admit : (endings : ℕ) (others : List Symbol) → admits true Blocks others ≡ true → admits true Blocks ((replicate endings LineEnding ++ SetextUnderline ∷ []) ++ others) ≡ true
+endings_admit : (endings : ℕ) (others : List Symbol) → admits true Blocks others ≡ true →
+    admits true Blocks ((replicate endings LineEnding ++ SetextUnderline ∷ []) ++ others) ≡ true
 endings_admit zero others h = h
 endings_admit (suc endings) others h = endings_admit endings others h
 
-tail_admits : (first : Symbol) (tail others : List Symbol) (content : Content) → IsTail first tail → may_show true content first ≡ true → admits true (past content first) others ≡ true → admits true (past content first) (tail ++ others) ≡ true
+tail_admits : (first : Symbol) (tail others : List Symbol) (content : Content) → IsTail first tail →
+    may_show true content first ≡ true → admits true (past content first) others ≡ true →
+    admits true (past content first) (tail ++ others) ≡ true
 tail_admits ReferenceMarker tail others content is may h = by content may h
   where
-    with_tail : (content : Content) → (admits true content (ReferenceValue ∷ others) ≡ true) → (admits true content (ReferenceNumeric ∷ ReferenceValue ∷ others) ≡ true) → (admits true content (ReferenceNumeric ∷ ReferenceHexadecimal ∷ ReferenceValue ∷ others) ≡ true) → admits true content (tail ++ others) ≡ true
+    with_tail : (content : Content) → (admits true content (ReferenceValue ∷ others) ≡ true) →
+        (admits true content (ReferenceNumeric ∷ ReferenceValue ∷ others) ≡ true) →
+        (admits true content (ReferenceNumeric ∷ ReferenceHexadecimal ∷ ReferenceValue ∷ others) ≡ true) →
+        admits true content (tail ++ others) ≡ true
     with_tail content a b c = elim is [
       | inl e ↦ subst (λ t. admits true content (t ++ others) ≡ true) (sym e) a
       | inr (inl e) ↦ subst (λ t. admits true content (t ++ others) ≡ true) (sym e) b
       | inr (inr e) ↦ subst (λ t. admits true content (t ++ others) ≡ true) (sym e) c
     ]
 
-    by : (content : Content) → may_show true content ReferenceMarker ≡ true → admits true (past content ReferenceMarker) others ≡ true → admits true (past content ReferenceMarker) (tail ++ others) ≡ true
+    by : (content : Content) → may_show true content ReferenceMarker ≡ true →
+        admits true (past content ReferenceMarker) others ≡ true →
+        admits true (past content ReferenceMarker) (tail ++ others) ≡ true
     by Blocks may h = with_tail Blocks h h h
     by Spans may h = with_tail Spans h h h
     by Strings may h = with_tail Strings h h h
     by _ may h = absurd (lie may)
 tail_admits SetextText tail others content is may h = by content may h
   where
-    by : (content : Content) → may_show true content SetextText ≡ true → admits true (past content SetextText) others ≡ true → admits true (past content SetextText) (tail ++ others) ≡ true
+    by : (content : Content) → may_show true content SetextText ≡ true →
+        admits true (past content SetextText) others ≡ true →
+        admits true (past content SetextText) (tail ++ others) ≡ true
     by Blocks may h = subst (λ t. admits true Blocks (t ++ others) ≡ true) (sym is.1) (endings_admit is.0 others h)
     by _ may h = absurd (lie may)
-tail_admits first tail others content is may h = subst (λ t. admits true (past content first) (t ++ others) ≡ true) (sym is) h
+tail_admits first tail others content is may h = subst (λ t. admits true (past content first) (t ++ others)
+    ≡ true) (sym is) h
 
-grouped : (firsts spine : List Symbol) (behind : Bool) (content : Content) → IsGrouped firsts spine → admits behind content firsts ≡ true → admits behind content spine ≡ true
+grouped : (firsts spine : List Symbol) (behind : Bool) (content : Content) → IsGrouped firsts spine →
+    admits behind content firsts ≡ true → admits behind content spine ≡ true
 grouped [] spine behind content g h = subst (λ symbols. admits behind content symbols ≡ true) (sym g) refl
 grouped (first ∷ firsts) spine behind content g h =
     let parts = and_parts (may_show behind content first) (admits true (past content first) firsts) h in
@@ -146,6 +181,7 @@ grouped (first ∷ firsts) spine behind content g h =
     (grouped firsts g.1 true (past content first) g.4 parts.1)))
 
 -- what matches the pattern of a role may stand where the pattern may
-pub matches_admitted : (role : Role) (spine : List Symbol) (content : Content) → Matches role spine → pattern_admits (pattern_of role) false content ≡ true → admits false content spine ≡ true
+pub matches_admitted : (role : Role) (spine : List Symbol) (content : Content) → Matches role spine →
+    pattern_admits (pattern_of role) false content ≡ true → admits false content spine ≡ true
 matches_admitted role spine content match h =
     grouped match.0 spine false content match.1 (fits (pattern_of role) match.0 match.2 false content h)

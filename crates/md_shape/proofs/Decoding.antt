@@ -65,11 +65,13 @@ well-first : (before : Option Symbol) (seen : Symbol) → is_no_value seen ≡ t
 well-first before symbol.ReferenceValue h = absurd (lie h)
 well-first before _ h = refl
 
-well-endings : (n : ℕ) (before : Option Symbol) (rest : List Symbol) → ((b : Option Symbol) → are_well b rest ≡ true) → are_well before (replicate n symbol.LineEnding ++ rest) ≡ true
+well-endings : (n : ℕ) (before : Option Symbol) (rest : List Symbol) →
+    ((b : Option Symbol) → are_well b rest ≡ true) → are_well before (replicate n symbol.LineEnding ++ rest) ≡ true
 well-endings zero before rest later = later before
 well-endings (suc n) before rest later = well-endings n (Some symbol.LineEnding) rest later
 
-well-tail : (first : Symbol) (tail rest : List Symbol) → IsTail first tail → ((b : Option Symbol) → are_well b rest ≡ true) → are_well (Some first) (tail ++ rest) ≡ true
+well-tail : (first : Symbol) (tail rest : List Symbol) → IsTail first tail →
+    ((b : Option Symbol) → are_well b rest ≡ true) → are_well (Some first) (tail ++ rest) ≡ true
 well-tail symbol.ReferenceMarker tail rest is later = elim is [
   | inl e ↦ ap (λ t. are_well (Some symbol.ReferenceMarker) (t ++ rest)) e ∙ later (Some symbol.ReferenceValue)
   | inr more ↦ elim more [
@@ -79,11 +81,14 @@ well-tail symbol.ReferenceMarker tail rest is later = elim is [
 ]
 well-tail symbol.SetextText tail rest is later =
     ap (λ t. are_well (Some symbol.SetextText) (t ++ rest)) is.1
-    ∙ ap (are_well (Some symbol.SetextText)) (append_assoc (replicate is.0 symbol.LineEnding) (symbol.SetextUnderline ∷ []) rest)
-    ∙ well-endings is.0 (Some symbol.SetextText) (symbol.SetextUnderline ∷ rest) (λ b. later (Some symbol.SetextUnderline))
+    ∙ ap (are_well (Some symbol.SetextText)) (append_assoc (replicate is.0 symbol.LineEnding) (symbol.SetextUnderline
+    ∷ []) rest)
+    ∙ well-endings is.0 (Some symbol.SetextText) (symbol.SetextUnderline
+    ∷ rest) (λ b. later (Some symbol.SetextUnderline))
 well-tail first tail rest is later = ap (λ t. are_well (Some first) (t ++ rest)) is ∙ later (Some first)
 
-well-grouped : (firsts spine : List Symbol) → list_all is_no_value firsts ≡ true → IsGrouped firsts spine → (before : Option Symbol) → are_well before spine ≡ true
+well-grouped : (firsts spine : List Symbol) → list_all is_no_value firsts ≡ true → IsGrouped firsts spine →
+    (before : Option Symbol) → are_well before spine ≡ true
 well-grouped [] spine h is before = ap (are_well before) is
 well-grouped (first ∷ firsts) spine h is before =
     let parts = and_parts (is_no_value first) (list_all is_no_value firsts) h in
@@ -91,32 +96,43 @@ well-grouped (first ∷ firsts) spine h is before =
     ∙ and_from (stands_well before first) (are_well (Some first) (is.0 ++ is.1)) (well-first before first parts.0)
     (well-tail first is.0 is.1 is.3 (well-grouped firsts is.1 parts.1 is.4))
 
-no_value-append : (symbols others : List Symbol) → list_all is_no_value symbols ≡ true → list_all is_no_value others ≡ true → list_all is_no_value (symbols ++ others) ≡ true
+no_value-append : (symbols others : List Symbol) → list_all is_no_value symbols ≡ true →
+    list_all is_no_value others ≡ true → list_all is_no_value (symbols ++ others) ≡ true
 no_value-append [] others h g = g
 no_value-append (seen ∷ symbols) others h g =
     let parts = and_parts (is_no_value seen) (list_all is_no_value symbols) h in
-    and_from (is_no_value seen) (list_all is_no_value (symbols ++ others)) parts.0 (no_value-append symbols others parts.1 g)
+    and_from (is_no_value seen) (list_all is_no_value (symbols ++ others)) parts.0
+    (no_value-append symbols others parts.1 g)
 
-own-no_value : (class : Class) (own : List Symbol) → list_all is_no_value (members class) ≡ true → list_all (takes class) own ≡ true → list_all is_no_value own ≡ true
+own-no_value : (class : Class) (own : List Symbol) → list_all is_no_value (members class) ≡ true →
+    list_all (takes class) own ≡ true → list_all is_no_value own ≡ true
 own-no_value class [] h own_taken = refl
 own-no_value class (seen ∷ own) h own_taken =
     let parts = and_parts (takes class seen) (list_all (takes class) own) own_taken in
-    and_from (is_no_value seen) (list_all is_no_value own) (taken is_no_value (members class) seen parts.0 h) (own-no_value class own h parts.1)
+    and_from (is_no_value seen) (list_all is_no_value own) (taken is_no_value (members class) seen parts.0 h)
+    (own-no_value class own h parts.1)
 
-fits-no_value : (items : List Item) (symbols : List Symbol) → list_all (λ item. list_all is_no_value (members item.class)) items ≡ true → Fits items symbols → list_all is_no_value symbols ≡ true
+fits-no_value : (items : List Item) (symbols : List Symbol) →
+    list_all (λ item. list_all is_no_value (members item.class)) items ≡ true → Fits items symbols →
+    list_all is_no_value symbols ≡ true
 fits-no_value [] symbols h fit = ap (list_all is_no_value) fit
 fits-no_value (item ∷ items) symbols h fit =
-    let parts = and_parts (list_all is_no_value (members item.class)) (list_all (λ i. list_all is_no_value (members i.class)) items) h in
-    ap (list_all is_no_value) fit.2 ∙ no_value-append fit.0 fit.1 (own-no_value item.class fit.0 parts.0 fit.3) (fits-no_value items fit.1 parts.1 fit.5)
+    let parts = and_parts (list_all is_no_value (members item.class))
+    (list_all (λ i. list_all is_no_value (members i.class)) items) h in
+    ap (list_all is_no_value) fit.2 ∙ no_value-append fit.0 fit.1 (own-no_value item.class fit.0 parts.0 fit.3)
+    (fits-no_value items fit.1 parts.1 fit.5)
 
-pattern-no_value : (around : Role) → list_all (λ item. list_all is_no_value (members item.class)) (pattern_of around) ≡ true
+pattern-no_value : (around : Role) → list_all (λ item. list_all is_no_value (members item.class)) (pattern_of around)
+    ≡ true
 pattern-no_value role.Flow = refl
 pattern-no_value _ = refl
 
 well-spine : (around : Role) (spine : List Symbol) → Matches around spine → are_well None spine ≡ true
-well-spine around spine match = well-grouped match.0 spine (fits-no_value (pattern_of around) match.0 (pattern-no_value around) match.2) match.1 None
+well-spine around spine match = well-grouped match.0 spine
+    (fits-no_value (pattern_of around) match.0 (pattern-no_value around) match.2) match.1 None
 
-well-split : (before : Option Symbol) (symbols others : List Symbol) → are_well before (symbols ++ others) ≡ true → (are_well before symbols ≡ true) × (are_well (last_symbol before symbols) others ≡ true)
+well-split : (before : Option Symbol) (symbols others : List Symbol) → are_well before (symbols ++ others) ≡ true →
+    (are_well before symbols ≡ true) × (are_well (last_symbol before symbols) others ≡ true)
 well-split before [] others h = (refl, h)
 well-split before (seen ∷ symbols) others h =
     let parts = and_parts (stands_well before seen) (are_well (Some seen) (symbols ++ others)) h in
@@ -141,37 +157,50 @@ last-push : (names : List Name) (n : Name) → last_of (names ++ n ∷ []) ≡ S
 last-push [] n = refl
 last-push (other ∷ names) n = ap (λ o. Some (unwrap_or o other)) (last-push names n)
 
-solid-shown : (standing : Standing) (before : Option Symbol) (symbols : List Symbol) → is_solid standing ≡ true → last_symbol before (shown standing [] ++ symbols) ≡ last_symbol (symbol_in standing) symbols
+solid-shown : (standing : Standing) (before : Option Symbol) (symbols : List Symbol) → is_solid standing ≡ true →
+    last_symbol before (shown standing [] ++ symbols) ≡ last_symbol (symbol_in standing) symbols
 solid-shown (Solid seen usual reading) before symbols h = refl
 solid-shown Through before symbols h = absurd (lie h)
 solid-shown Space before symbols h = absurd (lie h)
 solid-shown Mdx before symbols h = absurd (lie h)
 
 -- names that stand on a spine follow others
-last-symbols : (names behind : List Name) (before : Option Symbol) → list_all (λ n. is_solid (standing_of n)) names ≡ true → before ≡ symbol_of (last_of behind) → last_symbol before (symbols_of names) ≡ symbol_of (last_of (behind ++ names))
+last-symbols : (names behind : List Name) (before : Option Symbol) →
+    list_all (λ n. is_solid (standing_of n)) names ≡ true → before ≡ symbol_of (last_of behind) →
+    last_symbol before (symbols_of names) ≡ symbol_of (last_of (behind ++ names))
 last-symbols [] behind before h e = e ∙ ap (λ ns. symbol_of (last_of ns)) (sym (append-nil behind))
 last-symbols (n ∷ names) behind before h e =
     let parts = and_parts (is_solid (standing_of n)) (list_all (λ m. is_solid (standing_of m)) names) h in
     solid-shown (standing_of n) before (symbols_of names) parts.0
-    ∙ last-symbols names (behind ++ n ∷ []) (symbol_in (standing_of n)) parts.1 (ap symbol_of (sym (last-push behind n)))
+    ∙ last-symbols names (behind ++ n ∷ []) (symbol_in (standing_of n)) parts.1
+    (ap symbol_of (sym (last-push behind n)))
     ∙ ap (λ ns. symbol_of (last_of ns)) (append_assoc behind (n ∷ []) names)
 
-solid-append : (names others : List Name) → list_all (λ n. is_solid (standing_of n)) names ≡ true → list_all (λ n. is_solid (standing_of n)) others ≡ true → list_all (λ n. is_solid (standing_of n)) (names ++ others) ≡ true
+solid-append : (names others : List Name) → list_all (λ n. is_solid (standing_of n)) names ≡ true →
+    list_all (λ n. is_solid (standing_of n)) others ≡ true →
+    list_all (λ n. is_solid (standing_of n)) (names ++ others) ≡ true
 solid-append [] others h g = g
 solid-append (n ∷ names) others h g =
     let parts = and_parts (is_solid (standing_of n)) (list_all (λ m. is_solid (standing_of m)) names) h in
-    and_from (is_solid (standing_of n)) (list_all (λ m. is_solid (standing_of m)) (names ++ others)) parts.0 (solid-append names others parts.1 g)
+    and_from (is_solid (standing_of n)) (list_all (λ m. is_solid (standing_of m)) (names ++ others)) parts.0
+    (solid-append names others parts.1 g)
 
-solid-here : (standing : Standing) (n : Name) (children : Forest) (around : Role) (before : Option Symbol) → standing_of n ≡ standing → Told standing n → IsStanding standing around before children →
-    list_all (λ m. is_solid (standing_of m)) (spine_names children) ≡ true → list_all (λ m. is_solid (standing_of m)) (if is_transparent n then spine_names children else n ∷ []) ≡ true
-solid-here Through n children around before e says is inner = ap (λ t. list_all (λ m. is_solid (standing_of m)) (if t then spine_names children else n ∷ [])) says ∙ inner
+solid-here : (standing : Standing) (n : Name) (children : Forest) (around : Role) (before : Option Symbol) →
+    standing_of n ≡ standing → Told standing n → IsStanding standing around before children →
+    list_all (λ m. is_solid (standing_of m)) (spine_names children) ≡ true →
+    list_all (λ m. is_solid (standing_of m)) (if is_transparent n then spine_names children else n ∷ []) ≡ true
+solid-here Through n children around before e says is inner =
+    ap (λ t. list_all (λ m. is_solid (standing_of m)) (if t then spine_names children else n ∷ [])) says ∙ inner
 solid-here Space n children around before e says is inner =
-    ap (λ t. list_all (λ m. is_solid (standing_of m)) (if t then spine_names children else n ∷ [])) says ∙ ap (λ c. list_all (λ m. is_solid (standing_of m)) (spine_names c)) is
+    ap (λ t. list_all (λ m. is_solid (standing_of m)) (if t then spine_names children else n ∷ [])) says
+    ∙ ap (λ c. list_all (λ m. is_solid (standing_of m)) (spine_names c)) is
 solid-here (Solid seen usual reading) n children around before e says is inner =
-    ap (λ t. list_all (λ m. is_solid (standing_of m)) (if t then spine_names children else n ∷ [])) says.0 ∙ ap (λ s. is_solid s && true) e
+    ap (λ t. list_all (λ m. is_solid (standing_of m)) (if t then spine_names children else n ∷ [])) says.0
+    ∙ ap (λ s. is_solid s && true) e
 solid-here Mdx n children around before e says is inner = absurd is
 
-solid-names : (forest : Forest) (around : Role) (before : Option Symbol) → AreShaped forest around before → list_all (λ n. is_solid (standing_of n)) (spine_names forest) ≡ true
+solid-names : (forest : Forest) (around : Role) (before : Option Symbol) → AreShaped forest around before →
+    list_all (λ n. is_solid (standing_of n)) (spine_names forest) ≡ true
 solid-names Empty around before shaped = refl
 solid-names (Node n start end children rest) around before shaped =
     solid-append (if is_transparent n then spine_names children else n ∷ []) (spine_names rest)
@@ -180,73 +209,104 @@ solid-names (Node n start end children rest) around before shaped =
 
 -- ---- references
 
-mark-name : (n : Name) → is_mark (symbol_in (standing_of n)) ≡ true → marker_after (symbol_in (standing_of n)) ≡ Some (marker n)
+mark-name : (n : Name) → is_mark (symbol_in (standing_of n)) ≡ true →
+    marker_after (symbol_in (standing_of n)) ≡ Some (marker n)
 mark-name name.CharacterReferenceMarker h = refl
 mark-name name.CharacterReferenceMarkerNumeric h = refl
 mark-name name.CharacterReferenceMarkerHexadecimal h = refl
 mark-name _ h = absurd (lie h)
 
-decodable : (names : List (List ℕ × List ℕ)) (before : Option Symbol) (text : List ℕ) (m : ℕ) → marker_after before ≡ Some m → is_decodable names before text ≡ true → is_some (decoded names m text) ≡ true
+decodable : (names : List (List ℕ × List ℕ)) (before : Option Symbol) (text : List ℕ) (m : ℕ) →
+    marker_after before ≡ Some m → is_decodable names before text ≡ true → is_some (decoded names m text) ≡ true
 decodable names before text m e h = ap (λ o. option_map_or (λ k. is_some (decoded names k text)) o true) (sym e) ∙ h
 
 not_broken : (condition : Bool) (broken : Rule) → unless condition broken ≡ None → condition ≡ true
 not_broken true broken e = refl
 not_broken false broken e = cc
 
-after_name : (names : List (List ℕ × List ℕ)) (before : Option Symbol) (text : List ℕ) (last : Option Name) → is_mark before ≡ true → before ≡ symbol_of last → is_decodable names before text ≡ true →
+after_name : (names : List (List ℕ × List ℕ)) (before : Option Symbol) (text : List ℕ) (last : Option Name) →
+    is_mark before ≡ true → before ≡ symbol_of last → is_decodable names before text ≡ true →
     is_some (decoded names (option_map_or marker last 38) text) ≡ true
 after_name names before text None h e d = absurd (lie (ap is_mark (sym e) ∙ h))
 after_name names before text (Some n) h e d =
     decodable names before text (marker n) (ap marker_after e ∙ mark-name n (ap is_mark (sym e) ∙ h)) d
 
-value-decodes : (names : List (List ℕ × List ℕ)) (before : Option Symbol) (text : Option (List ℕ)) (last : Option Name) → is_mark before ≡ true → before ≡ symbol_of last →
-    broken_by text (λ t. unless (is_decodable names before t) rule.CharacterReference) ≡ None → is_some (decoded names (option_map_or marker last 38) (unwrap_or text [])) ≡ true
+value-decodes : (names : List (List ℕ × List ℕ)) (before : Option Symbol) (text : Option (List ℕ))
+    (last : Option Name) → is_mark before ≡ true → before ≡ symbol_of last →
+    broken_by text (λ t. unless (is_decodable names before t) rule.CharacterReference) ≡ None →
+    is_some (decoded names (option_map_or marker last 38) (unwrap_or text [])) ≡ true
 value-decodes names before None last h e rules = cc
-value-decodes names before (Some text) last h e rules = after_name names before text last h e (not_broken (is_decodable names before text) rule.CharacterReference rules)
+value-decodes names before (Some text) last h e rules = after_name names before text last h e
+    (not_broken (is_decodable names before text) rule.CharacterReference rules)
 
-node-decodes : (bytes : List ℕ) (names : List (List ℕ × List ℕ)) (behind : List Name) (n : Name) (start end : Point) (children : Forest) (around : Role) (before : Option Symbol) → IsFine bytes names around before n start end children →
-    are_well before (shown (standing_of n) (spine children)) ≡ true → before ≡ symbol_of (last_of behind) → Decodes bytes names behind n start end children
+node-decodes : (bytes : List ℕ) (names : List (List ℕ × List ℕ)) (behind : List Name) (n : Name) (start end : Point)
+    (children : Forest) (around : Role) (before : Option Symbol) →
+    IsFine bytes names around before n start end children →
+    are_well before (shown (standing_of n) (spine children)) ≡ true → before ≡ symbol_of (last_of behind) →
+    Decodes bytes names behind n start end children
 node-decodes bytes names behind name.CharacterReferenceValue start end children around before here well e =
-    value-decodes names before (text_between bytes start end) (last_of behind) (and_parts (is_mark before) true well).0 e here.1
+    value-decodes names before (text_between bytes start end) (last_of behind)
+    (and_parts (is_mark before) true well).0 e here.1
 node-decodes bytes names behind _ start end children around before here well e = tt
 
 -- what holds of children by themselves holds of them where they stand
-inner-decodes : (bytes : List ℕ) (names : List (List ℕ × List ℕ)) (behind : List Name) (standing : Standing) (n : Name) (children : Forest) (around : Role) (before : Option Symbol) → Told standing n → IsStanding standing around before children →
-    AreFine bytes names children (inner_role standing around before) (inner_before standing before) → are_well before (shown standing (spine children)) ≡ true → before ≡ symbol_of (last_of behind) →
-    ((a : Role) (b : Option Symbol) (s : List Name) → AreFine bytes names children a b → are_well b (spine children) ≡ true → b ≡ symbol_of (last_of s) → EverywhereAfter (Decodes bytes names) s children) →
+inner-decodes : (bytes : List ℕ) (names : List (List ℕ × List ℕ)) (behind : List Name) (standing : Standing)
+    (n : Name) (children : Forest) (around : Role) (before : Option Symbol) → Told standing n →
+    IsStanding standing around before children →
+    AreFine bytes names children (inner_role standing around before) (inner_before standing before) →
+    are_well before (shown standing (spine children)) ≡ true → before ≡ symbol_of (last_of behind) →
+    ((a : Role) (b : Option Symbol) (s : List Name) → AreFine bytes names children a b →
+    are_well b (spine children) ≡ true → b ≡ symbol_of (last_of s) →
+    EverywhereAfter (Decodes bytes names) s children) →
     EverywhereAfter (Decodes bytes names) (spine_inside n behind) children
 inner-decodes bytes names behind Through n children around before says is all well e again =
-    subst (λ t. EverywhereAfter (Decodes bytes names) (if t then behind else []) children) (sym says) (again around before behind all well e)
+    subst (λ t. EverywhereAfter (Decodes bytes names) (if t then behind else []) children) (sym says)
+    (again around before behind all well e)
 inner-decodes bytes names behind Space n children around before says is all well e again =
     subst (λ c. EverywhereAfter (Decodes bytes names) (spine_inside n behind) c) (sym is) tt
 inner-decodes bytes names behind (Solid seen usual reading) n children around before says is all well e again =
     subst (λ t. EverywhereAfter (Decodes bytes names) (if t then behind else []) children) (sym says.0)
-    (again (role_for around before usual) None [] all (well-spine (role_for around before usual) (spine children) is) refl)
+    (again (role_for around before usual) None [] all (well-spine (role_for around before usual) (spine children) is)
+    refl)
 inner-decodes bytes names behind Mdx n children around before says is all well e again = absurd is
 
 -- the last symbol behind a node is that of the last name there
-behind-node : (n : Name) (start end : Point) (children : Forest) (around : Role) (before : Option Symbol) (behind : List Name) → AreShaped (Node n start end children Empty) around before → before ≡ symbol_of (last_of behind) →
+behind-node : (n : Name) (start end : Point) (children : Forest) (around : Role) (before : Option Symbol)
+    (behind : List Name) → AreShaped (Node n start end children Empty) around before →
+    before ≡ symbol_of (last_of behind) →
     last_symbol before (shown (standing_of n) (spine children)) ≡ symbol_of (last_of (spine_behind n children behind))
 behind-node n start end children around before behind shaped_node e =
     let own : List Name = if is_transparent n then spine_names children else n ∷ [] in
     let same : shown (standing_of n) (spine children) ≡ symbols_of own =
-    sym (append-nil (shown (standing_of n) (spine children))) ∙ spine-names (Node n start end children Empty) around before shaped_node ∙ ap symbols_of (append-nil own)
+    sym (append-nil (shown (standing_of n) (spine children)))
+    ∙ spine-names (Node n start end children Empty) around before shaped_node ∙ ap symbols_of (append-nil own)
     in
     ap (last_symbol before) same
-    ∙ last-symbols own behind before (solid-here (standing_of n) n children around before refl (told n) shaped_node.0.1 (solid-names children _ _ shaped_node.1)) e
+    ∙ last-symbols own behind before (solid-here (standing_of n) n children around before refl
+    (told n) shaped_node.0.1 (solid-names children _ _ shaped_node.1)) e
 
-decodes : (bytes : List ℕ) (names : List (List ℕ × List ℕ)) (forest : Forest) (around : Role) (before : Option Symbol) (behind : List Name) → AreFine bytes names forest around before → are_well before (spine forest) ≡ true → before ≡ symbol_of (last_of behind) →
+decodes : (bytes : List ℕ) (names : List (List ℕ × List ℕ)) (forest : Forest) (around : Role) (before : Option Symbol)
+    (behind : List Name) → AreFine bytes names forest around before → are_well before (spine forest) ≡ true →
+    before ≡ symbol_of (last_of behind) →
     EverywhereAfter (Decodes bytes names) behind forest
 decodes bytes names Empty around before behind all well e = tt
 decodes bytes names (Node n start end children rest) around before behind all well e =
     let parts = well-split before (shown (standing_of n) (spine children)) (spine rest) well in (
       node-decodes bytes names behind n start end children around before all.0 parts.0 e,
-      inner-decodes bytes names behind (standing_of n) n children around before (told n) all.0.0.1 all.1 parts.0 e (λ a b s f w i. decodes bytes names children a b s f w i),
-      decodes bytes names rest around (last_symbol before (shown (standing_of n) (spine children))) (spine_behind n children behind) all.2 parts.1
-          (behind-node n start end children around before behind (all.0.0, shaped bytes names children _ _ all.1, tt) e),
+      inner-decodes bytes names behind (standing_of n) n children around before (told n) all.0.0.1 all.1 parts.0 e
+          (λ a b s f w i. decodes bytes names children a b s f w i),
+      decodes bytes names rest around (last_symbol before (shown (standing_of n) (spine children)))
+          (spine_behind n children behind) all.2 parts.1
+          (behind-node n start end children around before behind (
+            all.0.0,
+            shaped bytes names children _ _ all.1,
+            tt,
+          ) e),
     )
 
-pub references-decode : (bytes : List ℕ) (names : List (List ℕ × List ℕ)) (document : Forest) → IsGrammatical bytes names document → EverywhereAfter (Decodes bytes names) [] document
+pub references-decode : (bytes : List ℕ) (names : List (List ℕ × List ℕ)) (document : Forest) →
+    IsGrammatical bytes names document → EverywhereAfter (Decodes bytes names) [] document
 references-decode bytes names document grammatical =
-    decodes bytes names document role.Flow None [] (fine bytes names document role.Flow None grammatical.shape.0 grammatical.rules)
+    decodes bytes names document role.Flow None [] (fine bytes names document role.Flow None grammatical.shape.0
+    grammatical.rules)
     (well-spine role.Flow (spine document) grammatical.shape.1) refl

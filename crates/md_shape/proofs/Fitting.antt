@@ -1,4 +1,5 @@
 -- What else is asked of a node holds of each node that has its shape and meets the rules.
+use Rattle.std.specs.Str.{bytes_eq}
 use Rattle.std.proofs.Common.{◌≡◌, ◌⊎◌, inl, inr, ℕ, ◌^◌, ◌≤◌, Bool, true, false, not, ◌&&◌, ◌||◌, ◌==◌, if◌then◌else◌, cond, Option, Some, None, is_some, List, [], ◌∷◌, ◌++◌, length, refl, sym, ap, ◌∙◌, subst, arith}
 use Rattle.std.specs.Prelude.{nat_lt, nat_le, unwrap_or}
 use Rattle.std.specs.Char.{digit_value}
@@ -15,7 +16,6 @@ use Rattle.md_base.specs.declared.event.Position.{Position}
 use Rattle.md_base.specs.Place.{fits, text_between}
 use Rattle.md_base.specs.Reference.{is_number}
 use Rattle.md_text.specs.Laws.{is_line_ends}
-use Rattle.md_text.specs.Bytes.{same_text}
 use Rattle.md_pattern.specs.declared.kinds.Symbol.{Symbol}
 use Rattle.md_pattern.specs.declared.kinds.Symbol.TheVariants as symbol
 use Rattle.md_pattern.specs.declared.kinds.Role.{Role}
@@ -52,36 +52,43 @@ unless-holds false broken e = cc
 -- the text of a line ending has line ends alone
 ending-ends : (text : List ℕ) → is_line_ending text ≡ true → is_line_ends text ≡ true
 ending-ends text h =
-    by (same_text (13 ∷ 10 ∷ []) text) (same_text (13 ∷ []) text) (same_text (10 ∷ []) text)
+    by (bytes_eq (13 ∷ 10 ∷ []) text) (bytes_eq (13 ∷ []) text) (bytes_eq (10 ∷ []) text)
     (λ e. subst (λ t. is_line_ends t ≡ true) ((bytes_decides (13 ∷ 10 ∷ []) text).0 e) refl)
     (λ e. subst (λ t. is_line_ends t ≡ true) ((bytes_decides (13 ∷ []) text).0 e) refl)
     (λ e. subst (λ t. is_line_ends t ≡ true) ((bytes_decides (10 ∷ []) text).0 e) refl)
     (tests text h)
   where
-    tests : (text : List ℕ) → is_line_ending text ≡ true → (same_text (13 ∷ 10 ∷ []) text || (same_text (13 ∷ []) text || same_text (10 ∷ []) text)) ≡ true
-    tests text h = found (same_text (13 ∷ 10 ∷ []) text) (same_text (13 ∷ []) text) (same_text (10 ∷ []) text) _ _ _ h
+    tests : (text : List ℕ) → is_line_ending text ≡ true →
+        (bytes_eq (13 ∷ 10 ∷ []) text || (bytes_eq (13 ∷ []) text || bytes_eq (10 ∷ []) text)) ≡ true
+    tests text h = found (bytes_eq (13 ∷ 10 ∷ []) text) (bytes_eq (13 ∷ []) text) (bytes_eq (10 ∷ []) text) _ _ _ h
       where
-        found : {A : Type 0} (a b c : Bool) (x y z : A) → is_some (cond a (Some x) (cond b (Some y) (cond c (Some z) None))) ≡ true → (a || (b || c)) ≡ true
+        found : {A : Type 0} (a b c : Bool) (x y z : A) →
+            is_some (cond a (Some x) (cond b (Some y) (cond c (Some z) None))) ≡ true → (a || (b || c)) ≡ true
         found true b c x y z h = refl
         found false true c x y z h = refl
         found false false true x y z h = refl
         found false false false x y z h = absurd (lie h)
 
-    by : (a b c : Bool) → (a ≡ true → is_line_ends text ≡ true) → (b ≡ true → is_line_ends text ≡ true) → (c ≡ true → is_line_ends text ≡ true) → (a || (b || c)) ≡ true → is_line_ends text ≡ true
+    by : (a b c : Bool) → (a ≡ true → is_line_ends text ≡ true) → (b ≡ true → is_line_ends text ≡ true) →
+        (c ≡ true → is_line_ends text ≡ true) → (a || (b || c)) ≡ true → is_line_ends text ≡ true
     by true b c f g i h = f refl
     by false true c f g i h = g refl
     by false false true f g i h = i refl
     by false false false f g i h = absurd (lie h)
 
 -- what holds of a text that breaks nothing holds of the text that is read
-text_fits : (test : List ℕ → Bool) (broken : Rule) (Holds : List ℕ → Type 0) → ((text : List ℕ) → test text ≡ true → Holds text) → (text : Option (List ℕ)) → broken_by text (λ t. unless (test t) broken) ≡ None → Holds (unwrap_or text [])
+text_fits : (test : List ℕ → Bool) (broken : Rule) (Holds : List ℕ → Type 0) →
+    ((text : List ℕ) → test text ≡ true → Holds text) → (text : Option (List ℕ)) →
+    broken_by text (λ t. unless (test t) broken) ≡ None → Holds (unwrap_or text [])
 text_fits test broken Holds each None e = cc
 text_fits test broken Holds each (Some text) e = each text (unless-holds (test text) broken e)
 
 -- a rank of a heading's first mark
-mark_fits : (lies : Bool) (length : ℕ) → (if lies then unless (is_rank role.Heading None length) rule.HeadingMark else Some rule.Place) ≡ None → (1 ≤ (if lies then length else 0)) × ((if lies then length else 0) ≤ 6)
+mark_fits : (lies : Bool) (length : ℕ) → (if lies then unless (is_rank role.Heading None length) rule.HeadingMark
+    else Some rule.Place) ≡ None → (1 ≤ (if lies then length else 0)) × ((if lies then length else 0) ≤ 6)
 mark_fits true length e =
-    let parts = and_parts (nat_le 1 length) (nat_le length 6) (unless-holds (is_rank role.Heading None length) rule.HeadingMark e) in
+    let parts = and_parts (nat_le 1 length) (nat_le length 6)
+    (unless-holds (is_rank role.Heading None length) rule.HeadingMark e) in
     (leb-true 1 length parts.0, leb-true length 6 parts.1)
 mark_fits false length e = cc
 
@@ -98,30 +105,37 @@ mark_is : (name : Name) → is_heading_mark name ≡ true → name ≡ HeadingAt
 mark_is HeadingAtxSequence h = refl
 mark_is _ h = absurd (lie h)
 
-heading_fits : (bytes : List ℕ) (names : List (List ℕ × List ℕ)) (children : Forest) → AreFine bytes names children role.Heading None → begins is_mark_symbol (spine children) ≡ true → (1 ≤ rank_of bytes (ahead_of children).mark) × (rank_of bytes (ahead_of children).mark ≤ 6)
+heading_fits : (bytes : List ℕ) (names : List (List ℕ × List ℕ)) (children : Forest) →
+    AreFine bytes names children role.Heading None → begins is_mark_symbol (spine children) ≡ true →
+    (1 ≤ rank_of bytes (ahead_of children).mark) × (rank_of bytes (ahead_of children).mark ≤ 6)
 heading_fits bytes names children all h =
     let first = has_first is_mark_symbol is_heading_mark mark_agree position bytes names children role.Heading all h in
-    let meets = subst (λ name. MeetsRules bytes names role.Heading None name first.start first.end first.children) (mark_is first.name first.passes) first.is_fine.1 in
+    let meets = subst (λ name. MeetsRules bytes names role.Heading None name first.start first.end first.children)
+    (mark_is first.name first.passes) first.is_fine.1 in
     subst (λ mark. (1 ≤ rank_of bytes mark) × (rank_of bytes mark ≤ 6)) (sym first.found)
     (mark_fits (fits bytes first.start first.end) (columns first.start first.end) meets)
 
 -- digits of a number are decimal digits
-digits_fit : (digits : List ℕ) → list_all (λ digit. nat_lt (digit_value digit) 10) digits ≡ true → list_all is_digit digits ≡ true
+digits_fit : (digits : List ℕ) → list_all (λ digit. nat_lt (digit_value digit) 10) digits ≡ true →
+    list_all is_digit digits ≡ true
 digits_fit [] h = refl
 digits_fit (digit ∷ digits) h =
     let parts = and_parts (nat_lt (digit_value digit) 10) (list_all (λ d. nat_lt (digit_value d) 10) digits) h in
     let range = digit_from_value digit (ltb-true (digit_value digit) 10 parts.0) in
     and_from (is_digit digit) (list_all is_digit digits)
-    (and_from (nat_le 48 digit) (nat_le digit 57) (le-leb 48 digit range.0) (le-leb digit 57 range.1)) (digits_fit digits parts.1)
+    (and_from (nat_le 48 digit) (nat_le digit 57) (le-leb 48 digit range.0) (le-leb digit 57 range.1))
+    (digits_fit digits parts.1)
 
 number_digits : (text : List ℕ) → is_number 10 text ≡ true → list_all is_digit text ≡ true
 number_digits text h =
     let tests = list_all (λ d. nat_lt (digit_value d) 10) text in
-    digits_fit text (and_parts (not (length text == 0)) tests (and_parts (not (length text == 0) && tests) (nat_lt (digits_value 10 text) (2 ^ 32)) h).0).1
+    digits_fit text (and_parts (not (length text == 0)) tests
+    (and_parts (not (length text == 0) && tests) (nat_lt (digits_value 10 text) (2 ^ 32)) h).0).1
 
 -- the number at a place has digits alone
 abbrev MayHaveDigits : List ℕ → Option Position → Type 0
-MayHaveDigits bytes number = option_map_or (λ place. list_all is_digit (text_of bytes place.start place.end)) number true ≡ true
+MayHaveDigits bytes number = option_map_or (λ place. list_all is_digit (text_of bytes place.start place.end)) number
+    true ≡ true
 
 is_value_symbol : Symbol → Bool
 is_value_symbol symbol.ListItemValue = true
@@ -162,7 +176,8 @@ item_is : (name : Name) → is_item name ≡ true → name ≡ ListItem
 item_is ListItem h = refl
 item_is _ h = absurd (lie h)
 
-from_first_of : (bytes : List ℕ) (found : Option (Option Position)) → OfFirst (MayHaveDigits bytes) found → MayHaveDigits bytes (unwrap_or found None)
+from_first_of : (bytes : List ℕ) (found : Option (Option Position)) → OfFirst (MayHaveDigits bytes) found →
+    MayHaveDigits bytes (unwrap_or found None)
 from_first_of bytes None h = refl
 from_first_of bytes (Some number) h = h
 
@@ -176,62 +191,89 @@ marker_is symbol.ListItemMarker h = refl
 marker_is _ h = absurd (lie h)
 
 -- the spine of an ordered list's first prefix begins with a value, or has none
-value_or_none : (spine : List Symbol) → Matches role.FirstOrderedPrefix spine → (begins is_value_symbol spine ≡ true) ⊎ (list_any is_value_symbol spine ≡ false)
+value_or_none : (spine : List Symbol) → Matches role.FirstOrderedPrefix spine →
+    (begins is_value_symbol spine ≡ true) ⊎ (list_any is_value_symbol spine ≡ false)
 unfolding is_value_symbol is_marker_symbol
 value_or_none spine match =
     by_value match.2.0 match.2.1 match.2.3 (subst (λ firsts. IsGrouped firsts spine) match.2.2 match.1) match.2.5
   where
-    alone : (seen : Symbol) → seen ≡ symbol.ListItemMarker → IsGrouped (seen ∷ []) spine → list_any is_value_symbol spine ≡ false
+    alone : (seen : Symbol) → seen ≡ symbol.ListItemMarker → IsGrouped (seen ∷ []) spine →
+        list_any is_value_symbol spine ≡ false
     alone seen e grouped =
         let parts = subst (λ first. IsGrouped (first ∷ []) spine) e grouped in
-        ap (list_any is_value_symbol) (parts.2 ∙ ap (λ tail. symbol.ListItemMarker ∷ tail ++ parts.1) parts.3 ∙ ap (λ others. symbol.ListItemMarker ∷ others) parts.4)
+        ap (list_any is_value_symbol) (parts.2 ∙ ap (λ tail. symbol.ListItemMarker ∷ tail ++ parts.1) parts.3
+        ∙ ap (λ others. symbol.ListItemMarker ∷ others) parts.4)
 
-    by_marker : (own others : List Symbol) → list_all (takes (Only symbol.ListItemMarker)) own ≡ true → length own ≡ 1 → others ≡ [] → IsGrouped (own ++ others) spine → list_any is_value_symbol spine ≡ false
+    by_marker : (own others : List Symbol) → list_all (takes (Only symbol.ListItemMarker)) own ≡ true →
+        length own ≡ 1 → others ≡ [] → IsGrouped (own ++ others) spine → list_any is_value_symbol spine ≡ false
     by_marker [] others taken_own count none grouped = absurd (omega arith)
     by_marker (seen ∷ []) others taken_own count none grouped =
-        let passes = taken is_marker_symbol (members (Only symbol.ListItemMarker)) seen (and_parts (takes (Only symbol.ListItemMarker) seen) true taken_own).0 refl in
+        let passes = taken is_marker_symbol (members (Only symbol.ListItemMarker)) seen
+        (and_parts (takes (Only symbol.ListItemMarker) seen) true taken_own).0 refl in
         alone seen (marker_is seen passes) (subst (λ others. IsGrouped (seen ∷ others) spine) none grouped)
     by_marker (seen ∷ second ∷ own) others taken_own count none grouped = absurd (omega arith)
 
-    by_value : (own others : List Symbol) → list_all (takes (Only symbol.ListItemValue)) own ≡ true → IsGrouped (own ++ others) spine → Fits (once (Only symbol.ListItemMarker) ∷ []) others → (begins is_value_symbol spine ≡ true) ⊎ (list_any is_value_symbol spine ≡ false)
+    by_value : (own others : List Symbol) → list_all (takes (Only symbol.ListItemValue)) own ≡ true →
+        IsGrouped (own ++ others) spine → Fits (once (Only symbol.ListItemMarker) ∷ []) others →
+        (begins is_value_symbol spine ≡ true) ⊎ (list_any is_value_symbol spine ≡ false)
     by_value [] others taken_own grouped fit =
         inr (by_marker fit.0 fit.1 fit.3 fit.4 fit.5 (subst (λ firsts. IsGrouped firsts spine) fit.2 grouped))
     by_value (seen ∷ own) others taken_own grouped fit =
-        inl (ap (begins is_value_symbol) grouped.2 ∙ taken is_value_symbol (members (Only symbol.ListItemValue)) seen (and_parts (takes (Only symbol.ListItemValue) seen) (list_all (takes (Only symbol.ListItemValue)) own) taken_own).0 refl)
+        inl (ap (begins is_value_symbol) grouped.2 ∙ taken is_value_symbol (members (Only symbol.ListItemValue)) seen
+        (and_parts (takes (Only symbol.ListItemValue) seen)
+        (list_all (takes (Only symbol.ListItemValue)) own) taken_own).0 refl)
 
-prefix_number : (bytes : List ℕ) (names : List (List ℕ × List ℕ)) (children : Forest) → AreFine bytes names children role.FirstOrderedPrefix None → Matches role.FirstOrderedPrefix (spine children) → MayHaveDigits bytes (number_in_prefix children)
+prefix_number : (bytes : List ℕ) (names : List (List ℕ × List ℕ)) (children : Forest) →
+    AreFine bytes names children role.FirstOrderedPrefix None → Matches role.FirstOrderedPrefix (spine children) →
+    MayHaveDigits bytes (number_in_prefix children)
 prefix_number bytes names children all match = by (value_or_none (spine children) match)
   where
-    of_value : First is_value_symbol is_item_value value_agree position bytes names children role.FirstOrderedPrefix → MayHaveDigits bytes (number_in_prefix children)
+    of_value : First is_value_symbol is_item_value value_agree position bytes names children role.FirstOrderedPrefix →
+        MayHaveDigits bytes (number_in_prefix children)
     of_value first =
         subst (MayHaveDigits bytes) (sym first.found)
-        (text_fits (is_number 10) rule.ListNumber (λ text. list_all is_digit text ≡ true) number_digits (text_between bytes first.start first.end)
-        (subst (λ n. MeetsRules bytes names role.FirstOrderedPrefix None n first.start first.end first.children) (value_is first.name first.passes) first.is_fine.1))
+        (text_fits (is_number 10) rule.ListNumber (λ text. list_all is_digit text
+        ≡ true) number_digits (text_between bytes first.start first.end)
+        (subst (λ n. MeetsRules bytes names role.FirstOrderedPrefix None n first.start first.end first.children)
+        (value_is first.name first.passes) first.is_fine.1))
 
-    by : (begins is_value_symbol (spine children) ≡ true) ⊎ (list_any is_value_symbol (spine children) ≡ false) → MayHaveDigits bytes (number_in_prefix children)
-    by (inl h) = of_value (has_first is_value_symbol is_item_value value_agree position bytes names children role.FirstOrderedPrefix all h)
+    by : (begins is_value_symbol (spine children) ≡ true) ⊎ (list_any is_value_symbol (spine children) ≡ false) →
+        MayHaveDigits bytes (number_in_prefix children)
+    by (inl h) = of_value (has_first is_value_symbol is_item_value value_agree position bytes names children
+        role.FirstOrderedPrefix all h)
     by (inr h) =
-        subst (MayHaveDigits bytes) (sym (none_first is_value_symbol is_item_value value_agree position bytes names children role.FirstOrderedPrefix None all h)) refl
+        subst (MayHaveDigits bytes) (sym (none_first is_value_symbol is_item_value value_agree position bytes names
+        children role.FirstOrderedPrefix None all h)) refl
 
-item_number : (bytes : List ℕ) (names : List (List ℕ × List ℕ)) (children : Forest) → AreFine bytes names children role.FirstOrderedItem None → MayHaveDigits bytes (number_in_item children)
+item_number : (bytes : List ℕ) (names : List (List ℕ × List ℕ)) (children : Forest) →
+    AreFine bytes names children role.FirstOrderedItem None → MayHaveDigits bytes (number_in_item children)
 item_number bytes names children all =
     from_first_of bytes (first_on_spine is_item_prefix (λ start end inner. number_in_prefix inner) children)
-    (of_first is_prefix_symbol is_item_prefix prefix_agree (λ start end inner. number_in_prefix inner) bytes names (MayHaveDigits bytes) role.FirstOrderedItem each children None all)
+    (of_first is_prefix_symbol is_item_prefix prefix_agree (λ start end inner. number_in_prefix inner) bytes names
+    (MayHaveDigits bytes) role.FirstOrderedItem each children None all)
   where
-    each : OfAll is_prefix_symbol is_item_prefix prefix_agree (λ start end inner. number_in_prefix inner) bytes names (MayHaveDigits bytes) role.FirstOrderedItem
+    each : OfAll is_prefix_symbol is_item_prefix prefix_agree (λ start end inner. number_in_prefix inner) bytes names
+        (MayHaveDigits bytes) role.FirstOrderedItem
     each before name start end inner passes here inside =
         prefix_number bytes names inner
-        (subst (λ n. AreFine bytes names inner (inner_role (standing_of n) role.FirstOrderedItem before) (inner_before (standing_of n) before)) (prefix_is name passes) inside)
+        (subst (λ n. AreFine bytes names inner (inner_role (standing_of n) role.FirstOrderedItem before)
+        (inner_before (standing_of n) before)) (prefix_is name passes) inside)
         (subst (λ n. IsStanding (standing_of n) role.FirstOrderedItem before inner) (prefix_is name passes) here.0.1)
 
-list_fits : (bytes : List ℕ) (names : List (List ℕ × List ℕ)) (children : Forest) → AreFine bytes names children role.OrderedList None → begins is_item_symbol (spine children) ≡ true → MayHaveDigits bytes (ahead_of children).number
+list_fits : (bytes : List ℕ) (names : List (List ℕ × List ℕ)) (children : Forest) →
+    AreFine bytes names children role.OrderedList None → begins is_item_symbol (spine children) ≡ true →
+    MayHaveDigits bytes (ahead_of children).number
 list_fits bytes names children all h =
-    let first = has_first is_item_symbol is_item item_agree (λ start end inner. number_in_item inner) bytes names children role.OrderedList all h in
-    let inside = subst (λ n. AreFine bytes names first.children (inner_role (standing_of n) role.OrderedList None) (inner_before (standing_of n) None)) (item_is first.name first.passes) first.are_fine in
-    subst (λ found. MayHaveDigits bytes (unwrap_or found None)) (sym first.found) (item_number bytes names first.children inside)
+    let first = has_first is_item_symbol is_item item_agree
+    (λ start end inner. number_in_item inner) bytes names children role.OrderedList all h in
+    let inside = subst (λ n. AreFine bytes names first.children (inner_role (standing_of n) role.OrderedList None)
+    (inner_before (standing_of n) None)) (item_is first.name first.passes) first.are_fine in
+    subst (λ found. MayHaveDigits bytes (unwrap_or found None)) (sym first.found)
+    (item_number bytes names first.children inside)
 
 -- a fence on the spine is one by its name
-any_behind : (test : Name → Bool) (names others : List Name) → list_any test others ≡ true → list_any test (names ++ others) ≡ true
+any_behind : (test : Name → Bool) (names others : List Name) → list_any test others ≡ true →
+    list_any test (names ++ others) ≡ true
 any_behind test [] others h = h
 any_behind test (name ∷ names) others h = by (test name) (any_behind test names others h)
   where
@@ -239,19 +281,25 @@ any_behind test (name ∷ names) others h = by (test name) (any_behind test name
     by true later = refl
     by false later = later
 
-any_before : (test : Name → Bool) (names others : List Name) → list_any test names ≡ true → list_any test (names ++ others) ≡ true
+any_before : (test : Name → Bool) (names others : List Name) → list_any test names ≡ true →
+    list_any test (names ++ others) ≡ true
 any_before test [] others h = absurd (lie h)
 any_before test (name ∷ names) others h = by (test name) h (λ later. any_before test names others later)
   where
-    by : (passes : Bool) → (passes || list_any test names) ≡ true → (list_any test names ≡ true → list_any test (names ++ others) ≡ true) → (passes || list_any test (names ++ others)) ≡ true
+    by : (passes : Bool) → (passes || list_any test names) ≡ true →
+        (list_any test names ≡ true → list_any test (names ++ others) ≡ true) →
+        (passes || list_any test (names ++ others)) ≡ true
     by true h later = refl
     by false h later = later h
 
-any_split : (test : Symbol → Bool) (symbols others : List Symbol) → list_any test (symbols ++ others) ≡ true → (list_any test symbols ≡ true) ⊎ (list_any test others ≡ true)
+any_split : (test : Symbol → Bool) (symbols others : List Symbol) → list_any test (symbols ++ others) ≡ true →
+    (list_any test symbols ≡ true) ⊎ (list_any test others ≡ true)
 any_split test [] others h = inr h
 any_split test (symbol ∷ symbols) others h = by (test symbol) h (λ later. any_split test symbols others later)
   where
-    by : (passes : Bool) → (passes || list_any test (symbols ++ others)) ≡ true → (list_any test (symbols ++ others) ≡ true → (list_any test symbols ≡ true) ⊎ (list_any test others ≡ true)) → ((passes || list_any test symbols) ≡ true) ⊎ (list_any test others ≡ true)
+    by : (passes : Bool) → (passes || list_any test (symbols ++ others)) ≡ true →
+        (list_any test (symbols ++ others) ≡ true → (list_any test symbols ≡ true) ⊎ (list_any test others ≡ true)) →
+        ((passes || list_any test symbols) ≡ true) ⊎ (list_any test others ≡ true)
     by true h later = inl refl
     by false h later = later h
 
@@ -259,7 +307,11 @@ fence_agree : Agree is_fence_symbol is_fence
 fence_agree CodeFencedFence = refl
 fence_agree _ = refl
 
-any_here : (standing : Standing) (name : Name) (children : Forest) (around : Role) (before : Option Symbol) → Told standing name → is_fence name ≡ shows is_fence_symbol standing → IsStanding standing around before children → (list_any is_fence_symbol (spine children) ≡ true → list_any is_fence (spine_names children) ≡ true) → list_any is_fence_symbol (shown standing (spine children)) ≡ true → list_any is_fence (if is_transparent name then spine_names children else name ∷ []) ≡ true
+any_here : (standing : Standing) (name : Name) (children : Forest) (around : Role) (before : Option Symbol) →
+    Told standing name → is_fence name ≡ shows is_fence_symbol standing → IsStanding standing around before children →
+    (list_any is_fence_symbol (spine children) ≡ true → list_any is_fence (spine_names children) ≡ true) →
+    list_any is_fence_symbol (shown standing (spine children)) ≡ true →
+    list_any is_fence (if is_transparent name then spine_names children else name ∷ []) ≡ true
 any_here Through name children around before says same stands again h =
     ap (λ t. list_any is_fence (cond t (spine_names children) (name ∷ []))) says ∙ again h
 any_here Space name children around before says same stands again h = absurd (lie h)
@@ -267,13 +319,18 @@ any_here (Solid symbol usual reading) name children around before says same stan
     ap (λ t. list_any is_fence (cond t (spine_names children) (name ∷ []))) says.0 ∙ (ap (λ t. t || false) same ∙ h)
 any_here Mdx name children around before says same stands again h = absurd stands
 
-fence_named : (bytes : List ℕ) (names : List (List ℕ × List ℕ)) (forest : Forest) (around : Role) (before : Option Symbol) → AreFine bytes names forest around before → list_any is_fence_symbol (spine forest) ≡ true → list_any is_fence (spine_names forest) ≡ true
+fence_named : (bytes : List ℕ) (names : List (List ℕ × List ℕ)) (forest : Forest) (around : Role)
+    (before : Option Symbol) → AreFine bytes names forest around before →
+    list_any is_fence_symbol (spine forest) ≡ true → list_any is_fence (spine_names forest) ≡ true
 fence_named bytes names Empty around before all h = absurd (lie h)
 fence_named bytes names (Node name start end children rest) around before all h =
     elim (any_split is_fence_symbol (shown (standing_of name) (spine children)) (spine rest) h) [
-      | inl here ↦ any_before is_fence (if is_transparent name then spine_names children else name ∷ []) (spine_names rest)
-          (any_here (standing_of name) name children around before (told name) (fence_agree name) all.0.0.1 (fence_named bytes names children _ _ all.1) here)
-      | inr later ↦ any_behind is_fence (if is_transparent name then spine_names children else name ∷ []) (spine_names rest) (fence_named bytes names rest _ _ all.2 later)
+      | inl here ↦ any_before is_fence (if is_transparent name then spine_names children else name
+          ∷ []) (spine_names rest)
+          (any_here (standing_of name) name children around before (told name) (fence_agree name) all.0.0.1
+          (fence_named bytes names children _ _ all.1) here)
+      | inr later ↦ any_behind is_fence (if is_transparent name then spine_names children else name
+          ∷ []) (spine_names rest) (fence_named bytes names rest _ _ all.2 later)
     ]
 
 any_begins : (test : Symbol → Bool) (symbols : List Symbol) → begins test symbols ≡ true → list_any test symbols ≡ true
@@ -281,16 +338,23 @@ any_begins test [] h = absurd (lie h)
 any_begins test (symbol ∷ symbols) h = ap (λ t. t || list_any test symbols) h
 
 -- what else is asked of a node
-pub fit : (bytes : List ℕ) (names : List (List ℕ × List ℕ)) (name : Name) (around : Role) (before : Option Symbol) (start end : Point) (children : Forest) → IsFine bytes names around before name start end children → AreFine bytes names children (inner_role (standing_of name) around before) (inner_before (standing_of name) before) → IsFit bytes name start end children
+pub fit : (bytes : List ℕ) (names : List (List ℕ × List ℕ)) (name : Name) (around : Role) (before : Option Symbol)
+    (start end : Point) (children : Forest) → IsFine bytes names around before name start end children →
+    AreFine bytes names children (inner_role (standing_of name) around before)
+    (inner_before (standing_of name) before) → IsFit bytes name start end children
 unfolding is_mark_symbol is_item_symbol
 fit bytes names LineEnding around before start end children here inside =
-    text_fits is_line_ending rule.LineEnding (λ text. is_line_ends text ≡ true) ending-ends (text_between bytes start end) here.1
+    text_fits is_line_ending rule.LineEnding (λ text. is_line_ends text
+    ≡ true) ending-ends (text_between bytes start end) here.1
 fit bytes names BlankLineEnding around before start end children here inside =
-    text_fits is_line_ending rule.LineEnding (λ text. is_line_ends text ≡ true) ending-ends (text_between bytes start end) here.1
+    text_fits is_line_ending rule.LineEnding (λ text. is_line_ends text
+    ≡ true) ending-ends (text_between bytes start end) here.1
 fit bytes names HeadingAtx around before start end children here inside =
-    heading_fits bytes names children inside (begins_with is_mark_symbol role.Heading (Only symbol.HeadingSequence) _ (spine children) refl refl here.0.1)
+    heading_fits bytes names children inside (begins_with is_mark_symbol role.Heading (Only symbol.HeadingSequence) _
+    (spine children) refl refl here.0.1)
 fit bytes names ListOrdered around before start end children here inside =
-    list_fits bytes names children inside (begins_with is_item_symbol role.OrderedList (Only symbol.ListItem) _ (spine children) refl refl here.0.1)
+    list_fits bytes names children inside (begins_with is_item_symbol role.OrderedList (Only symbol.ListItem) _
+    (spine children) refl refl here.0.1)
 fit bytes names CodeFenced around before start end children here inside =
     fence_named bytes names children _ _ inside (any_begins is_fence_symbol (spine children)
     (begins_with is_fence_symbol role.CodeFenced (Only symbol.CodeFence) _ (spine children) refl refl here.0.1))

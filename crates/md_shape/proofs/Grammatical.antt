@@ -16,18 +16,22 @@ use Rattle.md_shape.proofs.Firsts.{AreFine, fine, shaped}
 use Rattle.md_shape.proofs.Fitting.{fit}
 
 -- nodes whose spine may stand somewhere are built so
-built : (bytes : List ℕ) (names : List (List ℕ × List ℕ)) (forest : Forest) (around : Role) (before : Option Symbol) (content : Content) → AreFine bytes names forest around before → admits (is_some before) content (spine forest) ≡ true → IsBuilt bytes content forest
+built : (bytes : List ℕ) (names : List (List ℕ × List ℕ)) (forest : Forest) (around : Role) (before : Option Symbol)
+    (content : Content) → AreFine bytes names forest around before →
+    admits (is_some before) content (spine forest) ≡ true → IsBuilt bytes content forest
 built bytes names Empty around before content all h = tt
 built bytes names (Node name start end children rest) around before content all h =
     let here =
-    spot (standing_of name) name children around before content (spine rest) (told name) all.0.0.1 (after_spine children _ _ content (shaped bytes names children _ _ all.1)) h in (
+    spot (standing_of name) name children around before content (spine rest) (told name) all.0.0.1
+    (after_spine children _ _ content (shaped bytes names children _ _ all.1)) h in (
       here.stands,
       fit bytes names name around before start end children all.0 all.1,
       built bytes names children _ _ (content_inside content name) all.1 here.inside,
       built bytes names rest _ _ (content_behind content name children) all.2 here.behind,
     )
 
-pub grammatical-built : (bytes : List ℕ) (names : List (List ℕ × List ℕ)) (forest : Forest) → IsGrammatical bytes names forest → IsBuilt bytes Blocks forest
+pub grammatical-built : (bytes : List ℕ) (names : List (List ℕ × List ℕ)) (forest : Forest) →
+    IsGrammatical bytes names forest → IsBuilt bytes Blocks forest
 grammatical-built bytes names forest grammatical =
     built bytes names forest role.Flow None Blocks
     (fine bytes names forest role.Flow None grammatical.shape.0 grammatical.rules)

@@ -23,47 +23,62 @@ abbrev pub run : Content → List Symbol → Content
 run content [] = content
 run content (symbol ∷ symbols) = run (past content symbol) symbols
 
-run-append : (content : Content) (symbols others : List Symbol) → run content (symbols ++ others) ≡ run (run content symbols) others
+run-append : (content : Content) (symbols others : List Symbol) →
+    run content (symbols ++ others) ≡ run (run content symbols) others
 run-append content [] others = refl
 run-append content (symbol ∷ symbols) others = run-append (past content symbol) symbols others
 
-admits-split : (before : Option Symbol) (content : Content) (symbols others : List Symbol) → admits (is_some before) content (symbols ++ others) ≡ true → (admits (is_some before) content symbols ≡ true) × (admits (is_some (last_symbol before symbols)) (run content symbols) others ≡ true)
+admits-split : (before : Option Symbol) (content : Content) (symbols others : List Symbol) →
+    admits (is_some before) content (symbols ++ others) ≡ true →
+    (admits (is_some before) content symbols ≡ true) × (admits (is_some (last_symbol before symbols))
+    (run content symbols) others ≡ true)
 admits-split before content [] others h = (refl, h)
 admits-split before content (symbol ∷ symbols) others h =
-    let parts = and_parts (may_show (is_some before) content symbol) (admits true (past content symbol) (symbols ++ others)) h in
+    let parts = and_parts (may_show (is_some before) content symbol)
+    (admits true (past content symbol) (symbols ++ others)) h in
     let rest = admits-split (Some symbol) (past content symbol) symbols others parts.1 in
     (ap (λ t. t && admits true (past content symbol) symbols) parts.0 ∙ rest.0, rest.1)
 
-node_behind : (standing : Standing) (name : Name) (children : Forest) (around : Role) (before : Option Symbol) (content : Content) → Told standing name → IsStanding standing around before children → content_after content children ≡ run content (spine children) → content_behind content name children ≡ run content (shown standing (spine children))
+node_behind : (standing : Standing) (name : Name) (children : Forest) (around : Role) (before : Option Symbol)
+    (content : Content) → Told standing name → IsStanding standing around before children →
+    content_after content children ≡ run content (spine children) →
+    content_behind content name children ≡ run content (shown standing (spine children))
 node_behind Through name children around before content says stands again =
     ap (λ t. cond t (content_after content children) (content_past content name)) says ∙ again
 node_behind Space name children around before content says stands again =
-    ap (λ t. cond t (content_after content children) (content_past content name)) says ∙ ap (λ c. content_after content c) stands
+    ap (λ t. cond t (content_after content children) (content_past content name)) says
+    ∙ ap (λ c. content_after content c) stands
 node_behind (Solid symbol usual reading) name children around before content says stands again =
-    ap (λ t. cond t (content_after content children) (content_past content name)) says.0 ∙ (sym (past_by-names content name) ∙ ap (past_by content) says.1)
+    ap (λ t. cond t (content_after content children) (content_past content name)) says.0
+    ∙ (sym (past_by-names content name) ∙ ap (past_by content) says.1)
 node_behind Mdx name children around before content says stands again = absurd stands
 
 -- what may stand behind nodes is what may stand behind their spine
-pub after_spine : (forest : Forest) (around : Role) (before : Option Symbol) (content : Content) → AreShaped forest around before → content_after content forest ≡ run content (spine forest)
+pub after_spine : (forest : Forest) (around : Role) (before : Option Symbol) (content : Content) →
+    AreShaped forest around before → content_after content forest ≡ run content (spine forest)
 after_spine Empty around before content shaped = refl
 after_spine (Node name start end children rest) around before content shaped =
     let again = after_spine children _ _ content shaped.1 in
     let here = node_behind (standing_of name) name children around before content (told name) shaped.0.1 again in
     after_spine rest _ _ (content_behind content name children) shaped.2
-    ∙ (ap (λ c. run c (spine rest)) here ∙ sym (run-append content (shown (standing_of name) (spine children)) (spine rest)))
+    ∙ (ap (λ c. run c (spine rest)) here ∙ sym (run-append content (shown (standing_of name) (spine children))
+    (spine rest)))
 
 -- what holds of all roles that a name may have holds of its role
-pub role_listed : (test : Role → Bool) (around : Role) (before : Option Symbol) (usual : Role) → list_all test (roles_for (is_some before) usual) ≡ true → test (role_for around before usual) ≡ true
+pub role_listed : (test : Role → Bool) (around : Role) (before : Option Symbol) (usual : Role) →
+    list_all test (roles_for (is_some before) usual) ≡ true → test (role_for around before usual) ≡ true
 role_listed test around before role.Item h = by around before
   where
     by : (around : Role) (before : Option Symbol) → test (item_in around before) ≡ true
-    by role.OrderedList None = (and_parts (test role.FirstOrderedItem) true (and_parts (test role.OrderedItem) _ (and_parts (test role.Item) _ h).1).1).0
+    by role.OrderedList None = (and_parts (test role.FirstOrderedItem) true
+        (and_parts (test role.OrderedItem) _ (and_parts (test role.Item) _ h).1).1).0
     by role.OrderedList (Some _) = (and_parts (test role.OrderedItem) _ (and_parts (test role.Item) _ h).1).0
     by _ before = (and_parts (test role.Item) _ h).0
 role_listed test around before role.Prefix h = by around
   where
     by : (around : Role) → test (prefix_in around) ≡ true
-    by role.FirstOrderedItem = (and_parts (test role.FirstOrderedPrefix) true (and_parts (test role.OrderedPrefix) _ (and_parts (test role.Prefix) _ h).1).1).0
+    by role.FirstOrderedItem = (and_parts (test role.FirstOrderedPrefix) true
+        (and_parts (test role.OrderedPrefix) _ (and_parts (test role.Prefix) _ h).1).1).0
     by role.OrderedItem = (and_parts (test role.OrderedPrefix) _ (and_parts (test role.Prefix) _ h).1).0
     by _ = (and_parts (test role.Prefix) _ h).0
 role_listed test around before role.Label h = by around
@@ -79,19 +94,29 @@ role_listed test around None usual h = (and_parts (test usual) true h).0
 role_listed test around (Some symbol) usual h = (and_parts (test usual) true h).0
 
 -- a node may stand there, its children in it, and others behind it
-pub record Spot (standing : Standing) (name : Name) (children : Forest) (before : Option Symbol) (content : Content) (others : List Symbol) : Type 0 where
+pub record Spot (standing : Standing) (name : Name) (children : Forest) (before : Option Symbol) (content : Content)
+    (others : List Symbol) : Type 0 where
   pub stands : (is_transparent name || may_stand content name) ≡ true
   pub inside : admits (is_some (inner_before standing before)) (content_inside content name) (spine children) ≡ true
-  pub behind : admits (is_some (last_symbol before (shown standing (spine children)))) (content_behind content name children) others ≡ true
+  pub behind : admits (is_some (last_symbol before (shown standing (spine children))))
+      (content_behind content name children) others ≡ true
 
 follows : (test holds : Bool) → implies test holds ≡ true → test ≡ true → holds ≡ true
 follows test holds h t = ap (λ b. implies b holds) (sym t) ∙ h
 
-solid_patterns : (name : Name) (symbol : Symbol) (usual : Role) (around : Role) (before : Option Symbol) (content : Content) → (holds_patterns (is_some before) name symbol usual content ≡ true) → may_show (is_some before) content symbol ≡ true → pattern_admits (pattern_of (role_for around before usual)) false (content_of name content) ≡ true
+solid_patterns : (name : Name) (symbol : Symbol) (usual : Role) (around : Role) (before : Option Symbol)
+    (content : Content) → (holds_patterns (is_some before) name symbol usual content ≡ true) →
+    may_show (is_some before) content symbol ≡ true → pattern_admits (pattern_of (role_for around before usual)) false
+    (content_of name content) ≡ true
 solid_patterns name symbol usual around before content holds may =
-    role_listed (λ role. pattern_admits (pattern_of role) false (content_of name content)) around before usual (follows (may_show (is_some before) content symbol) _ holds may)
+    role_listed (λ role. pattern_admits (pattern_of role) false (content_of name content)) around before usual
+    (follows (may_show (is_some before) content symbol) _ holds may)
 
-spot_here : (standing : Standing) (name : Name) (children : Forest) (around : Role) (before : Option Symbol) (content : Content) (others : List Symbol) → Told standing name → IsStanding standing around before children → admits (is_some before) content (shown standing (spine children) ++ others) ≡ true → ((is_transparent name || may_stand content name) ≡ true) × (admits (is_some (inner_before standing before)) (content_inside content name) (spine children) ≡ true)
+spot_here : (standing : Standing) (name : Name) (children : Forest) (around : Role) (before : Option Symbol)
+    (content : Content) (others : List Symbol) → Told standing name → IsStanding standing around before children →
+    admits (is_some before) content (shown standing (spine children) ++ others) ≡ true →
+    ((is_transparent name || may_stand content name) ≡ true)
+    × (admits (is_some (inner_before standing before)) (content_inside content name) (spine children) ≡ true)
 spot_here Through name children around before content others says stands h =
     let whole = admits-split before content (spine children) others h in (
       ap (λ t. t || may_stand content name) says,
@@ -109,19 +134,25 @@ spot_here (Solid symbol usual reading) name children around before content other
     ] in
     let fits = solid_patterns name symbol usual around before content holds may in (
       ap (λ t. t || may_stand content name) says.0
-          ∙ (sym (may_by-names content name) ∙ (ap (may_by content) says.1 ∙ shown_behind (is_some before) content symbol may)),
+          ∙ (sym (may_by-names content name) ∙ (ap (may_by content) says.1
+          ∙ shown_behind (is_some before) content symbol may)),
       ap (λ t. admits false (cond t content (content_of name content)) (spine children)) says.0
           ∙ matches_admitted (role_for around before usual) (spine children) (content_of name content) stands fits,
     )
 spot_here Mdx name children around before content others says stands h = absurd stands
 
-pub spot : (standing : Standing) (name : Name) (children : Forest) (around : Role) (before : Option Symbol) (content : Content) (others : List Symbol) → Told standing name → IsStanding standing around before children → content_after content children ≡ run content (spine children) → admits (is_some before) content (shown standing (spine children) ++ others) ≡ true → Spot standing name children before content others
+pub spot : (standing : Standing) (name : Name) (children : Forest) (around : Role) (before : Option Symbol)
+    (content : Content) (others : List Symbol) → Told standing name → IsStanding standing around before children →
+    content_after content children ≡ run content (spine children) →
+    admits (is_some before) content (shown standing (spine children) ++ others) ≡ true →
+    Spot standing name children before content others
 spot standing name children around before content others says stands after h =
     let here = spot_here standing name children around before content others says stands h in
     record {
       stands = here.0;
       inside = here.1;
       behind =
-          subst (λ c. admits (is_some (last_symbol before (shown standing (spine children)))) c others ≡ true) (sym (node_behind standing name children around before content says stands after))
+          subst (λ c. admits (is_some (last_symbol before (shown standing (spine children)))) c others
+          ≡ true) (sym (node_behind standing name children around before content says stands after))
           (admits-split before content (shown standing (spine children)) others h).1;
     }

@@ -32,18 +32,25 @@ pub record Stand : Type 0 where
 
 abbrev pub stand_here : Standing → Point → Point → Forest → List Stand → List Stand
 stand_here Through start end children inner = inner
-stand_here (Solid symbol usual reading) start end children inner = record { seen = symbol; start = start; end = end; children = children } ∷ []
+stand_here (Solid symbol usual reading) start end children inner = record {
+  seen = symbol;
+  start = start;
+  end = end;
+  children = children;
+} ∷ []
 stand_here _ start end children inner = []
 
 abbrev pub stands : Forest → List Stand
 stands Empty = []
-stands (Node name start end children rest) = stand_here (standing_of name) start end children (stands children) ++ stands rest
+stands (Node name start end children rest) = stand_here (standing_of name) start end children (stands children)
+    ++ stands rest
 
 -- their symbols
 abbrev pub seen_of : List Stand → List Symbol
 seen_of nodes = map (λ node. node.seen) nodes
 
-symbols_here : (standing : Standing) (start end : Point) (children : Forest) → spine children ≡ seen_of (stands children) →
+symbols_here : (standing : Standing) (start end : Point) (children : Forest) →
+    spine children ≡ seen_of (stands children) →
     shown standing (spine children) ≡ seen_of (stand_here standing start end children (stands children))
 symbols_here Through start end children inner = inner
 symbols_here (Solid symbol usual reading) start end children inner = refl
@@ -70,7 +77,8 @@ target_by symbol.Resource found inner there = Resource
 target_by _ found inner there = found
 
 abbrev Leaves : Standing → Type 0
-Leaves (Solid symbol usual reading) = (found inner : Target) (there : Position) → target_at reading found inner there ≡ target_by symbol found inner there
+Leaves (Solid symbol usual reading) = (found inner : Target) (there : Position) →
+    target_at reading found inner there ≡ target_by symbol found inner there
 Leaves _ = Unit {0}
 
 leaves : (name : Name) → Leaves (standing_of name)
@@ -87,16 +95,22 @@ leaves _ = λ found inner there. refl
 -- the target that nodes leave, one after another
 abbrev pub sought : List Stand → Target → Target
 sought [] found = found
-sought (node ∷ nodes) found = sought nodes (target_by node.seen found (target_of node.children Missing) (place node.start node.end))
+sought (node ∷ nodes) found = sought nodes (target_by node.seen found (target_of node.children Missing)
+    (place node.start node.end))
 
-sought-append : (nodes others : List Stand) (found : Target) → sought (nodes ++ others) found ≡ sought others (sought nodes found)
+sought-append : (nodes others : List Stand) (found : Target) →
+    sought (nodes ++ others) found ≡ sought others (sought nodes found)
 sought-append [] others found = refl
-sought-append (node ∷ nodes) others found = sought-append nodes others (target_by node.seen found (target_of node.children Missing) (place node.start node.end))
+sought-append (node ∷ nodes) others found = sought-append nodes others
+    (target_by node.seen found (target_of node.children Missing) (place node.start node.end))
 
-target_here : (standing : Standing) (start end : Point) (children : Forest) (found : Target) → Leaves standing → target_of children found ≡ sought (stands children) found →
-    target_after standing found (target_of children) (place start end) ≡ sought (stand_here standing start end children (stands children)) found
+target_here : (standing : Standing) (start end : Point) (children : Forest) (found : Target) → Leaves standing →
+    target_of children found ≡ sought (stands children) found →
+    target_after standing found (target_of children) (place start end)
+    ≡ sought (stand_here standing start end children (stands children)) found
 target_here Through start end children found leaves inner = inner
-target_here (Solid symbol usual reading) start end children found leaves inner = leaves found (target_of children Missing) (place start end)
+target_here (Solid symbol usual reading) start end children found leaves inner =
+    leaves found (target_of children Missing) (place start end)
 target_here Space start end children found leaves inner = refl
 target_here Mdx start end children found leaves inner = refl
 
@@ -104,46 +118,61 @@ pub target-stands : (forest : Forest) (found : Target) → target_of forest foun
 target-stands Empty found = refl
 target-stands (Node name start end children rest) found =
     let here : List Stand = stand_here (standing_of name) start end children (stands children) in
-    ap (target_of rest) (target_here (standing_of name) start end children found (leaves name) (target-stands children found))
+    ap (target_of rest) (target_here (standing_of name) start end children found (leaves name)
+    (target-stands children found))
     ∙ target-stands rest (sought here found)
     ∙ sym (sought-append here (stands rest) found)
 
-module _ {A : Type 0} (of_symbols : Symbol → Bool) (of_names : Name → Bool) (agree : Agree of_symbols of_names) (tell : Point → Point → Forest → A) where
+module _ {A : Type 0} (of_symbols : Symbol → Bool) (of_names : Name →
+    Bool) (agree : Agree of_symbols of_names) (tell : Point → Point → Forest → A) where
   -- what is told of the first node with such a symbol
   abbrev pub first_seen : List Stand → Option A
   first_seen [] = None
-  first_seen (node ∷ nodes) = if of_symbols node.seen then Some (tell node.start node.end node.children) else first_seen nodes
+  first_seen (node ∷ nodes) = if of_symbols node.seen then Some (tell node.start node.end node.children)
+      else first_seen nodes
 
-  first_seen-append : (nodes others : List Stand) → or_else (first_seen nodes) (first_seen others) ≡ first_seen (nodes ++ others)
+  first_seen-append : (nodes others : List Stand) → or_else (first_seen nodes) (first_seen others)
+      ≡ first_seen (nodes ++ others)
   first_seen-append [] others = refl
-  first_seen-append (node ∷ nodes) others = by (of_symbols node.seen) (Some (tell node.start node.end node.children)) refl (first_seen-append nodes others)
+  first_seen-append (node ∷ nodes) others = by (of_symbols node.seen)
+      (Some (tell node.start node.end node.children)) refl (first_seen-append nodes others)
     where
-      by : (passes : Bool) (here : Option A) → or_else here (first_seen others) ≡ here → or_else (first_seen nodes) (first_seen others) ≡ first_seen (nodes ++ others) →
-          or_else (if passes then here else first_seen nodes) (first_seen others) ≡ (if passes then here else first_seen (nodes ++ others))
+      by : (passes : Bool) (here : Option A) → or_else here (first_seen others) ≡ here →
+          or_else (first_seen nodes) (first_seen others) ≡ first_seen (nodes ++ others) →
+          or_else (if passes then here else first_seen nodes) (first_seen others)
+          ≡ (if passes then here else first_seen (nodes ++ others))
       by true here e later = e
       by false here e later = later
 
   abbrev told_here : Bool → Bool → A → Option A → Option A
   told_here passes through here inside = if passes then Some here else (if through then inside else None)
 
-  first_here : (standing : Standing) (name : Name) (start end : Point) (children : Forest) (around : Role) (before : Option Symbol) → Told standing name → of_names name ≡ shows of_symbols standing → IsStanding standing around before children →
+  first_here : (standing : Standing) (name : Name) (start end : Point) (children : Forest) (around : Role)
+      (before : Option Symbol) → Told standing name → of_names name ≡ shows of_symbols standing →
+      IsStanding standing around before children →
       first_on_spine of_names tell children ≡ first_seen (stands children) →
-      told_here (of_names name) (is_transparent name) (tell start end children) (first_on_spine of_names tell children) ≡ first_seen (stand_here standing start end children (stands children))
+      told_here (of_names name) (is_transparent name) (tell start end children)
+      (first_on_spine of_names tell children) ≡ first_seen (stand_here standing start end children (stands children))
   first_here Through name start end children around before says same is inner =
       ap (λ t. told_here t (is_transparent name) (tell start end children) (first_on_spine of_names tell children)) same
       ∙ ap (λ t. told_here false t (tell start end children) (first_on_spine of_names tell children)) says ∙ inner
   first_here Space name start end children around before says same is inner =
       ap (λ t. told_here t (is_transparent name) (tell start end children) (first_on_spine of_names tell children)) same
-      ∙ ap (λ t. told_here false t (tell start end children) (first_on_spine of_names tell children)) says ∙ ap (first_on_spine of_names tell) is
+      ∙ ap (λ t. told_here false t (tell start end children) (first_on_spine of_names tell children)) says
+      ∙ ap (first_on_spine of_names tell) is
   first_here (Solid symbol usual reading) name start end children around before says same is inner =
       ap (λ t. told_here t (is_transparent name) (tell start end children) (first_on_spine of_names tell children)) same
-      ∙ ap (λ t. told_here (of_symbols symbol) t (tell start end children) (first_on_spine of_names tell children)) says.0
+      ∙ ap (λ t. told_here (of_symbols symbol) t (tell start end children) (first_on_spine of_names tell children))
+      says.0
   first_here Mdx name start end children around before says same is inner = absurd is
 
-  pub first-stands : (forest : Forest) (around : Role) (before : Option Symbol) → AreShaped forest around before → first_on_spine of_names tell forest ≡ first_seen (stands forest)
+  pub first-stands : (forest : Forest) (around : Role) (before : Option Symbol) → AreShaped forest around before →
+      first_on_spine of_names tell forest ≡ first_seen (stands forest)
   first-stands Empty around before shaped = refl
   first-stands (Node name start end children rest) around before shaped =
       let here : List Stand = stand_here (standing_of name) start end children (stands children) in
-      ap (λ o. or_else o (first_on_spine of_names tell rest)) (first_here (standing_of name) name start end children around before (told name) (agree name) shaped.0.1 (first-stands children _ _ shaped.1))
+      ap (λ o. or_else o (first_on_spine of_names tell rest))
+      (first_here (standing_of name) name start end children around before (told name) (agree name) shaped.0.1
+      (first-stands children _ _ shaped.1))
       ∙ ap (λ o. or_else (first_seen here) o) (first-stands rest _ _ shaped.2)
       ∙ first_seen-append here (stands rest)

@@ -195,20 +195,26 @@ same_content _ _ = false
 
 -- symbols of an item may stand there, so many as it has, and what is left behind them
 abbrev pub item_admits : Times → List Symbol → (Bool → Content → Bool) → Bool → Content → Bool
-item_admits Once members left behind content = list_all (λ member. may_show behind content member && left true (past content member)) members
+item_admits Once members left behind content = list_all (λ member. may_show behind content member
+    && left true (past content member)) members
 item_admits Maybe members left behind content =
-    left behind content && list_all (λ member. may_show behind content member && left true (past content member)) members
+    left behind content && list_all (λ member. may_show behind content member
+    && left true (past content member)) members
 item_admits Many members left behind content =
-    left behind content && list_all (λ member. may_show behind content member && same_content (past content member) content) members
+    left behind content && list_all (λ member. may_show behind content member
+    && same_content (past content member) content) members
 
 -- what fits a pattern may stand there
 abbrev pub pattern_admits : List Item → Bool → Content → Bool
 pattern_admits [] behind content = true
-pattern_admits (item ∷ items) behind content = item_admits item.times (members item.class) (λ b c. pattern_admits items b c) behind content
+pattern_admits (item ∷ items) behind content = item_admits item.times (members item.class)
+    (λ b c. pattern_admits items b c) behind content
 
 abbrev pub every_content : (Content → Bool) → Bool
 every_content test =
-    test Blocks && (test Spans && (test Strings && (test FirstFence && (test FirstMathFence && (test Chunks && (test InfoAndMeta && (test MetaAlone && (test Done && test Nothing))))))))
+    test Blocks && (test Spans && (test Strings && (test FirstFence
+    && (test FirstMathFence && (test Chunks && (test InfoAndMeta
+    && (test MetaAlone && (test Done && test Nothing))))))))
 
 pub each_content : (test : Content → Bool) → every_content test ≡ true → (content : Content) → test content ≡ true
 each_content test h content =
@@ -252,7 +258,8 @@ implies false holds = true
 -- wherever a node may stand, what fits the patterns of its roles may stand in it
 abbrev pub holds_patterns : Bool → Name → Symbol → Role → Content → Bool
 holds_patterns behind name symbol usual content =
-    implies (may_show behind content symbol) (list_all (λ role. pattern_admits (pattern_of role) false (content_of name content)) (roles_for behind usual))
+    implies (may_show behind content symbol) (list_all (λ role. pattern_admits (pattern_of role) false
+    (content_of name content)) (roles_for behind usual))
 
 abbrev pub holds_patterns_everywhere : Bool → Name → Symbol → Role → Bool
 holds_patterns_everywhere behind name symbol usual = every_content (holds_patterns behind name symbol usual)
@@ -263,7 +270,8 @@ Told Through name = is_transparent name ≡ true
 Told Space name = is_transparent name ≡ true
 Told (Solid symbol usual reading) name =
     (is_transparent name ≡ false) × (tests_of name ≡ tests_for symbol)
-    × (holds_patterns_everywhere true name symbol usual ≡ true) × (holds_patterns_everywhere false name symbol usual ≡ true)
+    × (holds_patterns_everywhere true name symbol usual ≡ true)
+    × (holds_patterns_everywhere false name symbol usual ≡ true)
 Told Mdx name = Unit {0}
 
 pub told : (name : Name) → Told (standing_of name) name

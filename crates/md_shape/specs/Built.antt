@@ -195,9 +195,11 @@ is_digit byte = nat_le 48 byte && nat_le byte 57
 abbrev pub IsFit : List ℕ → Name → Point → Point → Forest → Type 0
 IsFit bytes LineEnding start end children = IsTrue (is_line_ends (text_of bytes start end))
 IsFit bytes BlankLineEnding start end children = IsTrue (is_line_ends (text_of bytes start end))
-IsFit bytes HeadingAtx start end children = (1 ≤ rank_of bytes (ahead_of children).mark) × (rank_of bytes (ahead_of children).mark ≤ 6)
+IsFit bytes HeadingAtx start end children = (1 ≤ rank_of bytes (ahead_of children).mark)
+    × (rank_of bytes (ahead_of children).mark ≤ 6)
 IsFit bytes ListOrdered start end children =
-    IsTrue (option_map_or (λ place. list_all is_digit (text_of bytes place.start place.end)) (ahead_of children).number true)
+    IsTrue (option_map_or (λ place. list_all is_digit (text_of bytes place.start place.end))
+    (ahead_of children).number true)
 IsFit bytes CodeFenced start end children = IsTrue (list_any is_fence (spine_names children))
 IsFit bytes MathFlow start end children = IsTrue (list_any is_fence (spine_names children))
 IsFit bytes _ start end children = Unit {0}

@@ -47,7 +47,8 @@ Decodes bytes names spine _ start end children = Unit {0}
 
 -- a node that identifies what it stands in has a text between its indices
 abbrev pub HasItsLabel : List ℕ → Name → Point → Point → Forest → Type 0
-HasItsLabel bytes name start end children = IsTrue (is_identifier_name name) → IsTrue (is_some (label_between bytes start end))
+HasItsLabel bytes name start end children = IsTrue (is_identifier_name name) →
+    IsTrue (is_some (label_between bytes start end))
 
 -- the target that the place of a label is, if there is one
 abbrev pub label_target : Option Position → Target
@@ -61,7 +62,8 @@ HasResource children = target_of children Missing ≡ Resource
 abbrev pub IsLabelled : Option Position → Forest → Type 0
 IsLabelled label children = target_of children Missing ≡ label_target label
 
--- a link or an image refers by its resource, else by the label that the meaning reads; a call, a definition and a footnote
+-- a link or an image refers by its resource, else by the label that the meaning reads; a call, a definition and a
+-- footnote
 -- definition by theirs
 abbrev pub RefersAlike : Name → Point → Point → Forest → Type 0
 RefersAlike Link start end children = HasResource children ⊎ IsLabelled (referring_in children) children

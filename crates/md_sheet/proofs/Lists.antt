@@ -19,6 +19,7 @@ drop-missing (y ∷ ys) zero h = absurd (true≢false (ap is_some h))
 drop-missing (y ∷ ys) (suc i) h = drop-missing ys i h
 
 -- pieces are laid one list after another
-pub lay-append : (ending : List ℕ) (page : Page) (xs ys : List Piece) → lay ending page (xs ++ ys) ≡ lay ending (lay ending page xs) ys
+pub lay-append : (ending : List ℕ) (page : Page) (xs ys : List Piece) →
+    lay ending page (xs ++ ys) ≡ lay ending (lay ending page xs) ys
 lay-append ending page [] ys = refl
 lay-append ending page (x ∷ xs) ys = lay-append ending (lay_piece ending page x) xs ys

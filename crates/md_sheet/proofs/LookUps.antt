@@ -15,37 +15,53 @@ use Rattle.md_sheet.specs.Seen.{definitions_in}
 use Rattle.md_sheet.proofs.Tally.{bytes_eq-sym}
 
 -- what is found in two lists that begin alike
-pub found-behind : (first second third : List Defined) (identifier : List ℕ) → defined_target second identifier ≡ defined_target third identifier →
+pub found-behind : (first second third : List Defined) (identifier : List ℕ) →
+    defined_target second identifier ≡ defined_target third identifier →
     defined_target (first ++ second) identifier ≡ defined_target (first ++ third) identifier
 found-behind [] second third identifier same = same
 found-behind (d ∷ first) second third identifier same =
-    elim (bytes_eq d.identifier identifier) as (λ b. option_map_or (λ defined. defined.target) (if b then Some d else find (λ defined. bytes_eq defined.identifier identifier) (first ++ second)) nowhere
-    ≡ option_map_or (λ defined. defined.target) (if b then Some d else find (λ defined. bytes_eq defined.identifier identifier) (first ++ third)) nowhere) [
+    elim (bytes_eq d.identifier identifier) as (λ b. option_map_or (λ defined. defined.target) (if b then Some d
+    else find (λ defined. bytes_eq defined.identifier identifier) (first ++ second)) nowhere
+    ≡ option_map_or (λ defined. defined.target) (if b then Some d
+    else find (λ defined. bytes_eq defined.identifier identifier) (first ++ third)) nowhere) [
       | true ↦ refl
       | false ↦ found-behind first second third identifier same
     ]
 
 -- an entry of a map is found as the definition that it is
 pub target-found : (entries : List (String Global × Target)) (identifier : List ℕ) →
-    unwrap_or (lookup (is_at (λ k. slice_cmp nat_cmp identifier (string_bytes k))) entries) nowhere ≡ defined_target (definitions_in entries) identifier
+    unwrap_or (lookup (is_at (λ k. slice_cmp nat_cmp identifier (string_bytes k))) entries) nowhere
+    ≡ defined_target (definitions_in entries) identifier
 target-found [] identifier = refl
 target-found (e ∷ entries) identifier =
     let behind : Option Target = lookup (is_at (λ k. slice_cmp nat_cmp identifier (string_bytes k))) entries in
-    ap (λ b. unwrap_or (cond b (Some e.1) behind) nowhere) (is_eq-slice_cmp identifier (string_bytes e.0) ∙ bytes_eq-sym identifier (string_bytes e.0))
+    ap (λ b. unwrap_or (cond b (Some e.1) behind) nowhere) (is_eq-slice_cmp identifier (string_bytes e.0)
+    ∙ bytes_eq-sym identifier (string_bytes e.0))
     ∙ elim (bytes_eq (string_bytes e.0) identifier) as (λ b. unwrap_or (cond b (Some e.1) behind) nowhere
-    ≡ option_map_or (λ defined. defined.target) (if b then Some (record { identifier = string_bytes e.0; target = e.1 }) else find (λ defined. bytes_eq defined.identifier identifier) (definitions_in entries)) nowhere) [
+    ≡ option_map_or (λ defined. defined.target) (if b then Some (record {
+      identifier = string_bytes e.0;
+      target = e.1;
+    }) else find (λ defined. bytes_eq defined.identifier identifier) (definitions_in entries)) nowhere) [
       | true ↦ refl
       | false ↦ target-found entries identifier
     ]
 
 -- an entry more is found before all others
-pub target-put : (old new : BTreeMap (String Global) Target) (key : String Global) (target : Target) → UpdatesBy string_cmp (string_cmp key) old new (Some target) → (identifier : List ℕ) →
-    defined_target (definitions_in new.entries) identifier ≡ defined_target (record { identifier = string_bytes key; target = target } ∷ definitions_in old.entries) identifier
+pub target-put : (old new : BTreeMap (String Global) Target) (key : String Global) (target : Target) →
+    UpdatesBy string_cmp (string_cmp key) old new (Some target) → (identifier : List ℕ) →
+    defined_target (definitions_in new.entries) identifier
+    ≡ defined_target (record { identifier = string_bytes key; target = target }
+    ∷ definitions_in old.entries) identifier
 target-put old new key target updates identifier =
     sym (target-found new.entries identifier)
     ∙ ap (λ o. unwrap_or o nowhere) (btree_map_updates_text (string_bytes key) old new (Some target) updates identifier)
-    ∙ elim (bytes_eq (string_bytes key) identifier) as (λ b. unwrap_or (cond b (Some target) (get_by_text old identifier)) nowhere
-    ≡ option_map_or (λ defined. defined.target) (if b then Some (record { identifier = string_bytes key; target = target }) else find (λ defined. bytes_eq defined.identifier identifier) (definitions_in old.entries)) nowhere) [
+    ∙ elim (bytes_eq (string_bytes key) identifier) as (λ b. unwrap_or
+    (cond b (Some target) (get_by_text old identifier)) nowhere
+    ≡ option_map_or (λ defined. defined.target) (if b then Some (record {
+      identifier = string_bytes key;
+      target = target;
+    }) else find (λ defined. bytes_eq defined.identifier identifier) (definitions_in old.entries))
+    nowhere) [
       | true ↦ refl
       | false ↦ target-found old.entries identifier
     ]

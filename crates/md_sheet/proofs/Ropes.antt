@@ -6,7 +6,8 @@ use Rattle.std.proofs.lemmas.List.{length-append}
 use Rattle.md_sheet.specs.Ropes.{joined, counted_up}
 
 -- a part more is the first of all
-pub joined-push : (parts : List (String Global)) (part : String Global) → joined (parts ++ part ∷ []) ≡ string_bytes part ++ joined parts
+pub joined-push : (parts : List (String Global)) (part : String Global) →
+    joined (parts ++ part ∷ []) ≡ string_bytes part ++ joined parts
 joined-push [] part = sym (append-nil (string_bytes part))
 joined-push (first ∷ parts) part =
     ap (λ t. t ++ string_bytes first) (joined-push parts part)
@@ -44,7 +45,8 @@ last-before front [] h = ap (λ t. last t) (append-nil front)
 last-before front (byte ∷ back) h = absurd (last-some byte back h)
 
 -- how long a text is behind another, as far as 64 bits count
-pub counted_up-append : (own rest : List ℕ) (n : ℕ) → n ≡ counted_up rest → min (n + length own) (2 ^ 64 - 1) ≡ counted_up (own ++ rest)
+pub counted_up-append : (own rest : List ℕ) (n : ℕ) → n ≡ counted_up rest →
+    min (n + length own) (2 ^ 64 - 1) ≡ counted_up (own ++ rest)
 counted_up-append own rest n h =
     ap (λ m. min (m + length own) (2 ^ 64 - 1)) h
     ∙ capped (length own) (length rest)

@@ -33,7 +33,10 @@ itself : (xs : List ℕ) → bytes_eq xs xs ≡ true
 itself xs = (bytes_eq-Decides xs xs).1 refl
 
 pub bytes_eq-sym : (xs ys : List ℕ) → bytes_eq xs ys ≡ bytes_eq ys xs
-bytes_eq-sym xs ys = one_answer (bytes_eq xs ys) (bytes_eq ys xs) (bytes_eq-Decides xs ys) ((λ h. sym (same ys xs h)), (λ e. (bytes_eq-Decides ys xs).1 (sym e)))
+bytes_eq-sym xs ys = one_answer (bytes_eq xs ys) (bytes_eq ys xs) (bytes_eq-Decides xs ys) (
+  (λ h. sym (same ys xs h)),
+  (λ e. (bytes_eq-Decides ys xs).1 (sym e)),
+)
 
 or_parts : (a b : Bool) → a || b ≡ false → (a ≡ false) × (b ≡ false)
 or_parts true b h = absurd (true≢false h)
@@ -49,39 +52,53 @@ named-append : (f : List ℕ → ℕ) (xs ys : List (List ℕ)) → named f (xs 
 named-append f [] ys = refl
 named-append f (x ∷ xs) ys = ap (λ cs. record { identifier = x; count = f x } ∷ cs) (named-append f xs ys)
 
-count-push : (calls : List (List ℕ)) (identifier other : List ℕ) → count_of (calls ++ identifier ∷ []) other ≡ plus_one (count_of calls) identifier other
+count-push : (calls : List (List ℕ)) (identifier other : List ℕ) →
+    count_of (calls ++ identifier ∷ []) other ≡ plus_one (count_of calls) identifier other
 count-push [] identifier other = omega arith
 count-push (call ∷ calls) identifier other =
     let h = count-push calls identifier other in
     omega (arith, h)
 
 -- an identifier that isn't among some changes no count
-named-missing : (f : List ℕ → ℕ) (xs : List (List ℕ)) (x : List ℕ) → is_in x xs ≡ false → named (plus_one f x) xs ≡ named f xs
+named-missing : (f : List ℕ → ℕ) (xs : List (List ℕ)) (x : List ℕ) → is_in x xs ≡ false →
+    named (plus_one f x) xs ≡ named f xs
 named-missing f [] x h = refl
 named-missing f (y ∷ ys) x h =
-    ap (λ b. record { identifier = y; count = f y + (if b then 1 else 0) } ∷ named (plus_one f x) ys) (bytes_eq-sym x y ∙ (or_parts (bytes_eq y x) (is_in x ys) h).0)
+    ap (λ b. record { identifier = y; count = f y + (if b then 1 else 0) }
+    ∷ named (plus_one f x) ys) (bytes_eq-sym x y ∙ (or_parts (bytes_eq y x) (is_in x ys) h).0)
     ∙ ap (λ n. record { identifier = y; count = n } ∷ named (plus_one f x) ys) (omega arith)
-    ∙ ap (λ cs. record { identifier = y; count = f y } ∷ cs) (named-missing f ys x (or_parts (bytes_eq y x) (is_in x ys) h).1)
+    ∙ ap (λ cs. record { identifier = y; count = f y } ∷ cs)
+    (named-missing f ys x (or_parts (bytes_eq y x) (is_in x ys) h).1)
 
 -- one call more among identifiers that come once each
 counted-named : (f : List ℕ → ℕ) (xs : List (List ℕ)) (x : List ℕ) → AreFresh xs →
-    counted (named f xs) x ≡ (if is_in x xs then named (plus_one f x) xs else named f xs ++ record { identifier = x; count = 1 } ∷ [])
+    counted (named f xs) x ≡ (if is_in x xs then named (plus_one f x) xs else named f xs
+    ++ record { identifier = x; count = 1 } ∷ [])
 counted-named f [] x h = refl
 counted-named f (y ∷ ys) x h =
     let n : ℕ = f y in
-    elim (bytes_eq y x) as (λ b. bytes_eq y x ≡ b → (if b then record { identifier = y; count = suc n } ∷ named f ys else record { identifier = y; count = n } ∷ counted (named f ys) x)
-    ≡ (if b || is_in x ys then record { identifier = y; count = n + (if bytes_eq x y then 1 else 0) } ∷ named (plus_one f x) ys else record { identifier = y; count = n } ∷ named f ys ++ record { identifier = x; count = 1 } ∷ [])) [
+    elim (bytes_eq y x) as (λ b. bytes_eq y x ≡ b → (if b then record { identifier = y; count = suc n } ∷ named f ys
+    else record { identifier = y; count = n } ∷ counted (named f ys) x)
+    ≡ (if b || is_in x ys then record { identifier = y; count = n + (if bytes_eq x y then 1 else 0) }
+    ∷ named (plus_one f x) ys else record { identifier = y; count = n } ∷ named f ys
+    ++ record { identifier = x; count = 1 } ∷ [])) [
       | true ↦ λ e.
           ap (λ cs. record { identifier = y; count = suc n } ∷ cs)
           (sym (named-missing f ys x (ap (λ z. is_in z ys) (sym (same y x e)) ∙ h.0)))
           ∙ ap (λ m. record { identifier = y; count = m } ∷ named (plus_one f x) ys) (omega arith)
-          ∙ ap (λ b. record { identifier = y; count = n + (if b then 1 else 0) } ∷ named (plus_one f x) ys) (sym (bytes_eq-sym x y ∙ e))
+          ∙ ap (λ b. record { identifier = y; count = n + (if b then 1 else 0) }
+          ∷ named (plus_one f x) ys) (sym (bytes_eq-sym x y ∙ e))
       | false ↦ λ e.
           ap (λ cs. record { identifier = y; count = n } ∷ cs) (counted-named f ys x h.1)
-          ∙ elim (is_in x ys) as (λ b. record { identifier = y; count = n } ∷ (if b then named (plus_one f x) ys else named f ys ++ record { identifier = x; count = 1 } ∷ []) ≡ (if b then record { identifier = y; count = n + (if bytes_eq x y then 1 else 0) } ∷ named (plus_one f x) ys else record { identifier = y; count = n } ∷ named f ys ++ record { identifier = x; count = 1 } ∷ [])) [
+          ∙ elim (is_in x ys) as (λ b. record { identifier = y; count = n }
+          ∷ (if b then named (plus_one f x) ys else named f ys ++ record { identifier = x; count = 1 } ∷ [])
+          ≡ (if b then record { identifier = y; count = n + (if bytes_eq x y then 1 else 0) }
+          ∷ named (plus_one f x) ys else record { identifier = y; count = n } ∷ named f ys
+          ++ record { identifier = x; count = 1 } ∷ [])) [
             | true ↦
                 ap (λ m. record { identifier = y; count = m } ∷ named (plus_one f x) ys) (omega arith)
-                ∙ ap (λ b. record { identifier = y; count = n + (if b then 1 else 0) } ∷ named (plus_one f x) ys) (sym (bytes_eq-sym x y ∙ e))
+                ∙ ap (λ b. record { identifier = y; count = n + (if b then 1 else 0) }
+                ∷ named (plus_one f x) ys) (sym (bytes_eq-sym x y ∙ e))
             | false ↦ refl
           ]
     ] refl
@@ -93,16 +110,19 @@ others_than x ys = filter (λ other. not (bytes_eq other x)) ys
 filtered_out : (x : List ℕ) (ys : List (List ℕ)) → is_in x (others_than x ys) ≡ false
 filtered_out x [] = refl
 filtered_out x (y ∷ ys) =
-    elim (bytes_eq y x) as (λ b. bytes_eq y x ≡ b → is_in x (cond (not b) (y ∷ others_than x ys) (others_than x ys)) ≡ false) [
+    elim (bytes_eq y x) as (λ b. bytes_eq y x ≡ b → is_in x (cond (not b) (y ∷ others_than x ys) (others_than x ys))
+    ≡ false) [
       | true ↦ λ e. filtered_out x ys
       | false ↦ λ e. ap (λ b. b || is_in x (others_than x ys)) e ∙ filtered_out x ys
     ] refl
 
-still_missing : (p : List ℕ → Bool) (x : List ℕ) (ys : List (List ℕ)) → is_in x ys ≡ false → is_in x (filter p ys) ≡ false
+still_missing : (p : List ℕ → Bool) (x : List ℕ) (ys : List (List ℕ)) → is_in x ys ≡ false →
+    is_in x (filter p ys) ≡ false
 still_missing p x [] h = refl
 still_missing p x (y ∷ ys) h =
     elim (p y) as (λ b. is_in x (cond b (y ∷ filter p ys) (filter p ys)) ≡ false) [
-      | true ↦ ap (λ b. b || is_in x (filter p ys)) (or_parts (bytes_eq y x) (is_in x ys) h).0 ∙ still_missing p x ys (or_parts (bytes_eq y x) (is_in x ys) h).1
+      | true ↦ ap (λ b. b || is_in x (filter p ys)) (or_parts (bytes_eq y x) (is_in x ys) h).0
+          ∙ still_missing p x ys (or_parts (bytes_eq y x) (is_in x ys) h).1
       | false ↦ still_missing p x ys (or_parts (bytes_eq y x) (is_in x ys) h).1
     ]
 
@@ -116,13 +136,17 @@ still_fresh p (y ∷ ys) h =
 
 distinct_are_fresh : (xs : List (List ℕ)) → AreFresh (distinct xs)
 distinct_are_fresh [] = tt
-distinct_are_fresh (x ∷ xs) = (filtered_out x (distinct xs), still_fresh (λ other. not (bytes_eq other x)) (distinct xs) (distinct_are_fresh xs))
+distinct_are_fresh (x ∷ xs) = (
+  filtered_out x (distinct xs),
+  still_fresh (λ other. not (bytes_eq other x)) (distinct xs) (distinct_are_fresh xs),
+)
 
 -- another than x is as much among the others than x
 others_stay : (x z : List ℕ) (ys : List (List ℕ)) → bytes_eq x z ≡ false → is_in z (others_than x ys) ≡ is_in z ys
 others_stay x z [] h = refl
 others_stay x z (y ∷ ys) h =
-    elim (bytes_eq y x) as (λ b. bytes_eq y x ≡ b → is_in z (cond (not b) (y ∷ others_than x ys) (others_than x ys)) ≡ bytes_eq y z || is_in z ys) [
+    elim (bytes_eq y x) as (λ b. bytes_eq y x ≡ b → is_in z (cond (not b) (y ∷ others_than x ys) (others_than x ys))
+    ≡ bytes_eq y z || is_in z ys) [
       | true ↦ λ e. others_stay x z ys h ∙ ap (λ b. b || is_in z ys) (sym (ap (λ w. bytes_eq w z) (same y x e) ∙ h))
       | false ↦ λ e. ap (λ b. bytes_eq y z || b) (others_stay x z ys h)
     ] refl
@@ -135,13 +159,17 @@ is_in-distinct (x ∷ xs) z =
       | false ↦ λ e. others_stay x z (distinct xs) e ∙ is_in-distinct xs z
     ] refl
 
-distinct-push : (xs : List (List ℕ)) (z : List ℕ) → distinct (xs ++ z ∷ []) ≡ (if is_in z xs then distinct xs else distinct xs ++ z ∷ [])
+distinct-push : (xs : List (List ℕ)) (z : List ℕ) → distinct (xs ++ z ∷ [])
+    ≡ (if is_in z xs then distinct xs else distinct xs ++ z ∷ [])
 distinct-push [] z = refl
 distinct-push (x ∷ xs) z =
     ap (λ ys. x ∷ others_than x ys) (distinct-push xs z)
-    ∙ elim (bytes_eq x z) as (λ b. bytes_eq x z ≡ b → x ∷ others_than x (if is_in z xs then distinct xs else distinct xs ++ z ∷ []) ≡ (if b || is_in z xs then x ∷ others_than x (distinct xs) else x ∷ others_than x (distinct xs) ++ z ∷ [])) [
+    ∙ elim (bytes_eq x z) as (λ b. bytes_eq x z ≡ b → x ∷ others_than x (if is_in z xs then distinct xs
+    else distinct xs ++ z ∷ []) ≡ (if b || is_in z xs then x ∷ others_than x (distinct xs) else x
+    ∷ others_than x (distinct xs) ++ z ∷ [])) [
       | true ↦ λ e.
-          elim (is_in z xs) as (λ b. x ∷ others_than x (if b then distinct xs else distinct xs ++ z ∷ []) ≡ x ∷ others_than x (distinct xs)) [
+          elim (is_in z xs) as (λ b. x ∷ others_than x (if b then distinct xs else distinct xs ++ z ∷ []) ≡ x
+          ∷ others_than x (distinct xs)) [
             | true ↦ refl
             | false ↦
                 ap (λ ys. x ∷ ys) (filter-append (λ other. not (bytes_eq other x)) (distinct xs) (z ∷ []))
@@ -149,7 +177,8 @@ distinct-push (x ∷ xs) z =
                 ∙ ap (λ ys. x ∷ ys) (append-nil (others_than x (distinct xs)))
           ]
       | false ↦ λ e.
-          elim (is_in z xs) as (λ b. x ∷ others_than x (if b then distinct xs else distinct xs ++ z ∷ []) ≡ (if b then x ∷ others_than x (distinct xs) else x ∷ others_than x (distinct xs) ++ z ∷ [])) [
+          elim (is_in z xs) as (λ b. x ∷ others_than x (if b then distinct xs else distinct xs ++ z ∷ [])
+          ≡ (if b then x ∷ others_than x (distinct xs) else x ∷ others_than x (distinct xs) ++ z ∷ [])) [
             | true ↦ refl
             | false ↦
                 ap (λ ys. x ∷ ys) (filter-append (λ other. not (bytes_eq other x)) (distinct xs) (z ∷ []))
@@ -174,14 +203,22 @@ counted-tally calls z =
     let f = count_of calls in
     let g = count_of (calls ++ z ∷ []) in
     counted-named f (distinct calls) z (distinct_are_fresh calls)
-    ∙ elim (is_in z calls) as (λ b. is_in z calls ≡ b → (if is_in z (distinct calls) then named (plus_one f z) (distinct calls) else named f (distinct calls) ++ record { identifier = z; count = 1 } ∷ []) ≡ named g (if b then distinct calls else distinct calls ++ z ∷ [])) [
+    ∙ elim (is_in z calls) as (λ b. is_in z calls ≡ b → (if is_in z (distinct calls)
+    then named (plus_one f z) (distinct calls) else named f (distinct calls) ++ record { identifier = z; count = 1 }
+    ∷ []) ≡ named g (if b then distinct calls else distinct calls ++ z ∷ [])) [
       | true ↦ λ e.
-          ap (λ b. if b then named (plus_one f z) (distinct calls) else named f (distinct calls) ++ record { identifier = z; count = 1 } ∷ []) (is_in-distinct calls z ∙ e)
+          ap (λ b. if b then named (plus_one f z) (distinct calls) else named f (distinct calls)
+          ++ record { identifier = z; count = 1 } ∷ []) (is_in-distinct calls z ∙ e)
           ∙ named-ext (plus_one f z) g (distinct calls) (λ x. sym (count-push calls z x))
       | false ↦ λ e.
-          ap (λ b. if b then named (plus_one f z) (distinct calls) else named f (distinct calls) ++ record { identifier = z; count = 1 } ∷ []) (is_in-distinct calls z ∙ e)
-          ∙ ap (λ cs. cs ++ record { identifier = z; count = 1 } ∷ []) (sym (named-missing f (distinct calls) z (is_in-distinct calls z ∙ e)) ∙ named-ext (plus_one f z) g (distinct calls) (λ x. sym (count-push calls z x)))
-          ∙ ap (λ n. named g (distinct calls) ++ record { identifier = z; count = n } ∷ []) (sym (count-push calls z z ∙ ap (λ n. n + (if bytes_eq z z then 1 else 0)) (count-missing calls z e) ∙ ap (λ b. 0 + (if b then 1 else 0)) (itself z)))
+          ap (λ b. if b then named (plus_one f z) (distinct calls) else named f (distinct calls)
+          ++ record { identifier = z; count = 1 } ∷ []) (is_in-distinct calls z ∙ e)
+          ∙ ap (λ cs. cs ++ record { identifier = z; count = 1 }
+          ∷ []) (sym (named-missing f (distinct calls) z (is_in-distinct calls z ∙ e))
+          ∙ named-ext (plus_one f z) g (distinct calls) (λ x. sym (count-push calls z x)))
+          ∙ ap (λ n. named g (distinct calls) ++ record { identifier = z; count = n }
+          ∷ []) (sym (count-push calls z z ∙ ap (λ n. n + (if bytes_eq z z then 1 else 0)) (count-missing calls z e)
+          ∙ ap (λ b. 0 + (if b then 1 else 0)) (itself z)))
           ∙ sym (named-append g (distinct calls) (z ∷ []))
     ] refl
     ∙ ap (λ ds. named g ds) (sym (distinct-push calls z))

@@ -41,7 +41,8 @@ again (e ∷ entries) (suc place) = e ∷ again entries place
 abbrev pub place_among : {V : Type 0} → List (String Global × V) → List ℕ → Option ℕ
 place_among [] identifier = None
 place_among (e ∷ entries) identifier =
-    if bytes_eq (string_bytes e.0) identifier then Some 0 else option_map (λ place. suc place) (place_among entries identifier)
+    if bytes_eq (string_bytes e.0) identifier then Some 0
+    else option_map (λ place. suc place) (place_among entries identifier)
 
 -- each look-up in a map finds an identifier's place
 abbrev pub FindsPlaces : {V : Type 0} → BTreeMap (String Global) ℕ → List (String Global × V) → Type 0

@@ -20,12 +20,15 @@ or_keeps a b c d f g h = elim (or_cases a b h) [ inl x ↦ or_left c d (f x) | i
 completes-append : (rest more : List ℕ) → completes_reference rest ≡ true → completes_reference (rest ++ more) ≡ true
 completes-append rest more h =
     let on = λ (start : List ℕ). begins-append start rest more in
-    or_keeps _ _ _ _ (or_keeps _ _ _ _ (or_keeps _ _ _ _ (on (codes "amp;")) (on (codes "quot;"))) (on (codes "lt;"))) (on (codes "gt;")) h
+    or_keeps _ _ _ _ (or_keeps _ _ _ _ (or_keeps _ _ _ _ (on (codes "amp;")) (on (codes "quot;"))) (on (codes "lt;")))
+    (on (codes "gt;")) h
 
-escaped_byte-append : (b : ℕ) (rest more : List ℕ) → is_escaped_byte b rest ≡ true → is_escaped_byte b (rest ++ more) ≡ true
+escaped_byte-append : (b : ℕ) (rest more : List ℕ) → is_escaped_byte b rest ≡ true →
+    is_escaped_byte b (rest ++ more) ≡ true
 escaped_byte-append b rest more h = by ((b == 0) || (b == 60) || (b == 62) || (b == 34)) (b == 38) h
   where
-    by : (special and : Bool) → cond special false (cond and (completes_reference rest) true) ≡ true → cond special false (cond and (completes_reference (rest ++ more)) true) ≡ true
+    by : (special and : Bool) → cond special false (cond and (completes_reference rest) true) ≡ true →
+        cond special false (cond and (completes_reference (rest ++ more)) true) ≡ true
     by true and h = h
     by false true h = completes-append rest more h
     by false false h = refl
@@ -34,7 +37,8 @@ pub escaped-append : (x y : List ℕ) → is_escaped x ≡ true → is_escaped y
 escaped-append [] y hx hy = hy
 escaped-append (b ∷ x) y hx hy =
     let parts = and_parts (is_escaped_byte b x) (is_escaped x) hx in
-    and_from (is_escaped_byte b (x ++ y)) (is_escaped (x ++ y)) (escaped_byte-append b x y parts.0) (escaped-append x y parts.1 hy)
+    and_from (is_escaped_byte b (x ++ y)) (is_escaped (x ++ y)) (escaped_byte-append b x y parts.0)
+    (escaped-append x y parts.1 hy)
 
 -- what is left of an escaped text after its first byte is escaped
 pub escaped-tail : (b : ℕ) (rest : List ℕ) → is_escaped (b ∷ rest) ≡ true → is_escaped rest ≡ true
@@ -48,22 +52,27 @@ not_both true e f = lie e
 not_both false e f = lie f
 
 -- taken out, it changes no beginning that it isn't in
-begins-without : (b : ℕ) (start text more : List ℕ) → list_all (λ c. not (c == b)) start ≡ true → begins_with start (text ++ (b ∷ more)) ≡ true → begins_with start (text ++ more) ≡ true
+begins-without : (b : ℕ) (start text more : List ℕ) → list_all (λ c. not (c == b)) start ≡ true →
+    begins_with start (text ++ (b ∷ more)) ≡ true → begins_with start (text ++ more) ≡ true
 begins-without b [] text more out h = refl
 begins-without b (s ∷ start) [] more out h =
-    absurd (not_both (eqb s b) (and_parts (not (eqb s b)) (list_all (λ c. not (c == b)) start) out).0 (and_parts (eqb s b) (begins_with start more) h).0)
+    absurd (not_both (eqb s b) (and_parts (not (eqb s b)) (list_all (λ c. not (c == b)) start) out).0
+    (and_parts (eqb s b) (begins_with start more) h).0)
 begins-without b (s ∷ start) (c ∷ text) more out h =
     let parts = and_parts (eqb s c) (begins_with start (text ++ (b ∷ more))) h in
-    and_from (eqb s c) (begins_with start (text ++ more)) parts.0 (begins-without b start text more (and_parts (not (eqb s b)) (list_all (λ c. not (c == b)) start) out).1 parts.1)
+    and_from (eqb s c) (begins_with start (text ++ more)) parts.0
+    (begins-without b start text more (and_parts (not (eqb s b)) (list_all (λ c. not (c == b)) start) out).1 parts.1)
 
-all_front : (b : ℕ) (x y : List ℕ) → list_all (λ c. not (c == b)) (x ++ y) ≡ true → (list_all (λ c. not (c == b)) x ≡ true) × (list_all (λ c. not (c == b)) y ≡ true)
+all_front : (b : ℕ) (x y : List ℕ) → list_all (λ c. not (c == b)) (x ++ y) ≡ true →
+    (list_all (λ c. not (c == b)) x ≡ true) × (list_all (λ c. not (c == b)) y ≡ true)
 all_front b [] y h = (refl, h)
 all_front b (c ∷ x) y h =
     let parts = and_parts (not (c == b)) (list_all (λ c. not (c == b)) (x ++ y)) h in
     let on = all_front b x y parts.1 in
     (and_from (not (c == b)) (list_all (λ c. not (c == b)) x) parts.0 on.0, on.1)
 
-completes-without : (b : ℕ) (text more : List ℕ) → outside_references b ≡ true → completes_reference (text ++ (b ∷ more)) ≡ true → completes_reference (text ++ more) ≡ true
+completes-without : (b : ℕ) (text more : List ℕ) → outside_references b ≡ true →
+    completes_reference (text ++ (b ∷ more)) ≡ true → completes_reference (text ++ more) ≡ true
 completes-without b text more out h =
     let all = (and_parts (not (b == 38)) _ out).1 in
     let amp = all_front b (codes "amp;") (codes "quot;lt;gt;") all in
@@ -73,20 +82,24 @@ completes-without b text more out h =
     (begins-without b (codes "amp;") text more amp.0) (begins-without b (codes "quot;") text more quot.0))
     (begins-without b (codes "lt;") text more lt.0)) (begins-without b (codes "gt;") text more lt.1) h
 
-escaped_byte-without : (b c : ℕ) (text more : List ℕ) → outside_references b ≡ true → is_escaped_byte c (text ++ (b ∷ more)) ≡ true → is_escaped_byte c (text ++ more) ≡ true
+escaped_byte-without : (b c : ℕ) (text more : List ℕ) → outside_references b ≡ true →
+    is_escaped_byte c (text ++ (b ∷ more)) ≡ true → is_escaped_byte c (text ++ more) ≡ true
 escaped_byte-without b c text more out h = by ((c == 0) || (c == 60) || (c == 62) || (c == 34)) (c == 38) h
   where
-    by : (special and : Bool) → cond special false (cond and (completes_reference (text ++ (b ∷ more))) true) ≡ true → cond special false (cond and (completes_reference (text ++ more)) true) ≡ true
+    by : (special and : Bool) → cond special false (cond and (completes_reference (text ++ (b ∷ more))) true) ≡ true →
+        cond special false (cond and (completes_reference (text ++ more)) true) ≡ true
     by true and h = h
     by false true h = completes-without b text more out h
     by false false h = refl
 
 -- such a byte may be taken out of an escaped text
-pub escaped-without : (b : ℕ) (text more : List ℕ) → outside_references b ≡ true → is_escaped (text ++ (b ∷ more)) ≡ true → is_escaped (text ++ more) ≡ true
+pub escaped-without : (b : ℕ) (text more : List ℕ) → outside_references b ≡ true →
+    is_escaped (text ++ (b ∷ more)) ≡ true → is_escaped (text ++ more) ≡ true
 escaped-without b [] more out h = escaped-tail b more h
 escaped-without b (c ∷ text) more out h =
     let parts = and_parts (is_escaped_byte c (text ++ (b ∷ more))) (is_escaped (text ++ (b ∷ more))) h in
-    and_from (is_escaped_byte c (text ++ more)) (is_escaped (text ++ more)) (escaped_byte-without b c text more out parts.0) (escaped-without b text more out parts.1)
+    and_from (is_escaped_byte c (text ++ more)) (is_escaped (text ++ more))
+    (escaped_byte-without b c text more out parts.0) (escaped-without b text more out parts.1)
 
 -- URLs are escaped
 pub sanitized-escaped : (x : List ℕ) → is_escaped (sanitized x) ≡ true
@@ -94,4 +107,5 @@ sanitized-escaped x = is_escaped-encoded (normalized_url x)
 
 pub sanitized_with-escaped : (protocols : List (List ℕ)) (x : List ℕ) → is_escaped (sanitized_with protocols x) ≡ true
 sanitized_with-escaped protocols x =
-    cond_both (has_permitted_protocol protocols (sanitized x)) (sanitized x) [] (λ v. is_escaped v ≡ true) (λ _. sanitized-escaped x) (λ _. refl)
+    cond_both (has_permitted_protocol protocols (sanitized x)) (sanitized x) [] (λ v. is_escaped v
+    ≡ true) (λ _. sanitized-escaped x) (λ _. refl)

@@ -8,7 +8,8 @@ use Rattle.md_text.specs.Laws.{ChangesOnlyAngles}
 use Rattle.md_text.proofs.FilterLemmas.{filtered_byte-other, tag_filtered-other}
 
 -- a byte stays, or is a `<` that becomes `&lt;`
-filtered_byte-cases : (b : ℕ) (rest : List ℕ) → (filtered_byte b rest ≡ b ∷ []) ⊎ ((b ≡ 60) × (filtered_byte b rest ≡ codes "&lt;"))
+filtered_byte-cases : (b : ℕ) (rest : List ℕ) → (filtered_byte b rest ≡ b ∷ []) ⊎ ((b ≡ 60)
+    × (filtered_byte b rest ≡ codes "&lt;"))
 filtered_byte-cases b rest = elim (cases_eq b 60) [
   | inr ne ↦ inl (filtered_byte-other b rest ne)
   | inl e ↦ (
@@ -54,10 +55,13 @@ name_run-filtered : (x : List ℕ) → name_run (tag_filtered x) ≡ name_run x
 name_run-filtered [] = refl
 name_run-filtered (b ∷ rest) = elim (cases_Bool (is_letter b)) [
   | inl letter ↦ ap name_run (tag_filtered-other b rest (letter_no_angle b letter))
-      ∙ name_run-letter b (tag_filtered rest) letter ∙ ap (λ r. b ∷ r) (name_run-filtered rest) ∙ sym (name_run-letter b rest letter)
+      ∙ name_run-letter b (tag_filtered rest) letter ∙ ap (λ r. b ∷ r) (name_run-filtered rest)
+      ∙ sym (name_run-letter b rest letter)
   | inr other ↦ elim (filtered_byte-cases b rest) [
-    | inl same ↦ ap (λ x. name_run (x ++ tag_filtered rest)) same ∙ name_run-other b (tag_filtered rest) other ∙ sym (name_run-other b rest other)
-    | inr armed ↦ ap (λ x. name_run (x ++ tag_filtered rest)) armed.1 ∙ name_run-other 38 (108 ∷ 116 ∷ 59 ∷ tag_filtered rest) refl ∙ sym (name_run-other b rest other)
+    | inl same ↦ ap (λ x. name_run (x ++ tag_filtered rest)) same ∙ name_run-other b (tag_filtered rest) other
+        ∙ sym (name_run-other b rest other)
+    | inr armed ↦ ap (λ x. name_run (x ++ tag_filtered rest)) armed.1
+        ∙ name_run-other 38 (108 ∷ 116 ∷ 59 ∷ tag_filtered rest) refl ∙ sym (name_run-other b rest other)
   ]
 ]
 
@@ -65,9 +69,11 @@ ends_name-filtered : (x : List ℕ) → ends_name (past_run (tag_filtered x)) �
 ends_name-filtered [] = refl
 ends_name-filtered (b ∷ rest) = elim (cases_Bool (is_letter b)) [
   | inl letter ↦ ap (λ x. ends_name (past_run x)) (tag_filtered-other b rest (letter_no_angle b letter))
-      ∙ ap ends_name (past_run-letter b (tag_filtered rest) letter) ∙ ends_name-filtered rest ∙ sym (ap ends_name (past_run-letter b rest letter))
+      ∙ ap ends_name (past_run-letter b (tag_filtered rest) letter) ∙ ends_name-filtered rest
+      ∙ sym (ap ends_name (past_run-letter b rest letter))
   | inr other ↦ elim (filtered_byte-cases b rest) [
-    | inl same ↦ ap (λ x. ends_name (past_run (x ++ tag_filtered rest))) same ∙ ap ends_name (past_run-other b (tag_filtered rest) other) ∙ sym (ap ends_name (past_run-other b rest other))
+    | inl same ↦ ap (λ x. ends_name (past_run (x ++ tag_filtered rest))) same
+        ∙ ap ends_name (past_run-other b (tag_filtered rest) other) ∙ sym (ap ends_name (past_run-other b rest other))
     | inr armed ↦ ap (λ x. ends_name (past_run (x ++ tag_filtered rest))) armed.1
         ∙ ap ends_name (past_run-other 38 (108 ∷ 116 ∷ 59 ∷ tag_filtered rest) refl)
         ∙ sym (ap ends_name (past_run-other b rest other) ∙ ap (λ b. ends_name (b ∷ rest)) armed.0)
@@ -79,18 +85,23 @@ past_slash-filtered [] = refl
 past_slash-filtered (b ∷ rest) = elim (cases_eq b 47) [
   | inl e ↦ subst (λ b. past_slash (tag_filtered (b ∷ rest)) ≡ tag_filtered (past_slash (b ∷ rest))) (sym e) refl
   | inr ne ↦ elim (filtered_byte-cases b rest) [
-    | inl same ↦ ap (λ x. past_slash (x ++ tag_filtered rest)) same ∙ ap (λ t. cond t (tag_filtered rest) (b ∷ tag_filtered rest)) (ne_eqb b 47 ne)
-        ∙ sym (ap (λ x. x ++ tag_filtered rest) same) ∙ sym (ap (λ t. tag_filtered (cond t rest (b ∷ rest))) (ne_eqb b 47 ne))
+    | inl same ↦ ap (λ x. past_slash (x ++ tag_filtered rest)) same
+        ∙ ap (λ t. cond t (tag_filtered rest) (b ∷ tag_filtered rest)) (ne_eqb b 47 ne)
+        ∙ sym (ap (λ x. x ++ tag_filtered rest) same) ∙ sym
+        (ap (λ t. tag_filtered (cond t rest (b ∷ rest))) (ne_eqb b 47 ne))
     | inr armed ↦ ap (λ x. past_slash (x ++ tag_filtered rest)) armed.1
-        ∙ sym (ap (λ x. x ++ tag_filtered rest) armed.1) ∙ sym (ap (λ t. tag_filtered (cond t rest (b ∷ rest))) (ne_eqb b 47 ne))
+        ∙ sym (ap (λ x. x ++ tag_filtered rest) armed.1)
+        ∙ sym (ap (λ t. tag_filtered (cond t rest (b ∷ rest))) (ne_eqb b 47 ne))
   ]
 ]
 
 -- a name to disarm stays one, and no other becomes one
-begins-filtered : (x : List ℕ) → begins_disarmed_name (past_slash (tag_filtered x)) ≡ begins_disarmed_name (past_slash x)
+begins-filtered : (x : List ℕ) → begins_disarmed_name (past_slash (tag_filtered x))
+    ≡ begins_disarmed_name (past_slash x)
 begins-filtered x =
     ap begins_disarmed_name (past_slash-filtered x)
-    ∙ ap₂ (λ name ends. is_one_of disarmed_names (lowered name) && ends) (name_run-filtered (past_slash x)) (ends_name-filtered (past_slash x))
+    ∙ ap₂ (λ name ends. is_one_of disarmed_names (lowered name)
+    && ends) (name_run-filtered (past_slash x)) (ends_name-filtered (past_slash x))
 
 filtered_byte-again : (b : ℕ) (rest : List ℕ) → filtered_byte b (tag_filtered rest) ≡ filtered_byte b rest
 filtered_byte-again b rest = ap (λ t. cond (eqb b 60 && t) (codes "&lt;") (b ∷ [])) (begins-filtered rest)

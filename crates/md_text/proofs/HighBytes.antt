@@ -10,11 +10,15 @@ AllHigh (b ∷ bs) = (128 ≤ b) × AllHigh bs
 
 AllHigh-from_places : (bs : List ℕ) → ((k : ℕ) → k < length bs → 128 ≤ get_or bs k 0) → AllHigh bs
 AllHigh-from_places [] h = tt
-AllHigh-from_places (b ∷ bs) h = (h 0 (zero-lt-suc (length bs)), AllHigh-from_places bs (λ k l. h (suc k) (suc-le-suc l)))
+AllHigh-from_places (b ∷ bs) h = (
+  h 0 (zero-lt-suc (length bs)),
+  AllHigh-from_places bs (λ k l. h (suc k) (suc-le-suc l)),
+)
 
 high_at : (c k : ℕ) → 128 ≤ c → k < length (encode_utf8 c) → 128 ≤ get_or (encode_utf8 c) k 0
 high_at c k high l = elim (cases_lt (get_or (encode_utf8 c) k 0) 128) [
-  | inl low ↦ (let same : c ≡ get_or (encode_utf8 c) k 0 = inside_one c [] (encode_utf8 c) k (sym (append-nil (encode_utf8 c))) l low in absurd (omega arith))
+  | inl low ↦ (let same : c ≡ get_or (encode_utf8 c) k 0 =
+      inside_one c [] (encode_utf8 c) k (sym (append-nil (encode_utf8 c))) l low in absurd (omega arith))
   | inr done ↦ done
 ]
 

@@ -1,11 +1,13 @@
 -- What has a reading: nothing, a text, tags round what has one, and two such texts joined.
+use Rattle.md_base.specs.Identifier.{is_nonempty}
+use Rattle.std.specs.List.{list_all}
 use Rattle.std.proofs.Common.{◌≡◌, ℕ, Bool, true, not, ◌&&◌, List, [], ◌∷◌, ◌++◌, refl, sym, ap, ap₂, ◌∙◌, subst, append-nil, append_assoc}
 use Rattle.std.proofs.lemmas.Bool.{and_parts, and_from}
 use Rattle.md_text.specs.References.{is_escaped}
-use Rattle.md_text.specs.Html.{Attribute, Forest, Empty, Text, Void, Element, is_forest, is_tag, is_filled, begins_with_text, elements, void_tags, written, written_attributes, opening_tag, closing_tag, HasReadingWith, all_attributes, all_pass}
+use Rattle.md_text.specs.Html.{Attribute, Forest, Empty, Text, Void, Element, is_forest, is_tag, begins_with_text, elements, void_tags, written, written_attributes, opening_tag, closing_tag, HasReadingWith, all_attributes}
 use Rattle.md_text.proofs.EscapedLemmas.{escaped-append}
 
-filled-append : (x y : List ℕ) → is_filled x ≡ true → is_filled (x ++ y) ≡ true
+filled-append : (x y : List ℕ) → is_nonempty x ≡ true → is_nonempty (x ++ y) ≡ true
 filled-append [] y h = cc
 filled-append (b ∷ x) y h = refl
 
@@ -29,17 +31,24 @@ written-text_before bytes (Text more rest) = append_assoc bytes more (written re
 written-text_before bytes (Void name attributes rest) = refl
 written-text_before bytes (Element name attributes children rest) = refl
 
-forest-text_before : (bytes : List ℕ) (g : Forest) → is_filled bytes ≡ true → is_escaped bytes ≡ true → is_forest g ≡ true → is_forest (text_before bytes g) ≡ true
-forest-text_before bytes Empty f h hg = and_from _ true (and_from _ true (and_from (is_filled bytes) (is_escaped bytes) f h) refl) refl
+forest-text_before : (bytes : List ℕ) (g : Forest) → is_nonempty bytes ≡ true → is_escaped bytes ≡ true →
+    is_forest g ≡ true → is_forest (text_before bytes g) ≡ true
+forest-text_before bytes Empty f h hg = and_from _ true (and_from _ true
+    (and_from (is_nonempty bytes) (is_escaped bytes) f h) refl) refl
 forest-text_before bytes (Text more rest) f h hg =
-    let p = and_parts (is_filled more && is_escaped more && not (begins_with_text rest)) (is_forest rest) hg in
-    let q = and_parts (is_filled more && is_escaped more) (not (begins_with_text rest)) p.0 in
-    let r = and_parts (is_filled more) (is_escaped more) q.0 in
-    and_from _ (is_forest rest) (and_from _ (not (begins_with_text rest)) (and_from (is_filled (bytes ++ more)) (is_escaped (bytes ++ more)) (filled-append bytes more f) (escaped-append bytes more h r.1)) q.1) p.1
-forest-text_before bytes (Void name attributes rest) f h hg = and_from _ _ (and_from _ true (and_from (is_filled bytes) (is_escaped bytes) f h) refl) hg
-forest-text_before bytes (Element name attributes children rest) f h hg = and_from _ _ (and_from _ true (and_from (is_filled bytes) (is_escaped bytes) f h) refl) hg
+    let p = and_parts (is_nonempty more && is_escaped more && not (begins_with_text rest)) (is_forest rest) hg in
+    let q = and_parts (is_nonempty more && is_escaped more) (not (begins_with_text rest)) p.0 in
+    let r = and_parts (is_nonempty more) (is_escaped more) q.0 in
+    and_from _ (is_forest rest) (and_from _ (not (begins_with_text rest))
+    (and_from (is_nonempty (bytes ++ more)) (is_escaped (bytes ++ more)) (filled-append bytes more f)
+    (escaped-append bytes more h r.1)) q.1) p.1
+forest-text_before bytes (Void name attributes rest) f h hg =
+    and_from _ _ (and_from _ true (and_from (is_nonempty bytes) (is_escaped bytes) f h) refl) hg
+forest-text_before bytes (Element name attributes children rest) f h hg =
+    and_from _ _ (and_from _ true (and_from (is_nonempty bytes) (is_escaped bytes) f h) refl) hg
 
-all-text_before : (p : Attribute → Bool) (bytes : List ℕ) (g : Forest) → all_attributes p g ≡ true → all_attributes p (text_before bytes g) ≡ true
+all-text_before : (p : Attribute → Bool) (bytes : List ℕ) (g : Forest) → all_attributes p g ≡ true →
+    all_attributes p (text_before bytes g) ≡ true
 all-text_before p bytes Empty h = h
 all-text_before p bytes (Text more rest) h = h
 all-text_before p bytes (Void name attributes rest) h = h
@@ -54,65 +63,85 @@ pub text : (p : Attribute → Bool) (bytes : List ℕ) → is_escaped bytes ≡ 
 text p [] h = nothing p
 text p (b ∷ bytes) h = record {
   forest = Text (b ∷ bytes) Empty;
-  reading = record { in_grammar = and_from _ true (and_from _ true (and_from true (is_escaped (b ∷ bytes)) refl h) refl) refl; written_so = append-nil (b ∷ bytes) };
+  reading = record {
+    in_grammar = and_from _ true (and_from _ true
+        (and_from true (is_escaped (b ∷ bytes)) refl h) refl) refl;
+    written_so = append-nil (b ∷ bytes);
+  };
   passes = refl;
 }
 
-pub void : (p : Attribute → Bool) (name : List ℕ) (attributes : List Attribute) → is_tag void_tags name attributes ≡ true → all_pass p attributes ≡ true → HasReadingWith p (written (Void name attributes Empty))
+pub void : (p : Attribute → Bool) (name : List ℕ) (attributes : List Attribute) →
+    is_tag void_tags name attributes ≡ true → list_all p attributes ≡ true →
+    HasReadingWith p (written (Void name attributes Empty))
 void p name attributes h a = record {
   forest = Void name attributes Empty;
   reading = record { in_grammar = and_from (is_tag void_tags name attributes) true h refl; written_so = refl };
-  passes = and_from (all_pass p attributes) true a refl;
+  passes = and_from (list_all p attributes) true a refl;
 }
 
-pub element : (p : Attribute → Bool) (name : List ℕ) (attributes : List Attribute) (inside : List ℕ) → is_tag elements name attributes ≡ true → all_pass p attributes ≡ true → HasReadingWith p inside
-    → HasReadingWith p (60 ∷ (name ++ (written_attributes attributes ++ (62 ∷ (inside ++ (60 ∷ 47 ∷ (name ++ (62 ∷ []))))))))
+pub element : (p : Attribute → Bool) (name : List ℕ) (attributes : List Attribute) (inside : List ℕ) →
+    is_tag elements name attributes ≡ true → list_all p attributes ≡ true → HasReadingWith p inside
+    → HasReadingWith p (60 ∷ (name ++ (written_attributes attributes
+    ++ (62 ∷ (inside ++ (60 ∷ 47 ∷ (name ++ (62 ∷ []))))))))
 element p name attributes inside h a within = record {
   forest = Element name attributes within.forest Empty;
   reading = record {
-    in_grammar = and_from _ true (and_from (is_tag elements name attributes) (is_forest within.forest) h within.reading.in_grammar) refl;
-    written_so = ap (λ x. 60 ∷ (name ++ (written_attributes attributes ++ (62 ∷ (x ++ (60 ∷ 47 ∷ (name ++ (62 ∷ [])))))))) within.reading.written_so;
+    in_grammar = and_from _ true (and_from (is_tag elements name attributes)
+        (is_forest within.forest) h within.reading.in_grammar) refl;
+    written_so = ap (λ x. 60 ∷ (name ++ (written_attributes attributes
+        ++ (62 ∷ (x ++ (60 ∷ 47 ∷ (name ++ (62 ∷ [])))))))) within.reading.written_so;
   };
-  passes = and_from _ true (and_from (all_pass p attributes) (all_attributes p within.forest) a within.passes) refl;
+  passes = and_from _ true (and_from (list_all p attributes) (all_attributes p within.forest) a within.passes) refl;
 }
 
-pub opening-before : (name : List ℕ) (attributes : List Attribute) (x : List ℕ) → opening_tag name attributes ++ x ≡ 60 ∷ (name ++ (written_attributes attributes ++ (62 ∷ x)))
+pub opening-before : (name : List ℕ) (attributes : List Attribute) (x : List ℕ) →
+    opening_tag name attributes ++ x ≡ 60 ∷ (name ++ (written_attributes attributes ++ (62 ∷ x)))
 opening-before name attributes x =
-    ap (λ x. 60 ∷ x) (append_assoc name (written_attributes attributes ++ (62 ∷ [])) x ∙ ap (λ x. name ++ x) (append_assoc (written_attributes attributes) (62 ∷ []) x))
+    ap (λ x. 60 ∷ x) (append_assoc name (written_attributes attributes ++ (62 ∷ [])) x
+    ∙ ap (λ x. name ++ x) (append_assoc (written_attributes attributes) (62 ∷ []) x))
 
-pub round : (p : Attribute → Bool) (name : List ℕ) (attributes : List Attribute) (inside : List ℕ) → is_tag elements name attributes ≡ true → all_pass p attributes ≡ true → HasReadingWith p inside
+pub round : (p : Attribute → Bool) (name : List ℕ) (attributes : List Attribute) (inside : List ℕ) →
+    is_tag elements name attributes ≡ true → list_all p attributes ≡ true → HasReadingWith p inside
     → HasReadingWith p (opening_tag name attributes ++ inside ++ closing_tag name)
 round p name attributes inside h a within =
-    subst (HasReadingWith p) (sym (append_assoc (opening_tag name attributes) inside (closing_tag name) ∙ opening-before name attributes (inside ++ closing_tag name))) (element p name attributes inside h a within)
+    subst (HasReadingWith p) (sym (append_assoc (opening_tag name attributes) inside (closing_tag name)
+    ∙ opening-before name attributes (inside ++ closing_tag name))) (element p name attributes inside h a within)
 
 -- a forest before what has a reading
-after_forest : (p : Attribute → Bool) (f g : Forest) → is_forest f ≡ true → all_attributes p f ≡ true → is_forest g ≡ true → all_attributes p g ≡ true
-    → (is_forest (joined f g) ≡ true) × (written (joined f g) ≡ written f ++ written g) × (all_attributes p (joined f g) ≡ true)
+after_forest : (p : Attribute → Bool) (f g : Forest) → is_forest f ≡ true → all_attributes p f ≡ true →
+    is_forest g ≡ true → all_attributes p g ≡ true
+    → (is_forest (joined f g) ≡ true) × (written (joined f g) ≡ written f ++ written g)
+    × (all_attributes p (joined f g) ≡ true)
 after_forest p Empty g hf pf hg pg = (hg, refl, pg)
 after_forest p (Text bytes rest) g hf pf hg pg =
-    let a = and_parts (is_filled bytes && is_escaped bytes && not (begins_with_text rest)) (is_forest rest) hf in
-    let b = and_parts (is_filled bytes && is_escaped bytes) (not (begins_with_text rest)) a.0 in
-    let c = and_parts (is_filled bytes) (is_escaped bytes) b.0 in
+    let a = and_parts (is_nonempty bytes && is_escaped bytes && not (begins_with_text rest)) (is_forest rest) hf in
+    let b = and_parts (is_nonempty bytes && is_escaped bytes) (not (begins_with_text rest)) a.0 in
+    let c = and_parts (is_nonempty bytes) (is_escaped bytes) b.0 in
     let on = after_forest p rest g a.1 pf hg pg in (
       forest-text_before bytes (joined rest g) c.0 c.1 on.0,
-      written-text_before bytes (joined rest g) ∙ ap (λ x. bytes ++ x) on.1 ∙ sym (append_assoc bytes (written rest) (written g)),
+      written-text_before bytes (joined rest g) ∙ ap (λ x. bytes ++ x) on.1
+          ∙ sym (append_assoc bytes (written rest) (written g)),
       all-text_before p bytes (joined rest g) on.2,
     )
 after_forest p (Void name attributes rest) g hf pf hg pg =
     let a = and_parts (is_tag void_tags name attributes) (is_forest rest) hf in
-    let b = and_parts (all_pass p attributes) (all_attributes p rest) pf in
+    let b = and_parts (list_all p attributes) (all_attributes p rest) pf in
     let on = after_forest p rest g a.1 b.1 hg pg in (
       and_from (is_tag void_tags name attributes) (is_forest (joined rest g)) a.0 on.0,
       ap (λ x. 60 ∷ (name ++ (written_attributes attributes ++ (32 ∷ 47 ∷ 62 ∷ x)))) on.1
-          ∙ sym (ap (λ x. 60 ∷ x) (append_assoc name _ (written g) ∙ ap (λ x. name ++ x) (append_assoc (written_attributes attributes) (32 ∷ 47 ∷ 62 ∷ written rest) (written g)))),
-      and_from (all_pass p attributes) (all_attributes p (joined rest g)) b.0 on.2,
+          ∙ sym (ap (λ x. 60 ∷ x) (append_assoc name _ (written g)
+          ∙ ap (λ x. name ++ x) (append_assoc (written_attributes attributes) (32 ∷ 47 ∷ 62
+          ∷ written rest) (written g)))),
+      and_from (list_all p attributes) (all_attributes p (joined rest g)) b.0 on.2,
     )
 after_forest p (Element name attributes children rest) g hf pf hg pg =
     let a = and_parts (is_tag elements name attributes && is_forest children) (is_forest rest) hf in
-    let b = and_parts (all_pass p attributes && all_attributes p children) (all_attributes p rest) pf in
+    let b = and_parts (list_all p attributes && all_attributes p children) (all_attributes p rest) pf in
     let on = after_forest p rest g a.1 b.1 hg pg in (
       and_from _ (is_forest (joined rest g)) a.0 on.0,
-      ap (λ x. 60 ∷ (name ++ (written_attributes attributes ++ (62 ∷ (written children ++ (60 ∷ 47 ∷ (name ++ (62 ∷ x)))))))) on.1
+      ap (λ x. 60 ∷ (name ++ (written_attributes attributes
+          ++ (62 ∷ (written children ++ (60 ∷ 47 ∷ (name ++ (62 ∷ x)))))))) on.1
           ∙ sym (ap (λ x. 60 ∷ x) (append_assoc name _ (written g)
           ∙ ap (λ x. name ++ x) (append_assoc (written_attributes attributes) _ (written g)
           ∙ ap (λ x. written_attributes attributes ++ (62 ∷ x)) (append_assoc (written children) _ (written g)
@@ -125,6 +154,10 @@ join p x y hx hy =
     let both = after_forest p hx.forest hy.forest hx.reading.in_grammar hx.passes hy.reading.in_grammar hy.passes in
     record {
       forest = joined hx.forest hy.forest;
-      reading = record { in_grammar = both.0; written_so = both.1 ∙ ap₂ (λ x y. x ++ y) hx.reading.written_so hy.reading.written_so };
+      reading = record {
+        in_grammar = both.0;
+        written_so = both.1
+            ∙ ap₂ (λ x y. x ++ y) hx.reading.written_so hy.reading.written_so;
+      };
       passes = both.2;
     }

@@ -1,18 +1,20 @@
 -- The names of the tables, and where names, values and texts end.
+use Rattle.std.specs.Str.{bytes_eq}
+use Rattle.md_base.specs.Identifier.{is_nonempty}
 use Rattle.std.proofs.Common.{◌≡◌, ℕ, ◌==◌, Bool, true, false, not, ◌&&◌, ◌||◌, List, [], ◌∷◌, refl, sym, ap, subst, inl, inr, ne_eqb}
-use Rattle.std.specs.List.{list_all}
+use Rattle.std.specs.List.{list_all, list_any}
 use Rattle.std.specs.Cmp.Lexicographic.{bytes_decides}
 use Rattle.std.proofs.lemmas.Bool.{and_parts, or_cases, and_from, cases_eq}
-use Rattle.md_text.specs.Bytes.{is_between, same_text, is_one_of}
+use Rattle.md_text.specs.Bytes.{is_between, is_one_of}
 use Rattle.md_text.specs.References.{is_escaped, is_escaped_byte}
-use Rattle.md_text.specs.Html.{Attribute, TagRule, is_tag, are_attributes, has_attribute, elements, void_tags, is_filled}
+use Rattle.md_text.specs.Html.{Attribute, is_tag, are_attributes, elements, void_tags}
 
 -- a lower-case letter, a digit or a hyphen
 abbrev pub is_name_byte : ℕ → Bool
 is_name_byte b = is_between 97 122 b || is_between 48 57 b || (b == 45)
 
 abbrev pub is_name : List ℕ → Bool
-is_name name = is_filled name && list_all is_name_byte name
+is_name name = is_nonempty name && list_all is_name_byte name
 
 abbrev pub no_angle : ℕ → Bool
 no_angle b = not (b == 60)
@@ -26,9 +28,9 @@ are_tidy [] = true
 are_tidy (a ∷ rest) = is_name a.name && (list_all no_quote a.value && (list_all no_angle a.value && are_tidy rest))
 
 -- the tables hold names alone
-abbrev pub rules_hold_names : List TagRule → Bool
+abbrev pub rules_hold_names : List (List ℕ × List (List ℕ)) → Bool
 rules_hold_names [] = true
-rules_hold_names (rule ∷ rules) = is_name rule.name && (list_all is_name rule.attributes && rules_hold_names rules)
+rules_hold_names (rule ∷ rules) = is_name rule.0 && (list_all is_name rule.1 && rules_hold_names rules)
 
 lie : false ≡ true → ⊥
 lie e = cc
@@ -59,39 +61,50 @@ escaped-quote (b ∷ rest) e =
     and_from (no_quote b) (list_all no_quote rest) (escaped_byte-quote b rest parts.0) (escaped-quote rest parts.1)
 
 -- a listed name is a name
-listed-name : (listed : List (List ℕ)) (name : List ℕ) → list_all is_name listed ≡ true → is_one_of listed name ≡ true → is_name name ≡ true
+listed-name : (listed : List (List ℕ)) (name : List ℕ) → list_all is_name listed ≡ true →
+    is_one_of listed name ≡ true → is_name name ≡ true
 listed-name [] name g e = cc
 listed-name (t ∷ ts) name g e =
     let parts = and_parts (is_name t) (list_all is_name ts) g in
-    elim (or_cases (same_text name t) (is_one_of ts name) e) [
+    elim (or_cases (bytes_eq name t) (is_one_of ts name) e) [
       | inl same ↦ subst (λ x. is_name x ≡ true) (sym ((bytes_decides name t).0 same)) parts.0
       | inr later ↦ listed-name ts name parts.1 later
     ]
 
-attributes-tidy : (listed : List (List ℕ)) (attributes : List Attribute) → list_all is_name listed ≡ true → are_attributes listed attributes ≡ true → are_tidy attributes ≡ true
+attributes-tidy : (listed : List (List ℕ)) (attributes : List Attribute) → list_all is_name listed ≡ true →
+    are_attributes listed attributes ≡ true → are_tidy attributes ≡ true
 attributes-tidy listed [] g e = refl
 attributes-tidy listed (a ∷ rest) g e =
-    let p = and_parts (is_one_of listed a.name && is_escaped a.value && not (has_attribute a.name rest)) (are_attributes listed rest) e in
-    let q = and_parts (is_one_of listed a.name && is_escaped a.value) (not (has_attribute a.name rest)) p.0 in
+    let p = and_parts (is_one_of listed a.name && is_escaped a.value
+    && not (list_any (λ later. bytes_eq a.name later.name) rest)) (are_attributes listed rest) e in
+    let q = and_parts (is_one_of listed a.name && is_escaped a.value)
+    (not (list_any (λ later. bytes_eq a.name later.name) rest)) p.0 in
     let r = and_parts (is_one_of listed a.name) (is_escaped a.value) q.0 in
     and_from (is_name a.name) _ (listed-name listed a.name g r.0)
     (and_from (list_all no_quote a.value) _ (escaped-quote a.value r.1)
-    (and_from (list_all no_angle a.value) (are_tidy rest) (escaped-angle a.value r.1) (attributes-tidy listed rest g p.1)))
+    (and_from (list_all no_angle a.value) (are_tidy rest) (escaped-angle a.value r.1)
+    (attributes-tidy listed rest g p.1)))
 
 -- a tag of a table of names has a name, and tidy attributes
-tag-tidy : (rules : List TagRule) (name : List ℕ) (attributes : List Attribute) → rules_hold_names rules ≡ true → is_tag rules name attributes ≡ true → (is_name name ≡ true) × (are_tidy attributes ≡ true)
+tag-tidy : (rules : List (List ℕ × List (List ℕ))) (name : List ℕ) (attributes : List Attribute) →
+    rules_hold_names rules ≡ true → is_tag rules name attributes ≡ true →
+    (is_name name ≡ true) × (are_tidy attributes ≡ true)
 tag-tidy [] name attributes g e = absurd (lie e)
 tag-tidy (rule ∷ rules) name attributes g e =
-    let p = and_parts (is_name rule.name) (list_all is_name rule.attributes && rules_hold_names rules) g in
-    let q = and_parts (list_all is_name rule.attributes) (rules_hold_names rules) p.1 in
-    elim (or_cases (same_text rule.name name && are_attributes rule.attributes attributes) (is_tag rules name attributes) e) [
-      | inl this ↦ (let r = and_parts (same_text rule.name name) (are_attributes rule.attributes attributes) this in
-          (subst (λ x. is_name x ≡ true) ((bytes_decides rule.name name).0 r.0) p.0, attributes-tidy rule.attributes attributes q.0 r.1))
+    let p = and_parts (is_name rule.0) (list_all is_name rule.1 && rules_hold_names rules) g in
+    let q = and_parts (list_all is_name rule.1) (rules_hold_names rules) p.1 in
+    elim (or_cases (bytes_eq rule.0 name && are_attributes rule.1 attributes) (is_tag rules name attributes) e) [
+      | inl this ↦ (let r = and_parts (bytes_eq rule.0 name) (are_attributes rule.1 attributes) this in (
+        subst (λ x. is_name x ≡ true) ((bytes_decides rule.0 name).0 r.0) p.0,
+        attributes-tidy rule.1 attributes q.0 r.1,
+      ))
       | inr later ↦ tag-tidy rules name attributes q.1 later
     ]
 
-pub element-tidy : (name : List ℕ) (attributes : List Attribute) → is_tag elements name attributes ≡ true → (is_name name ≡ true) × (are_tidy attributes ≡ true)
+pub element-tidy : (name : List ℕ) (attributes : List Attribute) → is_tag elements name attributes ≡ true →
+    (is_name name ≡ true) × (are_tidy attributes ≡ true)
 element-tidy name attributes e = tag-tidy elements name attributes refl e
 
-pub void-tidy : (name : List ℕ) (attributes : List Attribute) → is_tag void_tags name attributes ≡ true → (is_name name ≡ true) × (are_tidy attributes ≡ true)
+pub void-tidy : (name : List ℕ) (attributes : List Attribute) → is_tag void_tags name attributes ≡ true →
+    (is_name name ≡ true) × (are_tidy attributes ≡ true)
 void-tidy name attributes e = tag-tidy void_tags name attributes refl e

@@ -1,11 +1,12 @@
 -- A paragraph takes an insertion before its end.
+use Rattle.md_base.specs.Identifier.{is_nonempty}
 use Rattle.std.proofs.Common.{◌≡◌, ◌⊎◌, ℕ, ◌==◌, Bool, true, false, not, ◌&&◌, ◌||◌, eqb, List, [], ◌∷◌, ◌++◌, refl, sym, ap, ap₂, ◌∙◌, subst, inl, inr, append-nil, append_assoc, codes, eqb-true}
 use Rattle.std.specs.List.{list_all}
 use Rattle.std.proofs.lemmas.Bool.{and_parts, and_from, or_cases, cases_Bool}
 use Rattle.std.proofs.lemmas.List.Folds.{list_all-append}
 use Rattle.md_text.specs.References.{is_escaped}
 use Rattle.md_text.specs.Laws.{is_line_ends}
-use Rattle.md_text.specs.Html.{Attribute, Forest, Empty, Text, Void, Element, is_forest, is_tag, is_filled, begins_with_text, elements, void_tags, written, written_attributes, opening_tag, closing_tag, HasReadingWith, all_attributes, all_pass}
+use Rattle.md_text.specs.Html.{Attribute, Forest, Empty, Text, Void, Element, is_forest, is_tag, begins_with_text, elements, void_tags, written, written_attributes, opening_tag, closing_tag, HasReadingWith, all_attributes}
 use Rattle.md_text.proofs.HtmlNames.{is_name, is_name_byte, no_angle, no_quote, are_tidy, element-tidy, void-tidy, escaped-angle}
 use Rattle.md_text.proofs.HtmlSplit.{name-not}
 use Rattle.md_text.proofs.HtmlJoin.{text, void, round, join, opening-before}
@@ -15,7 +16,8 @@ lie e = cc
 
 -- where one cut of a text is, seen from another cut
 abbrev Meets : List ℕ → List ℕ → List ℕ → List ℕ → Type 0
-Meets x y b z = ((m : List ℕ) × (b ≡ x ++ m) × (y ≡ m ++ z)) ⊎ ((d : ℕ) × ((m : List ℕ) × (x ≡ b ++ (d ∷ m)) × (z ≡ (d ∷ m) ++ y)))
+Meets x y b z = ((m : List ℕ) × (b ≡ x ++ m) × (y ≡ m ++ z)) ⊎ ((d : ℕ)
+    × ((m : List ℕ) × (x ≡ b ++ (d ∷ m)) × (z ≡ (d ∷ m) ++ y)))
 
 meet : (x y b z : List ℕ) → x ++ y ≡ b ++ z → Meets x y b z
 meet [] y b z e = inl (b, refl, e)
@@ -45,22 +47,28 @@ name-angle (b ∷ name) h =
       | inr ne ↦ ap not ne
     ]
 
-all-append : (x y : List ℕ) → list_all no_angle x ≡ true → list_all no_angle y ≡ true → list_all no_angle (x ++ y) ≡ true
+all-append : (x y : List ℕ) → list_all no_angle x ≡ true → list_all no_angle y ≡ true →
+    list_all no_angle (x ++ y) ≡ true
 all-append x y hx hy = list_all-append no_angle x y ∙ and_from (list_all no_angle x) (list_all no_angle y) hx hy
 
-attributes-angle : (attributes : List Attribute) → are_tidy attributes ≡ true → list_all no_angle (written_attributes attributes) ≡ true
+attributes-angle : (attributes : List Attribute) → are_tidy attributes ≡ true →
+    list_all no_angle (written_attributes attributes) ≡ true
 attributes-angle [] h = refl
 attributes-angle (a ∷ rest) h =
     let p = and_parts (is_name a.name) (list_all no_quote a.value && (list_all no_angle a.value && are_tidy rest)) h in
     let q = and_parts (list_all no_quote a.value) (list_all no_angle a.value && are_tidy rest) p.1 in
     let r = and_parts (list_all no_angle a.value) (are_tidy rest) q.1 in
-    let name = name-angle a.name (and_parts (is_filled a.name) (list_all is_name_byte a.name) p.0).1 in
-    all-append a.name (61 ∷ 34 ∷ (a.value ++ (34 ∷ written_attributes rest))) name (all-append a.value (34 ∷ written_attributes rest) r.0 (attributes-angle rest r.1))
+    let name = name-angle a.name (and_parts (is_nonempty a.name) (list_all is_name_byte a.name) p.0).1 in
+    all-append a.name (61 ∷ 34 ∷ (a.value ++ (34 ∷ written_attributes rest))) name
+    (all-append a.value (34 ∷ written_attributes rest) r.0 (attributes-angle rest r.1))
 
 -- the only `<` of a tag is its first byte
-tag-angle : (name : List ℕ) (attributes : List Attribute) (more : List ℕ) → (is_name name ≡ true) × (are_tidy attributes ≡ true) → list_all no_angle more ≡ true → list_all no_angle (name ++ (written_attributes attributes ++ more)) ≡ true
+tag-angle : (name : List ℕ) (attributes : List Attribute) (more : List ℕ) →
+    (is_name name ≡ true) × (are_tidy attributes ≡ true) → list_all no_angle more ≡ true →
+    list_all no_angle (name ++ (written_attributes attributes ++ more)) ≡ true
 tag-angle name attributes more h m =
-    all-append name (written_attributes attributes ++ more) (name-angle name (and_parts (is_filled name) (list_all is_name_byte name) h.0).1)
+    all-append name (written_attributes attributes ++ more)
+    (name-angle name (and_parts (is_nonempty name) (list_all is_name_byte name) h.0).1)
     (all-append (written_attributes attributes) more (attributes-angle attributes h.1) m)
 
 first_angle : (inner before m : List ℕ) → list_all no_angle inner ≡ true → 60 ∷ inner ≡ before ++ (60 ∷ m) → before ≡ []
@@ -80,14 +88,17 @@ later_of : (d : ℕ) (after m y : List ℕ) → end_before after ≡ (d ∷ m) +
 later_of d after m y e = cc
 
 -- the end doesn't begin inside a tag
-not_in_tag : (name tail before after y : List ℕ) (d : ℕ) (m : List ℕ) → is_name name ≡ true → list_all no_angle (name ++ tail) ≡ true
+not_in_tag : (name tail before after y : List ℕ) (d : ℕ) (m : List ℕ) → is_name name ≡ true →
+    list_all no_angle (name ++ tail) ≡ true
     → 60 ∷ (name ++ tail) ≡ before ++ (d ∷ m) → end_before after ≡ (d ∷ m) ++ y → ⊥
 not_in_tag name tail before after y d m h angles cut z =
-    let at : 60 ∷ (name ++ tail) ≡ before ++ (60 ∷ m) = cut ∙ ap (λ d. before ++ (d ∷ m)) (sym (first_of d after m y z)) in
+    let at : 60 ∷ (name ++ tail) ≡ before ++ (60 ∷ m) = cut
+    ∙ ap (λ d. before ++ (d ∷ m)) (sym (first_of d after m y z)) in
     let empty = first_angle (name ++ tail) before m angles at in
     let whole : 60 ∷ (name ++ tail) ≡ 60 ∷ m = at ∙ ap (λ b. b ++ (60 ∷ m)) empty in
     let rest : name ++ tail ≡ m = cc in
-    name-not 47 name (tail ++ y) (112 ∷ 62 ∷ after) refl h (sym (append_assoc name tail y) ∙ ap (λ x. x ++ y) rest ∙ sym (later_of d after m y z))
+    name-not 47 name (tail ++ y) (112 ∷ 62 ∷ after) refl h (sym (append_assoc name tail y) ∙ ap (λ x. x ++ y) rest
+    ∙ sym (later_of d after m y z))
 
 -- a list of pieces, however it is grouped
 pieces-4 : (o c e r : List ℕ) → (o ++ c ++ e) ++ r ≡ o ++ (c ++ (e ++ r))
@@ -95,13 +106,16 @@ pieces-4 o c e r = append_assoc (o ++ c) e r ∙ append_assoc o c (e ++ r)
 
 -- an element and what follows it
 element-before : (name : List ℕ) (attributes : List Attribute) (children rest : Forest)
-    → written (Element name attributes children rest) ≡ opening_tag name attributes ++ (written children ++ (closing_tag name ++ written rest))
+    → written (Element name attributes children rest) ≡ opening_tag name attributes
+    ++ (written children ++ (closing_tag name ++ written rest))
 element-before name attributes children rest =
-    ap (λ x. 60 ∷ (name ++ (written_attributes attributes ++ (62 ∷ (written children ++ (60 ∷ 47 ∷ x)))))) (sym (append_assoc name (62 ∷ []) (written rest)))
+    ap (λ x. 60 ∷ (name ++ (written_attributes attributes ++ (62 ∷ (written children ++ (60 ∷ 47 ∷ x))))))
+    (sym (append_assoc name (62 ∷ []) (written rest)))
     ∙ sym (opening-before name attributes (written children ++ (closing_tag name ++ written rest)))
 
 -- a void tag and what follows it
-void-before : (name : List ℕ) (attributes : List Attribute) (rest : Forest) → written (Void name attributes rest) ≡ written (Void name attributes Empty) ++ written rest
+void-before : (name : List ℕ) (attributes : List Attribute) (rest : Forest) →
+    written (Void name attributes rest) ≡ written (Void name attributes Empty) ++ written rest
 void-before name attributes rest =
     sym (ap (λ x. 60 ∷ x)
     (append_assoc name (written_attributes attributes ++ (32 ∷ 47 ∷ 62 ∷ [])) (written rest)
@@ -111,60 +125,86 @@ nil_not : (before : List ℕ) (m : List ℕ) → [] ≡ before ++ (60 ∷ m) →
 nil_not [] m e = cc
 nil_not (b ∷ before) m e = cc
 
-pub put : (p : Attribute → Bool) (x : List ℕ) → HasReadingWith p x → (f : Forest) (before after : List ℕ) → is_forest f ≡ true → all_attributes p f ≡ true → list_all no_angle after ≡ true
+pub put : (p : Attribute → Bool) (x : List ℕ) → HasReadingWith p x → (f : Forest) (before after : List ℕ) →
+    is_forest f ≡ true → all_attributes p f ≡ true → list_all no_angle after ≡ true
     → written f ≡ before ++ end_before after → HasReadingWith p (before ++ (x ++ end_before after))
 put p x hx Empty before after hf pf angles e = absurd (nil_not before (47 ∷ 112 ∷ 62 ∷ after) e)
 put p x hx (Text bytes rest) before after hf pf angles e =
-    let a = and_parts (is_filled bytes && is_escaped bytes && not (begins_with_text rest)) (is_forest rest) hf in
-    let escaped = (and_parts (is_filled bytes) (is_escaped bytes) (and_parts (is_filled bytes && is_escaped bytes) (not (begins_with_text rest)) a.0).0).1 in
+    let a = and_parts (is_nonempty bytes && is_escaped bytes && not (begins_with_text rest)) (is_forest rest) hf in
+    let escaped = (and_parts (is_nonempty bytes) (is_escaped bytes)
+    (and_parts (is_nonempty bytes && is_escaped bytes) (not (begins_with_text rest)) a.0).0).1 in
     elim (meet bytes (written rest) before (end_before after) e) [
       | inl on ↦ (let later = put p x hx rest on.0 after a.1 pf angles on.2 in
-          subst (HasReadingWith p) (sym (append_assoc bytes on.0 (x ++ end_before after)) ∙ ap (λ b. b ++ (x ++ end_before after)) (sym on.1))
+          subst (HasReadingWith p) (sym (append_assoc bytes on.0 (x ++ end_before after))
+          ∙ ap (λ b. b ++ (x ++ end_before after)) (sym on.1))
           (join p bytes (on.0 ++ (x ++ end_before after)) (text p bytes escaped) later))
       | inr in_text ↦ absurd (no_angle_inside before in_text.1.0
-          (subst (λ t. list_all no_angle t ≡ true) (in_text.1.1 ∙ ap (λ d. before ++ (d ∷ in_text.1.0)) (sym (first_of in_text.0 after in_text.1.0 (written rest) in_text.1.2))) (escaped-angle bytes escaped)))
+          (subst (λ t. list_all no_angle t ≡ true) (in_text.1.1
+          ∙ ap (λ d. before ++ (d ∷ in_text.1.0)) (sym
+          (first_of in_text.0 after in_text.1.0 (written rest) in_text.1.2))) (escaped-angle bytes escaped)))
     ]
 put p x hx (Void name attributes rest) before after hf pf angles e =
     let a = and_parts (is_tag void_tags name attributes) (is_forest rest) hf in
-    let b = and_parts (all_pass p attributes) (all_attributes p rest) pf in
+    let b = and_parts (list_all p attributes) (all_attributes p rest) pf in
     let tidy = void-tidy name attributes a.0 in
     let tag = written (Void name attributes Empty) in
     elim (meet tag (written rest) before (end_before after) (sym (void-before name attributes rest) ∙ e)) [
       | inl on ↦ (let later = put p x hx rest on.0 after a.1 b.1 angles on.2 in
-          subst (HasReadingWith p) (sym (append_assoc tag on.0 (x ++ end_before after)) ∙ ap (λ b. b ++ (x ++ end_before after)) (sym on.1))
+          subst (HasReadingWith p) (sym (append_assoc tag on.0 (x ++ end_before after))
+          ∙ ap (λ b. b ++ (x ++ end_before after)) (sym on.1))
           (join p tag (on.0 ++ (x ++ end_before after)) (void p name attributes a.0 b.0) later))
-      | inr in_tag ↦ absurd (not_in_tag name (written_attributes attributes ++ (32 ∷ 47 ∷ 62 ∷ [])) before after (written rest) in_tag.0 in_tag.1.0 tidy.0
+      | inr in_tag ↦ absurd (not_in_tag name (written_attributes attributes
+          ++ (32 ∷ 47 ∷ 62 ∷ [])) before after (written rest) in_tag.0 in_tag.1.0 tidy.0
           (tag-angle name attributes (32 ∷ 47 ∷ 62 ∷ []) tidy refl) in_tag.1.1 in_tag.1.2)
     ]
 put p x hx (Element name attributes children rest) before after hf pf angles e =
     let a = and_parts (is_tag elements name attributes && is_forest children) (is_forest rest) hf in
     let b = and_parts (is_tag elements name attributes) (is_forest children) a.0 in
-    let c = and_parts (all_pass p attributes && all_attributes p children) (all_attributes p rest) pf in
-    let d = and_parts (all_pass p attributes) (all_attributes p children) c.0 in
+    let c = and_parts (list_all p attributes && all_attributes p children) (all_attributes p rest) pf in
+    let d = and_parts (list_all p attributes) (all_attributes p children) c.0 in
     let tidy = element-tidy name attributes b.0 in
     let open_tag = opening_tag name attributes in
     let close_tag = closing_tag name in
     let z = end_before after in
-    let inside : HasReadingWith p (written children) = record { forest = children; reading = record { in_grammar = b.1; written_so = refl }; passes = d.1 } in
-    let following : HasReadingWith p (written rest) = record { forest = rest; reading = record { in_grammar = a.1; written_so = refl }; passes = c.1 } in
-    elim (meet open_tag (written children ++ (close_tag ++ written rest)) before z (sym (element-before name attributes children rest) ∙ e)) [
-      | inr in_tag ↦ absurd (not_in_tag name (written_attributes attributes ++ (62 ∷ [])) before after (written children ++ (close_tag ++ written rest)) in_tag.0 in_tag.1.0 tidy.0
+    let inside : HasReadingWith p (written children) = record {
+      forest = children;
+      reading = record { in_grammar = b.1; written_so = refl };
+      passes = d.1;
+    } in
+    let following : HasReadingWith p (written rest) = record {
+      forest = rest;
+      reading = record { in_grammar = a.1; written_so = refl };
+      passes = c.1;
+    } in
+    elim (meet open_tag (written children ++ (close_tag ++ written rest)) before z
+    (sym (element-before name attributes children rest) ∙ e)) [
+      | inr in_tag ↦ absurd (not_in_tag name (written_attributes attributes
+          ++ (62 ∷ [])) before after (written children ++ (close_tag ++ written rest)) in_tag.0 in_tag.1.0 tidy.0
           (tag-angle name attributes (62 ∷ []) tidy refl) in_tag.1.1 in_tag.1.2)
       | inl past_open ↦ elim (meet (written children) (close_tag ++ written rest) past_open.0 z past_open.2) [
         | inr in_children ↦ absurd (no_angle_inside in_children.1.0 (47 ∷ (name ++ (62 ∷ [])) ++ written rest)
-            (subst (λ t. list_all no_angle t ≡ true) (later_of in_children.0 after in_children.1.0 (close_tag ++ written rest) in_children.1.2) angles))
+            (subst (λ t. list_all no_angle t ≡ true) (later_of in_children.0 after in_children.1.0 (close_tag
+            ++ written rest) in_children.1.2) angles))
         | inl past_children ↦ elim (meet close_tag (written rest) past_children.0 z past_children.2) [
           | inl past_close ↦ (let later = put p x hx rest past_close.0 after a.1 c.1 angles past_close.2 in
-              let all = join p (open_tag ++ written children ++ close_tag) (past_close.0 ++ (x ++ z)) (round p name attributes (written children) b.0 d.0 inside) later in
+              let all = join p (open_tag ++ written children ++ close_tag) (past_close.0
+              ++ (x ++ z)) (round p name attributes (written children) b.0 d.0 inside) later in
               let place : before ≡ open_tag ++ written children ++ close_tag ++ past_close.0 =
-              past_open.1 ∙ ap (λ m. open_tag ++ m) (past_children.1 ∙ ap (λ m. written children ++ m) past_close.1) ∙ sym (pieces-4 open_tag (written children) close_tag past_close.0) in
-              subst (HasReadingWith p) (sym (append_assoc (open_tag ++ written children ++ close_tag) past_close.0 (x ++ z)) ∙ ap (λ b. b ++ (x ++ z)) (sym place)) all)
+              past_open.1 ∙ ap (λ m. open_tag ++ m) (past_children.1 ∙ ap (λ m. written children ++ m) past_close.1)
+              ∙ sym (pieces-4 open_tag (written children) close_tag past_close.0) in
+              subst (HasReadingWith p) (sym (append_assoc (open_tag ++ written children ++ close_tag) past_close.0 (x
+              ++ z)) ∙ ap (λ b. b ++ (x ++ z)) (sym place)) all)
           | inr at_close ↦ (let empty = first_angle (47 ∷ (name ++ (62 ∷ []))) past_children.0 at_close.1.0
               (tag-close-angle name tidy.0)
-              (at_close.1.1 ∙ ap (λ d. past_children.0 ++ (d ∷ at_close.1.0)) (sym (first_of at_close.0 after at_close.1.0 (written rest) at_close.1.2))) in
+              (at_close.1.1 ∙ ap (λ d. past_children.0 ++ (d ∷ at_close.1.0))
+              (sym (first_of at_close.0 after at_close.1.0 (written rest) at_close.1.2))) in
               let ends : close_tag ++ written rest ≡ z = past_children.2 ∙ ap (λ m. m ++ z) empty in
-              let place : before ≡ open_tag ++ written children = past_open.1 ∙ ap (λ m. open_tag ++ m) (past_children.1 ∙ ap (λ m. written children ++ m) empty ∙ append-nil (written children)) in
-              let all = join p (open_tag ++ (written children ++ x) ++ close_tag) (written rest) (round p name attributes (written children ++ x) b.0 d.0 (join p (written children) x inside hx)) following in
+              let place : before ≡ open_tag ++ written children = past_open.1
+              ∙ ap (λ m. open_tag ++ m) (past_children.1 ∙ ap (λ m. written children ++ m) empty
+              ∙ append-nil (written children)) in
+              let all = join p (open_tag ++ (written children ++ x)
+              ++ close_tag) (written rest) (round p name attributes (written children
+              ++ x) b.0 d.0 (join p (written children) x inside hx)) following in
               subst (HasReadingWith p)
               (append_assoc (open_tag ++ (written children ++ x)) close_tag (written rest)
               ∙ ap (λ y. (open_tag ++ (written children ++ x)) ++ y) ends
@@ -177,7 +217,8 @@ put p x hx (Element name attributes children rest) before after hf pf angles e =
     ]
   where
     tag-close-angle : (name : List ℕ) → is_name name ≡ true → list_all no_angle (47 ∷ (name ++ (62 ∷ []))) ≡ true
-    tag-close-angle name h = all-append name (62 ∷ []) (name-angle name (and_parts (is_filled name) (list_all is_name_byte name) h).1) refl
+    tag-close-angle name h = all-append name (62 ∷ []) (name-angle name
+        (and_parts (is_nonempty name) (list_all is_name_byte name) h).1) refl
 
 line_ends-angle : (endings : List ℕ) → is_line_ends endings ≡ true → list_all no_angle endings ≡ true
 line_ends-angle [] h = refl
@@ -191,8 +232,11 @@ line_ends-angle (b ∷ endings) h =
       | inr is ↦ subst (λ b. no_angle b ≡ true) (sym (eqb-true b 10 is)) refl
     ]
 
-pub paragraph_takes : (p : Attribute → Bool) (before endings inserted : List ℕ) → is_line_ends endings ≡ true → HasReadingWith p (before ++ codes "</p>" ++ endings) → HasReadingWith p inserted
+pub paragraph_takes : (p : Attribute → Bool) (before endings inserted : List ℕ) → is_line_ends endings ≡ true →
+    HasReadingWith p (before ++ codes "</p>" ++ endings) → HasReadingWith p inserted
     → HasReadingWith p (before ++ inserted ++ codes "</p>" ++ endings)
 paragraph_takes p before endings inserted h hv hx =
-    subst (HasReadingWith p) (sym (append_assoc (before ++ inserted) (codes "</p>") endings ∙ append_assoc before inserted (end_before endings)))
-    (put p inserted hx hv.forest before endings hv.reading.in_grammar hv.passes (line_ends-angle endings h) (hv.reading.written_so ∙ append_assoc before (codes "</p>") endings))
+    subst (HasReadingWith p) (sym (append_assoc (before ++ inserted) (codes "</p>") endings
+    ∙ append_assoc before inserted (end_before endings)))
+    (put p inserted hx hv.forest before endings hv.reading.in_grammar hv.passes (line_ends-angle endings h)
+    (hv.reading.written_so ∙ append_assoc before (codes "</p>") endings))

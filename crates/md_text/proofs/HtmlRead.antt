@@ -1,10 +1,11 @@
 -- A reader of HTML: it guesses a forest, which is a reading where it is one and is written as the text.
+use Rattle.std.specs.Str.{bytes_eq}
+use Rattle.md_base.specs.Identifier.{is_nonempty}
 use Rattle.std.proofs.Common.{◌≡◌, ℕ, ◌+◌, ◌≤◌, ◌==◌, Bool, true, false, not, ◌&&◌, cond, if◌then◌else◌, List, [], ◌∷◌, ◌++◌, drop, length, refl, sym, ap, ◌∙◌, subst, inl, inr, append-nil, zero, suc, arith, ne_eqb, length-append}
 use Rattle.std.specs.List.{list_all}
 use Rattle.std.proofs.lemmas.Bool.{and_parts, and_from}
 use Rattle.std.specs.Cmp.Lexicographic.{bytes_decides}
-use Rattle.md_text.specs.Bytes.{same_text}
-use Rattle.md_text.specs.Html.{Attribute, Forest, Empty, Text, Void, Element, is_forest, is_filled, written, written_attributes, IsReading, HasReading, HasReadingWith, all_attributes, all_pass, any_attribute}
+use Rattle.md_text.specs.Html.{Attribute, Forest, Empty, Text, Void, Element, is_forest, written, written_attributes, IsReading, HasReading, HasReadingWith, all_attributes, any_attribute}
 use Rattle.md_text.proofs.HtmlNames.{is_name, is_name_byte, no_angle, no_quote, are_tidy}
 use Rattle.md_text.proofs.HtmlSplit.{stops, EndsAttributes}
 use Rattle.md_text.proofs.HtmlWriting.{attributes_before, forest_before, written-before}
@@ -30,12 +31,14 @@ not_true : (t : Bool) → not t ≡ true → t ≡ false
 not_true true e = cc
 not_true false e = refl
 
-read_run-at : (t : ℕ → Bool) (x a : List ℕ) → list_all t x ≡ true → stops t a ≡ true → read_run t (x ++ a) ≡ with_left x a
+read_run-at : (t : ℕ → Bool) (x a : List ℕ) → list_all t x ≡ true → stops t a ≡ true →
+    read_run t (x ++ a) ≡ with_left x a
 read_run-at t [] [] h s = refl
 read_run-at t [] (b ∷ a) h s = ap (λ c. cond c (more_run b (read_run t a)) (with_left [] (b ∷ a))) (not_true (t b) s)
 read_run-at t (b ∷ x) a h s =
     let p = and_parts (t b) (list_all t x) h in
-    ap (λ c. cond c (more_run b (read_run t (x ++ a))) (with_left [] (b ∷ (x ++ a)))) p.0 ∙ ap (more_run b) (read_run-at t x a p.1 s)
+    ap (λ c. cond c (more_run b (read_run t (x ++ a))) (with_left [] (b ∷ (x ++ a)))) p.0
+    ∙ ap (more_run b) (read_run-at t x a p.1 s)
 
 -- ---- attributes
 
@@ -50,7 +53,8 @@ past_name go name = past_value go name.found (read_run no_quote (drop 2 name.lef
 
 abbrev past_space : (List ℕ → Left (List Attribute)) → List ℕ → Left (List Attribute)
 past_space go [] = with_left [] (32 ∷ [])
-past_space go (b ∷ rest) = if b == 47 then with_left [] (32 ∷ b ∷ rest) else past_name go (read_run is_name_byte (b ∷ rest))
+past_space go (b ∷ rest) = if b == 47 then with_left [] (32 ∷ b ∷ rest)
+    else past_name go (read_run is_name_byte (b ∷ rest))
 
 abbrev at_attribute : (List ℕ → Left (List Attribute)) → List ℕ → Left (List Attribute)
 at_attribute go [] = with_left [] []
@@ -67,7 +71,8 @@ abbrev element_from : (List ℕ → Left Forest) → List ℕ → List Attribute
 element_from go name attributes children rest = with_left (Element name attributes children.found rest.found) rest.left
 
 abbrev past_children : (List ℕ → Left Forest) → List ℕ → List Attribute → Left Forest → Left Forest
-past_children go name attributes children = element_from go name attributes children (go (drop 1 (drop (length name) (drop 2 children.left))))
+past_children go name attributes children = element_from go name attributes children
+    (go (drop 1 (drop (length name) (drop 2 children.left))))
 
 abbrev void_from : List ℕ → List Attribute → Left Forest → Left Forest
 void_from name attributes rest = with_left (Void name attributes rest.found) rest.left
@@ -85,7 +90,8 @@ past_tag_name go name = with_attributes_read go name.found (read_attributes (len
 
 abbrev past_angle : (List ℕ → Left Forest) → List ℕ → Left Forest
 past_angle go [] = with_left Empty (60 ∷ [])
-past_angle go (b ∷ rest) = if b == 47 then with_left Empty (60 ∷ b ∷ rest) else past_tag_name go (read_run is_name_byte (b ∷ rest))
+past_angle go (b ∷ rest) = if b == 47 then with_left Empty (60 ∷ b ∷ rest)
+    else past_tag_name go (read_run is_name_byte (b ∷ rest))
 
 abbrev text_from : List ℕ → Left Forest → Left Forest
 text_from bytes rest = with_left (Text bytes rest.found) rest.left
@@ -110,16 +116,19 @@ lie e = cc
 passes_not : (t : ℕ → Bool) (b n : ℕ) → t n ≡ false → t b ≡ true → (b == n) ≡ false
 passes_not t b n no_n yes_b = ne_eqb b n (λ e. lie (sym no_n ∙ ap t (sym e) ∙ yes_b))
 
-past_space-name : (go : List ℕ → Left (List Attribute)) (name tail : List ℕ) → is_name name ≡ true → past_space go (name ++ tail) ≡ past_name go (read_run is_name_byte (name ++ tail))
+past_space-name : (go : List ℕ → Left (List Attribute)) (name tail : List ℕ) → is_name name ≡ true →
+    past_space go (name ++ tail) ≡ past_name go (read_run is_name_byte (name ++ tail))
 past_space-name go [] tail h = absurd (lie h)
 past_space-name go (b ∷ name) tail h =
-    ap (λ c. cond c (with_left [] (32 ∷ b ∷ (name ++ tail))) (past_name go (read_run is_name_byte ((b ∷ name) ++ tail))))
+    ap (λ c. cond c (with_left [] (32 ∷ b ∷ (name ++ tail)))
+    (past_name go (read_run is_name_byte ((b ∷ name) ++ tail))))
     (passes_not is_name_byte b 47 refl (and_parts (is_name_byte b) (list_all is_name_byte name) h).0)
 
 name_bytes : (name : List ℕ) → is_name name ≡ true → list_all is_name_byte name ≡ true
-name_bytes name h = (and_parts (is_filled name) (list_all is_name_byte name) h).1
+name_bytes name h = (and_parts (is_nonempty name) (list_all is_name_byte name) h).1
 
-read_attributes-at : (n : ℕ) (x : List Attribute) (r : List ℕ) → are_tidy x ≡ true → EndsAttributes r → length x ≤ n → read_attributes n (attributes_before x r) ≡ with_left x r
+read_attributes-at : (n : ℕ) (x : List Attribute) (r : List ℕ) → are_tidy x ≡ true → EndsAttributes r → length x ≤ n →
+    read_attributes n (attributes_before x r) ≡ with_left x r
 read_attributes-at zero [] r h ends l = refl
 read_attributes-at zero (a ∷ x) r h ends l = absurd (omega arith)
 read_attributes-at (suc n) [] r h ends l = elim ends [
@@ -140,7 +149,12 @@ length-attributes : (x : List Attribute) (r : List ℕ) → length x ≤ length 
 length-attributes [] r = omega arith
 length-attributes (a ∷ x) r =
     let later = 34 ∷ attributes_before x r in
-    omega (arith, length-attributes x r, length-append a.name (61 ∷ 34 ∷ (a.value ++ later)), length-append a.value later)
+    omega (
+      arith,
+      length-attributes x r,
+      length-append a.name (61 ∷ 34 ∷ (a.value ++ later)),
+      length-append a.value later,
+    )
 
 -- how deep and long a forest is
 abbrev size : Forest → ℕ
@@ -149,13 +163,16 @@ size (Text bytes rest) = suc (size rest)
 size (Void name attributes rest) = suc (size rest)
 size (Element name attributes children rest) = suc (size children + size rest)
 
-past_angle-name : (go : List ℕ → Left Forest) (name tail : List ℕ) → is_name name ≡ true → past_angle go (name ++ tail) ≡ past_tag_name go (read_run is_name_byte (name ++ tail))
+past_angle-name : (go : List ℕ → Left Forest) (name tail : List ℕ) → is_name name ≡ true →
+    past_angle go (name ++ tail) ≡ past_tag_name go (read_run is_name_byte (name ++ tail))
 past_angle-name go [] tail h = absurd (lie h)
 past_angle-name go (b ∷ name) tail h =
-    ap (λ c. cond c (with_left Empty (60 ∷ b ∷ (name ++ tail))) (past_tag_name go (read_run is_name_byte ((b ∷ name) ++ tail))))
+    ap (λ c. cond c (with_left Empty (60 ∷ b ∷ (name ++ tail)))
+    (past_tag_name go (read_run is_name_byte ((b ∷ name) ++ tail))))
     (passes_not is_name_byte b 47 refl (and_parts (is_name_byte b) (list_all is_name_byte name) h).0)
 
-at_node-text : (go : List ℕ → Left Forest) (bytes tail : List ℕ) → is_filled bytes ≡ true → list_all no_angle bytes ≡ true → at_node go (bytes ++ tail) ≡ past_text go (read_run no_angle (bytes ++ tail))
+at_node-text : (go : List ℕ → Left Forest) (bytes tail : List ℕ) → is_nonempty bytes ≡ true →
+    list_all no_angle bytes ≡ true → at_node go (bytes ++ tail) ≡ past_text go (read_run no_angle (bytes ++ tail))
 at_node-text go [] tail f h = absurd (lie f)
 at_node-text go (b ∷ bytes) tail f h =
     ap (λ c. cond c (past_angle go (bytes ++ tail)) (past_text go (read_run no_angle ((b ∷ bytes) ++ tail))))
@@ -166,15 +183,19 @@ past_name_bytes [] tail = refl
 past_name_bytes (b ∷ name) tail = past_name_bytes name tail
 
 -- a tag up to where it goes on after its attributes
-tag-at : (go : List ℕ → Left Forest) (name : List ℕ) (attributes : List Attribute) (r : List ℕ) → (is_name name ≡ true) × (are_tidy attributes ≡ true) → EndsAttributes r
+tag-at : (go : List ℕ → Left Forest) (name : List ℕ) (attributes : List Attribute) (r : List ℕ) →
+    (is_name name ≡ true) × (are_tidy attributes ≡ true) → EndsAttributes r
     → past_angle go (name ++ attributes_before attributes r) ≡ past_attributes go name attributes r
 tag-at go name attributes r tidy ends =
     let on = attributes_before attributes r in
     past_angle-name go name on tidy.0
-    ∙ ap (past_tag_name go) (read_run-at is_name_byte name on (name_bytes name tidy.0) (attributes_stop attributes r ends))
-    ∙ ap (with_attributes_read go name) (read_attributes-at (length on) attributes r tidy.1 ends (length-attributes attributes r))
+    ∙ ap (past_tag_name go) (read_run-at is_name_byte name on (name_bytes name tidy.0)
+    (attributes_stop attributes r ends))
+    ∙ ap (with_attributes_read go name) (read_attributes-at (length on) attributes r tidy.1 ends
+    (length-attributes attributes r))
 
-read_forest-at : (n : ℕ) (f : Forest) (r : List ℕ) → is_forest f ≡ true → IsEnd r → size f ≤ n → read_forest n (forest_before f r) ≡ with_left f r
+read_forest-at : (n : ℕ) (f : Forest) (r : List ℕ) → is_forest f ≡ true → IsEnd r → size f ≤ n →
+    read_forest n (forest_before f r) ≡ with_left f r
 read_forest-at zero Empty r h ends l = absurd (omega arith)
 read_forest-at zero (Text bytes rest) r h ends l = absurd (omega arith)
 read_forest-at zero (Void name attributes rest) r h ends l = absurd (omega arith)
@@ -200,9 +221,12 @@ read_forest-at (suc n) (Element name attributes children rest) r h ends l =
     let later = forest_before rest r in
     let close = 60 ∷ 47 ∷ (name ++ (62 ∷ later)) in
     tag-at go name attributes (62 ∷ forest_before children close) p.tidy (inl (forest_before children close, refl))
-    ∙ ap (past_children go name attributes) (read_forest-at n children close p.inside (inr (name ++ (62 ∷ later), refl)) (omega arith))
-    ∙ ap (λ y. element_from go name attributes (with_left children close) (go (drop 1 y))) (past_name_bytes name (62 ∷ later))
-    ∙ ap (element_from go name attributes (with_left children close)) (read_forest-at n rest r p.later ends (omega arith))
+    ∙ ap (past_children go name attributes) (read_forest-at n children close p.inside
+    (inr (name ++ (62 ∷ later), refl)) (omega arith))
+    ∙ ap (λ y. element_from go name attributes (with_left children close) (go (drop 1 y)))
+    (past_name_bytes name (62 ∷ later))
+    ∙ ap (element_from go name attributes (with_left children close))
+    (read_forest-at n rest r p.later ends (omega arith))
 
 size-written : (f : Forest) → is_forest f ≡ true → size f ≤ suc (length (written f))
 size-written Empty h = omega arith
@@ -210,13 +234,18 @@ size-written (Text bytes rest) h =
     let p = text_parts bytes rest h in
     omega (arith, size-written rest p.later, length-append bytes (written rest), filled-length bytes p.filled)
   where
-    filled-length : (bytes : List ℕ) → is_filled bytes ≡ true → 1 ≤ length bytes
+    filled-length : (bytes : List ℕ) → is_nonempty bytes ≡ true → 1 ≤ length bytes
     filled-length [] f = absurd (lie f)
     filled-length (b ∷ bytes) f = omega arith
 size-written (Void name attributes rest) h =
     let p = void_parts name attributes rest h in
     let tag = written_attributes attributes in
-    omega (arith, size-written rest p.later, length-append name (tag ++ (32 ∷ 47 ∷ 62 ∷ written rest)), length-append tag (32 ∷ 47 ∷ 62 ∷ written rest))
+    omega (
+      arith,
+      size-written rest p.later,
+      length-append name (tag ++ (32 ∷ 47 ∷ 62 ∷ written rest)),
+      length-append tag (32 ∷ 47 ∷ 62 ∷ written rest),
+    )
 size-written (Element name attributes children rest) h =
     let p = element_parts name attributes children rest h in
     let tag = written_attributes attributes in
@@ -237,23 +266,25 @@ size-written (Element name attributes children rest) h =
 abbrev pub guessed : List ℕ → Forest
 guessed text = (read_forest (suc (length text)) text).found
 
-any_of : (attributes : List Attribute) → all_pass any_attribute attributes ≡ true
+any_of : (attributes : List Attribute) → list_all any_attribute attributes ≡ true
 any_of [] = refl
 any_of (a ∷ rest) = any_of rest
 
 any_pass : (f : Forest) → all_attributes any_attribute f ≡ true
 any_pass Empty = refl
 any_pass (Text bytes rest) = any_pass rest
-any_pass (Void name attributes rest) = and_from (all_pass any_attribute attributes) (all_attributes any_attribute rest) (any_of attributes) (any_pass rest)
+any_pass (Void name attributes rest) = and_from (list_all any_attribute attributes)
+    (all_attributes any_attribute rest) (any_of attributes) (any_pass rest)
 any_pass (Element name attributes children rest) =
-    and_from _ (all_attributes any_attribute rest) (and_from (all_pass any_attribute attributes) (all_attributes any_attribute children) (any_of attributes) (any_pass children)) (any_pass rest)
+    and_from _ (all_attributes any_attribute rest) (and_from (list_all any_attribute attributes)
+    (all_attributes any_attribute children) (any_of attributes) (any_pass children)) (any_pass rest)
 
 abbrev pub is_readable : List ℕ → Bool
-is_readable text = is_forest (guessed text) && same_text (written (guessed text)) text
+is_readable text = is_forest (guessed text) && bytes_eq (written (guessed text)) text
 
 guessed_reading : (text : List ℕ) → is_readable text ≡ true → IsReading text (guessed text)
 guessed_reading text h =
-    let p = and_parts (is_forest (guessed text)) (same_text (written (guessed text)) text) h in
+    let p = and_parts (is_forest (guessed text)) (bytes_eq (written (guessed text)) text) h in
     record { in_grammar = p.0; written_so = (bytes_decides (written (guessed text)) text).0 p.1 }
 
 pub readable : (text : List ℕ) → is_readable text ≡ true → HasReading text
@@ -262,13 +293,18 @@ readable text h = record { forest = guessed text; reading = guessed_reading text
 guessed-is : (text : List ℕ) (f : Forest) → IsReading text f → guessed text ≡ f
 guessed-is text f reading =
     let whole : forest_before f [] ≡ text = sym (written-before f []) ∙ append-nil (written f) ∙ reading.written_so in
-    let enough : size f ≤ suc (length text) = omega (arith, size-written f reading.in_grammar, ap length reading.written_so) in
-    ap (λ t. (read_forest (suc (length text)) t).found) (sym whole) ∙ ap (λ r. r.found) (read_forest-at (suc (length text)) f [] reading.in_grammar (inl refl) enough)
+    let enough : size f ≤ suc (length text) = omega (
+      arith,
+      size-written f reading.in_grammar,
+      ap length reading.written_so,
+    ) in
+    ap (λ t. (read_forest (suc (length text)) t).found) (sym whole)
+    ∙ ap (λ r. r.found) (read_forest-at (suc (length text)) f [] reading.in_grammar (inl refl) enough)
 
 pub reads : (text : List ℕ) → HasReading text → is_readable text ≡ true
 reads text h =
     let is = guessed-is text h.forest h.reading in
-    and_from (is_forest (guessed text)) (same_text (written (guessed text)) text)
+    and_from (is_forest (guessed text)) (bytes_eq (written (guessed text)) text)
     (ap is_forest is ∙ h.reading.in_grammar)
     ((bytes_decides (written (guessed text)) text).1 (ap written is ∙ h.reading.written_so))
 
@@ -276,8 +312,10 @@ pub unreadable : (text : List ℕ) → is_readable text ≡ false → HasReading
 unreadable text e h = lie (sym e ∙ reads text h)
 
 -- a text with a reading whose attributes pass, and one with a reading of which an attribute fails
-pub readable_with : (p : Attribute → Bool) (text : List ℕ) → is_readable text ≡ true → all_attributes p (guessed text) ≡ true → HasReadingWith p text
+pub readable_with : (p : Attribute → Bool) (text : List ℕ) → is_readable text ≡ true →
+    all_attributes p (guessed text) ≡ true → HasReadingWith p text
 readable_with p text h passes = record { forest = guessed text; reading = guessed_reading text h; passes = passes }
 
-pub fails_with : (p : Attribute → Bool) (text : List ℕ) → all_attributes p (guessed text) ≡ false → HasReadingWith p text → ⊥
+pub fails_with : (p : Attribute → Bool) (text : List ℕ) → all_attributes p (guessed text) ≡ false →
+    HasReadingWith p text → ⊥
 fails_with p text e h = lie (sym e ∙ ap (all_attributes p) (guessed-is text h.forest h.reading) ∙ h.passes)

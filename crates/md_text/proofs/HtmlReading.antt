@@ -1,9 +1,10 @@
 -- No text has two readings.
+use Rattle.md_base.specs.Identifier.{is_nonempty}
 use Rattle.std.proofs.Common.{Bool, ◌≡◌, ◌⊎◌, ℕ, true, false, not, ◌&&◌, List, [], ◌∷◌, ◌++◌, refl, sym, ap, ◌∙◌, subst, inl, inr, append-nil}
 use Rattle.std.specs.List.{list_all}
 use Rattle.std.proofs.lemmas.Bool.{and_parts}
 use Rattle.md_text.specs.References.{is_escaped}
-use Rattle.md_text.specs.Html.{Attribute, Forest, Empty, Text, Void, Element, is_forest, is_tag, is_filled, begins_with_text, elements, void_tags, written, IsReading, HasReadingWith, HasOneReadingWith}
+use Rattle.md_text.specs.Html.{Attribute, Forest, Empty, Text, Void, Element, is_forest, is_tag, begins_with_text, elements, void_tags, written, IsReading, HasReadingWith, HasOneReadingWith}
 use Rattle.md_text.proofs.HtmlNames.{is_name, is_name_byte, no_angle, are_tidy, element-tidy, void-tidy, escaped-angle}
 use Rattle.md_text.proofs.HtmlSplit.{stops, split, EndsAttributes, same_attributes, name-not}
 use Rattle.md_text.proofs.HtmlWriting.{attributes_before, forest_before, written-before}
@@ -29,53 +30,68 @@ tag_not_end name tail r h ends e = elim ends [
 ]
 
 -- neither a text nor where a forest ends begins with what the other does
-text_not_tag : (bytes tail more : List ℕ) → is_filled bytes ≡ true → list_all no_angle bytes ≡ true → bytes ++ tail ≡ 60 ∷ more → ⊥
+text_not_tag : (bytes tail more : List ℕ) → is_nonempty bytes ≡ true → list_all no_angle bytes ≡ true →
+    bytes ++ tail ≡ 60 ∷ more → ⊥
 text_not_tag [] tail more f h e = lie f
 text_not_tag (b ∷ bytes) tail more f h e =
     let is : b ≡ 60 = cc in
     lie (ap no_angle (sym is) ∙ (and_parts (no_angle b) (list_all no_angle bytes) h).0)
 
-text_not_end : (bytes tail r : List ℕ) → is_filled bytes ≡ true → list_all no_angle bytes ≡ true → IsEnd r → r ≡ bytes ++ tail → ⊥
+text_not_end : (bytes tail r : List ℕ) → is_nonempty bytes ≡ true → list_all no_angle bytes ≡ true → IsEnd r →
+    r ≡ bytes ++ tail → ⊥
 text_not_end bytes tail r f h ends e = elim ends [
   | inl empty ↦ filled_nil bytes f (sym e ∙ empty)
   | inr slash ↦ text_not_tag bytes tail (47 ∷ slash.0) f h (sym e ∙ slash.1)
 ]
   where
-    filled_nil : (bytes : List ℕ) → is_filled bytes ≡ true → bytes ++ tail ≡ [] → ⊥
+    filled_nil : (bytes : List ℕ) → is_nonempty bytes ≡ true → bytes ++ tail ≡ [] → ⊥
     filled_nil [] f e = lie f
     filled_nil (b ∷ bytes) f e = nil_or b (bytes ++ tail) (sym e)
 
 -- what comes after a text begins with `<` or is the end
-pub after_text : (f : Forest) (r : List ℕ) → not (begins_with_text f) ≡ true → IsEnd r → stops no_angle (forest_before f r) ≡ true
-after_text Empty r h ends = elim ends [ inl empty ↦ subst (λ r. stops no_angle r ≡ true) (sym empty) refl | inr slash ↦ subst (λ r. stops no_angle r ≡ true) (sym slash.1) refl ]
+pub after_text : (f : Forest) (r : List ℕ) → not (begins_with_text f) ≡ true → IsEnd r →
+    stops no_angle (forest_before f r) ≡ true
+after_text Empty r h ends = elim ends [
+  | inl empty ↦ subst (λ r. stops no_angle r
+      ≡ true) (sym empty) refl
+  | inr slash ↦ subst (λ r. stops no_angle r ≡ true) (sym slash.1) refl
+]
 after_text (Text bytes rest) r h ends = absurd (lie h)
 after_text (Void name attributes rest) r h ends = refl
 after_text (Element name attributes children rest) r h ends = refl
 
 -- after a name come attributes, or the tag goes on
-pub attributes_stop : (attributes : List Attribute) (r : List ℕ) → EndsAttributes r → stops is_name_byte (attributes_before attributes r) ≡ true
-attributes_stop [] r ends = elim ends [ inl angle ↦ subst (λ r. stops is_name_byte r ≡ true) (sym angle.1) refl | inr slash ↦ subst (λ r. stops is_name_byte r ≡ true) (sym slash.1) refl ]
+pub attributes_stop : (attributes : List Attribute) (r : List ℕ) → EndsAttributes r →
+    stops is_name_byte (attributes_before attributes r) ≡ true
+attributes_stop [] r ends = elim ends [
+  | inl angle ↦ subst (λ r. stops is_name_byte r
+      ≡ true) (sym angle.1) refl
+  | inr slash ↦ subst (λ r. stops is_name_byte r ≡ true) (sym slash.1) refl
+]
 attributes_stop (a ∷ rest) r ends = refl
 
-same_tag : (n m : List ℕ) (x y : List Attribute) (r s : List ℕ) → (is_name n ≡ true) × (are_tidy x ≡ true) → (is_name m ≡ true) × (are_tidy y ≡ true) → EndsAttributes r → EndsAttributes s
+same_tag : (n m : List ℕ) (x y : List Attribute) (r s : List ℕ) → (is_name n ≡ true) × (are_tidy x ≡ true) →
+    (is_name m ≡ true) × (are_tidy y ≡ true) → EndsAttributes r → EndsAttributes s
     → n ++ attributes_before x r ≡ m ++ attributes_before y s → (n ≡ m) × (x ≡ y) × (r ≡ s)
 same_tag n m x y r s hn hm er es e =
-    let names = split is_name_byte n m _ _ (and_parts (is_filled n) (list_all is_name_byte n) hn.0).1 (and_parts (is_filled m) (list_all is_name_byte m) hm.0).1 (attributes_stop x r er) (attributes_stop y s es) e in
+    let names = split is_name_byte n m _ _ (and_parts (is_nonempty n) (list_all is_name_byte n) hn.0).1
+    (and_parts (is_nonempty m) (list_all is_name_byte m) hm.0).1 (attributes_stop x r er)
+    (attributes_stop y s es) e in
     let attributes = same_attributes x y r s hn.1 hm.1 er es names.1 in
     (names.0, attributes.0, attributes.1)
 
 -- the parts of what makes a forest
 pub record IsTextNode (bytes : List ℕ) (rest : Forest) : Type 0 where
-  pub filled : is_filled bytes ≡ true
+  pub filled : is_nonempty bytes ≡ true
   pub angles : list_all no_angle bytes ≡ true
   pub alone : not (begins_with_text rest) ≡ true
   pub later : is_forest rest ≡ true
 
 pub text_parts : (bytes : List ℕ) (rest : Forest) → is_forest (Text bytes rest) ≡ true → IsTextNode bytes rest
 text_parts bytes rest h =
-    let p = and_parts (is_filled bytes && is_escaped bytes && not (begins_with_text rest)) (is_forest rest) h in
-    let q = and_parts (is_filled bytes && is_escaped bytes) (not (begins_with_text rest)) p.0 in
-    let r = and_parts (is_filled bytes) (is_escaped bytes) q.0 in
+    let p = and_parts (is_nonempty bytes && is_escaped bytes && not (begins_with_text rest)) (is_forest rest) h in
+    let q = and_parts (is_nonempty bytes && is_escaped bytes) (not (begins_with_text rest)) p.0 in
+    let r = and_parts (is_nonempty bytes) (is_escaped bytes) q.0 in
     record { filled = r.0; angles = escaped-angle bytes r.1; alone = q.1; later = p.1 }
 
 pub record IsElementNode (name : List ℕ) (attributes : List Attribute) (children rest : Forest) : Type 0 where
@@ -83,7 +99,8 @@ pub record IsElementNode (name : List ℕ) (attributes : List Attribute) (childr
   pub inside : is_forest children ≡ true
   pub later : is_forest rest ≡ true
 
-pub element_parts : (name : List ℕ) (attributes : List Attribute) (children rest : Forest) → is_forest (Element name attributes children rest) ≡ true → IsElementNode name attributes children rest
+pub element_parts : (name : List ℕ) (attributes : List Attribute) (children rest : Forest) →
+    is_forest (Element name attributes children rest) ≡ true → IsElementNode name attributes children rest
 element_parts name attributes children rest h =
     let p = and_parts (is_tag elements name attributes && is_forest children) (is_forest rest) h in
     let q = and_parts (is_tag elements name attributes) (is_forest children) p.0 in
@@ -93,7 +110,8 @@ pub record IsVoidNode (name : List ℕ) (attributes : List Attribute) (rest : Fo
   pub tidy : (is_name name ≡ true) × (are_tidy attributes ≡ true)
   pub later : is_forest rest ≡ true
 
-pub void_parts : (name : List ℕ) (attributes : List Attribute) (rest : Forest) → is_forest (Void name attributes rest) ≡ true → IsVoidNode name attributes rest
+pub void_parts : (name : List ℕ) (attributes : List Attribute) (rest : Forest) →
+    is_forest (Void name attributes rest) ≡ true → IsVoidNode name attributes rest
 void_parts name attributes rest h =
     let p = and_parts (is_tag void_tags name attributes) (is_forest rest) h in
     record { tidy = void-tidy name attributes p.0; later = p.1 }
@@ -101,26 +119,37 @@ void_parts name attributes rest h =
 slash_angle : (x y : List ℕ) → 32 ∷ x ≡ 62 ∷ y → ⊥
 slash_angle x y e = cc
 
-same : (f g : Forest) (r s : List ℕ) → is_forest f ≡ true → is_forest g ≡ true → IsEnd r → IsEnd s → forest_before f r ≡ forest_before g s → (f ≡ g) × (r ≡ s)
+same : (f g : Forest) (r s : List ℕ) → is_forest f ≡ true → is_forest g ≡ true → IsEnd r → IsEnd s →
+    forest_before f r ≡ forest_before g s → (f ≡ g) × (r ≡ s)
 same Empty Empty r s hf hg er es e = (refl, e)
-same Empty (Text bytes rest) r s hf hg er es e = (let p = text_parts bytes rest hg in absurd (text_not_end bytes (forest_before rest s) r p.filled p.angles er e))
-same Empty (Void name attributes rest) r s hf hg er es e = (let p = void_parts name attributes rest hg in absurd (tag_not_end name _ r p.tidy.0 er e))
-same Empty (Element name attributes children rest) r s hf hg er es e = (let p = element_parts name attributes children rest hg in absurd (tag_not_end name _ r p.tidy.0 er e))
-same (Text bytes rest) Empty r s hf hg er es e = (let p = text_parts bytes rest hf in absurd (text_not_end bytes (forest_before rest r) s p.filled p.angles es (sym e)))
+same Empty (Text bytes rest) r s hf hg er es e = (let p = text_parts bytes rest hg in
+    absurd (text_not_end bytes (forest_before rest s) r p.filled p.angles er e))
+same Empty (Void name attributes rest) r s hf hg er es e = (let p = void_parts name attributes rest hg in
+    absurd (tag_not_end name _ r p.tidy.0 er e))
+same Empty (Element name attributes children rest) r s hf hg er es e =
+    (let p = element_parts name attributes children rest hg in absurd (tag_not_end name _ r p.tidy.0 er e))
+same (Text bytes rest) Empty r s hf hg er es e = (let p = text_parts bytes rest hf in
+    absurd (text_not_end bytes (forest_before rest r) s p.filled p.angles es (sym e)))
 same (Text bytes rest) (Text bytes' rest') r s hf hg er es e =
     let p = text_parts bytes rest hf in
     let q = text_parts bytes' rest' hg in
-    let parts = split no_angle bytes bytes' (forest_before rest r) (forest_before rest' s) p.angles q.angles (after_text rest r p.alone er) (after_text rest' s q.alone es) e in
+    let parts = split no_angle bytes bytes' (forest_before rest r) (forest_before rest' s) p.angles q.angles
+    (after_text rest r p.alone er) (after_text rest' s q.alone es) e in
     let later = same rest rest' r s p.later q.later er es parts.1 in
     ((λ i. Text (parts.0 i) (later.0 i)), later.1)
-same (Text bytes rest) (Void name attributes rest') r s hf hg er es e = (let p = text_parts bytes rest hf in absurd (text_not_tag bytes (forest_before rest r) _ p.filled p.angles e))
-same (Text bytes rest) (Element name attributes children rest') r s hf hg er es e = (let p = text_parts bytes rest hf in absurd (text_not_tag bytes (forest_before rest r) _ p.filled p.angles e))
-same (Void name attributes rest) Empty r s hf hg er es e = (let p = void_parts name attributes rest hf in absurd (tag_not_end name _ s p.tidy.0 es (sym e)))
-same (Void name attributes rest) (Text bytes rest') r s hf hg er es e = (let p = text_parts bytes rest' hg in absurd (text_not_tag bytes (forest_before rest' s) _ p.filled p.angles (sym e)))
+same (Text bytes rest) (Void name attributes rest') r s hf hg er es e = (let p = text_parts bytes rest hf in
+    absurd (text_not_tag bytes (forest_before rest r) _ p.filled p.angles e))
+same (Text bytes rest) (Element name attributes children rest') r s hf hg er es e =
+    (let p = text_parts bytes rest hf in absurd (text_not_tag bytes (forest_before rest r) _ p.filled p.angles e))
+same (Void name attributes rest) Empty r s hf hg er es e = (let p = void_parts name attributes rest hf in
+    absurd (tag_not_end name _ s p.tidy.0 es (sym e)))
+same (Void name attributes rest) (Text bytes rest') r s hf hg er es e = (let p = text_parts bytes rest' hg in
+    absurd (text_not_tag bytes (forest_before rest' s) _ p.filled p.angles (sym e)))
 same (Void name attributes rest) (Void name' attributes' rest') r s hf hg er es e =
     let p = void_parts name attributes rest hf in
     let q = void_parts name' attributes' rest' hg in
-    let tag = same_tag name name' attributes attributes' (32 ∷ 47 ∷ 62 ∷ forest_before rest r) (32 ∷ 47 ∷ 62 ∷ forest_before rest' s) p.tidy q.tidy
+    let tag = same_tag name name' attributes attributes' (32 ∷ 47 ∷ 62 ∷ forest_before rest r) (32 ∷ 47 ∷ 62
+    ∷ forest_before rest' s) p.tidy q.tidy
     (inr (62 ∷ forest_before rest r, refl)) (inr (62 ∷ forest_before rest' s, refl)) (tail_of 60 60 _ _ e) in
     let on : forest_before rest r ≡ forest_before rest' s = cc tag.2 in
     let later = same rest rest' r s p.later q.later er es on in
@@ -129,16 +158,21 @@ same (Void name attributes rest) (Element name' attributes' children rest') r s 
     let p = void_parts name attributes rest hf in
     let q = element_parts name' attributes' children rest' hg in
     let inside = forest_before children (60 ∷ 47 ∷ (name' ++ (62 ∷ forest_before rest' s))) in
-    let tag = same_tag name name' attributes attributes' (32 ∷ 47 ∷ 62 ∷ forest_before rest r) (62 ∷ inside) p.tidy q.tidy
+    let tag = same_tag name name' attributes attributes' (32 ∷ 47 ∷ 62 ∷ forest_before rest r) (62
+    ∷ inside) p.tidy q.tidy
     (inr (62 ∷ forest_before rest r, refl)) (inl (inside, refl)) (tail_of 60 60 _ _ e) in
     absurd (slash_angle _ _ tag.2)
-same (Element name attributes children rest) Empty r s hf hg er es e = (let p = element_parts name attributes children rest hf in absurd (tag_not_end name _ s p.tidy.0 es (sym e)))
-same (Element name attributes children rest) (Text bytes rest') r s hf hg er es e = (let p = text_parts bytes rest' hg in absurd (text_not_tag bytes (forest_before rest' s) _ p.filled p.angles (sym e)))
+same (Element name attributes children rest) Empty r s hf hg er es e =
+    (let p = element_parts name attributes children rest hf in absurd (tag_not_end name _ s p.tidy.0 es (sym e)))
+same (Element name attributes children rest) (Text bytes rest') r s hf hg er es e =
+    (let p = text_parts bytes rest' hg in absurd (text_not_tag bytes (forest_before rest' s) _ p.filled p.angles
+    (sym e)))
 same (Element name attributes children rest) (Void name' attributes' rest') r s hf hg er es e =
     let p = element_parts name attributes children rest hf in
     let q = void_parts name' attributes' rest' hg in
     let inside = forest_before children (60 ∷ 47 ∷ (name ++ (62 ∷ forest_before rest r))) in
-    let tag = same_tag name name' attributes attributes' (62 ∷ inside) (32 ∷ 47 ∷ 62 ∷ forest_before rest' s) p.tidy q.tidy
+    let tag = same_tag name name' attributes attributes' (62 ∷ inside) (32 ∷ 47 ∷ 62
+    ∷ forest_before rest' s) p.tidy q.tidy
     (inl (inside, refl)) (inr (62 ∷ forest_before rest' s, refl)) (tail_of 60 60 _ _ e) in
     absurd (slash_angle _ _ (sym tag.2))
 same (Element name attributes children rest) (Element name' attributes' children' rest') r s hf hg er es e =
@@ -148,18 +182,22 @@ same (Element name attributes children rest) (Element name' attributes' children
     let close' = name' ++ (62 ∷ forest_before rest' s) in
     let inside = forest_before children (60 ∷ 47 ∷ close) in
     let inside' = forest_before children' (60 ∷ 47 ∷ close') in
-    let tag = same_tag name name' attributes attributes' (62 ∷ inside) (62 ∷ inside') p.tidy q.tidy (inl (inside, refl)) (inl (inside', refl)) (tail_of 60 60 _ _ e) in
-    let within = same children children' (60 ∷ 47 ∷ close) (60 ∷ 47 ∷ close') p.inside q.inside (inr (close, refl)) (inr (close', refl)) (tail_of 62 62 inside inside' tag.2) in
+    let tag = same_tag name name' attributes attributes' (62 ∷ inside) (62
+    ∷ inside') p.tidy q.tidy (inl (inside, refl)) (inl (inside', refl)) (tail_of 60 60 _ _ e) in
+    let within = same children children' (60 ∷ 47 ∷ close) (60 ∷ 47
+    ∷ close') p.inside q.inside (inr (close, refl)) (inr (close', refl)) (tail_of 62 62 inside inside' tag.2) in
     let closes : close ≡ close' = tail_of 47 47 close close' (tail_of 60 60 _ _ within.1) in
     let ends = split is_name_byte name name' (62 ∷ forest_before rest r) (62 ∷ forest_before rest' s)
-    (and_parts (is_filled name) (list_all is_name_byte name) p.tidy.0).1 (and_parts (is_filled name') (list_all is_name_byte name') q.tidy.0).1 refl refl closes in
+    (and_parts (is_nonempty name) (list_all is_name_byte name) p.tidy.0).1
+    (and_parts (is_nonempty name') (list_all is_name_byte name') q.tidy.0).1 refl refl closes in
     let later = same rest rest' r s p.later q.later er es (tail_of 62 62 _ _ ends.1) in
     ((λ i. Element (tag.0 i) (tag.1 i) (within.0 i) (later.0 i)), later.1)
 
 pub one_reading : (text : List ℕ) (f g : Forest) → IsReading text f → IsReading text g → f ≡ g
 one_reading text f g x y =
     (same f g [] [] x.in_grammar y.in_grammar (inl refl) (inl refl)
-    (sym (written-before f []) ∙ append-nil (written f) ∙ x.written_so ∙ sym y.written_so ∙ sym (append-nil (written g)) ∙ written-before g [])).0
+    (sym (written-before f []) ∙ append-nil (written f) ∙ x.written_so ∙ sym y.written_so
+    ∙ sym (append-nil (written g)) ∙ written-before g [])).0
 
 pub only_reading : (p : Attribute → Bool) (text : List ℕ) → HasReadingWith p text → HasOneReadingWith p text
 only_reading p text h = record {

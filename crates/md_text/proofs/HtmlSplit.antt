@@ -22,14 +22,18 @@ clash false e f = absurd (lie f)
     lie e = cc
 
 -- the longest runs that pass a test are the same, and so is what follows them
-pub split : (t : ℕ → Bool) (x y a b : List ℕ) → list_all t x ≡ true → list_all t y ≡ true → stops t a ≡ true → stops t b ≡ true → x ++ a ≡ y ++ b → (x ≡ y) × (a ≡ b)
+pub split : (t : ℕ → Bool) (x y a b : List ℕ) → list_all t x ≡ true → list_all t y ≡ true → stops t a ≡ true →
+    stops t b ≡ true → x ++ a ≡ y ++ b → (x ≡ y) × (a ≡ b)
 split t [] [] a b hx hy sa sb e = (refl, e)
-split t [] (c ∷ y) a b hx hy sa sb e = absurd (clash (t c) (subst (λ z. stops t z ≡ true) e sa) (and_parts (t c) (list_all t y) hy).0)
-split t (c ∷ x) [] a b hx hy sa sb e = absurd (clash (t c) (subst (λ z. stops t z ≡ true) (sym e) sb) (and_parts (t c) (list_all t x) hx).0)
+split t [] (c ∷ y) a b hx hy sa sb e = absurd (clash (t c) (subst (λ z. stops t z ≡ true) e sa)
+    (and_parts (t c) (list_all t y) hy).0)
+split t (c ∷ x) [] a b hx hy sa sb e = absurd (clash (t c) (subst (λ z. stops t z ≡ true) (sym e) sb)
+    (and_parts (t c) (list_all t x) hx).0)
 split t (c ∷ x) (d ∷ y) a b hx hy sa sb e =
     let first : c ≡ d = cc in
     let later : x ++ a ≡ y ++ b = cc in
-    let rest = split t x y a b (and_parts (t c) (list_all t x) hx).1 (and_parts (t d) (list_all t y) hy).1 sa sb later in
+    let rest = split t x y a b (and_parts (t c) (list_all t x) hx).1
+    (and_parts (t d) (list_all t y) hy).1 sa sb later in
     (ap₂ (λ c x. c ∷ x) first rest.0, rest.1)
 
 -- where a tag goes on after its attributes: `>` or ` /`
@@ -37,7 +41,8 @@ abbrev pub EndsAttributes : List ℕ → Type 0
 EndsAttributes r = ((more : List ℕ) × (r ≡ 62 ∷ more)) ⊎ ((more : List ℕ) × (r ≡ 32 ∷ 47 ∷ more))
 
 -- a name isn't where another byte stands
-pub name-not : (n : ℕ) (name tail more : List ℕ) → is_name_byte n ≡ false → is_name name ≡ true → name ++ tail ≡ n ∷ more → ⊥
+pub name-not : (n : ℕ) (name tail more : List ℕ) → is_name_byte n ≡ false → is_name name ≡ true →
+    name ++ tail ≡ n ∷ more → ⊥
 name-not n [] tail more no_byte h e = lie h
   where
     lie : false ≡ true → ⊥
@@ -50,10 +55,13 @@ name-not n (b ∷ name) tail more no_byte h e =
     lie : false ≡ true → ⊥
     lie e = cc
 
-no_attribute : (a : Attribute) (rest : List Attribute) (r s : List ℕ) → are_tidy (a ∷ rest) ≡ true → EndsAttributes r → r ≡ attributes_before (a ∷ rest) s → ⊥
+no_attribute : (a : Attribute) (rest : List Attribute) (r s : List ℕ) → are_tidy (a ∷ rest) ≡ true →
+    EndsAttributes r → r ≡ attributes_before (a ∷ rest) s → ⊥
 no_attribute a rest r s h ends e = elim ends [
-  | inl angle ↦ angle_space angle.0 (a.name ++ (61 ∷ 34 ∷ (a.value ++ (34 ∷ attributes_before rest s)))) (sym angle.1 ∙ e)
-  | inr slash ↦ name-not 47 a.name (61 ∷ 34 ∷ (a.value ++ (34 ∷ attributes_before rest s))) slash.0 refl (and_parts (is_name a.name) _ h).0 (tail_of (sym e ∙ slash.1))
+  | inl angle ↦ angle_space angle.0 (a.name ++ (61 ∷ 34 ∷ (a.value ++ (34 ∷ attributes_before rest s)))) (sym angle.1
+      ∙ e)
+  | inr slash ↦ name-not 47 a.name (61 ∷ 34 ∷ (a.value ++ (34 ∷ attributes_before rest s))) slash.0 refl
+      (and_parts (is_name a.name) _ h).0 (tail_of (sym e ∙ slash.1))
 ]
   where
     angle_space : (x y : List ℕ) → 62 ∷ x ≡ 32 ∷ y → ⊥
@@ -63,7 +71,8 @@ no_attribute a rest r s h ends e = elim ends [
     tail_of e = cc
 
 -- attributes that are written alike are the same, and so is what follows them
-pub same_attributes : (x y : List Attribute) (r s : List ℕ) → are_tidy x ≡ true → are_tidy y ≡ true → EndsAttributes r → EndsAttributes s → attributes_before x r ≡ attributes_before y s → (x ≡ y) × (r ≡ s)
+pub same_attributes : (x y : List Attribute) (r s : List ℕ) → are_tidy x ≡ true → are_tidy y ≡ true →
+    EndsAttributes r → EndsAttributes s → attributes_before x r ≡ attributes_before y s → (x ≡ y) × (r ≡ s)
 same_attributes [] [] r s hx hy er es e = (refl, e)
 same_attributes [] (b ∷ y) r s hx hy er es e = absurd (no_attribute b y r s hy er e)
 same_attributes (a ∷ x) [] r s hx hy er es e = absurd (no_attribute a x s r hx es (sym e))
@@ -72,12 +81,15 @@ same_attributes (a ∷ x) (b ∷ y) r s hx hy er es e =
     let q = and_parts (is_name b.name) (list_all no_quote b.value && (list_all no_angle b.value && are_tidy y)) hy in
     let p2 = and_parts (list_all no_quote a.value) (list_all no_angle a.value && are_tidy x) p.1 in
     let q2 = and_parts (list_all no_quote b.value) (list_all no_angle b.value && are_tidy y) q.1 in
-    let tails : a.name ++ (61 ∷ 34 ∷ (a.value ++ (34 ∷ attributes_before x r))) ≡ b.name ++ (61 ∷ 34 ∷ (b.value ++ (34 ∷ attributes_before y s))) = cc in
-    let names = split is_name_byte a.name b.name _ _ (and_parts _ (list_all is_name_byte a.name) p.0).1 (and_parts _ (list_all is_name_byte b.name) q.0).1 refl refl tails in
+    let tails : a.name ++ (61 ∷ 34 ∷ (a.value ++ (34 ∷ attributes_before x r))) ≡ b.name
+    ++ (61 ∷ 34 ∷ (b.value ++ (34 ∷ attributes_before y s))) = cc in
+    let names = split is_name_byte a.name b.name _ _ (and_parts _ (list_all is_name_byte a.name) p.0).1
+    (and_parts _ (list_all is_name_byte b.name) q.0).1 refl refl tails in
     let values_on : a.value ++ (34 ∷ attributes_before x r) ≡ b.value ++ (34 ∷ attributes_before y s) = cc in
     let values = split no_quote a.value b.value _ _ p2.0 q2.0 refl refl values_on in
     let later_on : attributes_before x r ≡ attributes_before y s = cc in
-    let later = same_attributes x y r s (and_parts (list_all no_angle a.value) (are_tidy x) p2.1).1 (and_parts (list_all no_angle b.value) (are_tidy y) q2.1).1 er es later_on in
+    let later = same_attributes x y r s (and_parts (list_all no_angle a.value) (are_tidy x) p2.1).1
+    (and_parts (list_all no_angle b.value) (are_tidy y) q2.1).1 er es later_on in
     (ap₂ (λ a x. a ∷ x) (same_attribute a b names.0 values.0) later.0, later.1)
   where
     same_attribute : (a b : Attribute) → a.name ≡ b.name → a.value ≡ b.value → a ≡ b

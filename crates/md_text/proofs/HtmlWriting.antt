@@ -11,16 +11,20 @@ attributes_before (a ∷ rest) r = 32 ∷ (a.name ++ (61 ∷ 34 ∷ (a.value ++ 
 abbrev pub forest_before : Forest → List ℕ → List ℕ
 forest_before Empty r = r
 forest_before (Text bytes rest) r = bytes ++ forest_before rest r
-forest_before (Void name attributes rest) r = 60 ∷ (name ++ attributes_before attributes (32 ∷ 47 ∷ 62 ∷ forest_before rest r))
+forest_before (Void name attributes rest) r = 60 ∷ (name
+    ++ attributes_before attributes (32 ∷ 47 ∷ 62 ∷ forest_before rest r))
 forest_before (Element name attributes children rest) r =
-    60 ∷ (name ++ attributes_before attributes (62 ∷ forest_before children (60 ∷ 47 ∷ (name ++ (62 ∷ forest_before rest r)))))
+    60 ∷ (name ++ attributes_before attributes (62 ∷ forest_before children (60 ∷ 47
+    ∷ (name ++ (62 ∷ forest_before rest r)))))
 
-pub written_attributes-before : (attributes : List Attribute) (r : List ℕ) → written_attributes attributes ++ r ≡ attributes_before attributes r
+pub written_attributes-before : (attributes : List Attribute) (r : List ℕ) →
+    written_attributes attributes ++ r ≡ attributes_before attributes r
 written_attributes-before [] r = refl
 written_attributes-before (a ∷ rest) r =
     ap (λ x. 32 ∷ x)
     (append_assoc a.name (61 ∷ 34 ∷ (a.value ++ (34 ∷ written_attributes rest))) r
-    ∙ ap (λ x. a.name ++ (61 ∷ 34 ∷ x)) (append_assoc a.value (34 ∷ written_attributes rest) r ∙ ap (λ x. a.value ++ (34 ∷ x)) (written_attributes-before rest r)))
+    ∙ ap (λ x. a.name ++ (61 ∷ 34 ∷ x)) (append_assoc a.value (34 ∷ written_attributes rest) r
+    ∙ ap (λ x. a.value ++ (34 ∷ x)) (written_attributes-before rest r)))
 
 pub written-before : (f : Forest) (r : List ℕ) → written f ++ r ≡ forest_before f r
 written-before Empty r = refl

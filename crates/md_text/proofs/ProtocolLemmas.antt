@@ -1,14 +1,20 @@
 -- Reading references back changes no protocol that is kept.
+use Rattle.std.specs.Prelude.{◌||◌}
+use Rattle.std.specs.Str.{bytes_eq}
 use Rattle.std.proofs.Common.{◌≡◌, ◌≢◌, ℕ, ◌==◌, Bool, true, false, not, ◌&&◌, cond, List, [], ◌∷◌, take, length, Option, Some, None, option_map, refl, sym, ap, ap₂, ◌∙◌, subst, ne_eqb, eqb-true, inl, inr, codes, zero, suc}
 use Rattle.std.specs.List.{list_all}
 use Rattle.std.specs.Option.{option_map_or}
 use Rattle.std.specs.Cmp.Lexicographic.{bytes_decides}
 use Rattle.std.proofs.lemmas.Bool.{cases_eq, cases_Bool, and_parts, or_cases, cond_both, and_from}
-use Rattle.md_text.specs.Bytes.{lower, lowered, same_text, is_one_of}
+use Rattle.md_text.specs.Bytes.{lower, lowered, is_one_of}
 use Rattle.md_text.specs.References.{read_back, read_back_after, referenced, reference_tail, begins_with}
-use Rattle.md_text.specs.Url.{protocol_of, ends_protocol, has_permitted_protocol, sanitized, sanitized_with}
-use Rattle.md_text.specs.Safe.{is_safe_value, link_protocols, image_protocols}
+use Rattle.md_text.specs.Url.{protocol_of, has_permitted_protocol, sanitized, sanitized_with, link_protocols, image_protocols}
+use Rattle.md_text.specs.Safe.{is_safe_value}
 use Rattle.md_text.proofs.EncodeLaws.{read_back-other}
+
+-- `?`, `#` or `/`, which end the place where a protocol may stand
+abbrev ends_protocol : ℕ → Bool
+ends_protocol b = (b == 63) || (b == 35) || (b == 47)
 
 -- a byte that neither ends a protocol nor the place where one may stand
 abbrev goes_on : ℕ → Bool
@@ -18,16 +24,20 @@ not_true : (t : Bool) → not t ≡ true → t ≡ false
 not_true true e = cc
 not_true false e = refl
 
-protocol_of-goes_on : (b : ℕ) (rest : List ℕ) → goes_on b ≡ true → protocol_of (b ∷ rest) ≡ option_map (λ before. b ∷ before) (protocol_of rest)
+protocol_of-goes_on : (b : ℕ) (rest : List ℕ) → goes_on b ≡ true →
+    protocol_of (b ∷ rest) ≡ option_map (λ before. b ∷ before) (protocol_of rest)
 protocol_of-goes_on b rest e =
     let parts = and_parts (not (b == 58)) (not (ends_protocol b)) e in
-    ap₂ (λ s t. cond s (Some []) (cond t None (option_map (λ before. b ∷ before) (protocol_of rest)))) (not_true (b == 58) parts.0) (not_true (ends_protocol b) parts.1)
+    ap₂ (λ s t. cond s (Some []) (cond t None (option_map (λ before. b ∷ before) (protocol_of rest))))
+    (not_true (b == 58) parts.0) (not_true (ends_protocol b) parts.1)
 
 protocol_of-colon : (b : ℕ) (rest : List ℕ) → (b == 58) ≡ true → protocol_of (b ∷ rest) ≡ Some []
-protocol_of-colon b rest e = ap (λ s. cond s (Some []) (cond (ends_protocol b) None (option_map (λ before. b ∷ before) (protocol_of rest)))) e
+protocol_of-colon b rest e = ap (λ s. cond s (Some []) (cond (ends_protocol b) None
+    (option_map (λ before. b ∷ before) (protocol_of rest)))) e
 
 protocol_of-end : (b : ℕ) (rest : List ℕ) → (b == 58) ≡ false → ends_protocol b ≡ true → protocol_of (b ∷ rest) ≡ None
-protocol_of-end b rest e f = ap₂ (λ s t. cond s (Some []) (cond t None (option_map (λ before. b ∷ before) (protocol_of rest)))) e f
+protocol_of-end b rest e f = ap₂ (λ s t. cond s (Some [])
+    (cond t None (option_map (λ before. b ∷ before) (protocol_of rest)))) e f
 
 both : (b : ℕ) → (b == 58) ≡ false → ends_protocol b ≡ false → goes_on b ≡ true
 both b e f = ap₂ (λ s t. not s && not t) e f
@@ -65,7 +75,8 @@ map_none : (b : ℕ) (o : Option (List ℕ)) → option_map (λ before. b ∷ be
 map_none b None e = refl
 map_none b (Some q) e = cc
 
-map_some : (b : ℕ) (o : Option (List ℕ)) (q : List ℕ) → option_map (λ before. b ∷ before) o ≡ Some q → (p : List ℕ) × (o ≡ Some p) × (q ≡ b ∷ p)
+map_some : (b : ℕ) (o : Option (List ℕ)) (q : List ℕ) → option_map (λ before. b ∷ before) o ≡ Some q →
+    (p : List ℕ) × (o ≡ Some p) × (q ≡ b ∷ p)
 map_some b None q e = absurd (none_some q e)
 map_some b (Some p) q e = (p, refl, sym (some_part (b ∷ p) q e))
   where
@@ -73,19 +84,22 @@ map_some b (Some p) q e = (p, refl, sym (some_part (b ∷ p) q e))
     some_part x y e = cc
 
 -- no protocol, also once references are read back
-none_stays : (n : ℕ) (v : List ℕ) → front_goes_on n v ≡ true → protocol_of v ≡ None → protocol_of (read_back_after n v) ≡ None
+none_stays : (n : ℕ) (v : List ℕ) → front_goes_on n v ≡ true → protocol_of v ≡ None →
+    protocol_of (read_back_after n v) ≡ None
 none_stays n [] f e = refl
 none_stays zero (b ∷ rest) f e = elim (cases_eq b 38) [
   | inl is ↦ (let tail = map_none 38 (protocol_of rest) (subst (λ b. protocol_of (b ∷ rest) ≡ None) is e) in
       subst (λ b. protocol_of (read_back_after 0 (b ∷ rest)) ≡ None) (sym is)
       (protocol_of-goes_on (referenced rest) (read_back_after (reference_tail rest) rest) (referenced-goes_on rest)
-      ∙ ap (option_map (λ before. referenced rest ∷ before)) (none_stays (reference_tail rest) rest (reference-goes_on rest) tail)))
+      ∙ ap (option_map (λ before. referenced rest ∷ before))
+      (none_stays (reference_tail rest) rest (reference-goes_on rest) tail)))
   | inr ne ↦ ap protocol_of (read_back-other b rest ne) ∙ (elim (cases_Bool (b == 58)) [
     | inl colon ↦ absurd (some_none [] (sym (protocol_of-colon b rest colon) ∙ e))
     | inr on ↦ elim (cases_Bool (ends_protocol b)) [
       | inl ends ↦ protocol_of-end b (read_back rest) on ends
       | inr goes ↦ protocol_of-goes_on b (read_back rest) (both b on goes)
-          ∙ ap (option_map (λ before. b ∷ before)) (none_stays 0 rest refl (map_none b (protocol_of rest) (sym (protocol_of-goes_on b rest (both b on goes)) ∙ e)))
+          ∙ ap (option_map (λ before. b ∷ before)) (none_stays 0 rest refl
+          (map_none b (protocol_of rest) (sym (protocol_of-goes_on b rest (both b on goes)) ∙ e)))
     ]
   ])
 ]
@@ -107,7 +121,8 @@ no_and-ne b e is = absurd (lie (sym (ap no_and is) ∙ e))
 some_stays : (v q : List ℕ) → list_all no_and q ≡ true → protocol_of v ≡ Some q → protocol_of (read_back v) ≡ Some q
 some_stays [] q g e = cc
 some_stays (b ∷ rest) q g e = elim (cases_Bool (b == 58)) [
-  | inl colon ↦ subst (λ b. protocol_of (b ∷ rest) ≡ Some q → protocol_of (read_back (b ∷ rest)) ≡ Some q) (sym (eqb-true b 58 colon)) (λ e. e) e
+  | inl colon ↦ subst (λ b. protocol_of (b ∷ rest) ≡ Some q →
+      protocol_of (read_back (b ∷ rest)) ≡ Some q) (sym (eqb-true b 58 colon)) (λ e. e) e
   | inr on ↦ elim (cases_Bool (ends_protocol b)) [
     | inl ends ↦ absurd (none_some q (sym (protocol_of-end b rest on ends) ∙ e))
     | inr goes ↦ (let step = map_some b (protocol_of rest) q (sym (protocol_of-goes_on b rest (both b on goes)) ∙ e) in
@@ -120,11 +135,12 @@ some_stays (b ∷ rest) q g e = elim (cases_Bool (b == 58)) [
 ]
 
 -- a name of a list without `&` has none
-listed-no_and : (texts : List (List ℕ)) (name : List ℕ) → list_all (list_all no_and) texts ≡ true → is_one_of texts name ≡ true → list_all no_and name ≡ true
+listed-no_and : (texts : List (List ℕ)) (name : List ℕ) → list_all (list_all no_and) texts ≡ true →
+    is_one_of texts name ≡ true → list_all no_and name ≡ true
 listed-no_and [] name g e = cc
 listed-no_and (t ∷ ts) name g e =
     let parts = and_parts (list_all no_and t) (list_all (list_all no_and) ts) g in
-    elim (or_cases (same_text name t) (is_one_of ts name) e) [
+    elim (or_cases (bytes_eq name t) (is_one_of ts name) e) [
       | inl same ↦ subst (λ x. list_all no_and x ≡ true) (sym ((bytes_decides name t).0 same)) parts.0
       | inr later ↦ listed-no_and ts name parts.1 later
     ]
@@ -142,17 +158,25 @@ lowered-no_and (b ∷ q) e =
     and_from (no_and b) (list_all no_and q) (lower-no_and b parts.0) (lowered-no_and q parts.1)
 
 -- a permitted protocol, also once references are read back
-permitted_by : (protocols : List (List ℕ)) (v : List ℕ) (o : Option (List ℕ)) → list_all (list_all no_and) protocols ≡ true → protocol_of v ≡ o → option_map_or (λ q. is_one_of protocols (lowered q)) o true ≡ true → has_permitted_protocol protocols (read_back v) ≡ true
-permitted_by protocols v None g e h = ap (λ o. option_map_or (λ q. is_one_of protocols (lowered q)) o true) (none_stays 0 v refl e)
+permitted_by : (protocols : List (List ℕ)) (v : List ℕ) (o : Option (List ℕ)) →
+    list_all (list_all no_and) protocols ≡ true → protocol_of v ≡ o →
+    option_map_or (λ q. is_one_of protocols (lowered q)) o true ≡ true →
+    has_permitted_protocol protocols (read_back v) ≡ true
+permitted_by protocols v None g e h = ap (λ o. option_map_or (λ q. is_one_of protocols (lowered q)) o true)
+    (none_stays 0 v refl e)
 permitted_by protocols v (Some q) g e h =
-    ap (λ o. option_map_or (λ q. is_one_of protocols (lowered q)) o true) (some_stays v q (lowered-no_and q (listed-no_and protocols (lowered q) g h)) e) ∙ h
+    ap (λ o. option_map_or (λ q. is_one_of protocols (lowered q)) o true)
+    (some_stays v q (lowered-no_and q (listed-no_and protocols (lowered q) g h)) e) ∙ h
 
-pub permitted-read_back : (protocols : List (List ℕ)) (v : List ℕ) → list_all (list_all no_and) protocols ≡ true → has_permitted_protocol protocols v ≡ true → has_permitted_protocol protocols (read_back v) ≡ true
+pub permitted-read_back : (protocols : List (List ℕ)) (v : List ℕ) → list_all (list_all no_and) protocols ≡ true →
+    has_permitted_protocol protocols v ≡ true → has_permitted_protocol protocols (read_back v) ≡ true
 permitted-read_back protocols v g h = permitted_by protocols v (protocol_of v) g refl h
 
-kept : (protocols : List (List ℕ)) → list_all (list_all no_and) protocols ≡ true → (x : List ℕ) → is_safe_value protocols (sanitized_with protocols x) ≡ true
+kept : (protocols : List (List ℕ)) → list_all (list_all no_and) protocols ≡ true → (x : List ℕ) →
+    is_safe_value protocols (sanitized_with protocols x) ≡ true
 kept protocols g x =
-    cond_both (has_permitted_protocol protocols (sanitized x)) (sanitized x) [] (λ v. is_safe_value protocols v ≡ true) (permitted-read_back protocols (sanitized x) g) (λ _. refl)
+    cond_both (has_permitted_protocol protocols (sanitized x)) (sanitized x) [] (λ v. is_safe_value protocols v
+    ≡ true) (permitted-read_back protocols (sanitized x) g) (λ _. refl)
 
 pub kept-link : (x : List ℕ) → is_safe_value link_protocols (sanitized_with link_protocols x) ≡ true
 kept-link = kept link_protocols refl

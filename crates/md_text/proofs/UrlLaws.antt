@@ -44,16 +44,23 @@ IsByte b = b < 256
 
 normalized_byte-url : (b : ℕ) (rest : List ℕ) → b < 256 → AreUrlBytes (normalized_byte b rest)
 normalized_byte-url b rest l = elim (cases_Bool (stays b rest)) [
-  | inl s ↦ subst (λ t. AreUrlBytes (cond t (b ∷ []) (percent b))) (sym s) (All-cons IsUrl b [] (stays-url b rest s) (All-nil IsUrl))
+  | inl s ↦ subst (λ t. AreUrlBytes (cond t (b ∷ []) (percent b))) (sym s)
+      (All-cons IsUrl b [] (stays-url b rest s) (All-nil IsUrl))
   | inr gone ↦ subst (λ t. AreUrlBytes (cond t (b ∷ []) (percent b))) (sym gone)
-      (All-from_recursion IsUrl (percent b)
-      (refl, (or_left _ (hex_digit (b / 16) == 37) (hex_digit-stays (b / 16) (high_digit b l)), (or_left _ (hex_digit (b % 16) == 37) (hex_digit-stays (b % 16) (low_digit b)), tt))))
+      (All-from_recursion IsUrl (percent b) (
+        refl,
+        (
+          or_left _ (hex_digit (b / 16) == 37) (hex_digit-stays (b / 16) (high_digit b l)),
+          (or_left _ (hex_digit (b % 16) == 37) (hex_digit-stays (b % 16) (low_digit b)), tt),
+        ),
+      ))
 ]
 
 pub normalized-url : (x : List ℕ) → AreBytes x → AreUrlBytes (normalized_url x)
 normalized-url [] h = All-nil IsUrl
 normalized-url (b ∷ rest) h =
-    All-append IsUrl (normalized_byte b rest) (normalized_url rest) (normalized_byte-url b rest (All-head IsByte b rest h)) (normalized-url rest (All-tail IsByte b rest h))
+    All-append IsUrl (normalized_byte b rest) (normalized_url rest)
+    (normalized_byte-url b rest (All-head IsByte b rest h)) (normalized-url rest (All-tail IsByte b rest h))
 
 -- such a byte stays before two digits, so it is one that stays
 pub url_stays : (b : ℕ) → is_url_byte b ≡ true → stays b (48 ∷ 48 ∷ []) ≡ true
@@ -68,7 +75,8 @@ IsAsciiByte b = b < 128
 encoded_byte-ascii : (b : ℕ) → is_url_byte b ≡ true → AreAscii (encoded_byte true b)
 encoded_byte-ascii b u = elim (cases_eq b 38) [
   | inl e ↦ subst (λ b. AreAscii (encoded_byte true b)) (sym e) amp-ascii
-  | inr ne ↦ subst AreAscii (sym (encoded_byte-stays b (48 ∷ 48 ∷ []) (url_stays b u) ne)) (All-cons IsAsciiByte b [] (stays-ascii b (48 ∷ 48 ∷ []) (url_stays b u)) (All-nil IsAsciiByte))
+  | inr ne ↦ subst AreAscii (sym (encoded_byte-stays b (48 ∷ 48 ∷ []) (url_stays b u) ne))
+      (All-cons IsAsciiByte b [] (stays-ascii b (48 ∷ 48 ∷ []) (url_stays b u)) (All-nil IsAsciiByte))
 ]
   where
     amp-ascii : AreAscii (codes "&amp;")
@@ -76,7 +84,8 @@ encoded_byte-ascii b u = elim (cases_eq b 38) [
 
 encoded-ascii : (y : List ℕ) → AreUrlBytes y → AreAscii (encoded true y)
 encoded-ascii [] h = All-nil IsAsciiByte
-encoded-ascii (b ∷ y) h = All-append IsAsciiByte (encoded_byte true b) (encoded true y) (encoded_byte-ascii b (All-head IsUrl b y h)) (encoded-ascii y (All-tail IsUrl b y h))
+encoded-ascii (b ∷ y) h = All-append IsAsciiByte (encoded_byte true b) (encoded true y)
+    (encoded_byte-ascii b (All-head IsUrl b y h)) (encoded-ascii y (All-tail IsUrl b y h))
 
 pub sanitized-ascii : (x : List ℕ) → AreBytes x → AreAscii (sanitized x)
 sanitized-ascii x h = encoded-ascii (normalized_url x) (normalized-url x h)

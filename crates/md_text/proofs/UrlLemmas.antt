@@ -13,7 +13,11 @@ stays-high b rest h = grind (arith, nat_tests)
 
 -- a byte that stays is ASCII
 pub stays-ascii : (b : ℕ) (rest : List ℕ) → stays b rest ≡ true → b < 128
-stays-ascii b rest s = elim (cases_lt b 128) [ inl low ↦ low | inr high ↦ absurd (both_ways (stays b rest) (stays-high b rest high) s) ]
+stays-ascii b rest s = elim (cases_lt b 128) [
+  | inl low ↦ low
+  | inr high ↦ absurd
+      (both_ways (stays b rest) (stays-high b rest high) s)
+]
 
 -- a byte that stays isn't one that doesn't
 pub stays-not : (b n : ℕ) (rest : List ℕ) → stays n rest ≡ false → stays b rest ≡ true → eqb b n ≡ false
@@ -22,9 +26,11 @@ stays-not b n rest gone s = ne_eqb b n (λ e. both_ways (stays n rest) gone (sub
 -- a byte that stays, but for `&`, is the same in HTML
 pub encoded_byte-stays : (b : ℕ) (rest : List ℕ) → stays b rest ≡ true → b ≢ 38 → encoded_byte true b ≡ b ∷ []
 encoded_byte-stays b rest s ne =
-    encoded_byte-plain true b (stays-not b 0 rest refl s) (ne_eqb b 38 ne) (stays-not b 34 rest refl s) (stays-not b 60 rest refl s) (stays-not b 62 rest refl s)
+    encoded_byte-plain true b (stays-not b 0 rest refl s) (ne_eqb b 38 ne) (stays-not b 34 rest refl s)
+    (stays-not b 60 rest refl s) (stays-not b 62 rest refl s)
 
-pub encoded-stays : (b : ℕ) (rest : List ℕ) → stays b rest ≡ true → b ≢ 38 → encoded true (normalized_byte b rest) ≡ encode_utf8 b
+pub encoded-stays : (b : ℕ) (rest : List ℕ) → stays b rest ≡ true → b ≢ 38 →
+    encoded true (normalized_byte b rest) ≡ encode_utf8 b
 encoded-stays b rest s ne =
     ap (λ t. encoded true (cond t (b ∷ []) (percent b))) s
     ∙ append-nil (encoded_byte true b)

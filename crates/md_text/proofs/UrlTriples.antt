@@ -1,9 +1,9 @@
 -- Each `%` of a sanitized URL begins a percent triple.
-use Rattle.std.proofs.Common.{◌≡◌, ◌≢◌, ℕ, ◌==◌, ◌<◌, ◌/◌, ◌%◌, true, false, not, ◌&&◌, ◌||◌, cond, List, [], ◌∷◌, ◌++◌, refl, sym, ap, ◌∙◌, subst, inl, inr}
+use Rattle.std.proofs.Common.{◌≡◌, ℕ, ◌==◌, ◌<◌, ◌/◌, ◌%◌, true, false, not, ◌&&◌, ◌||◌, cond, List, [], ◌∷◌, ◌++◌, refl, sym, ap, ◌∙◌, subst, inl, inr}
 use Rattle.std.proofs.lemmas.Bool.{cases_Bool, cases_eq, agree_below_at, or_cases, and_parts, or_left, or_right, and_from, both_ways}
 use Rattle.std.proofs.lemmas.List.Elements.{All-head, All-tail}
 use Rattle.md_text.specs.Encode.{encoded, encoded_byte}
-use Rattle.md_text.specs.Url.{is_triple_byte, stays, stays_anywhere, completes_triple, normalized_byte, normalized_url, percent, hex_digit, sanitized}
+use Rattle.md_text.specs.Url.{is_triple_byte, stays, stays_anywhere, completes_triple, normalized_url, percent, hex_digit, sanitized}
 use Rattle.md_text.specs.Laws.{AreBytes, percents_begin_triples}
 use Rattle.md_text.proofs.UrlLemmas.{encoded_byte-stays}
 use Rattle.md_text.proofs.UrlLaws.{IsUrl, IsByte, AreUrlBytes, normalized-url, url_stays, hex_digit-plain, high_digit, low_digit}
@@ -13,13 +13,15 @@ use Rattle.md_text.proofs.UrlTwice.{completes-normalized}
 anywhere_or_not : (b : ℕ) → b < 256 → (not (stays_anywhere b) || not (b == 37)) ≡ true
 anywhere_or_not b l = agree_below_at (λ b. not (stays_anywhere b) || not (b == 37)) (λ b. true) 256 b refl l
 
-anywhere-begins : (b : ℕ) (rest : List ℕ) → b < 256 → stays_anywhere b ≡ true → (not (b == 37) || completes_triple rest) ≡ true
+anywhere-begins : (b : ℕ) (rest : List ℕ) → b < 256 → stays_anywhere b ≡ true →
+    (not (b == 37) || completes_triple rest) ≡ true
 anywhere-begins b rest l e =
     or_left (not (b == 37)) (completes_triple rest) (ap (λ t. not t || not (b == 37)) (sym e) ∙ anywhere_or_not b l)
 
 digit-begins : (d : ℕ) (rest : List ℕ) → d < 16 → (not (hex_digit d == 37) || completes_triple rest) ≡ true
 digit-begins d rest l =
-    or_left (not (hex_digit d == 37)) (completes_triple rest) (agree_below_at (λ d. not (hex_digit d == 37)) (λ d. true) 16 d refl l)
+    or_left (not (hex_digit d == 37)) (completes_triple rest)
+    (agree_below_at (λ d. not (hex_digit d == 37)) (λ d. true) 16 d refl l)
 
 percents-normalized : (x : List ℕ) → AreBytes x → percents_begin_triples (normalized_url x) ≡ true
 percents-normalized [] h = refl
@@ -29,7 +31,8 @@ percents-normalized (b ∷ rest) h = elim (cases_Bool (stays b rest)) [
       (elim (or_cases (stays_anywhere b) ((b == 37) && completes_triple rest) s) [
         | inl anywhere ↦ anywhere-begins b (normalized_url rest) (All-head IsByte b rest h) anywhere
         | inr triple ↦ or_right (not (b == 37)) (completes_triple (normalized_url rest))
-            (completes-normalized rest (All-tail IsByte b rest h) (and_parts (b == 37) (completes_triple rest) triple).1)
+            (completes-normalized rest (All-tail IsByte b rest h)
+            (and_parts (b == 37) (completes_triple rest) triple).1)
       ])
       (percents-normalized rest (All-tail IsByte b rest h)))
   | inr gone ↦ (let high = high_digit b (All-head IsByte b rest h) in
@@ -38,17 +41,20 @@ percents-normalized (b ∷ rest) h = elim (cases_Bool (stays b rest)) [
       subst (λ t. percents_begin_triples (cond t (b ∷ []) (percent b) ++ normalized_url rest) ≡ true) (sym gone)
       (and_from (is_triple_byte (hex_digit (b / 16)) && is_triple_byte (hex_digit (b % 16)))
       (percents_begin_triples (hex_digit (b / 16) ∷ hex_digit (b % 16) ∷ normalized_url rest))
-      (and_from (is_triple_byte (hex_digit (b / 16))) (is_triple_byte (hex_digit (b % 16))) (hex_digit-plain (b / 16) high) (hex_digit-plain (b % 16) low))
+      (and_from (is_triple_byte (hex_digit (b / 16))) (is_triple_byte (hex_digit (b % 16)))
+      (hex_digit-plain (b / 16) high) (hex_digit-plain (b % 16) low))
       (and_from (not (hex_digit (b / 16) == 37) || completes_triple (hex_digit (b % 16) ∷ normalized_url rest))
       (percents_begin_triples (hex_digit (b % 16) ∷ normalized_url rest))
       (digit-begins (b / 16) (hex_digit (b % 16) ∷ normalized_url rest) high)
-      (and_from (not (hex_digit (b % 16) == 37) || completes_triple (normalized_url rest)) (percents_begin_triples (normalized_url rest))
+      (and_from (not (hex_digit (b % 16) == 37) || completes_triple (normalized_url rest))
+      (percents_begin_triples (normalized_url rest))
       (digit-begins (b % 16) (normalized_url rest) low) later))))
 ]
 
 -- a byte of a triple is written as it is
 triple-encoded : (b : ℕ) → IsUrl b → is_triple_byte b ≡ true → encoded_byte true b ≡ b ∷ []
-triple-encoded b u e = encoded_byte-stays b (48 ∷ 48 ∷ []) (url_stays b u) (λ is. both_ways (is_triple_byte 38) refl (subst (λ b. is_triple_byte b ≡ true) is e))
+triple-encoded b u e = encoded_byte-stays b (48 ∷ 48 ∷ []) (url_stays b u)
+    (λ is. both_ways (is_triple_byte 38) refl (subst (λ b. is_triple_byte b ≡ true) is e))
 
 completes-encoded : (y : List ℕ) → AreUrlBytes y → completes_triple y ≡ true → completes_triple (encoded true y) ≡ true
 completes-encoded [] u e = e
@@ -61,7 +67,8 @@ completes-encoded (a ∷ b ∷ rest) u e =
     ∙ ap (λ t. completes_triple (a ∷ (t ++ encoded true rest))) same_b
     ∙ e
 
-percents-encoded : (y : List ℕ) → AreUrlBytes y → percents_begin_triples y ≡ true → percents_begin_triples (encoded true y) ≡ true
+percents-encoded : (y : List ℕ) → AreUrlBytes y → percents_begin_triples y ≡ true →
+    percents_begin_triples (encoded true y) ≡ true
 percents-encoded [] u e = refl
 percents-encoded (b ∷ rest) u e =
     let parts = and_parts (not (b == 37) || completes_triple rest) (percents_begin_triples rest) e in
@@ -73,7 +80,8 @@ percents-encoded (b ∷ rest) u e =
           (and_from (not (b == 37) || completes_triple (encoded true rest)) (percents_begin_triples (encoded true rest))
           (elim (or_cases (not (b == 37)) (completes_triple rest) parts.0) [
             | inl other ↦ or_left (not (b == 37)) (completes_triple (encoded true rest)) other
-            | inr completes ↦ or_right (not (b == 37)) (completes_triple (encoded true rest)) (completes-encoded rest (All-tail IsUrl b rest u) completes)
+            | inr completes ↦ or_right (not (b == 37)) (completes_triple (encoded true rest))
+                (completes-encoded rest (All-tail IsUrl b rest u) completes)
           ])
           later)
     ]

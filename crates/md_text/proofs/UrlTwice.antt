@@ -26,26 +26,32 @@ plain-stays : (b : ℕ) → b < 256 → is_triple_byte b ≡ true → stays_anyw
 plain-stays b l e = ap (λ t. not t || stays_anywhere b) (sym e) ∙ plain_or_not b l
 
 -- a percent triple stays one
-pub completes-normalized : (rest : List ℕ) → AreBytes rest → completes_triple rest ≡ true → completes_triple (normalized_url rest) ≡ true
+pub completes-normalized : (rest : List ℕ) → AreBytes rest → completes_triple rest ≡ true →
+    completes_triple (normalized_url rest) ≡ true
 completes-normalized [] h e = cc
 completes-normalized (a ∷ []) h e = cc
 completes-normalized (a ∷ b ∷ rest) h e =
     let plain = and_parts (is_triple_byte a) (is_triple_byte b) e in
     let a_stays = stays-anywhere a (b ∷ rest) (plain-stays a (All-head IsByte a (b ∷ rest) h) plain.0) in
-    let b_stays = stays-anywhere b rest (plain-stays b (All-head IsByte b rest (All-tail IsByte a (b ∷ rest) h)) plain.1) in
+    let b_stays = stays-anywhere b rest (plain-stays b (All-head IsByte b rest (All-tail IsByte a (b ∷ rest) h))
+    plain.1) in
     ap completes_triple (normalized-stays a (b ∷ rest) a_stays ∙ ap (λ x. a ∷ x) (normalized-stays b rest b_stays)) ∙ e
 
 stays-normalized : (b : ℕ) (rest : List ℕ) → AreBytes rest → stays b rest ≡ true → stays b (normalized_url rest) ≡ true
 stays-normalized b rest h s = elim (or_cases (stays_anywhere b) ((b == 37) && completes_triple rest) s) [
   | inl anywhere ↦ stays-anywhere b (normalized_url rest) anywhere
   | inr triple ↦ (let parts = and_parts (b == 37) (completes_triple rest) triple in
-      or_right (stays_anywhere b) ((b == 37) && completes_triple (normalized_url rest)) (and_from (b == 37) (completes_triple (normalized_url rest)) parts.0 (completes-normalized rest h parts.1)))
+      or_right (stays_anywhere b) ((b == 37) && completes_triple (normalized_url rest))
+      (and_from (b == 37) (completes_triple (normalized_url rest)) parts.0 (completes-normalized rest h parts.1)))
 ]
 
-normalized-percent : (h1 h2 : ℕ) (rest : List ℕ) → stays_anywhere h1 ≡ true → stays_anywhere h2 ≡ true → is_triple_byte h1 ≡ true → is_triple_byte h2 ≡ true → normalized_url (37 ∷ h1 ∷ h2 ∷ rest) ≡ 37 ∷ h1 ∷ h2 ∷ normalized_url rest
+normalized-percent : (h1 h2 : ℕ) (rest : List ℕ) → stays_anywhere h1 ≡ true → stays_anywhere h2 ≡ true →
+    is_triple_byte h1 ≡ true → is_triple_byte h2 ≡ true →
+    normalized_url (37 ∷ h1 ∷ h2 ∷ rest) ≡ 37 ∷ h1 ∷ h2 ∷ normalized_url rest
 normalized-percent h1 h2 rest s1 s2 p1 p2 =
     normalized-stays 37 (h1 ∷ h2 ∷ rest) (and_from (is_triple_byte h1) (is_triple_byte h2) p1 p2)
-    ∙ ap (λ x. 37 ∷ x) (normalized-stays h1 (h2 ∷ rest) (stays-anywhere h1 (h2 ∷ rest) s1) ∙ ap (λ x. h1 ∷ x) (normalized-stays h2 rest (stays-anywhere h2 rest s2)))
+    ∙ ap (λ x. 37 ∷ x) (normalized-stays h1 (h2 ∷ rest) (stays-anywhere h1 (h2 ∷ rest) s1)
+    ∙ ap (λ x. h1 ∷ x) (normalized-stays h2 rest (stays-anywhere h2 rest s2)))
 
 pub normalized-twice : (x : List ℕ) → AreBytes x → normalized_url (normalized_url x) ≡ normalized_url x
 normalized-twice [] h = refl
@@ -58,7 +64,8 @@ normalized-twice (b ∷ rest) h = elim (cases_Bool (stays b rest)) [
       let high = high_digit b (All-head IsByte b rest h) in
       ap normalized_url written
       ∙ normalized-percent (hex_digit (b / 16)) (hex_digit (b % 16)) (normalized_url rest)
-      (hex_digit-stays (b / 16) high) (hex_digit-stays (b % 16) (low_digit b)) (hex_digit-plain (b / 16) high) (hex_digit-plain (b % 16) (low_digit b))
+      (hex_digit-stays (b / 16) high) (hex_digit-stays (b % 16) (low_digit b)) (hex_digit-plain (b / 16) high)
+      (hex_digit-plain (b % 16) (low_digit b))
       ∙ ap (λ x. percent b ++ x) (normalized-twice rest (All-tail IsByte b rest h))
       ∙ sym written)
 ]
@@ -74,8 +81,13 @@ normalized_byte-no_and : (b : ℕ) (rest : List ℕ) → b < 256 → b ≢ 38 �
 normalized_byte-no_and b rest l ne = elim (cases_Bool (stays b rest)) [
   | inl s ↦ subst (λ t. All NoAnd (cond t (b ∷ []) (percent b))) (sym s) (All-cons NoAnd b [] ne (All-nil NoAnd))
   | inr gone ↦ subst (λ t. All NoAnd (cond t (b ∷ []) (percent b))) (sym gone)
-      (All-from_recursion NoAnd (percent b)
-      (no_and 37 refl, (no_and (hex_digit (b / 16)) (hex_digit-no_and (b / 16) (high_digit b l)), (no_and (hex_digit (b % 16)) (hex_digit-no_and (b % 16) (low_digit b)), tt))))
+      (All-from_recursion NoAnd (percent b) (
+        no_and 37 refl,
+        (
+          no_and (hex_digit (b / 16)) (hex_digit-no_and (b / 16) (high_digit b l)),
+          (no_and (hex_digit (b % 16)) (hex_digit-no_and (b % 16) (low_digit b)), tt),
+        ),
+      ))
 ]
 
 normalized-no_and : (x : List ℕ) → AreBytes x → All NoAnd x → All NoAnd (normalized_url x)
@@ -88,7 +100,8 @@ normalized-no_and (b ∷ rest) h n =
 encoded-same : (y : List ℕ) → AreUrlBytes y → All NoAnd y → encoded true y ≡ y
 encoded-same [] u n = refl
 encoded-same (b ∷ y) u n =
-    ap₂ (λ x y. x ++ y) (encoded_byte-stays b (48 ∷ 48 ∷ []) (url_stays b (All-head IsUrl b y u)) (All-head NoAnd b y n)) (encoded-same y (All-tail IsUrl b y u) (All-tail NoAnd b y n))
+    ap₂ (λ x y. x ++ y) (encoded_byte-stays b (48 ∷ 48 ∷ []) (url_stays b (All-head IsUrl b y u))
+    (All-head NoAnd b y n)) (encoded-same y (All-tail IsUrl b y u) (All-tail NoAnd b y n))
 
 pub sanitized-twice : (x : List ℕ) → AreBytes x → All (λ b. b ≢ 38) x → sanitized (sanitized x) ≡ sanitized x
 sanitized-twice x h n =

@@ -1,6 +1,6 @@
 -- Tests on bytes, and texts of ASCII letters in one case.
-use Rattle.std.specs.Prelude.{ℕ, ◌+◌, Bool, ◌&&◌, ◌||◌, if◌then◌else◌, List, map, nat_le, nat_eq}
-use Rattle.std.specs.Cmp.Lexicographic.{pointwise}
+use Rattle.std.specs.Str.{bytes_eq}
+use Rattle.std.specs.Prelude.{ℕ, ◌+◌, Bool, ◌&&◌, ◌||◌, if◌then◌else◌, List, map, nat_le}
 use Rattle.std.specs.List.{list_any}
 
 -- from the first to the last of two bytes
@@ -19,10 +19,6 @@ lower b = if is_between 65 90 b then b + 32 else b
 abbrev pub lowered : List ℕ → List ℕ
 lowered text = map lower text
 
--- the same bytes
-abbrev pub same_text : List ℕ → List ℕ → Bool
-same_text x y = pointwise nat_eq x y
-
 -- one of these texts
 abbrev pub is_one_of : List (List ℕ) → List ℕ → Bool
-is_one_of texts text = list_any (same_text text) texts
+is_one_of texts text = list_any (bytes_eq text) texts

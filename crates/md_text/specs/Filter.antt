@@ -9,8 +9,7 @@ disarmed_names = map (λ name. name.now) GFM_HTML_TAGFILTER_NAMES
 
 -- a text without one `/` that it begins with
 abbrev pub past_slash : List ℕ → List ℕ
-past_slash [] = []
-past_slash (b ∷ rest) = if b == 47 then rest else b ∷ rest
+past_slash text = elim text [ [] ↦ [] | b ∷ rest ↦ if b == 47 then rest else b ∷ rest ]
 
 -- the end, or tab, LF, FF, CR, space, `/` or `>`
 abbrev pub ends_name : List ℕ → Bool
@@ -19,14 +18,15 @@ ends_name (b ∷ rest) = (b == 9) || (b == 10) || (b == 12) || (b == 13) || (b =
 
 -- the whole run of letters is a name that is disarmed, and it ends where a tag's name ends
 abbrev pub begins_disarmed_name : List ℕ → Bool
-begins_disarmed_name text =
-    is_one_of disarmed_names (lowered (take_while is_letter text)) && ends_name (drop (length (take_while is_letter text)) text)
+begins_disarmed_name text = is_one_of disarmed_names (lowered (take_while is_letter text))
+    && ends_name (drop (length (take_while is_letter text)) text)
 
--- what a byte becomes before the bytes that follow it: a `<` that opens or closes a disarmed tag is `&lt;`
-abbrev pub filtered_byte : ℕ → List ℕ → List ℕ
-filtered_byte b rest = if (b == 60) && begins_disarmed_name (past_slash rest) then codes "&lt;" else b ∷ []
-
--- each byte by what it is and what follows it
+-- each byte by what follows it: a `<` that opens or closes a disarmed tag becomes `&lt;`
 abbrev pub tag_filtered : List ℕ → List ℕ
 tag_filtered [] = []
-tag_filtered (b ∷ rest) = filtered_byte b rest ++ tag_filtered rest
+tag_filtered (b ∷ rest) =
+    (if (b == 60) && begins_disarmed_name (past_slash rest) then codes "&lt;" else b ∷ []) ++ tag_filtered rest
+
+-- what a byte becomes before the bytes that follow it: a word of the lemmas'
+abbrev pub filtered_byte : ℕ → List ℕ → List ℕ
+filtered_byte b rest = if (b == 60) && begins_disarmed_name (past_slash rest) then codes "&lt;" else b ∷ []

@@ -1,8 +1,8 @@
 -- The texts of line endings.
+use Rattle.std.specs.Str.{bytes_eq}
 use Rattle.std.specs.Prelude.{ℕ, List, [], ◌∷◌, Option, find}
 use Rattle.md_text.specs.declared.line_ending.LineEnding.{LineEnding}
 use Rattle.md_text.specs.declared.line_ending.LineEnding.TheVariants.{CarriageReturnLineFeed, CarriageReturn, LineFeed}
-use Rattle.md_text.specs.Bytes.{same_text}
 
 -- carriage return (13) and line feed (10), or one of the two
 abbrev pub ending_text : LineEnding → List ℕ
@@ -12,4 +12,5 @@ ending_text LineFeed = 10 ∷ []
 
 -- the line ending whose text this is, if it is one's
 abbrev pub ending_of : List ℕ → Option LineEnding
-ending_of text = find (λ ending. same_text (ending_text ending) text) (CarriageReturnLineFeed ∷ CarriageReturn ∷ LineFeed ∷ [])
+ending_of text =
+    find (λ ending. bytes_eq (ending_text ending) text) (CarriageReturnLineFeed ∷ CarriageReturn ∷ LineFeed ∷ [])

@@ -8,32 +8,24 @@ begins_with start text = starts_with nat_eq text start
 
 -- what follows a `&` makes it the first byte of one of the four references
 abbrev pub completes_reference : List ℕ → Bool
-completes_reference rest =
-    begins_with (codes "amp;") rest || begins_with (codes "quot;") rest || begins_with (codes "lt;") rest || begins_with (codes "gt;") rest
+completes_reference rest = begins_with (codes "amp;") rest || begins_with (codes "quot;") rest
+    || begins_with (codes "lt;") rest || begins_with (codes "gt;") rest
 
 -- how many bytes of what follows a `&` belong to the reference that it begins, none where it begins none
 abbrev pub reference_tail : List ℕ → ℕ
-reference_tail rest =
-    if begins_with (codes "amp;") rest then 4
-    else (if begins_with (codes "quot;") rest then 5
-    else (if begins_with (codes "lt;") rest then 3
-    else (if begins_with (codes "gt;") rest then 3
-    else 0)))
+reference_tail rest = if begins_with (codes "amp;") rest then 4 else (if begins_with (codes "quot;") rest then 5
+    else (if begins_with (codes "lt;") rest then 3 else (if begins_with (codes "gt;") rest then 3 else 0)))
 
 -- the character of the reference that a `&` begins, the `&` itself where it begins none
 abbrev pub referenced : List ℕ → ℕ
-referenced rest =
-    if begins_with (codes "quot;") rest then 34
-    else (if begins_with (codes "lt;") rest then 60
-    else (if begins_with (codes "gt;") rest then 62
-    else 38))
+referenced rest = if begins_with (codes "quot;") rest then 34
+    else (if begins_with (codes "lt;") rest then 60 else (if begins_with (codes "gt;") rest then 62 else 38))
 
 -- what follows the next `skip` bytes, its references read back
 abbrev pub read_back_after : ℕ → List ℕ → List ℕ
 read_back_after skip [] = []
 read_back_after zero (b ∷ rest) =
-    if b == 38 then referenced rest ∷ read_back_after (reference_tail rest) rest
-    else b ∷ read_back_after 0 rest
+    if b == 38 then referenced rest ∷ read_back_after (reference_tail rest) rest else b ∷ read_back_after 0 rest
 read_back_after (suc skip) (b ∷ rest) = read_back_after skip rest
 
 -- a text with its references read back, once
@@ -42,8 +34,7 @@ read_back text = read_back_after 0 text
 
 -- no NUL, `<`, `>` or `"`, and each `&` begins one of the four references
 abbrev pub is_escaped_byte : ℕ → List ℕ → Bool
-is_escaped_byte b rest =
-    if (b == 0) || (b == 60) || (b == 62) || (b == 34) then false
+is_escaped_byte b rest = if (b == 0) || (b == 60) || (b == 62) || (b == 34) then false
     else (if b == 38 then completes_reference rest else true)
 
 -- each byte is so before what follows it

@@ -1,13 +1,13 @@
 -- URLs: what stays of a text, which protocol it has, and which protocols are kept.
-use Rattle.std.specs.Prelude.{ℕ, ◌+◌, ◌/◌, ◌%◌, Bool, true, false, ◌&&◌, ◌||◌, ◌==◌, if◌then◌else◌, nat_lt, List, [], ◌∷◌, ◌++◌, Option, Some, None, option_map}
+use Rattle.std.specs.Prelude.{ℕ, ◌+◌, ◌/◌, ◌%◌, Bool, true, false, ◌&&◌, ◌||◌, ◌==◌, if◌then◌else◌, nat_lt, List, [], ◌∷◌, ◌++◌, Option, Some, None, option_map, codes}
 use Rattle.std.specs.Option.{option_map_or}
 use Rattle.md_text.specs.Bytes.{is_between, lowered, is_one_of}
 use Rattle.md_text.specs.Encode.{encoded}
 
 -- `!`, `#`, `$`, from `&` to `;`, `=`, from `?` to `Z`, `_`, a lower-case letter, `~`
 abbrev pub stays_anywhere : ℕ → Bool
-stays_anywhere b =
-    (b == 33) || (b == 35) || (b == 36) || is_between 38 59 b || (b == 61) || is_between 63 90 b || (b == 95) || is_between 97 122 b || (b == 126)
+stays_anywhere b = (b == 33) || (b == 35) || (b == 36) || is_between 38 59 b || (b == 61) || is_between 63 90 b
+    || (b == 95) || is_between 97 122 b || (b == 126)
 
 -- a byte that a percent triple may have after its `%`: an ASCII hexadecimal digit of either case
 abbrev pub is_triple_byte : ℕ → Bool
@@ -15,9 +15,7 @@ is_triple_byte b = is_between 48 57 b || is_between 65 70 b || is_between 97 102
 
 -- what follows a `%` makes it the first byte of a percent triple: two such bytes
 abbrev pub completes_triple : List ℕ → Bool
-completes_triple [] = false
-completes_triple (a ∷ []) = false
-completes_triple (a ∷ b ∷ rest) = is_triple_byte a && is_triple_byte b
+completes_triple rest = elim rest [ a ∷ b ∷ _ ↦ is_triple_byte a && is_triple_byte b | _ ↦ false ]
 
 -- a byte stays as it is before the bytes that follow it
 abbrev pub stays : ℕ → List ℕ → Bool
@@ -31,34 +29,37 @@ hex_digit d = if nat_lt d 10 then 48 + d else 55 + d
 abbrev pub percent : ℕ → List ℕ
 percent b = 37 ∷ hex_digit (b / 16) ∷ hex_digit (b % 16) ∷ []
 
--- what a byte becomes before the bytes that follow it
-abbrev pub normalized_byte : ℕ → List ℕ → List ℕ
-normalized_byte b rest = if stays b rest then b ∷ [] else percent b
-
 -- each byte by what it is and what follows it; a character that doesn't stay is written byte by byte
 abbrev pub normalized_url : List ℕ → List ℕ
 normalized_url [] = []
-normalized_url (b ∷ rest) = normalized_byte b rest ++ normalized_url rest
+normalized_url (b ∷ rest) = (if stays b rest then b ∷ [] else percent b) ++ normalized_url rest
 
 -- a URL that may stand in HTML
 abbrev pub sanitized : List ℕ → List ℕ
 sanitized text = encoded true (normalized_url text)
 
--- `?`, `#` or `/`, which end the place where a protocol may stand
-abbrev pub ends_protocol : ℕ → Bool
-ends_protocol b = (b == 63) || (b == 35) || (b == 47)
-
 -- what stands before the first colon, where none of `?`, `#`, `/` stands before that
 abbrev pub protocol_of : List ℕ → Option (List ℕ)
 protocol_of [] = None
-protocol_of (b ∷ rest) =
-    if b == 58 then Some []
-    else (if ends_protocol b then None else option_map (λ before. b ∷ before) (protocol_of rest))
+protocol_of (b ∷ rest) = if b == 58 then Some []
+    else (if (b == 63) || (b == 35) || (b == 47) then None else option_map (λ before. b ∷ before) (protocol_of rest))
 
 -- no protocol, or one that is in the list once its ASCII letters are lowered
 abbrev pub has_permitted_protocol : List (List ℕ) → List ℕ → Bool
-has_permitted_protocol protocols url = option_map_or (λ protocol. is_one_of protocols (lowered protocol)) (protocol_of url) true
+has_permitted_protocol list url = option_map_or (λ protocol. is_one_of list (lowered protocol)) (protocol_of url) true
 
 -- the sanitized URL, or nothing where its protocol isn't permitted
 abbrev pub sanitized_with : List (List ℕ) → List ℕ → List ℕ
 sanitized_with protocols text = if has_permitted_protocol protocols (sanitized text) then sanitized text else []
+
+-- what a byte becomes before the bytes that follow it: a word of the program's
+abbrev pub normalized_byte : ℕ → List ℕ → List ℕ
+normalized_byte b rest = if stays b rest then b ∷ [] else percent b
+
+-- the protocols that a link may have
+abbrev pub link_protocols : List (List ℕ)
+link_protocols = codes "http" ∷ codes "https" ∷ codes "irc" ∷ codes "ircs" ∷ codes "mailto" ∷ codes "xmpp" ∷ []
+
+-- the protocols that an image may have
+abbrev pub image_protocols : List (List ℕ)
+image_protocols = codes "http" ∷ codes "https" ∷ []

@@ -2,18 +2,19 @@
 
 pub mod cases;
 
+ghost use Rattle.std.specs.List.{list_all};
 ghost use Rattle.std.specs.Prelude.{◌≡◌, ◌≢◌, ◌⊎◌, ℕ, [], ◌∷◌, ◌++◌, List, Bool, true, false, codes};
 ghost use Rattle.std.specs.Prelude.{All, IsTrue, MatchOption};
 ghost use Rattle.md_text.specs.declared.line_ending.LineEnding.{LineEnding};
 ghost use Rattle.md_text.specs.Encode.{encoded};
 ghost use Rattle.md_text.specs.Filter.{tag_filtered};
 ghost use Rattle.md_text.specs.Html.{Attribute, Forest, Empty, Void, IsReading, HasReadingWith, HasOneReadingWith};
-ghost use Rattle.md_text.specs.Html.{all_pass, is_tag, elements, void_tags, written, opening_tag, closing_tag};
+ghost use Rattle.md_text.specs.Html.{is_tag, elements, void_tags, written, opening_tag, closing_tag};
 ghost use Rattle.md_text.specs.Laws.{ChangesOnlyAngles, AreBytes, AreAscii, is_line_ends, percents_begin_triples};
 ghost use Rattle.md_text.specs.LineEnding.{ending_text, ending_of};
 ghost use Rattle.md_text.specs.References.{is_escaped, outside_references, read_back};
-ghost use Rattle.md_text.specs.Safe.{is_safe_value, link_protocols, image_protocols};
-ghost use Rattle.md_text.specs.Url.{sanitized, sanitized_with};
+ghost use Rattle.md_text.specs.Safe.{is_safe_value};
+ghost use Rattle.md_text.specs.Url.{sanitized, sanitized_with, link_protocols, image_protocols};
 
 /// Two texts joined are escaped as each by itself.
 pub fn encode_of_append()
@@ -116,14 +117,14 @@ pub fn text_has_a_reading()
 /// A void tag of the table has a reading.
 pub fn void_tag_has_a_reading()
     ensures { (p : Attribute → Bool) (name : List ℕ) (attributes : List Attribute)
-        → IsTrue (is_tag void_tags name attributes) → IsTrue (all_pass p attributes)
+        → IsTrue (is_tag void_tags name attributes) → IsTrue (list_all p attributes)
         → HasReadingWith p (written (Void name attributes Empty)) }
 {}
 
 /// An element of the table round a text that has a reading has one.
 pub fn element_has_a_reading()
     ensures { (p : Attribute → Bool) (name : List ℕ) (attributes : List Attribute) (inside : List ℕ)
-        → IsTrue (is_tag elements name attributes) → IsTrue (all_pass p attributes)
+        → IsTrue (is_tag elements name attributes) → IsTrue (list_all p attributes)
         → HasReadingWith p inside
         → HasReadingWith p (opening_tag name attributes ++ inside ++ closing_tag name) }
 {}

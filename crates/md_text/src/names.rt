@@ -1,5 +1,6 @@
+ghost use Rattle.std.specs.Str.{bytes_eq};
 ghost use Rattle.std.specs.Prelude.{◌≡◌, map};
-ghost use Rattle.md_text.specs.Bytes.{lowered, same_text, is_one_of};
+ghost use Rattle.md_text.specs.Bytes.{lowered, is_one_of};
 
 /// Whether a name, its ASCII letters lowered, is one of the texts.
 pub(crate) fn lowered_is_one_of(name: &[u8], texts: &[&str]) -> bool
@@ -15,7 +16,7 @@ pub(crate) fn lowered_is_one_of(name: &[u8], texts: &[&str]) -> bool
 
 /// Whether a name, its ASCII letters lowered, is this text.
 fn lowered_is(name: &[u8], text: &[u8]) -> bool
-    ensures { result ≡ same_text (lowered name.now) text.now }
+    ensures { result ≡ bytes_eq (lowered name.now) text.now }
 {
     if name.len() != text.len() {
         return false;

@@ -23,10 +23,14 @@ itself : (xs : List ℕ) → bytes_eq xs xs ≡ true
 itself xs = (bytes_eq-Decides xs xs).1 refl
 
 bytes_eq-sym : (xs ys : List ℕ) → bytes_eq xs ys ≡ bytes_eq ys xs
-bytes_eq-sym xs ys = one_answer (bytes_eq xs ys) (bytes_eq ys xs) (bytes_eq-Decides xs ys) ((λ h. sym (same ys xs h)), (λ e. (bytes_eq-Decides ys xs).1 (sym e)))
+bytes_eq-sym xs ys = one_answer (bytes_eq xs ys) (bytes_eq ys xs) (bytes_eq-Decides xs ys) (
+  (λ h. sym (same ys xs h)),
+  (λ e. (bytes_eq-Decides ys xs).1 (sym e)),
+)
 
 -- the place in a tally is that among its identifiers
-pub number-placed : (f : List ℕ → ℕ) (xs : List (List ℕ)) (x : List ℕ) → number_among (map (λ i. record { identifier = i; count = f i }) xs) x ≡ place_among xs x
+pub number-placed : (f : List ℕ → ℕ) (xs : List (List ℕ)) (x : List ℕ) →
+    number_among (map (λ i. record { identifier = i; count = f i }) xs) x ≡ place_among xs x
 number-placed f [] x = refl
 number-placed f (y ∷ ys) x = ap (λ n. if bytes_eq y x then 1 else suc n) (number-placed f ys x)
 
@@ -40,19 +44,23 @@ unfolding upto
 placed-upto [] x = refl
 placed-upto (y ∷ ys) x =
     ap (λ n. if bytes_eq y x then 1 else suc n) (placed-upto ys x)
-    ∙ elim (bytes_eq y x) as (λ b. (if b then 1 else suc (suc (length (upto x ys)))) ≡ suc (length (if b then [] else y ∷ upto x ys))) [ true ↦ refl | false ↦ refl ]
+    ∙ elim (bytes_eq y x) as (λ b. (if b then 1 else suc (suc (length (upto x ys))))
+    ≡ suc (length (if b then [] else y ∷ upto x ys))) [ true ↦ refl | false ↦ refl ]
 
-upto-others : (y x : List ℕ) (zs : List (List ℕ)) → bytes_eq y x ≡ false → upto x (others_than y zs) ≡ others_than y (upto x zs)
+upto-others : (y x : List ℕ) (zs : List (List ℕ)) → bytes_eq y x ≡ false →
+    upto x (others_than y zs) ≡ others_than y (upto x zs)
 unfolding upto
 upto-others y x [] h = refl
 upto-others y x (z ∷ zs) h =
-    elim (bytes_eq z y) as (λ b. bytes_eq z y ≡ b → upto x (cond (not b) (z ∷ others_than y zs) (others_than y zs)) ≡ others_than y (if bytes_eq z x then [] else z ∷ upto x zs)) [
+    elim (bytes_eq z y) as (λ b. bytes_eq z y ≡ b → upto x (cond (not b) (z ∷ others_than y zs) (others_than y zs))
+    ≡ others_than y (if bytes_eq z x then [] else z ∷ upto x zs)) [
       | true ↦ λ e.
           upto-others y x zs h
           ∙ ap (λ b. cond (not b) (z ∷ others_than y (upto x zs)) (others_than y (upto x zs))) (sym e)
           ∙ ap (λ b. others_than y (if b then [] else z ∷ upto x zs)) (sym (ap (λ w. bytes_eq w x) (same z y e) ∙ h))
       | false ↦ λ e.
-          elim (bytes_eq z x) as (λ b. (if b then [] else z ∷ upto x (others_than y zs)) ≡ others_than y (if b then [] else z ∷ upto x zs)) [
+          elim (bytes_eq z x) as (λ b. (if b then [] else z ∷ upto x (others_than y zs))
+          ≡ others_than y (if b then [] else z ∷ upto x zs)) [
             | true ↦ refl
             | false ↦
                 ap (λ ws. z ∷ ws) (upto-others y x zs h)
@@ -65,13 +73,17 @@ upto-distinct : (xs later : List (List ℕ)) (x : List ℕ) → upto x (distinct
 unfolding upto
 upto-distinct [] later x = ap (λ b. if b then [] else x ∷ upto x (others_than x (distinct later))) (itself x)
 upto-distinct (y ∷ xs) later x =
-    elim (bytes_eq y x) as (λ b. bytes_eq y x ≡ b → (if b then [] else y ∷ upto x (others_than y (distinct (xs ++ x ∷ later)))) ≡ (if b then [] else y ∷ upto x (others_than y (distinct xs)))) [
+    elim (bytes_eq y x) as (λ b. bytes_eq y x ≡ b → (if b then [] else y
+    ∷ upto x (others_than y (distinct (xs ++ x ∷ later))))
+    ≡ (if b then [] else y ∷ upto x (others_than y (distinct xs)))) [
       | true ↦ λ e. refl
       | false ↦ λ e.
-          ap (λ ws. y ∷ ws) (upto-others y x (distinct (xs ++ x ∷ later)) e ∙ ap (λ ws. others_than y ws) (upto-distinct xs later x) ∙ sym (upto-others y x (distinct xs) e))
+          ap (λ ws. y ∷ ws) (upto-others y x (distinct (xs ++ x ∷ later)) e
+          ∙ ap (λ ws. others_than y ws) (upto-distinct xs later x) ∙ sym (upto-others y x (distinct xs) e))
     ] refl
 
-pub number-same : (xs later : List (List ℕ)) (x : List ℕ) → number_among (tally xs) x ≡ place_among (distinct (xs ++ x ∷ later)) x
+pub number-same : (xs later : List (List ℕ)) (x : List ℕ) →
+    number_among (tally xs) x ≡ place_among (distinct (xs ++ x ∷ later)) x
 number-same xs later x =
     number-placed (count_of xs) (distinct xs) x
     ∙ placed-upto (distinct xs) x
@@ -85,7 +97,8 @@ or_parts false b h = (refl, h)
 others_stay : (x z : List ℕ) (ys : List (List ℕ)) → bytes_eq x z ≡ false → is_in z (others_than x ys) ≡ is_in z ys
 others_stay x z [] h = refl
 others_stay x z (y ∷ ys) h =
-    elim (bytes_eq y x) as (λ b. bytes_eq y x ≡ b → is_in z (cond (not b) (y ∷ others_than x ys) (others_than x ys)) ≡ bytes_eq y z || is_in z ys) [
+    elim (bytes_eq y x) as (λ b. bytes_eq y x ≡ b → is_in z (cond (not b) (y ∷ others_than x ys) (others_than x ys))
+    ≡ bytes_eq y z || is_in z ys) [
       | true ↦ λ e. others_stay x z ys h ∙ ap (λ b. b || is_in z ys) (sym (ap (λ w. bytes_eq w z) (same y x e) ∙ h))
       | false ↦ λ e. ap (λ b. bytes_eq y z || b) (others_stay x z ys h)
     ] refl
@@ -108,11 +121,14 @@ count-missing (call ∷ calls) z h =
     ∙ zero_plus (count_of calls z)
     ∙ count-missing calls z (or_parts (bytes_eq call z) (is_in z calls) h).1
 
-count-found : (f : List ℕ → ℕ) (xs : List (List ℕ)) (x : List ℕ) → count_among (map (λ i. record { identifier = i; count = f i }) xs) x ≡ (if is_in x xs then f x else 0)
+count-found : (f : List ℕ → ℕ) (xs : List (List ℕ)) (x : List ℕ) →
+    count_among (map (λ i. record { identifier = i; count = f i }) xs) x ≡ (if is_in x xs then f x else 0)
 count-found f [] x = refl
 count-found f (y ∷ ys) x =
-    let found : Bool → Called → ℕ = λ b first. option_map_or (λ (called : Called). called.count) (if b then Some first else find (λ called. bytes_eq called.identifier x) (map (λ i. record { identifier = i; count = f i }) ys)) 0 in
-    elim (bytes_eq y x) as (λ b. bytes_eq y x ≡ b → found b (record { identifier = y; count = f y }) ≡ (if b || is_in x ys then f x else 0)) [
+    let found : Bool → Called → ℕ = λ b first. option_map_or (λ (called : Called). called.count) (if b then Some first
+    else find (λ called. bytes_eq called.identifier x) (map (λ i. record { identifier = i; count = f i }) ys)) 0 in
+    elim (bytes_eq y x) as (λ b. bytes_eq y x ≡ b → found b (record { identifier = y; count = f y })
+    ≡ (if b || is_in x ys then f x else 0)) [
       | true ↦ λ e. ap f (same y x e)
       | false ↦ λ e. count-found f ys x
     ] refl

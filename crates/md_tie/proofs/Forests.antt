@@ -43,7 +43,8 @@ lie : {A : Type 0} → false ≡ true → A
 lie h = absurd (true≢false (sym h))
 
 -- what is asked of some nodes, before which a heading waits for its underline or none
-pub record Ready (given : Given) (forest : Forest) (before : Before) (r : Role) (b : Option Symbol) (content : Content) (later : List (List ℕ)) (notes : Notes) (waits : Bool) : Type 0 where
+pub record Ready (given : Given) (forest : Forest) (before : Before) (r : Role) (b : Option Symbol)
+    (content : Content) (later : List (List ℕ)) (notes : Notes) (waits : Bool) : Type 0 where
   pub shaped : AreShaped forest r b
   pub built : IsBuilt given.bytes content forest
   pub underlines : underlined waits (spine forest) ≡ true
@@ -51,18 +52,28 @@ pub record Ready (given : Given) (forest : Forest) (before : Before) (r : Role) 
   pub calls : given.calls ≡ before.calls ++ (calls_of given.bytes forest ++ later)
 
 -- what is printed for them is what they mean
-pub record Tied (given : Given) (around : Surroundings) (before : Before) (notes : Notes) (waits : Bool) (forest : Forest) : Type 0 where
-  pub agree : Agree before notes (waits_behind waits (spine forest)) (printed (source_of given) around (stood before) forest) (meant given around before forest).pieces (meant given around before forest).found
-  pub definitions : definitions_of (source_of given) around (stood before) forest ≡ (meant given around before forest).definitions
-  pub footnotes : footnotes_of (source_of given) around (stood before) forest ≡ (meant given around before forest).footnotes
+pub record Tied (given : Given) (around : Surroundings) (before : Before) (notes : Notes) (waits : Bool)
+    (forest : Forest) : Type 0 where
+  pub agree : Agree before notes (waits_behind waits (spine forest))
+      (printed (source_of given) around (stood before) forest) (meant given around before forest).pieces
+      (meant given around before forest).found
+  pub definitions : definitions_of (source_of given) around (stood before) forest
+      ≡ (meant given around before forest).definitions
+  pub footnotes : footnotes_of (source_of given) around (stood before) forest
+      ≡ (meant given around before forest).footnotes
 
 -- one node
-record NodeTied (given : Given) (round : Surroundings) (own : Before) (at : At) (name : Name) (children : Forest) (notes : Notes) (waits : Bool) : Type 0 where
-  agree : Agree at.before notes (waits_behind waits (shown (standing_of name) (spine children))) (node_printed given at name (printed (source_of given) round (stood own) children) (is_captured name))
-      (means given at name (meant given round own children).pieces) (found_at given at name (meant given round own children).pieces)
-  definitions : definitions_of (source_of given) round (stood own) children ≡ (meant given round own children).definitions
+record NodeTied (given : Given) (round : Surroundings) (own : Before) (at : At) (name : Name) (children : Forest)
+    (notes : Notes) (waits : Bool) : Type 0 where
+  agree : Agree at.before notes (waits_behind waits (shown (standing_of name) (spine children)))
+      (node_printed given at name (printed (source_of given) round (stood own) children) (is_captured name))
+      (means given at name (meant given round own children).pieces)
+      (found_at given at name (meant given round own children).pieces)
+  definitions : definitions_of (source_of given) round (stood own) children
+      ≡ (meant given round own children).definitions
   footnotes : footnotes_of (source_of given) round (stood own) children ≡ (meant given round own children).footnotes
-  page : is_captured name ≡ true → OnPage given (printed (source_of given) round (stood own) children) (meant given round own children).pieces (meant given round own children).found
+  page : is_captured name ≡ true → OnPage given (printed (source_of given) round (stood own) children)
+      (meant given round own children).pieces (meant given round own children).found
 
 abbrev is_mdx : Standing → Bool
 is_mdx Mdx = true
@@ -70,55 +81,103 @@ is_mdx _ = false
 
 -- the children's claim, for all that stands before them
 abbrev AllTied : Given → Surroundings → Before → Forest → Type 0
-AllTied given round own children = (r : Role) (b : Option Symbol) (content : Content) (later : List (List ℕ)) (notes : Notes) (waits : Bool) → Ready given children own r b content later notes waits → Tied given round own notes waits children
+AllTied given round own children = (r : Role) (b : Option Symbol) (content : Content) (later : List (List ℕ))
+    (notes : Notes) (waits : Bool) → Ready given children own r b content later notes waits →
+    Tied given round own notes waits children
 
-node_tied : (given : Given) (round : Surroundings) (own : Before) (at : At) (name : Name) (children : Forest) (r : Role) (b : Option Symbol) (content : Content) (later behind : List (List ℕ)) (notes : Notes) (waits : Bool) →
-    (standing : Standing) → standing ≡ standing_of name → Told standing name → IsStanding standing r b children → AreShaped children (inner_role standing r b) (inner_before standing b) →
-    (is_captured name ≡ false → QuietInside standing) → underlined waits (shown standing (spine children)) ≡ true → (waits ≡ true → notes.heading ≡ unwrap_or at.before.found.heading []) →
-    IsFit given.bytes name at.start at.end at.children → IsBuilt given.bytes content children → given.calls ≡ own.calls ++ (calls_of given.bytes children ++ later) →
-    (is_call name ≡ true → given.calls ≡ (at.before.calls ++ calls_of given.bytes at.children) ++ identifier_at given.bytes (label_in_node at.children) ∷ behind) →
-    at.found ≡ (meant given round own children).found → own.found ≡ (if is_transparent name then at.before.found else nothing_found) →
+node_tied : (given : Given) (round : Surroundings) (own : Before) (at : At) (name : Name) (children : Forest)
+    (r : Role) (b : Option Symbol) (content : Content) (later behind : List (List ℕ)) (notes : Notes) (waits : Bool) →
+    (standing : Standing) → standing ≡ standing_of name → Told standing name → IsStanding standing r b children →
+    AreShaped children (inner_role standing r b) (inner_before standing b) →
+    (is_captured name ≡ false → QuietInside standing) → underlined waits (shown standing (spine children)) ≡ true →
+    (waits ≡ true → notes.heading ≡ unwrap_or at.before.found.heading []) →
+    IsFit given.bytes name at.start at.end at.children → IsBuilt given.bytes content children →
+    given.calls ≡ own.calls ++ (calls_of given.bytes children ++ later) →
+    (is_call name ≡ true → given.calls ≡ (at.before.calls ++ calls_of given.bytes at.children)
+    ++ identifier_at given.bytes (label_in_node at.children) ∷ behind) →
+    at.found ≡ (meant given round own children).found → own.found
+    ≡ (if is_transparent name then at.before.found else nothing_found) →
     AllTied given round own children → NodeTied given round own at name children notes waits
-node_tied given round own at name children r b content later behind notes waits Through e told is shaped quiet underlines heading fit built calls call found own_found all =
+node_tied given round own at name children r b content later behind notes waits Through e told is shaped quiet
+    underlines heading fit built calls call found own_found all =
     let inner : Meant = meant given round own children in
-    let passed : own.found ≡ at.before.found = own_found ∙ ap (λ t. if t then at.before.found else nothing_found) told in
-    let tied = all r b content later notes waits (record { shaped = shaped; built = built; underlines = underlines; heading = λ w. heading w ∙ ap (λ (f : Found). unwrap_or f.heading []) (sym passed); calls = calls }) in
+    let passed : own.found ≡ at.before.found = own_found
+    ∙ ap (λ t. if t then at.before.found else nothing_found) told in
+    let tied = all r b content later notes waits (record {
+      shaped = shaped;
+      built = built;
+      underlines = underlines;
+      heading = λ w. heading w ∙ ap (λ (f : Found). unwrap_or f.heading []) (sym passed);
+      calls = calls;
+    }) in
     record {
-      agree = through_node given at name own notes (waits_behind waits (spine children)) (waits_behind waits (shown (standing_of name) (spine children))) (printed (source_of given) round (stood own) children) inner.pieces
+      agree = through_node given at name own notes (waits_behind waits (spine children))
+          (waits_behind waits (shown (standing_of name) (spine children)))
+          (printed (source_of given) round (stood own) children) inner.pieces
           told (ap (λ (f : Found). f.heading) passed) (ap (λ s. waits_behind waits (shown s (spine children))) (sym e))
-          (subst (λ f. Agree own notes (waits_behind waits (spine children)) (printed (source_of given) round (stood own) children) inner.pieces f) (sym found) tied.agree);
+          (subst (λ f. Agree own notes (waits_behind waits (spine children))
+          (printed (source_of given) round (stood own) children) inner.pieces f) (sym found) tied.agree);
       definitions = tied.definitions;
       footnotes = tied.footnotes;
       page = λ h. lie (sym (through given at name told).caught ∙ h);
     }
-node_tied given round own at name children r b content later behind notes waits Space e told is shaped quiet underlines heading fit built calls call found own_found all =
+node_tied given round own at name children r b content later behind notes waits Space e told is shaped quiet
+    underlines heading fit built calls call found own_found all =
     let inner : Meant = meant given round own children in
-    let passed : own.found ≡ at.before.found = own_found ∙ ap (λ t. if t then at.before.found else nothing_found) told in
-    let tied = all _ _ content later notes waits (record { shaped = shaped; built = built; underlines = subst (λ f. underlined waits (spine f) ≡ true) (sym is) refl; heading = λ w. heading w ∙ ap (λ (f : Found). unwrap_or f.heading []) (sym passed); calls = calls }) in
+    let passed : own.found ≡ at.before.found = own_found
+    ∙ ap (λ t. if t then at.before.found else nothing_found) told in
+    let tied = all _ _ content later notes waits (record {
+      shaped = shaped;
+      built = built;
+      underlines = subst (λ f. underlined waits (spine f) ≡ true) (sym is) refl;
+      heading = λ w. heading w ∙ ap (λ (f : Found). unwrap_or f.heading []) (sym passed);
+      calls = calls;
+    }) in
     record {
-      agree = through_node given at name own notes (waits_behind waits (spine children)) (waits_behind waits (shown (standing_of name) (spine children))) (printed (source_of given) round (stood own) children) inner.pieces
-          told (ap (λ (f : Found). f.heading) passed) (ap (λ s. waits_behind waits (shown s (spine children))) (sym e) ∙ ap (λ f. waits_behind waits (spine f)) (sym is))
-          (subst (λ f. Agree own notes (waits_behind waits (spine children)) (printed (source_of given) round (stood own) children) inner.pieces f) (sym found) tied.agree);
+      agree = through_node given at name own notes (waits_behind waits (spine children))
+          (waits_behind waits (shown (standing_of name) (spine children)))
+          (printed (source_of given) round (stood own) children) inner.pieces
+          told (ap (λ (f : Found). f.heading) passed) (ap (λ s. waits_behind waits (shown s (spine children))) (sym e)
+          ∙ ap (λ f. waits_behind waits (spine f)) (sym is))
+          (subst (λ f. Agree own notes (waits_behind waits (spine children))
+          (printed (source_of given) round (stood own) children) inner.pieces f) (sym found) tied.agree);
       definitions = tied.definitions;
       footnotes = tied.footnotes;
       page = λ h. lie (sym (through given at name told).caught ∙ h);
     }
-node_tied given round own at name children r b content later behind notes waits (Solid s usual reading) e told is shaped quiet underlines heading fit built calls call found own_found all =
+node_tied given round own at name children r b content later behind notes waits
+    (Solid s usual reading) e told is shaped quiet underlines heading fit built calls call found own_found all =
     let inner : Meant = meant given round own children in
     let inner_printed : List Printed = printed (source_of given) round (stood own) children in
-    let ready : (n : Notes) → Ready given children own _ _ content later n false = λ n. record { shaped = shaped; built = built; underlines = matches-underlined _ (spine children) is false; heading = λ w. lie w; calls = calls } in
-    let paged : OnPage given inner_printed inner.pieces inner.found = on_page given own _ inner_printed inner.pieces inner.found (all _ _ content later no_notes false (ready no_notes)).agree in
+    let ready : (n : Notes) → Ready given children own _ _ content later n false = λ n. record {
+      shaped = shaped;
+      built = built;
+      underlines = matches-underlined _ (spine children) is false;
+      heading = λ w. lie w;
+      calls = calls;
+    } in
+    let paged : OnPage given inner_printed inner.pieces inner.found =
+    on_page given own _ inner_printed inner.pieces inner.found
+    (all _ _ content later no_notes false (ready no_notes)).agree in
     let tied = all _ _ content later notes false (ready notes) in
-    let silent = λ (leaf : is_leaf (standing_of name) ≡ true). leaf-silent s usual reading r b (spine children) (ap is_leaf e ∙ leaf) is in
-    let Wanted : Bool → Type 0 = λ c. Agree at.before notes (waits_behind waits (shown (standing_of name) (spine children))) (node_printed given at name inner_printed c) (means given at name inner.pieces) (found_at given at name inner.pieces) in
+    let silent = λ (leaf : is_leaf (standing_of name) ≡ true). leaf-silent s usual reading r b (spine children)
+    (ap is_leaf e ∙ leaf) is in
+    let Wanted : Bool → Type 0 = λ c. Agree at.before notes
+    (waits_behind waits (shown (standing_of name) (spine children))) (node_printed given at name inner_printed c)
+    (means given at name inner.pieces) (found_at given at name inner.pieces) in
     record {
       agree = elim (is_captured name) as (λ c. is_captured name ≡ c → Wanted c) [
         | true ↦ λ h.
             captured_node given at name notes waits (spine children) inner_printed inner.pieces told.0 heading
-            (captured given at name inner.pieces (lay given.ending blank inner_printed) behind h paged.text (paged.resource ∙ ap (λ (f : Found). f.resource) (sym found)) (paged.target ∙ ap target_in (sym found)) call)
+            (captured given at name inner.pieces (lay given.ending blank inner_printed) behind h paged.text
+            (paged.resource ∙ ap (λ (f : Found). f.resource) (sym found)) (paged.target
+            ∙ ap target_in (sym found)) call)
         | false ↦ λ h.
-            let untargeted : Untargeted inner.found = quiet-found given children round own _ _ shaped (quiet h r b (spine children) is) in
-            streamed_node given at name notes waits (spine children) inner_printed inner.pieces h told.0 (λ m. lie (ap is_mdx (e ∙ m))) heading (subst (λ st. underlined waits (shown st (spine children)) ≡ true) e underlines)
+            let untargeted : Untargeted inner.found = quiet-found given children round own _ _ shaped
+            (quiet h r b (spine children) is) in
+            streamed_node given at name notes waits (spine children) inner_printed inner.pieces h told.0
+            (λ m. lie (ap is_mdx (e ∙ m))) heading (subst (λ st. underlined waits (shown st (spine children))
+            ≡ true) e underlines)
             tied.agree.pieces_are
             (tied.agree.destination ∙ ap (λ o. unwrap_or o notes.target.destination) untargeted.0)
             (tied.agree.title ∙ ap (λ o. or_else o notes.target.title) untargeted.1)
@@ -131,7 +190,8 @@ node_tied given round own at name children r b content later behind notes waits 
       footnotes = tied.footnotes;
       page = λ h. paged;
     }
-node_tied given round own at name children r b content later behind notes waits Mdx e told is shaped quiet underlines heading fit built calls call found own_found all = absurd is
+node_tied given round own at name children r b content later behind notes waits Mdx e told is shaped quiet underlines
+    heading fit built calls call found own_found all = absurd is
 
 -- definitions and footnotes are captured
 definition_captured : (name : Name) → is_link_definition name ≡ true → is_captured name ≡ true
@@ -148,19 +208,23 @@ defined_where is identifier target = if is then record { identifier = identifier
 abbrev footnote_where : Bool → List ℕ → List ℕ → List Footnote
 footnote_where is identifier text = if is then record { identifier = identifier; text = text } ∷ [] else []
 
-one_defined : (is : Bool) (identifier : List ℕ) (target other : Target) → (is ≡ true → target ≡ other) → defined_where is identifier target ≡ defined_where is identifier other
+one_defined : (is : Bool) (identifier : List ℕ) (target other : Target) → (is ≡ true → target ≡ other) →
+    defined_where is identifier target ≡ defined_where is identifier other
 one_defined true identifier target other h = ap (λ t. defined_where true identifier t) (h refl)
 one_defined false identifier target other h = refl
 
-one_footnote : (is : Bool) (identifier text other : List ℕ) → (is ≡ true → text ≡ other) → footnote_where is identifier text ≡ footnote_where is identifier other
+one_footnote : (is : Bool) (identifier text other : List ℕ) → (is ≡ true → text ≡ other) →
+    footnote_where is identifier text ≡ footnote_where is identifier other
 one_footnote true identifier text other h = ap (λ t. footnote_where true identifier t) (h refl)
 one_footnote false identifier text other h = refl
 
 -- calls before, in and behind a node
-calls_inside : (before inner own rest later : List (List ℕ)) → before ++ ((inner ++ (own ++ rest)) ++ later) ≡ before ++ (inner ++ ((own ++ rest) ++ later))
+calls_inside : (before inner own rest later : List (List ℕ)) →
+    before ++ ((inner ++ (own ++ rest)) ++ later) ≡ before ++ (inner ++ ((own ++ rest) ++ later))
 calls_inside before inner own rest later = ap (λ cs. before ++ cs) (append_assoc inner (own ++ rest) later)
 
-calls_behind : (before inner own rest later : List (List ℕ)) → before ++ ((inner ++ (own ++ rest)) ++ later) ≡ (before ++ (inner ++ (own ++ []))) ++ (rest ++ later)
+calls_behind : (before inner own rest later : List (List ℕ)) →
+    before ++ ((inner ++ (own ++ rest)) ++ later) ≡ (before ++ (inner ++ (own ++ []))) ++ (rest ++ later)
 calls_behind before inner own rest later =
     calls_inside before inner own rest later
     ∙ ap (λ cs. before ++ (inner ++ cs)) (append_assoc own rest later)
@@ -168,12 +232,14 @@ calls_behind before inner own rest later =
     ∙ sym (append_assoc before (inner ++ own) (rest ++ later))
     ∙ ap (λ cs. (before ++ (inner ++ cs)) ++ (rest ++ later)) (sym (append-nil own))
 
-call_here : (before inner rest later : List (List ℕ)) (identifier : List ℕ) → before ++ ((inner ++ (identifier ∷ [] ++ rest)) ++ later) ≡ (before ++ inner) ++ identifier ∷ (rest ++ later)
+call_here : (before inner rest later : List (List ℕ)) (identifier : List ℕ) →
+    before ++ ((inner ++ (identifier ∷ [] ++ rest)) ++ later) ≡ (before ++ inner) ++ identifier ∷ (rest ++ later)
 call_here before inner rest later identifier =
     ap (λ cs. before ++ cs) (append_assoc inner (identifier ∷ rest) later)
     ∙ sym (append_assoc before inner (identifier ∷ (rest ++ later)))
 
-pub tied : (given : Given) (forest : Forest) (around : Surroundings) (before : Before) (r : Role) (b : Option Symbol) (content : Content) (later : List (List ℕ)) (notes : Notes) (waits : Bool) →
+pub tied : (given : Given) (forest : Forest) (around : Surroundings) (before : Before) (r : Role) (b : Option Symbol)
+    (content : Content) (later : List (List ℕ)) (notes : Notes) (waits : Bool) →
     Ready given forest before r b content later notes waits → Tied given around before notes waits forest
 tied given Empty around before r b content later notes waits ready = record {
   agree = record { pieces_are = refl; destination = refl; title = refl; resource = refl; heading = ready.heading };
@@ -185,7 +251,15 @@ tied given (Node name start end children rest) around before r b content later n
     let round : Surroundings = inside given.options (is_loose children) name around in
     let own : Before = before_children name children before in
     let inner : Meant = meant given round own children in
-    let at : At = record { around = around; before = before; children = children; found = inner.found; start = start; end = end; is_last = around.is_outermost && is_empty rest } in
+    let at : At = record {
+      around = around;
+      before = before;
+      children = children;
+      found = inner.found;
+      start = start;
+      end = end;
+      is_last = around.is_outermost && is_empty rest;
+    } in
     let found : Found = found_at given at name inner.pieces in
     let next : Before = before_next given at name found in
     let inner_printed : List Printed = printed (source_of given) round (stood own) children in
@@ -197,12 +271,15 @@ tied given (Node name start end children rest) around before r b content later n
     let lines = underlined-split waits (shown standing (spine children)) (spine rest) ready.underlines in
     let later_waits : Bool = waits_behind waits (shown standing (spine children)) in
     let one : NodeTied given round own at name children notes waits =
-    node_tied given round own at name children r b (content_inside content name) ((own_calls ++ rest_calls) ++ later) (rest_calls ++ later) notes waits standing refl (told name) ready.shaped.0.1 ready.shaped.1
+    node_tied given round own at name children r b (content_inside content name) ((own_calls ++ rest_calls)
+    ++ later) (rest_calls ++ later) notes waits standing refl (told name) ready.shaped.0.1 ready.shaped.1
     (quiet_name name) lines.0 ready.heading ready.built.1 ready.built.2
     (ready.calls ∙ calls_inside before.calls in_calls own_calls rest_calls later)
-    (λ h. ready.calls ∙ ap (λ c. before.calls ++ ((in_calls ++ ((if c then identifier ∷ [] else []) ++ rest_calls)) ++ later)) h ∙ call_here before.calls in_calls rest_calls later identifier)
+    (λ h. ready.calls ∙ ap (λ c. before.calls ++ ((in_calls ++ ((if c then identifier ∷ [] else []) ++ rest_calls))
+    ++ later)) h ∙ call_here before.calls in_calls rest_calls later identifier)
     refl refl
-    (λ r' b' content' later' notes' waits' ready'. tied given children round own r' b' content' later' notes' waits' ready')
+    (λ r' b' content' later' notes' waits' ready'. tied given children round own r' b' content' later' notes' waits'
+    ready')
     in
     let two : Tied given around next (noted_after notes node) later_waits rest =
     tied given rest around next _ _ _ later (noted_after notes node) later_waits
@@ -216,29 +293,47 @@ tied given (Node name start end children rest) around before r b content later n
     in
     let machine_next : Stood = next_stood (source_of given) around name start end children (stood before) in
     let same : machine_next ≡ stood next = next-same given at name found in
-    let whole : Agree before notes (waits_behind later_waits (spine rest)) (node ++ printed (source_of given) around (stood next) rest) (meant given around before (Node name start end children rest)).pieces (meant given around before (Node name start end children rest)).found =
-    agree_both before next notes later_waits (waits_behind later_waits (spine rest)) node (printed (source_of given) around (stood next) rest) (means given at name inner.pieces) (meant given around next rest).pieces found (meant given around next rest).found refl one.agree two.agree
+    let whole : Agree before notes (waits_behind later_waits (spine rest)) (node
+    ++ printed (source_of given) around (stood next) rest)
+    (meant given around before (Node name start end children rest)).pieces
+    (meant given around before (Node name start end children rest)).found =
+    agree_both before next notes later_waits (waits_behind later_waits (spine rest)) node
+    (printed (source_of given) around (stood next) rest) (means given at name inner.pieces)
+    (meant given around next rest).pieces found (meant given around next rest).found refl one.agree two.agree
     in
     let target : Target = (lay given.ending blank inner_printed).notes.target in
     let text : List ℕ = (lay given.ending blank inner_printed).text in
-    let defined : Target → List Defined = λ t. defined_where (is_link_definition name) (identifier_at given.bytes (first is_definition_label children)) t in
-    let noted : List ℕ → List Footnote = λ t. footnote_where (is_footnote_definition name) (identifier_at given.bytes (footnote_label children)) t in
+    let defined : Target → List Defined = λ t. defined_where (is_link_definition name)
+    (identifier_at given.bytes (first is_definition_label children)) t in
+    let noted : List ℕ → List Footnote = λ t. footnote_where (is_footnote_definition name)
+    (identifier_at given.bytes (footnote_label children)) t in
     record {
-      agree = subst (λ w. Agree before notes w (node ++ printed (source_of given) around machine_next rest) (meant given around before (Node name start end children rest)).pieces (meant given around before (Node name start end children rest)).found)
+      agree = subst (λ w. Agree before notes w (node ++ printed (source_of given) around machine_next rest)
+          (meant given around before (Node name start end children rest)).pieces
+          (meant given around before (Node name start end children rest)).found)
           (sym (waits-append waits (shown standing (spine children)) (spine rest)))
-          (subst (λ s. Agree before notes (waits_behind later_waits (spine rest)) (node ++ printed (source_of given) around s rest) (meant given around before (Node name start end children rest)).pieces (meant given around before (Node name start end children rest)).found) (sym same) whole);
+          (subst (λ s. Agree before notes (waits_behind later_waits (spine rest)) (node
+          ++ printed (source_of given) around s rest) (meant given around before
+          (Node name start end children rest)).pieces (meant given around before
+          (Node name start end children rest)).found) (sym same) whole);
       definitions =
           ap (λ ds. ds ++ (defined target ++ definitions_of (source_of given) around machine_next rest)) one.definitions
           ∙ ap (λ ds. inner.definitions ++ (ds ++ definitions_of (source_of given) around machine_next rest))
-          (one_defined (is_link_definition name) (identifier_at given.bytes (first is_definition_label children)) target (target_in inner.found) (λ h. (one.page (definition_captured name h)).target))
-          ∙ ap (λ s. inner.definitions ++ (defined (target_in inner.found) ++ definitions_of (source_of given) around s rest)) same
+          (one_defined (is_link_definition name) (identifier_at given.bytes (first is_definition_label children))
+          target (target_in inner.found) (λ h. (one.page (definition_captured name h)).target))
+          ∙ ap (λ s. inner.definitions ++ (defined (target_in inner.found)
+          ++ definitions_of (source_of given) around s rest)) same
           ∙ ap (λ ds. inner.definitions ++ (defined (target_in inner.found) ++ ds)) two.definitions
-          ∙ sym (append_assoc inner.definitions (defined (target_in inner.found)) (meant given around next rest).definitions);
+          ∙ sym (append_assoc inner.definitions (defined (target_in inner.found))
+          (meant given around next rest).definitions);
       footnotes =
           ap (λ fs. fs ++ (noted text ++ footnotes_of (source_of given) around machine_next rest)) one.footnotes
           ∙ ap (λ fs. inner.footnotes ++ (fs ++ footnotes_of (source_of given) around machine_next rest))
-          (one_footnote (is_footnote_definition name) (identifier_at given.bytes (footnote_label children)) text (layout given.ending inner.pieces) (λ h. (one.page (footnote_captured name h)).text))
-          ∙ ap (λ s. inner.footnotes ++ (noted (layout given.ending inner.pieces) ++ footnotes_of (source_of given) around s rest)) same
+          (one_footnote (is_footnote_definition name) (identifier_at given.bytes (footnote_label children)) text
+          (layout given.ending inner.pieces) (λ h. (one.page (footnote_captured name h)).text))
+          ∙ ap (λ s. inner.footnotes ++ (noted (layout given.ending inner.pieces)
+          ++ footnotes_of (source_of given) around s rest)) same
           ∙ ap (λ fs. inner.footnotes ++ (noted (layout given.ending inner.pieces) ++ fs)) two.footnotes
-          ∙ sym (append_assoc inner.footnotes (noted (layout given.ending inner.pieces)) (meant given around next rest).footnotes);
+          ∙ sym (append_assoc inner.footnotes (noted (layout given.ending inner.pieces))
+          (meant given around next rest).footnotes);
     }

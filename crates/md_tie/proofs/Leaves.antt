@@ -1,10 +1,11 @@
 -- What is written twice, once for the machine and once for the meaning, is one.
 use Rattle.std.proofs.Common.{◌≡◌, ℕ, ◌+◌, ◌-◌, ◌≤◌, zero, suc, Bool, true, false, ◌&&◌, ◌||◌, not, List, [], ◌∷◌, ◌++◌, length, drop, take, refl, ap, sym, ◌∙◌, Option, Some, None, arith}
-use Rattle.std.specs.Prelude.{if◌then◌else◌, min, slice_get, slice_range, ◌==◌, codes}
+use Rattle.std.specs.Prelude.{if◌then◌else◌, cond, count_by, min, slice_get, slice_range, ◌==◌, codes}
 use Rattle.std.specs.Option.{option_map_or}
 use Rattle.std.specs.List.{list_any}
 use Rattle.std.specs.Fmt.{decimal}
 use Rattle.std.proofs.lemmas.Bool.{true≢false, ne_eqb}
+use Rattle.std.proofs.lemmas.List.Sums.{sum_by-cons}
 use Rattle.std.proofs.lemmas.Fmt.{decimal_digit}
 use Rattle.md_base.specs.declared.event.Name.{Name}
 use Rattle.md_base.specs.declared.event.Name.TheVariants.{CharacterReferenceMarkerNumeric, CharacterReferenceMarkerHexadecimal}
@@ -12,8 +13,7 @@ use Rattle.md_base.specs.declared.event.Position.{Position}
 use Rattle.md_base.specs.declared.event.AlignKind.{AlignKind}
 use Rattle.md_base.specs.declared.event.AlignKind.TheVariants as align
 use Rattle.md_text.specs.Laws.{is_line_ends}
-use Rattle.md_text.specs.Safe.{image_protocols}
-use Rattle.md_text.specs.Url.{sanitized, sanitized_with}
+use Rattle.md_text.specs.Url.{sanitized, sanitized_with, image_protocols}
 use Rattle.md_meaning.specs.declared.options.CompileOptions.{CompileOptions}
 use Rattle.md_meaning.specs.Surroundings.{two_pass}
 use Rattle.md_meaning.specs.Texts as old
@@ -27,7 +27,7 @@ use Rattle.md_meaning.specs.Meaning.At.{is_tight, is_contained}
 use Rattle.md_meaning.specs.Meaning.Tables.{align_attribute}
 use Rattle.md_meaning.specs.Places.{length_of}
 use Rattle.md_meaning.specs.Meaning.Spans.{marker, is_at, without_escapes, trimmed}
-use Rattle.md_meaning.specs.Meaning.Blocks.{heading_tag, one_passes}
+use Rattle.md_meaning.specs.Meaning.Blocks.{heading_tag}
 use Rattle.md_meaning.specs.Meaning.Media.{href, src}
 use Rattle.md_meaning.specs.Meaning.Footnotes as notes
 
@@ -44,11 +44,13 @@ pipe-same (byte ∷ bytes) = refl
 pub escapes-same : (text : List ℕ) → old.unescaped_pipes text ≡ without_escapes text
 escapes-same [] = refl
 escapes-same (byte ∷ bytes) =
-    ap (λ b. if (byte == 92) && b then old.unescaped_pipes bytes else byte ∷ old.unescaped_pipes bytes) (pipe-same bytes)
+    ap (λ b. if (byte == 92) && b then old.unescaped_pipes bytes else byte
+    ∷ old.unescaped_pipes bytes) (pipe-same bytes)
     ∙ here ((byte == 92) && is_at 124 bytes 0)
     ∙ ap (λ ps. (if (byte == 92) && is_at 124 bytes 0 then [] else byte ∷ []) ++ ps) (escapes-same bytes)
   where
-    here : (b : Bool) → (if b then old.unescaped_pipes bytes else byte ∷ old.unescaped_pipes bytes) ≡ (if b then [] else byte ∷ []) ++ old.unescaped_pipes bytes
+    here : (b : Bool) → (if b then old.unescaped_pipes bytes else byte ∷ old.unescaped_pipes bytes)
+        ≡ (if b then [] else byte ∷ []) ++ old.unescaped_pipes bytes
     here true = refl
     here false = refl
 
@@ -59,23 +61,31 @@ space-same (Some byte) = refl
 pub trimmed-same : (text : List ℕ) → old.trimmed text ≡ trimmed text
 trimmed-same text =
     let shorter : List ℕ = slice_range text 1 (length text - 1) in
-    ap (λ b. if b && old.is_space (slice_get text (length text - 1)) && not (old.is_blank text) then shorter else text) (space-same (slice_get text 0))
-    ∙ ap (λ b. if option_map_or (λ byte. byte == 32) (slice_get text 0) false && b && not (old.is_blank text) then shorter else text) (space-same (slice_get text (length text - 1)))
-    ∙ ap (λ n. if option_map_or (λ byte. byte == 32) (slice_get text 0) false && option_map_or (λ byte. byte == 32) (slice_get text (length text - 1)) false && not (old.is_blank text) then take n (drop 1 text) else text) (less (length text))
+    ap (λ b. if b && old.is_space (slice_get text (length text - 1)) && not (old.is_blank text) then shorter
+    else text) (space-same (slice_get text 0))
+    ∙ ap (λ b. if option_map_or (λ byte. byte == 32) (slice_get text 0) false && b && not (old.is_blank text)
+    then shorter else text) (space-same (slice_get text (length text - 1)))
+    ∙ ap (λ n. if option_map_or (λ byte. byte == 32) (slice_get text 0) false
+    && option_map_or (λ byte. byte == 32) (slice_get text (length text - 1)) false && not (old.is_blank text)
+    then take n (drop 1 text) else text) (less (length text))
   where
     less : (n : ℕ) → n - 1 - 1 ≡ n - 2
     less n = omega arith
 
-pub code-same : (in_table : Bool) (text : List ℕ) → old.trimmed (if in_table then old.unescaped_pipes text else text) ≡ trimmed (if in_table then without_escapes text else text)
+pub code-same : (in_table : Bool) (text : List ℕ) → old.trimmed (if in_table then old.unescaped_pipes text else text)
+    ≡ trimmed (if in_table then without_escapes text else text)
 code-same true text = trimmed-same (old.unescaped_pipes text) ∙ ap trimmed (escapes-same text)
 code-same false text = trimmed-same text
 
-pub href-same : (options : CompileOptions) (destination : List ℕ) → old_media.href_of options destination ≡ href options destination
+pub href-same : (options : CompileOptions) (destination : List ℕ) →
+    old_media.href_of options destination ≡ href options destination
 href-same options destination = refl
 
-pub src-same : (options : CompileOptions) (destination : List ℕ) → old_media.src_of options destination ≡ src options destination
+pub src-same : (options : CompileOptions) (destination : List ℕ) →
+    old_media.src_of options destination ≡ src options destination
 src-same options destination =
-    ap (λ b. if b then sanitized destination else sanitized_with image_protocols destination) (either options.allow_dangerous_protocol options.allow_any_img_src)
+    ap (λ b. if b then sanitized destination else sanitized_with image_protocols destination)
+    (either options.allow_dangerous_protocol options.allow_any_img_src)
   where
     either : (a b : Bool) → a || b ≡ b || a
     either true true = refl
@@ -93,7 +103,8 @@ opening-same rank small = ap (λ d. codes "<h" ++ (d ++ codes ">")) (sym (digit_
 pub closing-same : (rank : ℕ) → rank ≤ 6 → old_blocks.heading_closing rank ≡ heading_tag (codes "</h") rank
 closing-same rank small = ap (λ d. codes "</h" ++ (d ++ codes ">")) (sym (digit_of rank small))
 
-pub rank-same : (bytes : List ℕ) (place : Option Position) → old_blocks.rank_of bytes place ≡ option_map_or (λ p. length_of bytes p) place 0
+pub rank-same : (bytes : List ℕ) (place : Option Position) →
+    old_blocks.rank_of bytes place ≡ option_map_or (λ p. length_of bytes p) place 0
 rank-same bytes None = refl
 rank-same bytes (Some place) = refl
 
@@ -112,21 +123,37 @@ two-any p (x ∷ xs) h =
     let parts = or_parts (p x) (list_any p xs) h in
     ap (λ b. b && list_any p xs || two_pass p xs) parts.0 ∙ two-any p xs parts.1
 
-pub one-alone : (p : Name → Bool) (xs : List Name) → list_any p xs && not (two_pass p xs) ≡ one_passes p xs
+counted_more : (a any : Bool) (count : ℕ) → any ≡ not (count == 0) → a || any ≡ not (cond a 1 0 + count == 0)
+counted_more true any count e = sym (ap not (ne_eqb (1 + count) 0 (λ z. omega (arith, z))))
+counted_more false any count e = e ∙ ap (λ n. not (n == 0)) (omega arith)
+
+any-counted : (p : Name → Bool) (xs : List Name) → list_any p xs ≡ not (count_by p xs == 0)
+any-counted p [] = refl
+any-counted p (x ∷ xs) =
+    counted_more (p x) (list_any p xs) (count_by p xs) (any-counted p xs)
+    ∙ ap (λ n. not (n == 0)) (sym (sum_by-cons (λ y. cond (p y) 1 0) x xs))
+
+alone_more : (a any two : Bool) (count : ℕ) → any ≡ not (count == 0) → (any ≡ false → two ≡ false) →
+    any && not two ≡ (count == 1) → (a || any) && not (a && any || two) ≡ (cond a 1 0 + count == 1)
+alone_more true any two zero e none later = ap (λ b. not (b || two)) e ∙ ap not (none e)
+alone_more true any two (suc count) e none later =
+    ap (λ b. not (b || two)) (e ∙ ap not (ne_eqb (suc count) 0 (λ z. omega (arith, z))))
+    ∙ sym (ne_eqb (1 + suc count) 1 (λ z. omega (arith, z)))
+alone_more false any two count e none later = later ∙ ap (λ n. n == 1) (omega arith)
+
+pub one-alone : (p : Name → Bool) (xs : List Name) → list_any p xs && not (two_pass p xs) ≡ (count_by p xs == 1)
 one-alone p [] = refl
-one-alone p (x ∷ xs) = here (p x) (list_any p xs) refl (one-alone p xs)
-  where
-    here : (a b : Bool) → list_any p xs ≡ b → list_any p xs && not (two_pass p xs) ≡ one_passes p xs → (a || list_any p xs) && not (a && list_any p xs || two_pass p xs) ≡ (if a then not (list_any p xs) else one_passes p xs)
-    here true true e later = ap (λ b. not (b || two_pass p xs)) e ∙ ap not (sym e)
-    here true false e later = ap (λ b. not (b || two_pass p xs)) e ∙ ap not (two-any p xs e) ∙ ap not (sym e)
-    here false b e later = later
+one-alone p (x ∷ xs) =
+    alone_more (p x) (list_any p xs) (two_pass p xs) (count_by p xs) (any-counted p xs) (two-any p xs) (one-alone p xs)
+    ∙ ap (λ n. n == 1) (sym (sum_by-cons (λ y. cond (p y) 1 0) x xs))
 
 -- the length without line endings
 ends-counted : (text : List ℕ) → is_line_ends text ≡ (notes.unended_length text == 0)
 ends-counted [] = refl
 ends-counted (byte ∷ bytes) =
     ap (λ b. ((byte == 13) || (byte == 10)) && b) (ends-counted bytes)
-    ∙ elim (((byte == 13) || (byte == 10)) && (notes.unended_length bytes == 0)) as (λ b. b ≡ ((if b then 0 else suc (notes.unended_length bytes)) == 0)) [
+    ∙ elim (((byte == 13) || (byte == 10)) && (notes.unended_length bytes == 0)) as
+    (λ b. b ≡ ((if b then 0 else suc (notes.unended_length bytes)) == 0)) [
       | true ↦ refl
       | false ↦ sym (ne_eqb (suc (notes.unended_length bytes)) 0 (λ e. omega (arith, e)))
     ]
@@ -134,8 +161,11 @@ ends-counted (byte ∷ bytes) =
 pub unended-same : (text : List ℕ) → length (old_notes.without_endings text) ≡ notes.unended_length text
 unended-same [] = refl
 unended-same (byte ∷ bytes) =
-    ap (λ b. length (if ((byte == 13) || (byte == 10)) && b then [] else byte ∷ old_notes.without_endings bytes)) (ends-counted bytes)
-    ∙ elim (((byte == 13) || (byte == 10)) && (notes.unended_length bytes == 0)) as (λ b. length (if b then [] else byte ∷ old_notes.without_endings bytes) ≡ (if b then 0 else suc (notes.unended_length bytes))) [
+    ap (λ b. length (if ((byte == 13) || (byte == 10)) && b then [] else byte ∷ old_notes.without_endings bytes))
+    (ends-counted bytes)
+    ∙ elim (((byte == 13) || (byte == 10)) && (notes.unended_length bytes == 0)) as
+    (λ b. length (if b then [] else byte ∷ old_notes.without_endings bytes)
+    ≡ (if b then 0 else suc (notes.unended_length bytes))) [
       | true ↦ refl
       | false ↦ ap suc (unended-same bytes)
     ]
@@ -143,16 +173,21 @@ unended-same (byte ∷ bytes) =
 pub unended-taken : (text : List ℕ) → old_notes.without_endings text ≡ take (notes.unended_length text) text
 unended-taken [] = refl
 unended-taken (byte ∷ bytes) =
-    ap (λ b. if ((byte == 13) || (byte == 10)) && b then [] else byte ∷ old_notes.without_endings bytes) (ends-counted bytes)
-    ∙ elim (((byte == 13) || (byte == 10)) && (notes.unended_length bytes == 0)) as (λ b. (if b then [] else byte ∷ old_notes.without_endings bytes) ≡ take (if b then 0 else suc (notes.unended_length bytes)) (byte ∷ bytes)) [
+    ap (λ b. if ((byte == 13) || (byte == 10)) && b then [] else byte
+    ∷ old_notes.without_endings bytes) (ends-counted bytes)
+    ∙ elim (((byte == 13) || (byte == 10)) && (notes.unended_length bytes == 0)) as
+    (λ b. (if b then [] else byte ∷ old_notes.without_endings bytes)
+    ≡ take (if b then 0 else suc (notes.unended_length bytes)) (byte ∷ bytes)) [
       | true ↦ refl
       | false ↦ ap (λ ps. byte ∷ ps) (unended-taken bytes)
     ]
 
-pub back-same : (options : CompileOptions) (identifier : List ℕ) (count : ℕ) → old_notes.backreferences options identifier count ≡ notes.backreferences options identifier count
+pub back-same : (options : CompileOptions) (identifier : List ℕ) (count : ℕ) →
+    old_notes.backreferences options identifier count ≡ notes.backreferences options identifier count
 back-same options identifier zero = refl
 back-same options identifier (suc count) =
-    ap (λ back. back ++ ((if count == 0 then [] else 32 ∷ []) ++ notes.backreference options identifier (suc count))) (back-same options identifier count)
+    ap (λ back. back ++ ((if count == 0 then [] else 32 ∷ []) ++ notes.backreference options identifier (suc count)))
+    (back-same options identifier count)
 
 pub align-same : (kind : AlignKind) → old_tables.align_attribute kind ≡ align_attribute kind
 align-same align.None = refl

@@ -27,32 +27,49 @@ fence-marks : (behind : Bool) → machine.fence_marks behind ≡ (if not behind 
 fence-marks true = refl
 fence-marks false = refl
 
-exit-same : (around : Surroundings) (spine : List Name) (name : Name) → machine.exit_marks around (told_by spine) name ≡ exit_marks around spine name
+exit-same : (around : Surroundings) (spine : List Name) (name : Name) →
+    machine.exit_marks around (told_by spine) name ≡ exit_marks around spine name
 exit-same around spine Paragraph = paragraph-marks around.container
 exit-same around spine CodeFencedFence = fence-marks (list_any is_fence spine)
 exit-same around spine MathFlowFence = fence-marks (list_any is_fence spine)
 exit-same around spine _ = refl
 
-own-same : (around : Surroundings) (spine : List Name) (name : Name) → machine.own_marks around (told_by spine) name ≡ own_marks around spine name
+own-same : (around : Surroundings) (spine : List Name) (name : Name) →
+    machine.own_marks around (told_by spine) name ≡ own_marks around spine name
 own-same around spine name = ap (λ ms. if around.in_definition then [] else ms) (exit-same around spine name)
 
-marks-same : (options : CompileOptions) (around : Surroundings) (spine : List Name) (forest : Forest) → machine.marks_of options around spine forest ≡ marks_of options around spine forest
+marks-same : (options : CompileOptions) (around : Surroundings) (spine : List Name) (forest : Forest) →
+    machine.marks_of options around spine forest ≡ marks_of options around spine forest
 marks-same options around spine Empty = refl
 marks-same options around spine (Node name start end children rest) =
     let own : List Mark → List Mark → List Mark → List Mark = λ later here inner. later ++ here ++ inner in
     let round : Surroundings = inside options (is_loose children) name around in
-    ap (λ ms. own ms (machine.own_marks around (told_by spine) name) (machine.marks_of options round (spine_inside name spine) children)) (marks-same options around (spine_behind name children spine) rest)
-    ∙ ap (λ ms. own (marks_of options around (spine_behind name children spine) rest) ms (machine.marks_of options round (spine_inside name spine) children)) (own-same around spine name)
-    ∙ ap (λ ms. own (marks_of options around (spine_behind name children spine) rest) (own_marks around spine name) ms) (marks-same options round (spine_inside name spine) children)
+    ap (λ ms. own ms (machine.own_marks around (told_by spine) name)
+    (machine.marks_of options round (spine_inside name spine) children))
+    (marks-same options around (spine_behind name children spine) rest)
+    ∙ ap (λ ms. own (marks_of options around (spine_behind name children spine) rest) ms
+    (machine.marks_of options round (spine_inside name spine) children)) (own-same around spine name)
+    ∙ ap (λ ms. own (marks_of options around (spine_behind name children spine) rest)
+    (own_marks around spine name) ms) (marks-same options round (spine_inside name spine) children)
 
 -- what stands before the next sibling
-pub next-same : (given : Given) (at : At) (name : Name) (found : Found) → next_stood (source_of given) at.around name at.start at.end at.children (stood at.before) ≡ stood (before_next given at name found)
+pub next-same : (given : Given) (at : At) (name : Name) (found : Found) →
+    next_stood (source_of given) at.around name at.start at.end at.children (stood at.before)
+    ≡ stood (before_next given at name found)
 next-same given at name found =
-    let Made : List (List ℕ) → List Mark → Stood = λ cs ms. record { calls = at.before.calls ++ cs; marks = ms; previous = Some name; spine = spine_behind name at.children at.before.spine; columns = at.before.columns } in
+    let Made : List (List ℕ) → List Mark → Stood = λ cs ms. record {
+      calls = at.before.calls ++ cs;
+      marks = ms;
+      previous = Some name;
+      spine = spine_behind name at.children at.before.spine;
+      columns = at.before.columns;
+    } in
     let node : Forest = Node name at.start at.end at.children Empty in
     let round : Surroundings = inside given.options (is_loose at.children) name at.around in
     let marks : List Mark → List Mark → List Mark = λ own inner. own ++ inner ++ at.before.marks in
     let inner : List Mark = machine.marks_of given.options round (spine_inside name at.before.spine) at.children in
-    ap (λ cs. Made cs (marks (machine.own_marks at.around (told_by at.before.spine) name) inner)) (calls-same given.bytes node)
+    ap (λ cs. Made cs (marks (machine.own_marks at.around (told_by at.before.spine) name) inner))
+    (calls-same given.bytes node)
     ∙ ap (λ ms. Made (calls_of given.bytes node) (marks ms inner)) (own-same at.around at.before.spine name)
-    ∙ ap (λ ms. Made (calls_of given.bytes node) (marks (own_marks at.around at.before.spine name) ms)) (marks-same given.options round (spine_inside name at.before.spine) at.children)
+    ∙ ap (λ ms. Made (calls_of given.bytes node) (marks (own_marks at.around at.before.spine name) ms))
+    (marks-same given.options round (spine_inside name at.before.spine) at.children)

@@ -24,7 +24,8 @@ noted_after notes (Wanted ∷ pieces) = noted_after notes pieces
 noted_after notes (Added ∷ pieces) = noted_after notes pieces
 noted_after notes (Recalled ∷ pieces) = noted_after notes pieces
 
-pub read-append : (notes : Notes) (xs ys : List Printed) → read notes (xs ++ ys) ≡ read notes xs ++ read (noted_after notes xs) ys
+pub read-append : (notes : Notes) (xs ys : List Printed) →
+    read notes (xs ++ ys) ≡ read notes xs ++ read (noted_after notes xs) ys
 read-append notes [] ys = refl
 read-append notes (Said text ∷ xs) ys = ap (λ ps. Text text ∷ ps) (read-append notes xs ys)
 read-append notes (Wanted ∷ xs) ys = ap (λ ps. Needed ∷ ps) (read-append notes xs ys)
@@ -32,7 +33,8 @@ read-append notes (Added ∷ xs) ys = ap (λ ps. Forced ∷ ps) (read-append not
 read-append notes (Noted note ∷ xs) ys = read-append (with_note note notes) xs ys
 read-append notes (Recalled ∷ xs) ys = ap (λ ps. Text notes.heading ∷ ps) (read-append notes xs ys)
 
-pub noted-append : (notes : Notes) (xs ys : List Printed) → noted_after notes (xs ++ ys) ≡ noted_after (noted_after notes xs) ys
+pub noted-append : (notes : Notes) (xs ys : List Printed) →
+    noted_after notes (xs ++ ys) ≡ noted_after (noted_after notes xs) ys
 noted-append notes [] ys = refl
 noted-append notes (Said text ∷ xs) ys = noted-append notes xs ys
 noted-append notes (Wanted ∷ xs) ys = noted-append notes xs ys
@@ -48,24 +50,33 @@ line-same : (text : List ℕ) → is_line_start text ≡ begins_line text
 line-same text = ends-same (slice_get text (length text - 1))
 
 -- a page's text and its notes
-pub laid-text : (ending : List ℕ) (page : Page) (pieces : List Printed) → (lay ending page pieces).text ≡ behind ending page.text (read page.notes pieces)
+pub laid-text : (ending : List ℕ) (page : Page) (pieces : List Printed) →
+    (lay ending page pieces).text ≡ behind ending page.text (read page.notes pieces)
 laid-text ending page [] = refl
 laid-text ending page (Said text ∷ pieces) = laid-text ending (record page { text = page.text ++ text }) pieces
 laid-text ending page (Wanted ∷ pieces) =
     laid-text ending (record page { text = if is_line_start page.text then page.text else page.text ++ ending }) pieces
-    ∙ ap (λ b. behind ending (if b then page.text else page.text ++ ending) (read page.notes pieces)) (line-same page.text)
+    ∙ ap (λ b. behind ending (if b then page.text else page.text ++ ending) (read page.notes pieces))
+    (line-same page.text)
 laid-text ending page (Added ∷ pieces) = laid-text ending (record page { text = page.text ++ ending }) pieces
-laid-text ending page (Noted note ∷ pieces) = laid-text ending (record page { notes = with_note note page.notes }) pieces
-laid-text ending page (Recalled ∷ pieces) = laid-text ending (record page { text = page.text ++ page.notes.heading }) pieces
+laid-text ending page (Noted note ∷ pieces) = laid-text ending
+    (record page { notes = with_note note page.notes }) pieces
+laid-text ending page (Recalled ∷ pieces) = laid-text ending
+    (record page { text = page.text ++ page.notes.heading }) pieces
 
-pub laid-notes : (ending : List ℕ) (page : Page) (pieces : List Printed) → (lay ending page pieces).notes ≡ noted_after page.notes pieces
+pub laid-notes : (ending : List ℕ) (page : Page) (pieces : List Printed) →
+    (lay ending page pieces).notes ≡ noted_after page.notes pieces
 laid-notes ending page [] = refl
 laid-notes ending page (Said text ∷ pieces) = laid-notes ending (record page { text = page.text ++ text }) pieces
-laid-notes ending page (Wanted ∷ pieces) = laid-notes ending (record page { text = if is_line_start page.text then page.text else page.text ++ ending }) pieces
+laid-notes ending page (Wanted ∷ pieces) = laid-notes ending
+    (record page { text = if is_line_start page.text then page.text else page.text ++ ending }) pieces
 laid-notes ending page (Added ∷ pieces) = laid-notes ending (record page { text = page.text ++ ending }) pieces
-laid-notes ending page (Noted note ∷ pieces) = laid-notes ending (record page { notes = with_note note page.notes }) pieces
-laid-notes ending page (Recalled ∷ pieces) = laid-notes ending (record page { text = page.text ++ page.notes.heading }) pieces
+laid-notes ending page (Noted note ∷ pieces) = laid-notes ending
+    (record page { notes = with_note note page.notes }) pieces
+laid-notes ending page (Recalled ∷ pieces) = laid-notes ending
+    (record page { text = page.text ++ page.notes.heading }) pieces
 
 -- by itself
-pub captured-text : (ending : List ℕ) (printed : List Printed) (pieces : List Piece) → read no_notes printed ≡ pieces → (lay ending blank printed).text ≡ layout ending pieces
+pub captured-text : (ending : List ℕ) (printed : List Printed) (pieces : List Piece) →
+    read no_notes printed ≡ pieces → (lay ending blank printed).text ≡ layout ending pieces
 captured-text ending printed pieces h = laid-text ending blank printed ∙ ap (λ ps. layout ending ps) h

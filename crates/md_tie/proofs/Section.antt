@@ -1,6 +1,7 @@
 -- The section of footnotes, as the machine prints it and as it is meant.
 use Rattle.std.proofs.Common.{◌≡◌, ℕ, ◌-◌, suc, Bool, true, false, not, List, [], ◌∷◌, ◌++◌, length, take, drop, map, refl, ap, sym, ◌∙◌, bytes_eq, arith, append_assoc}
 use Rattle.std.specs.Prelude.{if◌then◌else◌, codes, ◌==◌}
+use Rattle.std.specs.List.{flat_map}
 use Rattle.std.proofs.lemmas.Bool.{ne_eqb}
 use Rattle.md_meaning.specs.Calls.{Called, distinct, count_of, tally}
 use Rattle.md_meaning.specs.Piece.{Notes}
@@ -9,12 +10,13 @@ use Rattle.md_meaning.specs.Footnotes.{Footnote}
 use Rattle.md_meaning.specs.Footnotes as old
 use Rattle.md_meaning.specs.Meaning.Layout.{Piece, Text, Needed, Forced, on_own_line, when}
 use Rattle.md_meaning.specs.Meaning.At.{Given}
-use Rattle.md_meaning.specs.Meaning.Footnotes.{unended_length, body, footnote_id, backreferences, item, items, section_start, section}
+use Rattle.md_meaning.specs.Meaning.Footnotes.{unended_length, body, footnote_id, backreferences, item, section_start, section}
 use Rattle.md_tie.proofs.Reading.{read}
 use Rattle.md_tie.proofs.Leaves.{unended-same, unended-taken, back-same}
 
 -- a footnote's text and the ways back, before what follows
-body-read : (text back : List ℕ) (tail : List Printed) (pieces : List Piece) (notes : Notes) → read notes tail ≡ pieces →
+body-read : (text back : List ℕ) (tail : List Printed) (pieces : List Piece) (notes : Notes) →
+    read notes tail ≡ pieces →
     read notes (old.body_pieces text back ++ tail) ≡ body text back ++ pieces
 body-read text back tail pieces notes h =
     let split : List ℕ → ℕ → List Printed = λ left n.
@@ -27,48 +29,72 @@ body-read text back tail pieces notes h =
     ∙ here (bytes_eq (drop (unended_length text - 4) (take (unended_length text) text)) (codes "</p>"))
   where
     here : (b : Bool) →
-        read notes ((if b then Said (take (unended_length text - 4) text) ∷ Said (32 ∷ []) ∷ Said back ∷ Said (drop (unended_length text - 4) text) ∷ [] else Said text ∷ Wanted ∷ Said back ∷ []) ++ tail)
-        ≡ (if b then Text (take (unended_length text - 4) text) ∷ Text (codes " ") ∷ Text back ∷ Text (drop (unended_length text - 4) text) ∷ [] else Text text ∷ Needed ∷ Text back ∷ []) ++ pieces
-    here true = ap (λ ps. Text (take (unended_length text - 4) text) ∷ Text (codes " ") ∷ Text back ∷ Text (drop (unended_length text - 4) text) ∷ ps) h
+        read notes ((if b then Said (take (unended_length text - 4) text) ∷ Said (32 ∷ []) ∷ Said back
+        ∷ Said (drop (unended_length text - 4) text) ∷ [] else Said text ∷ Wanted ∷ Said back ∷ []) ++ tail)
+        ≡ (if b then Text (take (unended_length text - 4) text) ∷ Text (codes " ") ∷ Text back
+        ∷ Text (drop (unended_length text - 4) text) ∷ [] else Text text ∷ Needed ∷ Text back ∷ []) ++ pieces
+    here true = ap (λ ps. Text (take (unended_length text - 4) text) ∷ Text (codes " ") ∷ Text back
+        ∷ Text (drop (unended_length text - 4) text) ∷ ps) h
     here false = ap (λ ps. Text text ∷ Needed ∷ Text back ∷ ps) h
 
 -- a footnote, before what follows
-item-read : (given : Given) (footnotes : List Footnote) (identifier : List ℕ) (tail : List Printed) (pieces : List Piece) (notes : Notes) → read notes tail ≡ pieces →
-    read notes (old.item_pieces given.options (old.footnote_text footnotes identifier) identifier (count_of given.calls identifier) ++ tail) ≡ item given footnotes identifier ++ pieces
+item-read : (given : Given) (footnotes : List Footnote) (identifier : List ℕ) (tail : List Printed)
+    (pieces : List Piece) (notes : Notes) → read notes tail ≡ pieces →
+    read notes (old.item_pieces given.options (old.footnote_text footnotes identifier) identifier
+    (count_of given.calls identifier) ++ tail) ≡ item given footnotes identifier ++ pieces
 item-read given footnotes identifier tail pieces notes h =
     let text : List ℕ = old.footnote_text footnotes identifier in
-    let begin : List Piece → List Piece = λ ps. Forced ∷ Text (codes "<li id=\"") ∷ Text (footnote_id given.options identifier) ∷ Text (codes "\">") ∷ Forced ∷ ps in
+    let begin : List Piece → List Piece = λ ps. Forced ∷ Text (codes "<li id=\"")
+    ∷ Text (footnote_id given.options identifier) ∷ Text (codes "\">") ∷ Forced ∷ ps in
     let back : List ℕ = old.backreferences given.options identifier (count_of given.calls identifier) in
     let ends : List Printed = Wanted ∷ Said (codes "</li>") ∷ [] in
     ap (λ ps. begin (read notes ps)) (append_assoc (old.body_pieces text back) ends tail)
-    ∙ ap begin (body-read text back (ends ++ tail) (Needed ∷ Text (codes "</li>") ∷ pieces) notes (ap (λ ps. Needed ∷ Text (codes "</li>") ∷ ps) h))
-    ∙ ap (λ b. begin (body text b ++ (Needed ∷ Text (codes "</li>") ∷ pieces))) (back-same given.options identifier (count_of given.calls identifier))
-    ∙ ap begin (sym (append_assoc (body text (backreferences given.options identifier (count_of given.calls identifier))) (on_own_line (codes "</li>")) pieces))
+    ∙ ap begin (body-read text back (ends ++ tail) (Needed ∷ Text (codes "</li>")
+    ∷ pieces) notes (ap (λ ps. Needed ∷ Text (codes "</li>") ∷ ps) h))
+    ∙ ap (λ b. begin (body text b ++ (Needed ∷ Text (codes "</li>") ∷ pieces)))
+    (back-same given.options identifier (count_of given.calls identifier))
+    ∙ ap begin (sym (append_assoc (body text (backreferences given.options identifier
+    (count_of given.calls identifier))) (on_own_line (codes "</li>")) pieces))
 
-items-read : (given : Given) (footnotes : List Footnote) (identifiers : List (List ℕ)) (tail : List Printed) (pieces : List Piece) (notes : Notes) → read notes tail ≡ pieces →
-    read notes (old.items_pieces given.options footnotes (map (λ i. record { identifier = i; count = count_of given.calls i }) identifiers) ++ tail) ≡ items given footnotes identifiers ++ pieces
+items-read : (given : Given) (footnotes : List Footnote) (identifiers : List (List ℕ)) (tail : List Printed)
+    (pieces : List Piece) (notes : Notes) → read notes tail ≡ pieces →
+    read notes (old.items_pieces given.options footnotes
+    (map (λ i. record { identifier = i; count = count_of given.calls i }) identifiers) ++ tail)
+    ≡ flat_map (item given footnotes) identifiers ++ pieces
 items-read given footnotes [] tail pieces notes h = h
 items-read given footnotes (identifier ∷ identifiers) tail pieces notes h =
     let later : List Called = map (λ i. record { identifier = i; count = count_of given.calls i }) identifiers in
-    ap (λ ps. read notes ps) (append_assoc (old.item_pieces given.options (old.footnote_text footnotes identifier) identifier (count_of given.calls identifier)) (old.items_pieces given.options footnotes later) tail)
-    ∙ item-read given footnotes identifier (old.items_pieces given.options footnotes later ++ tail) (items given footnotes identifiers ++ pieces) notes (items-read given footnotes identifiers tail pieces notes h)
-    ∙ sym (append_assoc (item given footnotes identifier) (items given footnotes identifiers) pieces)
+    ap (λ ps. read notes ps) (append_assoc (old.item_pieces given.options
+    (old.footnote_text footnotes identifier) identifier (count_of given.calls identifier))
+    (old.items_pieces given.options footnotes later) tail)
+    ∙ item-read given footnotes identifier (old.items_pieces given.options footnotes later
+    ++ tail) (flat_map (item given footnotes) identifiers
+    ++ pieces) notes (items-read given footnotes identifiers tail pieces notes h)
+    ∙ sym (append_assoc (item given footnotes identifier) (flat_map (item given footnotes) identifiers) pieces)
 
 pub section-read : (given : Given) (footnotes : List Footnote) (notes : Notes) →
     read notes (old.section_pieces given.options footnotes (tally given.calls)) ≡ section given footnotes
 section-read given footnotes notes = here given.calls refl
   where
-    here : (calls : List (List ℕ)) → calls ≡ given.calls → read notes (old.section_pieces given.options footnotes (tally given.calls)) ≡ section given footnotes
+    here : (calls : List (List ℕ)) → calls ≡ given.calls →
+        read notes (old.section_pieces given.options footnotes (tally given.calls)) ≡ section given footnotes
     here [] e =
         ap (λ cs. read notes (old.section_pieces given.options footnotes (tally cs))) (sym e)
-        ∙ ap (λ cs. when (not (length cs == 0)) (section_start given.options ++ (items given footnotes (distinct cs) ++ (Forced ∷ Text (codes "</ol>") ∷ Forced ∷ Text (codes "</section>") ∷ Forced ∷ [])))) e
+        ∙ ap (λ cs. when (not (length cs == 0)) (section_start given.options
+        ++ (flat_map (item given footnotes) (distinct cs)
+        ++ (Forced ∷ Text (codes "</ol>") ∷ Forced ∷ Text (codes "</section>") ∷ Forced ∷ [])))) e
     here (call ∷ calls) e =
         let ends : List Printed = Added ∷ Said (codes "</ol>") ∷ Added ∷ Said (codes "</section>") ∷ Added ∷ [] in
         let ended : List Piece = Forced ∷ Text (codes "</ol>") ∷ Forced ∷ Text (codes "</section>") ∷ Forced ∷ [] in
         let full : List (List ℕ) = call ∷ calls in
-        let told : List (List ℕ) → List Called = λ cs. map (λ i. record { identifier = i; count = count_of given.calls i }) cs in
-        let whole : List (List ℕ) → List Piece = λ cs. section_start given.options ++ (items given footnotes (distinct cs) ++ ended) in
+        let told : List (List ℕ) → List Called = λ cs. map (λ i. record {
+          identifier = i;
+          count = count_of given.calls i;
+        }) cs in
+        let whole : List (List ℕ) → List Piece = λ cs. section_start given.options
+        ++ (flat_map (item given footnotes) (distinct cs) ++ ended) in
         ap (λ cs. read notes (old.section_pieces given.options footnotes (told (distinct cs)))) (sym e)
-        ∙ ap (λ ps. section_start given.options ++ ps) (items-read given footnotes (distinct full) ends ended notes refl)
+        ∙ ap (λ ps. section_start given.options ++ ps) (items-read given footnotes
+        (distinct full) ends ended notes refl)
         ∙ ap (λ b. when (not b) (whole full)) (sym (ne_eqb (suc (length calls)) 0 (λ z. omega (arith, z))))
         ∙ ap (λ cs. when (not (length cs == 0)) (whole cs)) e

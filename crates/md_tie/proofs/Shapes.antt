@@ -56,11 +56,13 @@ underlined-split waits (x ∷ xs) ys h =
     let later = underlined-split (next_waits waits x) xs ys parts.1 in
     (and_from (may_follow waits x) (underlined (next_waits waits x) xs) parts.0 later.0, later.1)
 
-pub waits-append : (waits : Bool) (xs ys : List Symbol) → waits_behind waits (xs ++ ys) ≡ waits_behind (waits_behind waits xs) ys
+pub waits-append : (waits : Bool) (xs ys : List Symbol) →
+    waits_behind waits (xs ++ ys) ≡ waits_behind (waits_behind waits xs) ys
 waits-append waits [] ys = refl
 waits-append waits (x ∷ xs) ys = waits-append (next_waits waits x) xs ys
 
-endings-underlined : (endings : ℕ) (others : List Symbol) → underlined false others ≡ true → underlined true ((replicate endings LineEnding ++ SetextUnderline ∷ []) ++ others) ≡ true
+endings-underlined : (endings : ℕ) (others : List Symbol) → underlined false others ≡ true →
+    underlined true ((replicate endings LineEnding ++ SetextUnderline ∷ []) ++ others) ≡ true
 endings-underlined zero others h = h
 endings-underlined (suc endings) others h = endings-underlined endings others h
 
@@ -69,19 +71,23 @@ no_underline SetextUnderline = false
 no_underline _ = true
 
 tail-underlined : (first : Symbol) (tail others : List Symbol) → IsTail first tail → no_underline first ≡ true →
-    ((waits : Bool) → underlined waits others ≡ true) → (waits : Bool) → underlined waits (first ∷ tail ++ others) ≡ true
+    ((waits : Bool) → underlined waits others ≡ true) → (waits : Bool) →
+    underlined waits (first ∷ tail ++ others) ≡ true
 unfolding no_underline
 tail-underlined ReferenceMarker tail others is may h waits = elim is [
   | inl e ↦ subst (λ t. underlined false (t ++ others) ≡ true) (sym e) (h false)
   | inr (inl e) ↦ subst (λ t. underlined false (t ++ others) ≡ true) (sym e) (h false)
   | inr (inr e) ↦ subst (λ t. underlined false (t ++ others) ≡ true) (sym e) (h false)
 ]
-tail-underlined SetextText tail others is may h waits = subst (λ t. underlined true (t ++ others) ≡ true) (sym is.1) (endings-underlined is.0 others (h false))
+tail-underlined SetextText tail others is may h waits = subst (λ t. underlined true (t ++ others)
+    ≡ true) (sym is.1) (endings-underlined is.0 others (h false))
 tail-underlined SetextUnderline tail others is may h waits = lie may
-tail-underlined LineEnding tail others is may h waits = subst (λ t. underlined waits (t ++ others) ≡ true) (sym is) (h waits)
+tail-underlined LineEnding tail others is may h waits = subst (λ t. underlined waits (t ++ others)
+    ≡ true) (sym is) (h waits)
 tail-underlined first tail others is may h waits = subst (λ t. underlined false (t ++ others) ≡ true) (sym is) (h false)
 
-grouped-underlined : (firsts spine : List Symbol) → IsGrouped firsts spine → list_all no_underline firsts ≡ true → (waits : Bool) → underlined waits spine ≡ true
+grouped-underlined : (firsts spine : List Symbol) → IsGrouped firsts spine → list_all no_underline firsts ≡ true →
+    (waits : Bool) → underlined waits spine ≡ true
 grouped-underlined [] spine g h waits = subst (λ s. underlined waits s ≡ true) (sym g) refl
 grouped-underlined (first ∷ firsts) spine g h waits =
     let parts = and_parts (no_underline first) (list_all no_underline firsts) h in
@@ -89,7 +95,8 @@ grouped-underlined (first ∷ firsts) spine g h waits =
     (tail-underlined first g.0 g.1 g.3 parts.0 (grouped-underlined firsts g.1 g.4 parts.1) waits)
 
 -- what holds of all letters of a pattern holds of what fits it
-own-all : (test : Symbol → Bool) (class : Class) (own : List Symbol) → list_all (takes class) own ≡ true → list_all test (members class) ≡ true → list_all test own ≡ true
+own-all : (test : Symbol → Bool) (class : Class) (own : List Symbol) → list_all (takes class) own ≡ true →
+    list_all test (members class) ≡ true → list_all test own ≡ true
 own-all test class [] took h = refl
 own-all test class (s ∷ own) took h =
     let parts = and_parts (takes class s) (list_all (takes class) own) took in
@@ -98,12 +105,14 @@ own-all test class (s ∷ own) took h =
 abbrev letters : (Symbol → Bool) → List Item → Bool
 letters test items = list_all (λ item. list_all test (members item.class)) items
 
-fits-all : (test : Symbol → Bool) (items : List Item) (firsts : List Symbol) → Fits items firsts → letters test items ≡ true → list_all test firsts ≡ true
+fits-all : (test : Symbol → Bool) (items : List Item) (firsts : List Symbol) → Fits items firsts →
+    letters test items ≡ true → list_all test firsts ≡ true
 fits-all test [] firsts fit h = subst (λ s. list_all test s ≡ true) (sym fit) refl
 fits-all test (item ∷ items) firsts fit h =
     let parts = and_parts (list_all test (members item.class)) (letters test items) h in
     subst (λ s. list_all test s ≡ true) (sym fit.2)
-    (list_all-append test fit.0 fit.1 ∙ and_from (list_all test fit.0) (list_all test fit.1) (own-all test item.class fit.0 fit.3 parts.0) (fits-all test items fit.1 fit.5 parts.1))
+    (list_all-append test fit.0 fit.1 ∙ and_from (list_all test fit.0) (list_all test fit.1)
+    (own-all test item.class fit.0 fit.3 parts.0) (fits-all test items fit.1 fit.5 parts.1))
 
 role-no_underline : (r : Role) → letters no_underline (pattern_of r) ≡ true
 unfolding no_underline
@@ -111,18 +120,22 @@ role-no_underline role.Flow = refl
 role-no_underline _ = refl
 
 -- on each spine of the grammar underlines stand behind their headings
-pub matches-underlined : (r : Role) (spine : List Symbol) → Matches r spine → (waits : Bool) → underlined waits spine ≡ true
-matches-underlined r spine m waits = grouped-underlined m.0 spine m.1 (fits-all no_underline (pattern_of r) m.0 m.2 (role-no_underline r)) waits
+pub matches-underlined : (r : Role) (spine : List Symbol) → Matches r spine → (waits : Bool) →
+    underlined waits spine ≡ true
+matches-underlined r spine m waits = grouped-underlined m.0 spine m.1
+    (fits-all no_underline (pattern_of r) m.0 m.2 (role-no_underline r)) waits
 
 -- what holds of all letters of a role's pattern, and of what follows them in groups, holds of the spine
-grouped-all : (test : Symbol → Bool) → ((first : Symbol) (tail : List Symbol) → test first ≡ true → IsTail first tail → list_all test tail ≡ true) →
+grouped-all : (test : Symbol → Bool) → ((first : Symbol) (tail : List Symbol) → test first ≡ true →
+    IsTail first tail → list_all test tail ≡ true) →
     (firsts spine : List Symbol) → IsGrouped firsts spine → list_all test firsts ≡ true → list_all test spine ≡ true
 grouped-all test tails [] spine g h = subst (λ s. list_all test s ≡ true) (sym g) refl
 grouped-all test tails (first ∷ firsts) spine g h =
     let parts = and_parts (test first) (list_all test firsts) h in
     subst (λ s. list_all test s ≡ true) (sym g.2)
     (and_from (test first) (list_all test (g.0 ++ g.1)) parts.0
-    (list_all-append test g.0 g.1 ∙ and_from (list_all test g.0) (list_all test g.1) (tails first g.0 parts.0 g.3) (grouped-all test tails firsts g.1 g.4 parts.1)))
+    (list_all-append test g.0 g.1 ∙ and_from (list_all test g.0) (list_all test g.1) (tails first g.0 parts.0 g.3)
+    (grouped-all test tails firsts g.1 g.4 parts.1)))
 
 -- what notes no target
 abbrev pub quiet : Symbol → Bool
@@ -137,7 +150,8 @@ endings-quiet : (endings : ℕ) → list_all quiet (replicate endings LineEnding
 endings-quiet zero = refl
 endings-quiet (suc endings) = endings-quiet endings
 
-quiet-tails : (first : Symbol) (tail : List Symbol) → quiet first ≡ true → IsTail first tail → list_all quiet tail ≡ true
+quiet-tails : (first : Symbol) (tail : List Symbol) → quiet first ≡ true → IsTail first tail →
+    list_all quiet tail ≡ true
 quiet-tails ReferenceMarker tail h is = elim is [
   | inl e ↦ subst (λ t. list_all quiet t ≡ true) (sym e) refl
   | inr (inl e) ↦ subst (λ t. list_all quiet t ≡ true) (sym e) refl
@@ -151,7 +165,8 @@ quiet_role r = letters quiet (pattern_of r)
 
 -- the roles of a name that isn't captured have only such letters
 abbrev QuietRoles : Standing → Type 0
-QuietRoles (Solid s usual reading) = (list_all quiet_role (roles_for true usual) ≡ true) × (list_all quiet_role (roles_for false usual) ≡ true)
+QuietRoles (Solid s usual reading) = (list_all quiet_role (roles_for true usual) ≡ true)
+    × (list_all quiet_role (roles_for false usual) ≡ true)
 QuietRoles _ = Unit {0}
 
 quiet_roles : (name : Name) → is_captured name ≡ false → QuietRoles (standing_of name)
@@ -169,17 +184,22 @@ quiet_roles MdxJsxFlowTag h = tt
 quiet_roles MdxJsxTextTag h = tt
 quiet_roles _ h = (refl, refl)
 
-by_behind : (test : Role → Bool) (around : Role) (before : Option Symbol) (usual : Role) → list_all test (roles_for true usual) ≡ true → list_all test (roles_for false usual) ≡ true → test (role_for around before usual) ≡ true
+by_behind : (test : Role → Bool) (around : Role) (before : Option Symbol) (usual : Role) →
+    list_all test (roles_for true usual) ≡ true → list_all test (roles_for false usual) ≡ true →
+    test (role_for around before usual) ≡ true
 by_behind test around None usual first second = role_listed test around None usual second
 by_behind test around (Some s) usual first second = role_listed test around (Some s) usual first
 
-solid-quiet : (s : Symbol) (usual around : Role) (before : Option Symbol) (spine : List Symbol) → (list_all quiet_role (roles_for true usual) ≡ true) × (list_all quiet_role (roles_for false usual) ≡ true) →
+solid-quiet : (s : Symbol) (usual around : Role) (before : Option Symbol) (spine : List Symbol) →
+    (list_all quiet_role (roles_for true usual) ≡ true) × (list_all quiet_role (roles_for false usual) ≡ true) →
     Matches (role_for around before usual) spine → list_all quiet spine ≡ true
 solid-quiet s usual around before spine h m =
-    grouped-all quiet quiet-tails m.0 spine m.1 (fits-all quiet (pattern_of (role_for around before usual)) m.0 m.2 (by_behind quiet_role around before usual h.0 h.1))
+    grouped-all quiet quiet-tails m.0 spine m.1 (fits-all quiet (pattern_of (role_for around before usual)) m.0 m.2
+    (by_behind quiet_role around before usual h.0 h.1))
 
 abbrev pub QuietInside : Standing → Type 0
-QuietInside (Solid s usual reading) = (around : Role) (before : Option Symbol) (spine : List Symbol) → Matches (role_for around before usual) spine → list_all quiet spine ≡ true
+QuietInside (Solid s usual reading) = (around : Role) (before : Option Symbol) (spine : List Symbol) →
+    Matches (role_for around before usual) spine → list_all quiet spine ≡ true
 QuietInside _ = Unit {0}
 
 -- what stands in a node that isn't captured notes no target
@@ -198,18 +218,22 @@ silent symbol.ListItemValue = true
 silent symbol.ListItemMarker = true
 silent _ = false
 
-silent-tails : (first : Symbol) (tail : List Symbol) → silent first ≡ true → IsTail first tail → list_all silent tail ≡ true
+silent-tails : (first : Symbol) (tail : List Symbol) → silent first ≡ true → IsTail first tail →
+    list_all silent tail ≡ true
 silent-tails ReferenceMarker tail h is = lie h
 silent-tails SetextText tail h is = lie h
 silent-tails first tail h is = subst (λ t. list_all silent t ≡ true) (sym is) refl
 
-leaf-letters : (s : Symbol) (usual around : Role) (before : Option Symbol) (spine : List Symbol) → letters silent (pattern_of (role_for around before usual)) ≡ true →
+leaf-letters : (s : Symbol) (usual around : Role) (before : Option Symbol) (spine : List Symbol) →
+    letters silent (pattern_of (role_for around before usual)) ≡ true →
     Matches (role_for around before usual) spine → list_all silent spine ≡ true
 leaf-letters s usual around before spine h m =
-    grouped-all silent silent-tails m.0 spine m.1 (fits-all silent (pattern_of (role_for around before usual)) m.0 m.2 h)
+    grouped-all silent silent-tails m.0 spine m.1 (fits-all silent
+    (pattern_of (role_for around before usual)) m.0 m.2 h)
 
 -- only that stands in a leaf
-pub leaf-silent : (s : Symbol) (usual : Role) (read : Reading) (around : Role) (before : Option Symbol) (spine : List Symbol) → is_leaf (Solid s usual read) ≡ true →
+pub leaf-silent : (s : Symbol) (usual : Role) (read : Reading) (around : Role) (before : Option Symbol)
+    (spine : List Symbol) → is_leaf (Solid s usual read) ≡ true →
     Matches (role_for around before usual) spine → list_all silent spine ≡ true
 leaf-silent s role.Empty read around before spine h m = leaf-letters s role.Empty around before spine refl m
 leaf-silent s role.Childless read around before spine h m = leaf-letters s role.Childless around before spine refl m

@@ -2,7 +2,7 @@
 use Rattle.std.proofs.Common.{◌≡◌, ℕ, ◌≤◌, Bool, true, false, ◌&&◌, ◌||◌, not, List, [], ◌∷◌, ◌++◌, drop, refl, ap, sym, ◌∙◌, Option, Some, None, append_assoc, append-nil, bytes_eq}
 use Rattle.std.specs.Prelude.{if◌then◌else◌, codes, unwrap_or, count_by, slice_get, ◌==◌}
 use Rattle.std.specs.Option.{option_map_or}
-use Rattle.std.specs.List.{list_any}
+use Rattle.std.specs.List.{list_any, flat_map}
 use Rattle.std.proofs.lemmas.Bool.{true≢false}
 use Rattle.md_base.specs.declared.event.Name.{Name}
 use Rattle.md_base.specs.declared.event.Name.TheVariants.{LineEnding, BlankLineEnding, BlockQuote, ListOrdered, ListUnordered, ListItem, ListItemPrefix, Data, CharacterEscapeValue, CharacterReferenceValue, CodeIndented, AutolinkEmail, AutolinkProtocol, GfmAutolinkLiteralEmail, GfmAutolinkLiteralMailto, GfmAutolinkLiteralProtocol, GfmAutolinkLiteralWww, GfmAutolinkLiteralXmpp, CodeFenced, CodeFencedFence, CodeFencedFenceInfo, CodeFlowChunk, MathFlow, MathFlowFence, MathFlowChunk, CodeTextData, MathTextData, HtmlFlow, HtmlFlowData, HtmlTextData, GfmTable, GfmTableHead, GfmTableBody, GfmTableRow, HeadingAtx, HeadingSetextUnderlineSequence, Emphasis, Strong, GfmStrikethrough, GfmTaskListItemCheck, GfmTaskListItemValueChecked, HardBreakEscape, HardBreakTrailing, Paragraph, ThematicBreak, CodeText, MathText, HeadingSetextText, CodeFencedFenceMeta, MathFlowFenceMeta, Frontmatter, Definition, DefinitionLabelString, DefinitionDestinationString, DefinitionTitleString, GfmFootnoteDefinition, GfmFootnoteDefinitionLabelString, Link, Image, Resource, ResourceDestinationString, ResourceTitleString, ReferenceString, GfmFootnoteCall, GfmTableCell, GfmTableDelimiterRow}
@@ -35,19 +35,31 @@ use Rattle.md_meaning.specs.Meaning.At.{Given, Before, At, text_at, is_tight, is
 use Rattle.md_meaning.specs.Meaning.Before.{is_first_fence}
 use Rattle.md_meaning.specs.Meaning.Spans.{written, reference, is_dropped, line_ending, html, unless_in_image, task_start}
 use Rattle.md_meaning.specs.Meaning.Finds.{first, number_in_list}
-use Rattle.md_meaning.specs.Meaning.Blocks.{start_attribute, list_start, heading, heading_tag, atx_rank, underline_rank, chunk, code_end, one_passes, is_unclosed, runs_out}
+use Rattle.md_meaning.specs.Meaning.Blocks.{start_attribute, list_start, heading, heading_tag, atx_rank, underline_rank, chunk, code_end, is_unclosed, runs_out}
 use Rattle.md_meaning.specs.Meaning.Media.{autolink, literal}
-use Rattle.md_meaning.specs.Meaning.Tables.{align_attribute, empty_cells, row_end}
+use Rattle.md_meaning.specs.Meaning.Tables.{align_attribute, cell_of, row_end}
 use Rattle.md_meaning.specs.Meaning.Means.{means}
 use Rattle.md_tie.proofs.Reading.{read, noted_after}
 use Rattle.md_tie.proofs.Leaves.{marker-same, opening-same, closing-same, rank-same, underline-small, one-alone, align-same, tight-same, contained-same}
 
 -- what the machine has of what is given, and of what stands before
 abbrev pub source_of : Given → Source
-source_of given = record { bytes = given.bytes; names = given.names; options = given.options; ending = given.ending; definitions = given.definitions }
+source_of given = record {
+  bytes = given.bytes;
+  names = given.names;
+  options = given.options;
+  ending = given.ending;
+  definitions = given.definitions;
+}
 
 abbrev pub stood : Before → Stood
-stood before = record { calls = before.calls; marks = before.marks; previous = before.previous; spine = before.spine; columns = before.columns }
+stood before = record {
+  calls = before.calls;
+  marks = before.marks;
+  previous = before.previous;
+  spine = before.spine;
+  columns = before.columns;
+}
 
 -- what the machine prints before a node's children, and after them
 abbrev pub opening_at : Given → At → Name → List Printed
@@ -83,13 +95,15 @@ pub record Sides (given : Given) (at : At) (name : Name) : Type 0 where
   pub back : List Piece
   pub opens : (notes : Notes) → Says notes (opening_at given at name) front
   pub closes : (notes : Notes) → Recalls at name notes → Says notes (closing_at given at blank name) back
-  pub whole : (inner : List Piece) → (is_leaf (standing_of name) ≡ true → inner ≡ []) → front ++ (inner ++ back) ≡ means given at name inner
+  pub whole : (inner : List Piece) → (is_leaf (standing_of name) ≡ true → inner ≡ []) →
+      front ++ (inner ++ back) ≡ means given at name inner
 
 lie : {A : Type 0} → true ≡ false → A
 lie h = absurd (true≢false h)
 
 -- choices
-either : (b : Bool) (notes : Notes) (xs ys : List Printed) (us vs : List Piece) → Says notes (xs ++ []) us → Says notes (ys ++ []) vs →
+either : (b : Bool) (notes : Notes) (xs ys : List Printed) (us vs : List Piece) → Says notes (xs ++ []) us →
+    Says notes (ys ++ []) vs →
     Says notes ((if b then xs else ys) ++ []) (if b then us else vs)
 either true notes xs ys us vs first second = first
 either false notes xs ys us vs first second = second
@@ -105,56 +119,71 @@ choice true notes xs ys us vs first second = first
 choice false notes xs ys us vs first second = second
 
 -- a node without children
-leaf : (given : Given) (at : At) (name : Name) (back : List Piece) → is_leaf (standing_of name) ≡ true → opening_at given at name ≡ [] →
-    ((notes : Notes) → Recalls at name notes → Says notes (closing_at given at blank name) back) → means given at name [] ≡ back → Sides given at name
+leaf : (given : Given) (at : At) (name : Name) (back : List Piece) → is_leaf (standing_of name) ≡ true →
+    opening_at given at name ≡ [] →
+    ((notes : Notes) → Recalls at name notes → Says notes (closing_at given at blank name) back) →
+    means given at name [] ≡ back → Sides given at name
 leaf given at name back is_a_leaf opens closes is = record {
   front = [];
   back = back;
   opens = λ notes. (ap (λ ps. read notes ps) opens, ap (λ ps. noted_after notes ps) opens);
   closes = closes;
-  whole = λ inner none. ap (λ ps. ps ++ back) (none is_a_leaf) ∙ sym is ∙ ap (λ ps. means given at name ps) (sym (none is_a_leaf));
+  whole = λ inner none. ap (λ ps. ps ++ back) (none is_a_leaf) ∙ sym is
+      ∙ ap (λ ps. means given at name ps) (sym (none is_a_leaf));
 }
 
 html-same : (filter allow : Bool) (escaping : Bool) (text : List ℕ) (notes : Notes) →
-    Says notes (Said (encoded escaping (if filter && allow then tag_filtered text else text)) ∷ []) (Text (encoded escaping (if allow && filter then tag_filtered text else text)) ∷ [])
+    Says notes (Said (encoded escaping (if filter && allow then tag_filtered text else text))
+    ∷ []) (Text (encoded escaping (if allow && filter then tag_filtered text else text)) ∷ [])
 html-same true true escaping text notes = (refl, refl)
 html-same true false escaping text notes = (refl, refl)
 html-same false true escaping text notes = (refl, refl)
 html-same false false escaping text notes = (refl, refl)
 
 plain_link : (given : Given) (at : At) (plain : Bool) (prefix : List ℕ) (notes : Notes) →
-    Says notes (old_media.autolink_pieces (source_of given) prefix plain at.start at.end ++ []) (autolink given at plain prefix)
+    Says notes (old_media.autolink_pieces (source_of given) prefix plain at.start at.end
+    ++ []) (autolink given at plain prefix)
 plain_link given at true prefix notes = (refl, refl)
 plain_link given at false prefix notes = (refl, refl)
 
-start-says : (number : List ℕ) (notes : Notes) → Says notes (old.number_pieces number ++ Said (codes ">") ∷ []) (start_attribute number ++ said (codes ">"))
+start-says : (number : List ℕ) (notes : Notes) → Says notes (old.number_pieces number ++ Said (codes ">")
+    ∷ []) (start_attribute number ++ said (codes ">"))
 start-says number notes = here (bytes_eq number (codes "1"))
   where
-    here : (b : Bool) → Says notes ((if b then [] else Said (codes " start=\"") ∷ Said number ∷ Said (codes "\"") ∷ []) ++ Said (codes ">") ∷ []) ((if not b then Text (codes " start=\"") ∷ Text number ∷ Text (codes "\"") ∷ [] else []) ++ said (codes ">"))
+    here : (b : Bool) → Says notes ((if b then [] else Said (codes " start=\"") ∷ Said number ∷ Said (codes "\"")
+        ∷ []) ++ Said (codes ">") ∷ []) ((if not b then Text (codes " start=\"") ∷ Text number ∷ Text (codes "\"") ∷ []
+        else []) ++ said (codes ">"))
     here true = (refl, refl)
     here false = (refl, refl)
 
 list-says : (bytes : List ℕ) (place : Option Position) (notes : Notes) →
-    Says notes (old.start_pieces bytes place ++ Said (codes ">") ∷ []) (option_map_or (λ p. start_attribute (without_zeros (text_of bytes p.start p.end))) place [] ++ said (codes ">"))
+    Says notes (old.start_pieces bytes place ++ Said (codes ">")
+    ∷ []) (option_map_or (λ p. start_attribute (without_zeros (text_of bytes p.start p.end))) place []
+    ++ said (codes ">"))
 list-says bytes None notes = (refl, refl)
 list-says bytes (Some place) notes = start-says (without_zeros (text_of bytes place.start place.end)) notes
 
 item-says : (prefix paragraph tight : Bool) (notes : Notes) →
-    Says notes ((old.when (not (prefix || paragraph && tight)) (Wanted ∷ []) ++ Said (codes "</li>") ∷ []) ++ []) ((if prefix || paragraph && tight then [] else Needed ∷ []) ++ said (codes "</li>"))
+    Says notes ((old.when (not (prefix || paragraph && tight)) (Wanted ∷ []) ++ Said (codes "</li>") ∷ [])
+    ++ []) ((if prefix || paragraph && tight then [] else Needed ∷ []) ++ said (codes "</li>"))
 item-says prefix paragraph tight notes = here (prefix || paragraph && tight)
   where
-    here : (b : Bool) → Says notes ((old.when (not b) (Wanted ∷ []) ++ Said (codes "</li>") ∷ []) ++ []) ((if b then [] else Needed ∷ []) ++ said (codes "</li>"))
+    here : (b : Bool) → Says notes ((old.when (not b) (Wanted ∷ []) ++ Said (codes "</li>") ∷ [])
+        ++ []) ((if b then [] else Needed ∷ []) ++ said (codes "</li>"))
     here true = (refl, refl)
     here false = (refl, refl)
 
 -- the end of code
-chunk-says : (chunk : Bool) (notes : Notes) → Says notes ((old.when chunk (Wanted ∷ []) ++ Said old.code_end ∷ []) ++ []) (when chunk (Needed ∷ []) ++ said (codes "</code></pre>"))
+chunk-says : (chunk : Bool) (notes : Notes) → Says notes ((old.when chunk (Wanted ∷ []) ++ Said old.code_end ∷ [])
+    ++ []) (when chunk (Needed ∷ []) ++ said (codes "</code></pre>"))
 chunk-says true notes = (refl, refl)
 chunk-says false notes = (refl, refl)
 
 fence-says : (runs chunk unclosed : Bool) (notes : Notes) →
-    Says notes ((old.when runs (Added ∷ []) ++ (old.when chunk (Wanted ∷ []) ++ (Said old.code_end ∷ [] ++ old.when unclosed (Wanted ∷ [])))) ++ [])
-    (when runs (Forced ∷ []) ++ ((when chunk (Needed ∷ []) ++ said (codes "</code></pre>")) ++ when unclosed (Needed ∷ [])))
+    Says notes ((old.when runs (Added ∷ []) ++ (old.when chunk (Wanted ∷ [])
+    ++ (Said old.code_end ∷ [] ++ old.when unclosed (Wanted ∷ [])))) ++ [])
+    (when runs (Forced ∷ []) ++ ((when chunk (Needed ∷ []) ++ said (codes "</code></pre>"))
+    ++ when unclosed (Needed ∷ [])))
 fence-says true true true notes = (refl, refl)
 fence-says true true false notes = (refl, refl)
 fence-says true false true notes = (refl, refl)
@@ -166,15 +195,28 @@ fence-says false false false notes = (refl, refl)
 
 fenced-says : (container : Container) (names : List Name) (last : Option Name) (chunk : Bool) (notes : Notes) →
     Says notes
-    ((old.when ((list_any is_fence names && not (two_pass is_fence names)) && old.is_contained container && not (option_map_or is_fence last false)) (Added ∷ [])
-    ++ (old.when chunk (Wanted ∷ []) ++ (Said old.code_end ∷ [] ++ old.when (list_any is_fence names && not (two_pass is_fence names)) (Wanted ∷ [])))) ++ [])
-    (when (one_passes is_fence names && is_contained container && not (option_map_or is_fence last false)) (Forced ∷ [])
-    ++ ((when chunk (Needed ∷ []) ++ said (codes "</code></pre>")) ++ when (one_passes is_fence names) (Needed ∷ [])))
+    ((old.when ((list_any is_fence names && not (two_pass is_fence names)) && old.is_contained container
+    && not (option_map_or is_fence last false)) (Added ∷ [])
+    ++ (old.when chunk (Wanted ∷ []) ++ (Said old.code_end ∷ []
+    ++ old.when (list_any is_fence names && not (two_pass is_fence names)) (Wanted ∷ [])))) ++ [])
+    (when ((count_by is_fence names == 1) && is_contained container
+    && not (option_map_or is_fence last false)) (Forced ∷ [])
+    ++ ((when chunk (Needed ∷ []) ++ said (codes "</code></pre>"))
+    ++ when (count_by is_fence names == 1) (Needed ∷ [])))
 fenced-says container names last chunk notes =
-    let whole : Bool → Bool → List Piece = λ u c. when (u && c && not (option_map_or is_fence last false)) (Forced ∷ []) ++ ((when chunk (Needed ∷ []) ++ said (codes "</code></pre>")) ++ when u (Needed ∷ [])) in
+    let whole : Bool → Bool → List Piece = λ u c. when (u && c && not (option_map_or is_fence last false)) (Forced
+    ∷ []) ++ ((when chunk (Needed ∷ []) ++ said (codes "</code></pre>")) ++ when u (Needed ∷ [])) in
     let alone : Bool = list_any is_fence names && not (two_pass is_fence names) in
-    let says = fence-says (alone && old.is_contained container && not (option_map_or is_fence last false)) chunk alone notes in
-    (says.0 ∙ ap (λ u. whole u (old.is_contained container)) (one-alone is_fence names) ∙ ap (λ c. whole (one_passes is_fence names) c) (contained-same container), says.1)
+    let says = fence-says (alone && old.is_contained container
+    && not (option_map_or is_fence last false)) chunk alone notes in (
+      says.0 ∙ ap (λ u. whole u (old.is_contained container)) (one-alone is_fence names)
+          ∙ ap (λ c. whole (count_by is_fence names == 1) c) (contained-same container),
+      says.1,
+    )
+
+-- an empty cell for each of some columns
+abbrev empty_cells : Bool → List AlignKind → List Piece
+empty_cells in_head kinds = flat_map (cell_of in_head []) kinds
 
 -- cells
 cells-read : (in_head : Bool) (kinds : List AlignKind) (tail : List Printed) (notes : Notes) →
@@ -183,25 +225,35 @@ cells-read : (in_head : Bool) (kinds : List AlignKind) (tail : List Printed) (no
 cells-read in_head [] tail notes = (refl, refl)
 cells-read in_head (kind ∷ kinds) tail notes =
     let later = cells-read in_head kinds tail notes in
-    let cell : List ℕ → List Piece → List Piece = λ align ps. Needed ∷ Text (if in_head then codes "<th" else codes "<td") ∷ Text align ∷ Text (codes ">") ∷ Text [] ∷ Text (if in_head then codes "</th>" else codes "</td>") ∷ ps in
-    (ap (λ align. cell align (read notes (old_tables.empty_cells in_head kinds ++ tail))) (align-same kind) ∙ ap (λ ps. cell (align_attribute kind) ps) later.0, later.1)
+    let cell : List ℕ → List Piece → List Piece = λ align ps. Needed
+    ∷ Text (if in_head then codes "<th" else codes "<td") ∷ Text align ∷ Text (codes ">") ∷ Text []
+    ∷ Text (if in_head then codes "</th>" else codes "</td>") ∷ ps in (
+      ap (λ align. cell align (read notes (old_tables.empty_cells in_head kinds ++ tail))) (align-same kind)
+          ∙ ap (λ ps. cell (align_attribute kind) ps) later.0,
+      later.1,
+    )
 
 task-says : (in_image checkable : Bool) (notes : Notes) →
-    Says notes (if in_image then [] else Said (codes "<input type=\"checkbox\" ") ∷ (if checkable then [] else Said (codes "disabled=\"\" ") ∷ []))
-    (if in_image then [] else Text (codes "<input type=\"checkbox\" ") ∷ (if not checkable then Text (codes "disabled=\"\" ") ∷ [] else []))
+    Says notes (if in_image then [] else Said (codes "<input type=\"checkbox\" ")
+    ∷ (if checkable then [] else Said (codes "disabled=\"\" ") ∷ []))
+    (if in_image then [] else Text (codes "<input type=\"checkbox\" ")
+    ∷ (if not checkable then Text (codes "disabled=\"\" ") ∷ [] else []))
 task-says true checkable notes = (refl, refl)
 task-says false true notes = (refl, refl)
 task-says false false notes = (refl, refl)
 
 -- a span between what stands outside images alone
-span-whole : (in_image : Bool) (start inner end : List Piece) → (if in_image then [] else start) ++ (inner ++ (if in_image then [] else end)) ≡ (if in_image then inner else start ++ (inner ++ end))
+span-whole : (in_image : Bool) (start inner end : List Piece) →
+    (if in_image then [] else start) ++ (inner ++ (if in_image then [] else end))
+    ≡ (if in_image then inner else start ++ (inner ++ end))
 span-whole true start inner end = append-nil inner
 span-whole false start inner end = refl
 
 spanned : (given : Given) (at : At) (name : Name) (start end : List Piece) →
     ((notes : Notes) → Says notes (opening_at given at name) (if at.around.in_image then [] else start)) →
     ((notes : Notes) → Says notes (closing_at given at blank name) (if at.around.in_image then [] else end)) →
-    ((inner : List Piece) → (if at.around.in_image then inner else start ++ (inner ++ end)) ≡ means given at name inner) → Sides given at name
+    ((inner : List Piece) → (if at.around.in_image then inner else start ++ (inner ++ end))
+    ≡ means given at name inner) → Sides given at name
 spanned given at name start end opens closes is = record {
   front = if at.around.in_image then [] else start;
   back = if at.around.in_image then [] else end;
@@ -212,131 +264,228 @@ spanned given at name start end opens closes is = record {
 
 -- a node with its tags
 tagged : (given : Given) (at : At) (name : Name) (front back : List Piece) →
-    ((notes : Notes) → Says notes (opening_at given at name) front) → ((notes : Notes) → Says notes (closing_at given at blank name) back) →
+    ((notes : Notes) → Says notes (opening_at given at name) front) →
+    ((notes : Notes) → Says notes (closing_at given at blank name) back) →
     ((inner : List Piece) → front ++ (inner ++ back) ≡ means given at name inner) → Sides given at name
-tagged given at name front back opens closes is = record { front = front; back = back; opens = opens; closes = λ notes recalls. closes notes; whole = λ inner none. is inner }
+tagged given at name front back opens closes is = record {
+  front = front;
+  back = back;
+  opens = opens;
+  closes = λ notes recalls. closes notes;
+  whole = λ inner none. is inner;
+}
 
 row-says : (in_head : Bool) (kinds : List AlignKind) (notes : Notes) →
-    Says notes (old_tables.empty_cells in_head kinds ++ Wanted ∷ Said (codes "</tr>") ∷ []) (empty_cells in_head kinds ++ on_own_line (codes "</tr>"))
+    Says notes (old_tables.empty_cells in_head kinds ++ Wanted ∷ Said (codes "</tr>") ∷ []) (empty_cells in_head kinds
+    ++ on_own_line (codes "</tr>"))
 row-says in_head kinds notes = cells-read in_head kinds (Wanted ∷ Said (codes "</tr>") ∷ []) notes
 
-paragraph-says : (tight : Bool) (notes : Notes) → Says notes (old.when (not tight) (Wanted ∷ Said (codes "<p>") ∷ [])) (if tight then [] else on_own_line (codes "<p>"))
+paragraph-says : (tight : Bool) (notes : Notes) → Says notes (old.when (not tight) (Wanted ∷ Said (codes "<p>") ∷ []))
+    (if tight then [] else on_own_line (codes "<p>"))
 paragraph-says true notes = (refl, refl)
 paragraph-says false notes = (refl, refl)
 
-paragraph_end-says : (tight : Bool) (notes : Notes) → Says notes (old.when (not tight) (Said (codes "</p>") ∷ []) ++ []) (if tight then [] else said (codes "</p>"))
+paragraph_end-says : (tight : Bool) (notes : Notes) → Says notes (old.when (not tight) (Said (codes "</p>") ∷ [])
+    ++ []) (if tight then [] else said (codes "</p>"))
 paragraph_end-says true notes = (refl, refl)
 paragraph_end-says false notes = (refl, refl)
 
-pub sides : (given : Given) (at : At) (name : Name) → IsFit given.bytes name at.start at.end at.children → is_captured name ≡ false → Sides given at name
+pub sides : (given : Given) (at : At) (name : Name) → IsFit given.bytes name at.start at.end at.children →
+    is_captured name ≡ false → Sides given at name
 sides given at Data fit h = leaf given at Data (written at (text_at given at)) refl refl (λ n r. (refl, refl)) refl
-sides given at CharacterEscapeValue fit h = leaf given at CharacterEscapeValue (written at (text_at given at)) refl refl (λ n r. (refl, refl)) refl
-sides given at CodeTextData fit h = leaf given at CodeTextData (written at (text_at given at)) refl refl (λ n r. (refl, refl)) refl
-sides given at MathTextData fit h = leaf given at MathTextData (written at (text_at given at)) refl refl (λ n r. (refl, refl)) refl
+sides given at CharacterEscapeValue fit h = leaf given at CharacterEscapeValue
+    (written at (text_at given at)) refl refl (λ n r. (refl, refl)) refl
+sides given at CodeTextData fit h = leaf given at CodeTextData (written at (text_at given at)) refl refl
+    (λ n r. (refl, refl)) refl
+sides given at MathTextData fit h = leaf given at MathTextData (written at (text_at given at)) refl refl
+    (λ n r. (refl, refl)) refl
 sides given at CharacterReferenceValue fit h =
     leaf given at CharacterReferenceValue (written at (reference given at)) refl refl
-    (λ n r. (ap (λ k. Text (encoded at.around.is_escaping (unwrap_or (decoded given.names k (text_at given at)) [])) ∷ []) (marker-same (last_of at.before.spine)), refl)) refl
+    (λ n r. (
+      ap (λ k. Text (encoded at.around.is_escaping (unwrap_or (decoded given.names k (text_at given at)) []))
+          ∷ []) (marker-same (last_of at.before.spine)),
+      refl,
+    )) refl
 sides given at LineEnding fit h =
     leaf given at LineEnding (line_ending given at) refl refl
-    (λ n r. either at.around.in_code n (Said (codes " ") ∷ []) (if is_dropped at then [] else Said (text_at given at) ∷ []) (Text (codes " ") ∷ []) (if is_dropped at then [] else Text (text_at given at) ∷ []) (refl, refl)
-    (either (is_dropped at) n [] (Said (text_at given at) ∷ []) [] (Text (text_at given at) ∷ []) (refl, refl) (refl, refl))) refl
+    (λ n r. either at.around.in_code n (Said (codes " ") ∷ []) (if is_dropped at then [] else Said (text_at given at)
+    ∷ []) (Text (codes " ") ∷ []) (if is_dropped at then [] else Text (text_at given at) ∷ []) (refl, refl)
+    (either (is_dropped at) n [] (Said (text_at given at) ∷ []) [] (Text (text_at given at) ∷ []) (refl, refl) (
+      refl,
+      refl,
+    ))) refl
 sides given at BlankLineEnding fit h =
-    leaf given at BlankLineEnding (when at.is_last (Needed ∷ [])) refl refl (λ n r. either at.is_last n (Wanted ∷ []) [] (Needed ∷ []) [] (refl, refl) (refl, refl)) refl
+    leaf given at BlankLineEnding (when at.is_last (Needed ∷ [])) refl refl
+    (λ n r. either at.is_last n (Wanted ∷ []) [] (Needed ∷ []) [] (refl, refl) (refl, refl)) refl
 sides given at HtmlFlowData fit h =
-    leaf given at HtmlFlowData (written at (html given at)) refl refl (λ n r. html-same given.options.gfm_tagfilter given.options.allow_dangerous_html at.around.is_escaping (text_at given at) n) refl
+    leaf given at HtmlFlowData (written at (html given at)) refl refl
+    (λ n r. html-same given.options.gfm_tagfilter given.options.allow_dangerous_html at.around.is_escaping
+    (text_at given at) n) refl
 sides given at HtmlTextData fit h =
-    leaf given at HtmlTextData (written at (html given at)) refl refl (λ n r. html-same given.options.gfm_tagfilter given.options.allow_dangerous_html at.around.is_escaping (text_at given at) n) refl
+    leaf given at HtmlTextData (written at (html given at)) refl refl
+    (λ n r. html-same given.options.gfm_tagfilter given.options.allow_dangerous_html at.around.is_escaping
+    (text_at given at) n) refl
 sides given at CodeFlowChunk fit h = leaf given at CodeFlowChunk (chunk given at) refl refl (λ n r. (refl, refl)) refl
 sides given at MathFlowChunk fit h = leaf given at MathFlowChunk (chunk given at) refl refl (λ n r. (refl, refl)) refl
 sides given at HeadingSetextUnderlineSequence fit h =
     let rank : ℕ = underline_rank given at in
-    let small : rank ≤ 6 = underline-small (option_map_or (λ byte. byte == 45) (slice_get given.bytes at.start.index) false) in
+    let small : rank ≤ 6 = underline-small (option_map_or (λ byte. byte == 45)
+    (slice_get given.bytes at.start.index) false) in
     leaf given at HeadingSetextUnderlineSequence (heading rank (said (unwrap_or at.before.found.heading []))) refl refl
     (λ n r. (
       ap (λ t. Needed ∷ Text t ∷ Text n.heading ∷ Text (old.heading_closing rank) ∷ []) (opening-same rank small)
-          ∙ ap (λ t. Needed ∷ Text (heading_tag (codes "<h") rank) ∷ Text n.heading ∷ Text t ∷ []) (closing-same rank small)
+          ∙ ap (λ t. Needed ∷ Text (heading_tag (codes "<h") rank) ∷ Text n.heading ∷ Text t
+          ∷ []) (closing-same rank small)
           ∙ ap (λ t. heading rank (said t)) (r refl),
       refl,
     )) refl
 sides given at HardBreakEscape fit h =
-    leaf given at HardBreakEscape (unless_in_image at (said (codes "<br />"))) refl refl (λ n r. unless at.around.in_image n (Said (codes "<br />") ∷ []) (Text (codes "<br />") ∷ []) (refl, refl)) refl
+    leaf given at HardBreakEscape (unless_in_image at (said (codes "<br />"))) refl refl
+    (λ n r. unless at.around.in_image n (Said (codes "<br />") ∷ []) (Text (codes "<br />") ∷ []) (refl, refl)) refl
 sides given at HardBreakTrailing fit h =
-    leaf given at HardBreakTrailing (unless_in_image at (said (codes "<br />"))) refl refl (λ n r. unless at.around.in_image n (Said (codes "<br />") ∷ []) (Text (codes "<br />") ∷ []) (refl, refl)) refl
+    leaf given at HardBreakTrailing (unless_in_image at (said (codes "<br />"))) refl refl
+    (λ n r. unless at.around.in_image n (Said (codes "<br />") ∷ []) (Text (codes "<br />") ∷ []) (refl, refl)) refl
 sides given at GfmTaskListItemValueChecked fit h =
-    leaf given at GfmTaskListItemValueChecked (unless_in_image at (said (codes "checked=\"\" "))) refl refl (λ n r. unless at.around.in_image n (Said (codes "checked=\"\" ") ∷ []) (Text (codes "checked=\"\" ") ∷ []) (refl, refl)) refl
-sides given at ThematicBreak fit h = leaf given at ThematicBreak (on_own_line (codes "<hr />")) refl refl (λ n r. (refl, refl)) refl
+    leaf given at GfmTaskListItemValueChecked (unless_in_image at (said (codes "checked=\"\" "))) refl refl
+    (λ n r. unless at.around.in_image n (Said (codes "checked=\"\" ") ∷ []) (Text (codes "checked=\"\" ")
+    ∷ []) (refl, refl)) refl
+sides given at ThematicBreak fit h = leaf given at ThematicBreak (on_own_line (codes "<hr />")) refl refl
+    (λ n r. (refl, refl)) refl
 sides given at AutolinkEmail fit h =
-    leaf given at AutolinkEmail (autolink given at at.around.in_image (codes "mailto:")) refl refl (λ n r. plain_link given at at.around.in_image (codes "mailto:") n) refl
-sides given at AutolinkProtocol fit h = leaf given at AutolinkProtocol (autolink given at at.around.in_image []) refl refl (λ n r. plain_link given at at.around.in_image [] n) refl
+    leaf given at AutolinkEmail (autolink given at at.around.in_image (codes "mailto:")) refl refl
+    (λ n r. plain_link given at at.around.in_image (codes "mailto:") n) refl
+sides given at AutolinkProtocol fit h = leaf given at AutolinkProtocol
+    (autolink given at at.around.in_image []) refl refl (λ n r. plain_link given at at.around.in_image [] n) refl
 sides given at GfmAutolinkLiteralEmail fit h =
-    leaf given at GfmAutolinkLiteralEmail (literal given at (codes "mailto:")) refl refl (λ n r. plain_link given at (at.around.in_image || at.around.in_link) (codes "mailto:") n) refl
+    leaf given at GfmAutolinkLiteralEmail (literal given at (codes "mailto:")) refl refl
+    (λ n r. plain_link given at (at.around.in_image || at.around.in_link) (codes "mailto:") n) refl
 sides given at GfmAutolinkLiteralWww fit h =
-    leaf given at GfmAutolinkLiteralWww (literal given at (codes "http://")) refl refl (λ n r. plain_link given at (at.around.in_image || at.around.in_link) (codes "http://") n) refl
+    leaf given at GfmAutolinkLiteralWww (literal given at (codes "http://")) refl refl
+    (λ n r. plain_link given at (at.around.in_image || at.around.in_link) (codes "http://") n) refl
 sides given at GfmAutolinkLiteralMailto fit h =
-    leaf given at GfmAutolinkLiteralMailto (literal given at []) refl refl (λ n r. plain_link given at (at.around.in_image || at.around.in_link) [] n) refl
+    leaf given at GfmAutolinkLiteralMailto (literal given at []) refl refl
+    (λ n r. plain_link given at (at.around.in_image || at.around.in_link) [] n) refl
 sides given at GfmAutolinkLiteralProtocol fit h =
-    leaf given at GfmAutolinkLiteralProtocol (literal given at []) refl refl (λ n r. plain_link given at (at.around.in_image || at.around.in_link) [] n) refl
+    leaf given at GfmAutolinkLiteralProtocol (literal given at []) refl refl
+    (λ n r. plain_link given at (at.around.in_image || at.around.in_link) [] n) refl
 sides given at GfmAutolinkLiteralXmpp fit h =
-    leaf given at GfmAutolinkLiteralXmpp (literal given at []) refl refl (λ n r. plain_link given at (at.around.in_image || at.around.in_link) [] n) refl
+    leaf given at GfmAutolinkLiteralXmpp (literal given at []) refl refl
+    (λ n r. plain_link given at (at.around.in_image || at.around.in_link) [] n) refl
 sides given at ListItemPrefix fit h = leaf given at ListItemPrefix [] refl refl (λ n r. (refl, refl)) refl
 sides given at BlockQuote fit h =
-    tagged given at BlockQuote (on_own_line (codes "<blockquote>")) (on_own_line (codes "</blockquote>")) (λ n. (refl, refl)) (λ n. (refl, refl)) (λ inner. refl)
+    tagged given at BlockQuote (on_own_line (codes "<blockquote>")) (on_own_line (codes "</blockquote>"))
+    (λ n. (refl, refl)) (λ n. (refl, refl)) (λ inner. refl)
 sides given at ListOrdered fit h =
-    tagged given at ListOrdered (on_own_line (codes "<ol") ++ (list_start given at ++ said (codes ">"))) (Forced ∷ said (codes "</ol>"))
-    (λ n. (ap (λ ps. Needed ∷ Text (codes "<ol") ∷ ps) (list-says given.bytes (number_in_list at.children) n).0, (list-says given.bytes (number_in_list at.children) n).1)) (λ n. (refl, refl))
-    (λ inner. ap (λ ps. on_own_line (codes "<ol") ++ ps) (append_assoc (list_start given at) (said (codes ">")) (inner ++ (Forced ∷ said (codes "</ol>")))))
-sides given at ListUnordered fit h = tagged given at ListUnordered (on_own_line (codes "<ul>")) (Forced ∷ said (codes "</ul>")) (λ n. (refl, refl)) (λ n. (refl, refl)) (λ inner. refl)
+    tagged given at ListOrdered (on_own_line (codes "<ol") ++ (list_start given at ++ said (codes ">"))) (Forced
+    ∷ said (codes "</ol>"))
+    (λ n. (
+      ap (λ ps. Needed ∷ Text (codes "<ol") ∷ ps) (list-says given.bytes (number_in_list at.children) n).0,
+      (list-says given.bytes (number_in_list at.children) n).1,
+    )) (λ n. (refl, refl))
+    (λ inner. ap (λ ps. on_own_line (codes "<ol") ++ ps)
+    (append_assoc (list_start given at) (said (codes ">")) (inner ++ (Forced ∷ said (codes "</ol>")))))
+sides given at ListUnordered fit h = tagged given at ListUnordered (on_own_line (codes "<ul>")) (Forced
+    ∷ said (codes "</ul>")) (λ n. (refl, refl)) (λ n. (refl, refl)) (λ inner. refl)
 sides given at ListItem fit h =
-    let ends : Bool → List Piece = λ tight. (if option_map_or is_item_prefix (last_contributing at.children) false || option_map_or is_paragraph (last_contributing at.children) false && tight then [] else Needed ∷ []) ++ said (codes "</li>") in
+    let ends : Bool → List Piece = λ tight. (if option_map_or is_item_prefix (last_contributing at.children) false
+    || option_map_or is_paragraph (last_contributing at.children) false && tight then [] else Needed ∷ [])
+    ++ said (codes "</li>") in
     tagged given at ListItem (on_own_line (codes "<li>")) (ends (is_tight at.around.container)) (λ n. (refl, refl))
-    (λ n. let says = item-says (option_map_or is_item_prefix (last_contributing at.children) false) (option_map_or is_paragraph (last_contributing at.children) false) (old.is_tight at.around.container) n in
+    (λ n. let says = item-says (option_map_or is_item_prefix (last_contributing at.children) false)
+    (option_map_or is_paragraph (last_contributing at.children) false) (old.is_tight at.around.container) n in
     (says.0 ∙ ap ends (tight-same at.around.container), says.1)) (λ inner. refl)
 sides given at Paragraph fit h =
     let tight : Bool = is_tight at.around.container in
     record {
       front = if tight then [] else on_own_line (codes "<p>");
       back = if tight then [] else said (codes "</p>");
-      opens = λ n. let says = paragraph-says (old.is_tight at.around.container) n in (says.0 ∙ ap (λ b. if b then [] else on_own_line (codes "<p>")) (tight-same at.around.container), says.1);
-      closes = λ n r. let says = paragraph_end-says (old.is_tight at.around.container) n in (says.0 ∙ ap (λ b. if b then [] else said (codes "</p>")) (tight-same at.around.container), says.1);
+      opens = λ n. let says = paragraph-says (old.is_tight at.around.container) n in
+          (says.0 ∙ ap (λ b. if b then [] else on_own_line (codes "<p>")) (tight-same at.around.container), says.1);
+      closes = λ n r. let says = paragraph_end-says (old.is_tight at.around.container) n in
+          (says.0 ∙ ap (λ b. if b then [] else said (codes "</p>")) (tight-same at.around.container), says.1);
       whole = λ inner none. span-whole tight (on_own_line (codes "<p>")) inner (said (codes "</p>"));
     }
 sides given at HeadingAtx fit h =
     let rank : ℕ = old.rank_of given.bytes (first is_heading_mark at.children) in
     let same : rank ≡ atx_rank given at = rank-same given.bytes (first is_heading_mark at.children) in
-    tagged given at HeadingAtx (on_own_line (heading_tag (codes "<h") (atx_rank given at))) (said (heading_tag (codes "</h") (atx_rank given at)))
+    tagged given at HeadingAtx (on_own_line (heading_tag (codes "<h") (atx_rank given at)))
+    (said (heading_tag (codes "</h") (atx_rank given at)))
     (λ n. (ap (λ t. Needed ∷ Text t ∷ []) (opening-same rank fit.1 ∙ ap (heading_tag (codes "<h")) same), refl))
     (λ n. (ap (λ t. Text t ∷ []) (closing-same rank fit.1 ∙ ap (heading_tag (codes "</h")) same), refl)) (λ inner. refl)
 sides given at CodeIndented fit h =
-    tagged given at CodeIndented (on_own_line (codes "<pre><code>")) (code_end at) (λ n. (refl, refl)) (λ n. chunk-says (list_any is_chunk (spine_names at.children)) n) (λ inner. refl)
+    tagged given at CodeIndented (on_own_line (codes "<pre><code>")) (code_end at) (λ n. (refl, refl))
+    (λ n. chunk-says (list_any is_chunk (spine_names at.children)) n) (λ inner. refl)
 sides given at CodeFenced fit h =
-    tagged given at CodeFenced (on_own_line (codes "<pre><code")) (when (runs_out at) (Forced ∷ []) ++ (code_end at ++ when (is_unclosed at) (Needed ∷ []))) (λ n. (refl, refl))
-    (λ n. fenced-says at.around.container (spine_names at.children) (last_name at.children) (list_any is_chunk (spine_names at.children)) n) (λ inner. refl)
+    tagged given at CodeFenced (on_own_line (codes "<pre><code")) (when (runs_out at) (Forced ∷ [])
+    ++ (code_end at ++ when (is_unclosed at) (Needed ∷ []))) (λ n. (refl, refl))
+    (λ n. fenced-says at.around.container (spine_names at.children) (last_name at.children)
+    (list_any is_chunk (spine_names at.children)) n) (λ inner. refl)
 sides given at MathFlow fit h =
-    tagged given at MathFlow (on_own_line (codes "<pre><code class=\"language-math math-display\"")) (when (runs_out at) (Forced ∷ []) ++ (code_end at ++ when (is_unclosed at) (Needed ∷ []))) (λ n. (refl, refl))
-    (λ n. fenced-says at.around.container (spine_names at.children) (last_name at.children) (list_any is_chunk (spine_names at.children)) n) (λ inner. refl)
+    tagged given at MathFlow (on_own_line (codes "<pre><code class=\"language-math math-display\""))
+    (when (runs_out at) (Forced ∷ []) ++ (code_end at ++ when (is_unclosed at) (Needed ∷ []))) (λ n. (refl, refl))
+    (λ n. fenced-says at.around.container (spine_names at.children) (last_name at.children)
+    (list_any is_chunk (spine_names at.children)) n) (λ inner. refl)
 sides given at CodeFencedFence fit h =
-    tagged given at CodeFencedFence [] (when (is_first_fence at.before.spine) (said (codes ">"))) (λ n. (refl, refl)) (λ n. either (is_first_fence at.before.spine) n (Said (codes ">") ∷ []) [] (Text (codes ">") ∷ []) [] (refl, refl) (refl, refl)) (λ inner. refl)
+    tagged given at CodeFencedFence [] (when (is_first_fence at.before.spine) (said (codes ">"))) (λ n. (refl, refl))
+    (λ n. either (is_first_fence at.before.spine) n (Said (codes ">") ∷ []) [] (Text (codes ">") ∷ []) [] (
+      refl,
+      refl,
+    ) (refl, refl)) (λ inner. refl)
 sides given at MathFlowFence fit h =
-    tagged given at MathFlowFence [] (when (is_first_fence at.before.spine) (said (codes ">"))) (λ n. (refl, refl)) (λ n. either (is_first_fence at.before.spine) n (Said (codes ">") ∷ []) [] (Text (codes ">") ∷ []) [] (refl, refl) (refl, refl)) (λ inner. refl)
-sides given at CodeFencedFenceInfo fit h = tagged given at CodeFencedFenceInfo (said (codes " class=\"language-")) (said (codes "\"")) (λ n. (refl, refl)) (λ n. (refl, refl)) (λ inner. refl)
-sides given at HtmlFlow fit h = tagged given at HtmlFlow (Needed ∷ []) [] (λ n. (refl, refl)) (λ n. (refl, refl)) (λ inner. ap (λ ps. Needed ∷ ps) (append-nil inner))
+    tagged given at MathFlowFence [] (when (is_first_fence at.before.spine) (said (codes ">"))) (λ n. (refl, refl))
+    (λ n. either (is_first_fence at.before.spine) n (Said (codes ">") ∷ []) [] (Text (codes ">") ∷ []) [] (
+      refl,
+      refl,
+    ) (refl, refl)) (λ inner. refl)
+sides given at CodeFencedFenceInfo fit h = tagged given at CodeFencedFenceInfo (said (codes " class=\"language-"))
+    (said (codes "\"")) (λ n. (refl, refl)) (λ n. (refl, refl)) (λ inner. refl)
+sides given at HtmlFlow fit h = tagged given at HtmlFlow (Needed
+    ∷ []) [] (λ n. (refl, refl)) (λ n. (refl, refl)) (λ inner. ap (λ ps. Needed ∷ ps) (append-nil inner))
 sides given at Emphasis fit h =
-    spanned given at Emphasis (said (codes "<em>")) (said (codes "</em>")) (λ n. choice at.around.in_image n [] (Said (codes "<em>") ∷ []) [] (said (codes "<em>")) (refl, refl) (refl, refl))
-    (λ n. either at.around.in_image n [] (Said (codes "</em>") ∷ []) [] (said (codes "</em>")) (refl, refl) (refl, refl)) (λ inner. refl)
+    spanned given at Emphasis (said (codes "<em>")) (said (codes "</em>"))
+    (λ n. choice at.around.in_image n [] (Said (codes "<em>") ∷ []) [] (said (codes "<em>")) (refl, refl) (
+      refl,
+      refl,
+    ))
+    (λ n. either at.around.in_image n [] (Said (codes "</em>") ∷ []) [] (said (codes "</em>")) (refl, refl) (
+      refl,
+      refl,
+    )) (λ inner. refl)
 sides given at Strong fit h =
-    spanned given at Strong (said (codes "<strong>")) (said (codes "</strong>")) (λ n. choice at.around.in_image n [] (Said (codes "<strong>") ∷ []) [] (said (codes "<strong>")) (refl, refl) (refl, refl))
-    (λ n. either at.around.in_image n [] (Said (codes "</strong>") ∷ []) [] (said (codes "</strong>")) (refl, refl) (refl, refl)) (λ inner. refl)
+    spanned given at Strong (said (codes "<strong>")) (said (codes "</strong>"))
+    (λ n. choice at.around.in_image n [] (Said (codes "<strong>") ∷ []) [] (said (codes "<strong>")) (
+      refl,
+      refl,
+    ) (refl, refl))
+    (λ n. either at.around.in_image n [] (Said (codes "</strong>") ∷ []) [] (said (codes "</strong>")) (
+      refl,
+      refl,
+    ) (refl, refl)) (λ inner. refl)
 sides given at GfmStrikethrough fit h =
-    spanned given at GfmStrikethrough (said (codes "<del>")) (said (codes "</del>")) (λ n. choice at.around.in_image n [] (Said (codes "<del>") ∷ []) [] (said (codes "<del>")) (refl, refl) (refl, refl))
-    (λ n. either at.around.in_image n [] (Said (codes "</del>") ∷ []) [] (said (codes "</del>")) (refl, refl) (refl, refl)) (λ inner. refl)
+    spanned given at GfmStrikethrough (said (codes "<del>")) (said (codes "</del>"))
+    (λ n. choice at.around.in_image n [] (Said (codes "<del>") ∷ []) [] (said (codes "<del>")) (refl, refl) (
+      refl,
+      refl,
+    ))
+    (λ n. either at.around.in_image n [] (Said (codes "</del>") ∷ []) [] (said (codes "</del>")) (refl, refl) (
+      refl,
+      refl,
+    )) (λ inner. refl)
 sides given at GfmTaskListItemCheck fit h =
-    spanned given at GfmTaskListItemCheck (task_start given) (said (codes "/>")) (λ n. task-says at.around.in_image given.options.gfm_task_list_item_checkable n)
-    (λ n. either at.around.in_image n [] (Said (codes "/>") ∷ []) [] (said (codes "/>")) (refl, refl) (refl, refl)) (λ inner. refl)
-sides given at GfmTable fit h = tagged given at GfmTable (on_own_line (codes "<table>")) (on_own_line (codes "</table>")) (λ n. (refl, refl)) (λ n. (refl, refl)) (λ inner. refl)
-sides given at GfmTableHead fit h = tagged given at GfmTableHead (on_own_line (codes "<thead>")) (on_own_line (codes "</thead>")) (λ n. (refl, refl)) (λ n. (refl, refl)) (λ inner. refl)
-sides given at GfmTableBody fit h = tagged given at GfmTableBody (said (codes "<tbody>")) (on_own_line (codes "</tbody>")) (λ n. (refl, refl)) (λ n. (refl, refl)) (λ inner. refl)
+    spanned given at GfmTaskListItemCheck (task_start given) (said (codes "/>"))
+    (λ n. task-says at.around.in_image given.options.gfm_task_list_item_checkable n)
+    (λ n. either at.around.in_image n [] (Said (codes "/>") ∷ []) [] (said (codes "/>")) (refl, refl) (refl, refl))
+    (λ inner. refl)
+sides given at GfmTable fit h = tagged given at GfmTable (on_own_line (codes "<table>"))
+    (on_own_line (codes "</table>")) (λ n. (refl, refl)) (λ n. (refl, refl)) (λ inner. refl)
+sides given at GfmTableHead fit h = tagged given at GfmTableHead (on_own_line (codes "<thead>"))
+    (on_own_line (codes "</thead>")) (λ n. (refl, refl)) (λ n. (refl, refl)) (λ inner. refl)
+sides given at GfmTableBody fit h = tagged given at GfmTableBody (said (codes "<tbody>"))
+    (on_own_line (codes "</tbody>")) (λ n. (refl, refl)) (λ n. (refl, refl)) (λ inner. refl)
 sides given at GfmTableRow fit h =
-    tagged given at GfmTableRow (on_own_line (codes "<tr>")) (row_end at) (λ n. (refl, refl)) (λ n. row-says at.around.in_head (drop (count_by is_cell (spine_names at.children)) at.before.columns) n) (λ inner. refl)
+    tagged given at GfmTableRow (on_own_line (codes "<tr>")) (row_end at) (λ n. (refl, refl))
+    (λ n. row-says at.around.in_head (drop (count_by is_cell (spine_names at.children)) at.before.columns) n)
+    (λ inner. refl)
 sides given at CodeText fit h = lie h
 sides given at MathText fit h = lie h
 sides given at HeadingSetextText fit h = lie h
@@ -358,4 +507,10 @@ sides given at ReferenceString fit h = lie h
 sides given at GfmFootnoteCall fit h = lie h
 sides given at GfmTableCell fit h = lie h
 sides given at GfmTableDelimiterRow fit h = lie h
-sides given at _ fit h = record { front = []; back = []; opens = λ n. (refl, refl); closes = λ n r. (refl, refl); whole = λ inner none. append-nil inner }
+sides given at _ fit h = record {
+  front = [];
+  back = [];
+  opens = λ n. (refl, refl);
+  closes = λ n r. (refl, refl);
+  whole = λ inner none. append-nil inner;
+}

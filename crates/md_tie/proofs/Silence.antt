@@ -49,7 +49,8 @@ through given at SpaceOrTab h = record { opens = refl; closes = λ page. refl; i
 through given at (Other number) h = record { opens = refl; closes = λ page. refl; is = λ inner. refl; caught = refl }
 through given at _ h = lie h
 
-pub found-through : (given : Given) (at : At) (name : Name) (inner : List Piece) → is_transparent name ≡ true → found_at given at name inner ≡ at.found
+pub found-through : (given : Given) (at : At) (name : Name) (inner : List Piece) → is_transparent name ≡ true →
+    found_at given at name inner ≡ at.found
 found-through given at BlockQuotePrefix inner h = refl
 found-through given at SpaceOrTab inner h = refl
 found-through given at (Other number) inner h = refl
@@ -61,7 +62,12 @@ silent_standing _ = false
 
 silent_name : (given : Given) (at : At) (name : Name) → silent_standing (standing_of name) ≡ true → Passes given at name
 silent_name given at ListItemValue h = record { opens = refl; closes = λ page. refl; is = λ inner. refl; caught = refl }
-silent_name given at ListItemMarker h = record { opens = refl; closes = λ page. refl; is = λ inner. refl; caught = refl }
+silent_name given at ListItemMarker h = record {
+  opens = refl;
+  closes = λ page. refl;
+  is = λ inner. refl;
+  caught = refl;
+}
 silent_name given at _ h = lie h
 
 silent-leaf : (name : Name) → silent_standing (standing_of name) ≡ true → is_leaf (standing_of name) ≡ true
@@ -70,70 +76,105 @@ silent-leaf ListItemMarker h = refl
 silent-leaf _ h = lie h
 
 -- what stands in such a node is silent as well
-inside_silent : (Holds : Forest → Type 0) (standing : Standing) (children : Forest) (around : Role) (before : Option Symbol) →
-    ((r : Role) (b : Option Symbol) → AreShaped children r b → list_all silent (spine children) ≡ true → Holds children) → Holds Empty →
-    IsStanding standing around before children → AreShaped children (inner_role standing around before) (inner_before standing before) →
-    list_all silent (shown standing (spine children)) ≡ true → (silent_standing standing ≡ true → is_leaf standing ≡ true) → Holds children
+inside_silent : (Holds : Forest → Type 0) (standing : Standing) (children : Forest) (around : Role)
+    (before : Option Symbol) →
+    ((r : Role) (b : Option Symbol) → AreShaped children r b → list_all silent (spine children) ≡ true →
+    Holds children) → Holds Empty →
+    IsStanding standing around before children → AreShaped children (inner_role standing around before)
+    (inner_before standing before) →
+    list_all silent (shown standing (spine children)) ≡ true →
+    (silent_standing standing ≡ true → is_leaf standing ≡ true) → Holds children
 inside_silent Holds Through children around before all none is shaped h leaf = all around before shaped h
 inside_silent Holds Space children around before all none is shaped h leaf = subst Holds (sym is) none
 inside_silent Holds (Solid s usual reading) children around before all none is shaped h leaf =
-    all _ _ shaped (leaf-silent s usual reading around before (spine children) (leaf (and_parts (silent s) true h).0) is)
+    all _ _ shaped (leaf-silent s usual reading around before (spine children)
+    (leaf (and_parts (silent s) true h).0) is)
 inside_silent Holds Mdx children around before all none is shaped h leaf = absurd is
 
-silent_or_through : (standing : Standing) (name : Name) (children : Forest) (around : Role) (before : Option Symbol) → Told standing name → IsStanding standing around before children →
-    list_all silent (shown standing (spine children)) ≡ true → (is_transparent name ≡ true) ⊎ (silent_standing standing ≡ true)
+silent_or_through : (standing : Standing) (name : Name) (children : Forest) (around : Role) (before : Option Symbol) →
+    Told standing name → IsStanding standing around before children →
+    list_all silent (shown standing (spine children)) ≡ true →
+    (is_transparent name ≡ true) ⊎ (silent_standing standing ≡ true)
 silent_or_through Through name children around before told is h = inl told
 silent_or_through Space name children around before told is h = inl told
 silent_or_through (Solid s usual reading) name children around before told is h = inr (and_parts (silent s) true h).0
 silent_or_through Mdx name children around before told is h = absurd is
 
-passes_by : (given : Given) (at : At) (name : Name) (children : Forest) (around : Role) (before : Option Symbol) → IsStanding (standing_of name) around before children →
+passes_by : (given : Given) (at : At) (name : Name) (children : Forest) (around : Role) (before : Option Symbol) →
+    IsStanding (standing_of name) around before children →
     list_all silent (shown (standing_of name) (spine children)) ≡ true → Passes given at name
-passes_by given at name children around before is h = elim (silent_or_through (standing_of name) name children around before (told name) is h) [
-  | inl e ↦ through given at name e
-  | inr e ↦ silent_name given at name e
-]
+passes_by given at name children around before is h = elim
+    (silent_or_through (standing_of name) name children around before (told name) is h) [
+      | inl e ↦ through given at name e
+      | inr e ↦ silent_name given at name e
+    ]
 
 -- what stood before, with nothing found
 abbrev before_of : Stood → Before
-before_of before = record { calls = before.calls; marks = before.marks; previous = before.previous; spine = before.spine; found = nothing_found; columns = before.columns }
+before_of before = record {
+  calls = before.calls;
+  marks = before.marks;
+  previous = before.previous;
+  spine = before.spine;
+  found = nothing_found;
+  columns = before.columns;
+}
 
 abbrev plain_at : Surroundings → Before → Forest → Point → Point → Bool → Found → At
-plain_at around before children start end last found = record { around = around; before = before; children = children; found = found; start = start; end = end; is_last = last }
+plain_at around before children start end last found = record {
+  around = around;
+  before = before;
+  children = children;
+  found = found;
+  start = start;
+  end = end;
+  is_last = last;
+}
 
 -- nothing but this prints nothing
-pub silent-printed : (given : Given) (forest : Forest) (around : Surroundings) (before : Stood) (r : Role) (b : Option Symbol) → AreShaped forest r b → list_all silent (spine forest) ≡ true →
+pub silent-printed : (given : Given) (forest : Forest) (around : Surroundings) (before : Stood) (r : Role)
+    (b : Option Symbol) → AreShaped forest r b → list_all silent (spine forest) ≡ true →
     printed (source_of given) around before forest ≡ []
 silent-printed given Empty around before r b shaped h = refl
 silent-printed given (Node name start end children rest) around before r b shaped h =
-    let parts = and_parts (list_all silent (shown (standing_of name) (spine children))) (list_all silent (spine rest)) (sym (list_all-append silent (shown (standing_of name) (spine children)) (spine rest)) ∙ h) in
+    let parts = and_parts (list_all silent (shown (standing_of name) (spine children))) (list_all silent (spine rest))
+    (sym (list_all-append silent (shown (standing_of name) (spine children)) (spine rest)) ∙ h) in
     let round : Surroundings = inside given.options (is_loose children) name around in
     let inner : List Printed = printed (source_of given) round (children_stood name children before) children in
-    let at : At = plain_at around (before_of before) children start end (around.is_outermost && is_empty rest) nothing_found in
+    let at : At = plain_at around (before_of before) children start end (around.is_outermost
+    && is_empty rest) nothing_found in
     let passes : Passes given at name = passes_by given at name children r b shaped.0.1 parts.0 in
     let page : Bool → Page = λ c. if c then lay given.ending blank inner else blank in
-    let none : inner ≡ [] = inside_silent (λ f. printed (source_of given) round (children_stood name children before) f ≡ []) (standing_of name) children r b
-    (λ r' b' shaped' h'. silent-printed given children round (children_stood name children before) r' b' shaped' h') refl shaped.0.1 shaped.1 parts.0 (silent-leaf name) in
-    let later : List Printed = printed (source_of given) around (next_stood (source_of given) around name start end children before) rest in
+    let none : inner ≡ [] = inside_silent (λ f. printed (source_of given) round
+    (children_stood name children before) f ≡ []) (standing_of name) children r b
+    (λ r' b' shaped' h'. silent-printed given children round (children_stood name children before) r' b' shaped' h')
+    refl shaped.0.1 shaped.1 parts.0 (silent-leaf name) in
+    let later : List Printed = printed (source_of given) around
+    (next_stood (source_of given) around name start end children before) rest in
     let c : Bool = is_captured name in
     ap (λ ps. (ps ++ ((if c then [] else inner) ++ closing_at given at (page c) name)) ++ later) passes.opens
     ∙ ap (λ ps. ((if c then [] else inner) ++ ps) ++ later) (passes.closes (page c))
     ∙ ap (λ b'. ((if b' then [] else inner) ++ []) ++ later) passes.caught
     ∙ ap (λ ps. (ps ++ []) ++ later) none
-    ∙ silent-printed given rest around (next_stood (source_of given) around name start end children before) _ _ shaped.2 parts.1
+    ∙ silent-printed given rest around (next_stood (source_of given) around name start end children before) _ _
+    shaped.2 parts.1
 
 -- and means nothing
-pub silent-meant : (given : Given) (forest : Forest) (around : Surroundings) (before : Before) (r : Role) (b : Option Symbol) → AreShaped forest r b → list_all silent (spine forest) ≡ true →
+pub silent-meant : (given : Given) (forest : Forest) (around : Surroundings) (before : Before) (r : Role)
+    (b : Option Symbol) → AreShaped forest r b → list_all silent (spine forest) ≡ true →
     (meant given around before forest).pieces ≡ []
 silent-meant given Empty around before r b shaped h = refl
 silent-meant given (Node name start end children rest) around before r b shaped h =
-    let parts = and_parts (list_all silent (shown (standing_of name) (spine children))) (list_all silent (spine rest)) (sym (list_all-append silent (shown (standing_of name) (spine children)) (spine rest)) ∙ h) in
+    let parts = and_parts (list_all silent (shown (standing_of name) (spine children))) (list_all silent (spine rest))
+    (sym (list_all-append silent (shown (standing_of name) (spine children)) (spine rest)) ∙ h) in
     let round : Surroundings = inside given.options (is_loose children) name around in
     let inner : Meant = meant given round (before_children name children before) children in
     let at : At = plain_at around before children start end (around.is_outermost && is_empty rest) inner.found in
     let passes : Passes given at name = passes_by given at name children r b shaped.0.1 parts.0 in
-    let none : inner.pieces ≡ [] = inside_silent (λ f. (meant given round (before_children name children before) f).pieces ≡ []) (standing_of name) children r b
-    (λ r' b' shaped' h'. silent-meant given children round (before_children name children before) r' b' shaped' h') refl shaped.0.1 shaped.1 parts.0 (silent-leaf name) in
+    let none : inner.pieces ≡ [] = inside_silent (λ f. (meant given round
+    (before_children name children before) f).pieces ≡ []) (standing_of name) children r b
+    (λ r' b' shaped' h'. silent-meant given children round (before_children name children before) r' b' shaped' h')
+    refl shaped.0.1 shaped.1 parts.0 (silent-leaf name) in
     let next : Before = before_next given at name (found_at given at name inner.pieces) in
     ap (λ ps. ps ++ (meant given around next rest).pieces) (passes.is inner.pieces ∙ none)
     ∙ silent-meant given rest around next _ _ shaped.2 parts.1
@@ -146,7 +187,8 @@ abbrev quiet_standing : Standing → Bool
 quiet_standing (Solid s usual reading) = quiet s
 quiet_standing _ = true
 
-quiet_own : (given : Given) (at : At) (name : Name) (inner : List Piece) → quiet_standing (standing_of name) ≡ true → is_transparent name ≡ false → Untargeted (found_at given at name inner)
+quiet_own : (given : Given) (at : At) (name : Name) (inner : List Piece) → quiet_standing (standing_of name) ≡ true →
+    is_transparent name ≡ false → Untargeted (found_at given at name inner)
 quiet_own given at DefinitionDestinationString inner h solid = lie h
 quiet_own given at DefinitionTitleString inner h solid = lie h
 quiet_own given at ResourceDestinationString inner h solid = lie h
@@ -157,29 +199,41 @@ quiet_own given at SpaceOrTab inner h solid = lie (sym solid)
 quiet_own given at (Other number) inner h solid = lie (sym solid)
 quiet_own given at _ inner h solid = (refl, refl, refl)
 
-quiet_here : (given : Given) (at : At) (standing : Standing) (name : Name) (children : Forest) (inner : List Piece) (around : Role) (before : Option Symbol) → Told standing name → IsStanding standing around before children →
-    list_all quiet (shown standing (spine children)) ≡ true → AreShaped children (inner_role standing around before) (inner_before standing before) →
-    ((r : Role) (b : Option Symbol) → AreShaped children r b → list_all quiet (spine children) ≡ true → Untargeted at.found) → (children ≡ Empty → Untargeted at.found) →
-    (quiet_standing standing ≡ true → is_transparent name ≡ false → Untargeted (found_at given at name inner)) → Untargeted (found_at given at name inner)
+quiet_here : (given : Given) (at : At) (standing : Standing) (name : Name) (children : Forest) (inner : List Piece)
+    (around : Role) (before : Option Symbol) → Told standing name → IsStanding standing around before children →
+    list_all quiet (shown standing (spine children)) ≡ true →
+    AreShaped children (inner_role standing around before) (inner_before standing before) →
+    ((r : Role) (b : Option Symbol) → AreShaped children r b → list_all quiet (spine children) ≡ true →
+    Untargeted at.found) → (children ≡ Empty → Untargeted at.found) →
+    (quiet_standing standing ≡ true → is_transparent name ≡ false → Untargeted (found_at given at name inner)) →
+    Untargeted (found_at given at name inner)
 quiet_here given at Through name children inner around before told is h shaped all none own =
     subst Untargeted (sym (found-through given at name inner told)) (all around before shaped h)
 quiet_here given at Space name children inner around before told is h shaped all none own =
     subst Untargeted (sym (found-through given at name inner told)) (none is)
-quiet_here given at (Solid s usual reading) name children inner around before told is h shaped all none own = own (and_parts (quiet s) true h).0 told.0
+quiet_here given at (Solid s usual reading) name children inner around before told is h shaped all none own =
+    own (and_parts (quiet s) true h).0 told.0
 quiet_here given at Mdx name children inner around before told is h shaped all none own = absurd is
 
-empty_found : (given : Given) (around : Surroundings) (before : Before) (children : Forest) → children ≡ Empty → Untargeted (meant given around before children).found
-empty_found given around before children e = subst (λ f. Untargeted (meant given around before f).found) (sym e) (refl, refl, refl)
+empty_found : (given : Given) (around : Surroundings) (before : Before) (children : Forest) → children ≡ Empty →
+    Untargeted (meant given around before children).found
+empty_found given around before children e = subst (λ f. Untargeted (meant given around before f).found) (sym e)
+    (refl, refl, refl)
 
 both_untargeted : (first later : Found) → Untargeted first → Untargeted later → Untargeted (found_behind first later)
-both_untargeted first later f l =
-    (ap (λ o. or_else o first.destination) l.0 ∙ f.0, ap (λ o. or_else o first.title) l.1 ∙ f.1, ap (λ o. or_else o first.resource) l.2 ∙ f.2)
+both_untargeted first later f l = (
+  ap (λ o. or_else o first.destination) l.0 ∙ f.0,
+  ap (λ o. or_else o first.title) l.1 ∙ f.1,
+  ap (λ o. or_else o first.resource) l.2 ∙ f.2,
+)
 
-pub quiet-found : (given : Given) (forest : Forest) (around : Surroundings) (before : Before) (r : Role) (b : Option Symbol) → AreShaped forest r b → list_all quiet (spine forest) ≡ true →
+pub quiet-found : (given : Given) (forest : Forest) (around : Surroundings) (before : Before) (r : Role)
+    (b : Option Symbol) → AreShaped forest r b → list_all quiet (spine forest) ≡ true →
     Untargeted (meant given around before forest).found
 quiet-found given Empty around before r b shaped h = (refl, refl, refl)
 quiet-found given (Node name start end children rest) around before r b shaped h =
-    let parts = and_parts (list_all quiet (shown (standing_of name) (spine children))) (list_all quiet (spine rest)) (sym (list_all-append quiet (shown (standing_of name) (spine children)) (spine rest)) ∙ h) in
+    let parts = and_parts (list_all quiet (shown (standing_of name) (spine children))) (list_all quiet (spine rest))
+    (sym (list_all-append quiet (shown (standing_of name) (spine children)) (spine rest)) ∙ h) in
     let round : Surroundings = inside given.options (is_loose children) name around in
     let inner : Meant = meant given round (before_children name children before) children in
     let at : At = plain_at around before children start end (around.is_outermost && is_empty rest) inner.found in

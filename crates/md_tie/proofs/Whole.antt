@@ -30,11 +30,20 @@ use Rattle.md_tie.proofs.Section.{section-read}
 use Rattle.md_tie.proofs.Shapes.{matches-underlined}
 use Rattle.md_tie.proofs.Forests.{Tied, tied}
 
-pub printed-is-meant : (options : CompileOptions) (names : List (List ℕ × List ℕ)) (bytes : List ℕ) (document : Forest) →
-    IsGrammatical bytes names document → printed_meaning options names bytes document ≡ meaning options names bytes document
+pub printed-is-meant : (options : CompileOptions) (names : List (List ℕ × List ℕ)) (bytes : List ℕ)
+    (document : Forest) →
+    IsGrammatical bytes names document → printed_meaning options names bytes document
+    ≡ meaning options names bytes document
 printed-is-meant options names bytes document grammatical =
     let ending : List ℕ = ending_at options bytes (first_ending document) in
-    let given : List Defined → Given = λ ds. record { bytes = bytes; names = names; options = options; ending = ending; calls = calls_of bytes document; definitions = ds } in
+    let given : List Defined → Given = λ ds. record {
+      bytes = bytes;
+      names = names;
+      options = options;
+      ending = ending;
+      calls = calls_of bytes document;
+      definitions = ds;
+    } in
     let is_tied : (ds : List Defined) → Tied (given ds) outermost nothing_before no_notes false document = λ ds.
     tied (given ds) document outermost nothing_before role.Flow None Blocks [] no_notes false
     (record {
@@ -46,14 +55,19 @@ printed-is-meant options names bytes document grammatical =
     })
     in
     let pieces : List Defined → List Printed = λ ds. printed (source_of (given ds)) outermost nothing_stood document in
-    let footnotes : List Defined → List Footnote = λ ds. footnotes_of (source_of (given ds)) outermost nothing_stood document in
+    let footnotes : List Defined → List Footnote = λ ds. footnotes_of
+    (source_of (given ds)) outermost nothing_stood document in
     let known : List Defined = (meant (given []) outermost nothing_before document).definitions in
     let whole : Meant = meant (given known) outermost nothing_before document in
     let section_of : List Footnote → List Printed = λ fs. section_pieces options fs (tally (calls_of bytes document)) in
-    ap (λ ds. laid ending (pieces ds ++ section_pieces options (footnotes ds) (tally (calls_in bytes document)))) (is_tied []).definitions
-    ∙ ap (λ cs. laid ending (pieces known ++ section_pieces options (footnotes known) (tally cs))) (calls-same bytes document)
+    ap (λ ds. laid ending (pieces ds ++ section_pieces options (footnotes ds) (tally (calls_in bytes document))))
+    (is_tied []).definitions
+    ∙ ap (λ cs. laid ending (pieces known ++ section_pieces options (footnotes known) (tally cs)))
+    (calls-same bytes document)
     ∙ ap (λ fs. laid ending (pieces known ++ section_of fs)) (is_tied known).footnotes
-    ∙ captured-text ending (pieces known ++ section_of whole.footnotes) (whole.pieces ++ section (given known) whole.footnotes)
+    ∙ captured-text ending (pieces known ++ section_of whole.footnotes) (whole.pieces
+    ++ section (given known) whole.footnotes)
     (read-append no_notes (pieces known) (section_of whole.footnotes)
-    ∙ ap (λ ps. ps ++ read (noted_after no_notes (pieces known)) (section_of whole.footnotes)) (is_tied known).agree.pieces_are
+    ∙ ap (λ ps. ps ++ read (noted_after no_notes (pieces known)) (section_of whole.footnotes))
+    (is_tied known).agree.pieces_are
     ∙ ap (λ ps. whole.pieces ++ ps) (section-read (given known) whole.footnotes (noted_after no_notes (pieces known))))

@@ -8,27 +8,35 @@ use Rattle.md_infer.specs.Partners.{behind, last_contributing_at}
 use Rattle.md_infer.specs.Facts.{contributing_over}
 use Rattle.md_tree.specs.Found.{index_if}
 
-one_more : (later : Option ℕ) (here : Bool) (index before : ℕ) → unwrap_or later (cond here index before) ≡ unwrap_or (or_else later (cond here (Some index) None)) before
+one_more : (later : Option ℕ) (here : Bool) (index before : ℕ) →
+    unwrap_or later (cond here index before) ≡ unwrap_or (or_else later (cond here (Some index) None)) before
 one_more None true index before = refl
 one_more None false index before = refl
 one_more (Some last) here index before = refl
 
-contributing-over : (forest : Forest) (index before : ℕ) → contributing_over index forest before ≡ unwrap_or (last_contributing_at index forest) before
+contributing-over : (forest : Forest) (index before : ℕ) →
+    contributing_over index forest before ≡ unwrap_or (last_contributing_at index forest) before
 contributing-over Empty index before = refl
 contributing-over (Node name start end children rest) index before =
     let later = suc (behind (suc index) children) in
-    contributing-over rest later (cond (contributes name) index before) ∙ one_more (last_contributing_at later rest) (contributes name) index before
+    contributing-over rest later (cond (contributes name) index before)
+    ∙ one_more (last_contributing_at later rest) (contributes name) index before
 
-there_with : (later : Option ℕ) (here : Bool) (index : ℕ) → index_if (unwrap_or later 0) ≡ later → index_if (unwrap_or (or_else later (cond here (Some (suc index)) None)) 0) ≡ or_else later (cond here (Some (suc index)) None)
+there_with : (later : Option ℕ) (here : Bool) (index : ℕ) → index_if (unwrap_or later 0) ≡ later →
+    index_if (unwrap_or (or_else later (cond here (Some (suc index)) None)) 0)
+    ≡ or_else later (cond here (Some (suc index)) None)
 there_with None true index e = refl
 there_with None false index e = refl
 there_with (Some last) here index e = e
 
 -- an index that is found behind another isn't zero
-there : (forest : Forest) (index : ℕ) → index_if (unwrap_or (last_contributing_at (suc index) forest) 0) ≡ last_contributing_at (suc index) forest
+there : (forest : Forest) (index : ℕ) → index_if (unwrap_or (last_contributing_at (suc index) forest) 0)
+    ≡ last_contributing_at (suc index) forest
 there Empty index = refl
 there (Node name start end children rest) index =
-    there_with (last_contributing_at (suc (behind (suc (suc index)) children)) rest) (contributes name) index (there rest (behind (suc (suc index)) children))
+    there_with (last_contributing_at (suc (behind (suc (suc index)) children)) rest) (contributes name) index
+    (there rest (behind (suc (suc index)) children))
 
-pub contributing-found : (children : Forest) (index : ℕ) → index_if (contributing_over (suc index) children 0) ≡ last_contributing_at (suc index) children
+pub contributing-found : (children : Forest) (index : ℕ) →
+    index_if (contributing_over (suc index) children 0) ≡ last_contributing_at (suc index) children
 contributing-found children index = ap index_if (contributing-over children (suc index) 0) ∙ there children index

@@ -15,12 +15,21 @@ use Rattle.md_infer.proofs.Passing.{length_one}
 use Rattle.md_tree.proofs.Entering.{get_at}
 use Rattle.md_tree.proofs.Placing.{at_entry, in_node, behind_node, length_events}
 
-own_definition : (events : List Event) (index : ℕ) (name : Name) (start : Point) → slice_get events index ≡ Some (entering name start) → All (λ i. EntersAt events i Definition) (cond (is_link_definition name) (index ∷ []) [])
+own_definition : (events : List Event) (index : ℕ) (name : Name) (start : Point) →
+    slice_get events index ≡ Some (entering name start) →
+    All (λ i. EntersAt events i Definition) (cond (is_link_definition name) (index ∷ []) [])
 own_definition events index Definition start there =
-    All-cons (λ i. EntersAt events i Definition) index [] (entering Definition start, there, refl, refl) (All-nil (λ i. EntersAt events i Definition))
+    All-cons (λ i. EntersAt events i Definition) index [] (
+      entering Definition start,
+      there,
+      refl,
+      refl,
+    ) (All-nil (λ i. EntersAt events i Definition))
 own_definition events index _ start there = All-nil (λ i. EntersAt events i Definition)
 
-all_definitions : (events : List Event) (forest : Forest) (index : ℕ) (seen later : List Event) → length seen ≡ index → events ≡ seen ++ (flatten forest ++ later) → All (λ i. EntersAt events i Definition) (definitions_of index forest)
+all_definitions : (events : List Event) (forest : Forest) (index : ℕ) (seen later : List Event) →
+    length seen ≡ index → events ≡ seen ++ (flatten forest ++ later) →
+    All (λ i. EntersAt events i Definition) (definitions_of index forest)
 all_definitions events Empty index seen later e same = All-nil (λ i. EntersAt events i Definition)
 all_definitions events (Node name start end children rest) index seen later e same =
     let exit = behind (suc index) children in
@@ -31,13 +40,19 @@ all_definitions events (Node name start end children rest) index seen later e sa
     let own = cond (is_link_definition name) (index ∷ []) [] in
     let one = length_one seen first ∙ ap suc e in
     let inside = length_events children (suc index) (seen ++ first ∷ []) one in
-    let there : slice_get events index ≡ Some first = ap (λ es. slice_get es index) (at_entry events seen inner (flatten rest) later first last same) ∙ get_at seen (inner ++ (last ∷ (flatten rest ++ later))) first index e in
+    let there : slice_get events index ≡ Some first = ap (λ es. slice_get es index)
+    (at_entry events seen inner (flatten rest) later first last same)
+    ∙ get_at seen (inner ++ (last ∷ (flatten rest ++ later))) first index e in
     All-append holds (definitions_of (suc index) children) (own ++ definitions_of (suc exit) rest)
-    (all_definitions events children (suc index) (seen ++ first ∷ []) (last ∷ (flatten rest ++ later)) one (in_node events seen inner (flatten rest) later first last same))
+    (all_definitions events children (suc index) (seen ++ first ∷ []) (last
+    ∷ (flatten rest ++ later)) one (in_node events seen inner (flatten rest) later first last same))
     (All-append holds own (definitions_of (suc exit) rest) (own_definition events index name start there)
-    (all_definitions events rest (suc exit) (((seen ++ first ∷ []) ++ inner) ++ last ∷ []) later (length_one ((seen ++ first ∷ []) ++ inner) last ∙ ap suc inside) (behind_node events seen inner (flatten rest) later first last same)))
+    (all_definitions events rest (suc exit) (((seen ++ first ∷ []) ++ inner) ++ last
+    ∷ []) later (length_one ((seen ++ first ∷ []) ++ inner) last
+    ∙ ap suc inside) (behind_node events seen inner (flatten rest) later first last same)))
 
 -- those of a document
-pub definitions-entered : (events : List Event) (forest : Forest) → flatten forest ≡ events → All (λ i. EntersAt events i Definition) (definitions_of 0 forest)
+pub definitions-entered : (events : List Event) (forest : Forest) → flatten forest ≡ events →
+    All (λ i. EntersAt events i Definition) (definitions_of 0 forest)
 definitions-entered events forest flattened =
     all_definitions events forest 0 [] [] refl (sym flattened ∙ sym (append-nil (flatten forest)))

@@ -20,12 +20,13 @@ use Rattle.md_pattern.specs.Standing.{standing_of}
 use Rattle.md_pattern.specs.Spine.{spine}
 use Rattle.md_pattern.specs.Pattern.{pattern_of}
 use Rattle.md_pattern.specs.Shape.{EachNode, IsShaped, AreShaped, inner_role, inner_before}
-use Rattle.md_tree.specs.Rules.{broken_where, MeetRules, target_of}
+use Rattle.md_tree.specs.Rules.{broken_rule, reading_of, MeetRules, target_of}
 use Rattle.md_tree.specs.Grammar.{Document, IsGrammatical, IsReadAs, IsChecked}
 use Rattle.md_tree.specs.Refusal.{Level, opening, role_in, before_in, symbol_after, Begins, LeaveOpen, EndsBroken}
 use Rattle.md_tree.specs.Machine.{Reads, Course, Runs, Exits, ExitsWhere, after_exit, entered_on, is_complete, is_whole, is_optional, items_of, start_of, beginning}
 use Rattle.md_tree.specs.Walk.{Unbroken, Broken, BreaksWhere, BreaksAtExit}
-use Rattle.md_tree.proofs.Listing.{listed, mentions_of, mentions_over-listed}
+use Rattle.md_tree.specs.Mentions.{mentions_of}
+use Rattle.md_tree.proofs.Listing.{listed, mentions_over-listed}
 use Rattle.md_tree.proofs.Greedy.{and_both}
 use Rattle.md_tree.proofs.Groups.{Feeds, matches_feeds, EndsInGroup-feeds}
 use Rattle.md_tree.proofs.Trees.{IsFine, after_nodes, Feeds-context}
@@ -34,12 +35,17 @@ use Rattle.md_tree.proofs.Verdicts.{Runs-same, Runs-checked, Reached-runs, fine_
 
 -- ---- a node that breaks a rule
 
-exits_broken_where : (bytes : List ℕ) (names : List (List ℕ × List ℕ)) (broken : Rule) (outer : Option Outer) (start point : Point) (others : List Open) (course : Course) → BreaksWhere bytes names broken outer start point course → (next : Course) × ExitsWhere (Broken bytes names broken) outer start point others course next
+exits_broken_where : (bytes : List ℕ) (names : List (List ℕ × List ℕ)) (broken : Rule) (outer : Option Outer)
+    (start point : Point) (others : List Open) (course : Course) →
+    BreaksWhere bytes names broken outer start point course →
+    (next : Course) × ExitsWhere (Broken bytes names broken) outer start point others course next
 exits_broken_where bytes names broken None start point others course breaks = absurd breaks
 exits_broken_where bytes names broken (Some outer) start point others course breaks =
     (after_exit outer start point others course, (breaks.0, breaks.1, refl))
 
-exits_broken : (bytes : List ℕ) (names : List (List ℕ × List ℕ)) (broken : Rule) (opens : List Open) (name : Name) (point : Point) (course : Course) → BreaksAtExit bytes names broken opens name point course → (next : Course) × Exits (Broken bytes names broken) opens name point course next
+exits_broken : (bytes : List ℕ) (names : List (List ℕ × List ℕ)) (broken : Rule) (opens : List Open) (name : Name)
+    (point : Point) (course : Course) → BreaksAtExit bytes names broken opens name point course →
+    (next : Course) × Exits (Broken bytes names broken) opens name point course next
 exits_broken bytes names broken [] name point course breaks = absurd breaks
 exits_broken bytes names broken (open_node ∷ others) name point course breaks =
     let inside = exits_broken_where bytes names broken open_node.outer open_node.start point others course breaks.1 in
@@ -48,27 +54,50 @@ exits_broken bytes names broken (open_node ∷ others) name point course breaks 
 none_some : {A : Type 0} (x : A) → None ≡ Some x → ⊥
 none_some x e = cc
 
-broken_there : (bytes : List ℕ) (names : List (List ℕ × List ℕ)) (broken : Rule) (standing : Standing) (name : Name) (start end : Point) (children : Forest) (here after base : State) (found inner target : Target) (waiting : Option Outer) (course : Course) → entered_on standing here found ≡ Some (record { state = base; target = inner; outer = waiting }) → BreaksWhere bytes names broken waiting start end course → Closed (Broken bytes names broken) standing name start end children here after found target → broken_where bytes names standing here.role here.before start end (target_of children Missing) ≡ Some broken
-broken_there bytes names broken Through name start end children here after base found inner target waiting course e breaks closed =
-    let parts = entry_is (record { state = here; target = found; outer = None }) (record { state = base; target = inner; outer = waiting }) e in
+broken_there : (bytes : List ℕ) (names : List (List ℕ × List ℕ)) (broken : Rule) (standing : Standing) (name : Name)
+    (start end : Point) (children : Forest) (here after base : State) (found inner target : Target)
+    (waiting : Option Outer) (course : Course) → entered_on standing here found
+    ≡ Some (record { state = base; target = inner; outer = waiting }) →
+    BreaksWhere bytes names broken waiting start end course →
+    Closed (Broken bytes names broken) standing name start end children here after found target →
+    broken_rule bytes names (reading_of standing) here.role here.before start end (target_of children Missing)
+    ≡ Some broken
+broken_there bytes names broken Through name start end children here after base found inner target waiting course e
+    breaks closed =
+    let parts = entry_is (record { state = here; target = found; outer = None }) (record {
+      state = base;
+      target = inner;
+      outer = waiting;
+    }) e in
     absurd (subst (λ o. BreaksWhere bytes names broken o start end course) (sym parts.2) breaks)
-broken_there bytes names broken Space name start end children here after base found inner target waiting course e breaks closed =
+broken_there bytes names broken Space name start end children here after base found inner target waiting course e
+    breaks closed =
     let free : Outer = record { state = here; before = here.before; target = found; reading = Free } in
-    let parts = entry_is (record { state = start_of Childless; target = Missing; outer = Some free }) (record { state = base; target = inner; outer = waiting }) e in
+    let parts = entry_is (record { state = start_of Childless; target = Missing; outer = Some free })
+    (record { state = base; target = inner; outer = waiting }) e in
     absurd (none_some broken (subst (λ o. BreaksWhere bytes names broken o start end course) (sym parts.2) breaks).1)
-broken_there bytes names broken (Solid symbol usual reading) name start end children here after base found inner target waiting course e breaks closed =
+broken_there bytes names broken (Solid symbol usual reading) name start end children here after base found inner
+    target waiting course e breaks closed =
     closed.read
-broken_there bytes names broken Mdx name start end children here after base found inner target waiting course e breaks closed = cc
+broken_there bytes names broken Mdx name start end children here after base found inner target waiting course e breaks
+    closed = cc
 
 events_ended : (a c : List Event) (x y : Event) → (((a ++ x ∷ []) ++ c) ++ y ∷ []) ≡ a ++ (x ∷ c ++ y ∷ [])
 events_ended a c x y = append_assoc (a ++ x ∷ []) c (y ∷ []) ∙ append_assoc a (x ∷ []) (c ++ y ∷ [])
 
-breaks_left : (bytes : List ℕ) (names : List (List ℕ × List ℕ)) (broken : Rule) (seen : List Event) (name : Name) (point : Point) (course next : Course) → (left : Left (Unbroken bytes names) (Broken bytes names broken) seen name point course next) → BreaksAtExit bytes names broken course.open_nodes name point course → BreaksWhere bytes names broken left.open_node.outer left.open_node.start point course
+breaks_left : (bytes : List ℕ) (names : List (List ℕ × List ℕ)) (broken : Rule) (seen : List Event) (name : Name)
+    (point : Point) (course next : Course) → (left : Left (Unbroken bytes names)
+    (Broken bytes names broken) seen name point course next) →
+    BreaksAtExit bytes names broken course.open_nodes name point course →
+    BreaksWhere bytes names broken left.open_node.outer left.open_node.start point course
 breaks_left bytes names broken seen name point course next left breaks =
     (subst (λ os. BreaksAtExit bytes names broken os name point course) left.opens_are breaks).1
 
 -- the node that ends breaks the rule
-pub EndsBroken-exit : (bytes : List ℕ) (names : List (List ℕ × List ℕ)) (broken : Rule) (seen : List Event) (name : Name) (point : Point) (course : Course) → Reached (Unbroken bytes names) seen course → BreaksAtExit bytes names broken course.open_nodes name point course → EndsBroken bytes names (seen ++ exiting name point ∷ []) broken
+pub EndsBroken-exit : (bytes : List ℕ) (names : List (List ℕ × List ℕ)) (broken : Rule) (seen : List Event)
+    (name : Name) (point : Point) (course : Course) → Reached (Unbroken bytes names) seen course →
+    BreaksAtExit bytes names broken course.open_nodes name point course →
+    EndsBroken bytes names (seen ++ exiting name point ∷ []) broken
 EndsBroken-exit bytes names broken seen name point course reached breaks =
     let holds = Unbroken bytes names in
     let ending = Broken bytes names broken in
@@ -82,9 +111,14 @@ EndsBroken-exit bytes names broken seen name point course reached breaks =
     let role_here = context.0 ∙ outer.0 in
     let before_here = context.1 ∙ ap (λ b. symbol_after b level.before) outer.1 in
     let node = Node level.name level.start point left.nodes Empty in
-    let inner = fine_shaped holds left.nodes (inner_role (standing_of level.name) left.here.role left.here.before) (inner_before (standing_of level.name) left.here.before) (Left-inner holds ending seen name point course next left) in
+    let inner = fine_shaped holds left.nodes (inner_role (standing_of level.name) left.here.role left.here.before)
+    (inner_before (standing_of level.name) left.here.before)
+    (Left-inner holds ending seen name point course next left) in
     let shaped_here : AreShaped node left.here.role left.here.before = ((closed.apart, closed.shaped), inner, tt) in
-    let breaks_here = broken_there bytes names broken (standing_of level.name) level.name level.start point left.nodes left.here next.state left.base (target_of level.before left.found) left.inner next.target left.open_node.outer course left.entered_is (subst (λ s. BreaksWhere bytes names broken left.open_node.outer s point course) left.start_is (breaks_left bytes names broken seen name point course next left breaks)) closed in
+    let breaks_here = broken_there bytes names broken (standing_of level.name) level.name level.start point left.nodes
+    left.here next.state left.base (target_of level.before left.found) left.inner next.target left.open_node.outer
+    course left.entered_is (subst (λ s. BreaksWhere bytes names broken left.open_node.outer s point course)
+    left.start_is (breaks_left bytes names broken seen name point course next left breaks)) closed in
     record {
       path = left.path;
       nodes = level.before;
@@ -92,29 +126,42 @@ EndsBroken-exit bytes names broken seen name point course reached breaks =
       start = level.start;
       end = point;
       children = left.nodes;
-      events_are = ap (λ n. seen ++ exiting n point ∷ []) (sym left.name_is) ∙ ap (λ es. es ++ exiting level.name point ∷ []) left.events_are ∙ events_ended (opening left.path ++ flatten level.before) (flatten left.nodes) (entering level.name level.start) (exiting level.name point);
+      events_are = ap (λ n. seen ++ exiting n point ∷ []) (sym left.name_is)
+          ∙ ap (λ es. es ++ exiting level.name point ∷ []) left.events_are
+          ∙ events_ended (opening left.path ++ flatten level.before) (flatten left.nodes)
+          (entering level.name level.start) (exiting level.name point);
       path_shaped = (fine_path_shaped holds (level ∷ left.path) left.path_fine).1;
       nodes_shaped = fine_shaped holds level.before (role_in left.path) (before_in left.path) left.path_fine.0;
-      shaped = subst (λ b. AreShaped node (role_in left.path) b) before_here (subst (λ r. AreShaped node r left.here.before) role_here shaped_here);
-      breaks = subst (λ b. broken_where bytes names (standing_of level.name) (role_in left.path) b level.start point (target_of left.nodes Missing) ≡ Some broken) before_here (subst (λ r. broken_where bytes names (standing_of level.name) r left.here.before level.start point (target_of left.nodes Missing) ≡ Some broken) role_here breaks_here);
+      shaped = subst (λ b. AreShaped node (role_in left.path) b) before_here
+          (subst (λ r. AreShaped node r left.here.before) role_here shaped_here);
+      breaks = subst (λ b. broken_rule bytes names (reading_of (standing_of level.name))
+          (role_in left.path) b level.start point (target_of left.nodes Missing)
+          ≡ Some broken) before_here (subst (λ r. broken_rule bytes names
+          (reading_of (standing_of level.name)) r left.here.before level.start point (target_of left.nodes Missing)
+          ≡ Some broken) role_here breaks_here);
     }
 
 -- ---- the end
 
-begins : (holds : Reads) (events : List Event) (course : Course) → (reached : Reached holds events course) → Begins events reached.path reached.nodes
+begins : (holds : Reads) (events : List Event) (course : Course) → (reached : Reached holds events course) →
+    Begins events reached.path reached.nodes
 begins holds events course reached =
     let outer = Stands-context reached.path course.open_nodes reached.base reached.found reached.stands in
     record {
       events_are = reached.events_are;
       path_shaped = fine_path_shaped holds reached.path reached.path_fine;
-      nodes_shaped = subst (λ b. AreShaped reached.nodes (role_in reached.path) b) outer.1 (subst (λ r. AreShaped reached.nodes r reached.base.before) outer.0 (fine_shaped holds reached.nodes reached.base.role reached.base.before reached.nodes_fine));
+      nodes_shaped = subst (λ b. AreShaped reached.nodes (role_in reached.path) b) outer.1
+          (subst (λ r. AreShaped reached.nodes r reached.base.before) outer.0
+          (fine_shaped holds reached.nodes reached.base.role reached.base.before reached.nodes_fine));
     }
 
-path_some : (path : List Level) (open_node : Open) (others : List Open) (state : State) (target : Target) → Stands path (open_node ∷ others) state target → path ≢ []
+path_some : (path : List Level) (open_node : Open) (others : List Open) (state : State) (target : Target) →
+    Stands path (open_node ∷ others) state target → path ≢ []
 path_some [] open_node others state target stands = absurd stands
 path_some (level ∷ path) open_node others state target stands = λ e. cc
 
-path_none : (path : List Level) (state : State) (target : Target) → Stands path [] state target → (path ≡ []) × (state ≡ start_of Flow)
+path_none : (path : List Level) (state : State) (target : Target) → Stands path [] state target →
+    (path ≡ []) × (state ≡ start_of Flow)
 path_none [] state target stands = (refl, stands.0)
 path_none (level ∷ path) state target stands = absurd stands
 
@@ -123,29 +170,46 @@ flow_optional zero = refl
 flow_optional (suc zero) = refl
 flow_optional (suc (suc k)) = refl
 
-not_whole : (state : State) → state.role ≡ Flow → is_complete state ≡ false → (whole : Bool) → is_whole state.stage ≡ whole → whole ≡ false
+not_whole : (state : State) → state.role ≡ Flow → is_complete state ≡ false → (whole : Bool) →
+    is_whole state.stage ≡ whole → whole ≡ false
 not_whole state flow incomplete true e =
-    let out : list_all is_optional (items_of state) ≡ true = subst (λ r. list_all is_optional (drop state.position (pattern_of r)) ≡ true) (sym flow) (flow_optional state.position) in
+    let out : list_all is_optional (items_of state) ≡ true =
+    subst (λ r. list_all is_optional (drop state.position (pattern_of r))
+    ≡ true) (sym flow) (flow_optional state.position) in
     let complete = and_both (is_whole state.stage) (list_all is_optional (items_of state)) e out in
     let clash : true ≡ false = sym complete ∙ incomplete in clash
 not_whole state flow incomplete false e = refl
 
 -- something is open
-leaves_group : (holds : Reads) (events : List Event) (course : Course) → (reached : Reached holds events course) → (reached.path ≡ []) → reached.base ≡ start_of Flow → is_complete course.state ≡ false → LeaveOpen events
+leaves_group : (holds : Reads) (events : List Event) (course : Course) → (reached : Reached holds events course) →
+    (reached.path ≡ []) → reached.base ≡ start_of Flow → is_complete course.state ≡ false → LeaveOpen events
 leaves_group holds events course reached none base incomplete =
     let feeds = subst (λ s. Feeds s (spine reached.nodes) course.state) base reached.feeds in
     let flow = (Feeds-context (start_of Flow) course.state (spine reached.nodes) feeds).0 in
-    let open_group = not_whole course.state flow incomplete (is_whole course.state.stage) refl in
-    (reached.path, reached.nodes, begins holds events course reached, inr (none, EndsInGroup-feeds Flow (spine reached.nodes) course.state feeds open_group))
+    let open_group = not_whole course.state flow incomplete (is_whole course.state.stage) refl in (
+      reached.path,
+      reached.nodes,
+      begins holds events course reached,
+      inr (none, EndsInGroup-feeds Flow (spine reached.nodes) course.state feeds open_group),
+    )
 
-leave_open : (holds : Reads) (events : List Event) (course : Course) (opens : List Open) → course.open_nodes ≡ opens → (reached : Reached holds events course) → (course.open_nodes ≡ [] → is_complete course.state ≡ false) → LeaveOpen events
+leave_open : (holds : Reads) (events : List Event) (course : Course) (opens : List Open) → course.open_nodes ≡ opens →
+    (reached : Reached holds events course) → (course.open_nodes ≡ [] → is_complete course.state ≡ false) →
+    LeaveOpen events
 leave_open holds events course [] e reached undone =
-    let none = path_none reached.path reached.base reached.found (subst (λ os. Stands reached.path os reached.base reached.found) e reached.stands) in
+    let none = path_none reached.path reached.base reached.found
+    (subst (λ os. Stands reached.path os reached.base reached.found) e reached.stands) in
     leaves_group holds events course reached none.0 none.1 (undone e)
-leave_open holds events course (open_node ∷ others) e reached undone =
-    (reached.path, reached.nodes, begins holds events course reached, inl (path_some reached.path open_node others reached.base reached.found (subst (λ os. Stands reached.path os reached.base reached.found) e reached.stands)))
+leave_open holds events course (open_node ∷ others) e reached undone = (
+  reached.path,
+  reached.nodes,
+  begins holds events course reached,
+  inl (path_some reached.path open_node others reached.base reached.found
+      (subst (λ os. Stands reached.path os reached.base reached.found) e reached.stands)),
+)
 
-pub LeaveOpen-undone : (holds : Reads) (events : List Event) (course : Course) → Runs holds events beginning course → (course.open_nodes ≡ [] → is_complete course.state ≡ false) → LeaveOpen events
+pub LeaveOpen-undone : (holds : Reads) (events : List Event) (course : Course) → Runs holds events beginning course →
+    (course.open_nodes ≡ [] → is_complete course.state ≡ false) → LeaveOpen events
 LeaveOpen-undone holds events course runs undone =
     leave_open holds events course course.open_nodes refl (Reached-runs holds events course runs) undone
 
@@ -153,12 +217,17 @@ true_false : (b : Bool) → b ≡ true → b ≡ false → ⊥
 true_false b e f = cc
 
 -- and no document of the grammar is read so
-pub outside-undone : (given : Document) (course : Course) → Runs (Unbroken given.bytes given.names) given.events beginning course → (course.open_nodes ≡ [] → is_complete course.state ≡ false) → IsChecked given → ⊥
+pub outside-undone : (given : Document) (course : Course) →
+    Runs (Unbroken given.bytes given.names) given.events beginning course →
+    (course.open_nodes ≡ [] → is_complete course.state ≡ false) → IsChecked given → ⊥
 outside-undone given course runs undone checked =
     let holds = Unbroken given.bytes given.names in
-    let document = Runs-checked given checked.0 (IsReadAs.flattened checked.1) (IsGrammatical.shape (IsReadAs.grammatical checked.1)) (IsGrammatical.rules (IsReadAs.grammatical checked.1)) in
-    let same = Runs-same holds holds given.events beginning course (after_nodes checked.0 document.0 beginning) runs document.1 in
-    true_false (is_complete course.state) (ap (λ (c : Course). is_complete c.state) same ∙ document.2) (undone (ap (λ (c : Course). c.open_nodes) same))
+    let document = Runs-checked given checked.0 (IsReadAs.flattened checked.1)
+    (IsGrammatical.shape (IsReadAs.grammatical checked.1)) (IsGrammatical.rules (IsReadAs.grammatical checked.1)) in
+    let same = Runs-same holds holds given.events beginning course
+    (after_nodes checked.0 document.0 beginning) runs document.1 in
+    true_false (is_complete course.state) (ap (λ (c : Course). is_complete c.state) same
+    ∙ document.2) (undone (ap (λ (c : Course). c.open_nodes) same))
 
 -- all has ended: the document that was read
 pub record IsWalked (given : Document) (mentions : List Mentioned) : Type 0 where
@@ -168,18 +237,26 @@ pub record IsWalked (given : Document) (mentions : List Mentioned) : Type 0 wher
   pub rules : MeetRules given.bytes given.names forest Flow None
   pub mentions_are : mentions ≡ listed 0 (mentions_of forest)
 
-pub IsWalked-done : (given : Document) (course : Course) → Runs (Unbroken given.bytes given.names) given.events beginning course → course.open_nodes ≡ [] → is_complete course.state ≡ true → IsWalked given course.mentions
+pub IsWalked-done : (given : Document) (course : Course) →
+    Runs (Unbroken given.bytes given.names) given.events beginning course → course.open_nodes ≡ [] →
+    is_complete course.state ≡ true → IsWalked given course.mentions
 IsWalked-done given course runs none complete =
     let holds = Unbroken given.bytes given.names in
     let reached = Reached-runs holds given.events course runs in
-    let path = path_none reached.path reached.base reached.found (subst (λ os. Stands reached.path os reached.base reached.found) none reached.stands) in
+    let path = path_none reached.path reached.base reached.found
+    (subst (λ os. Stands reached.path os reached.base reached.found) none reached.stands) in
     let fine = subst (λ (s : State). EachNode (IsFine holds) reached.nodes s.role s.before) path.1 reached.nodes_fine in
     let feeds = subst (λ s. Feeds s (spine reached.nodes) course.state) path.1 reached.feeds in
-    let flattened : flatten reached.nodes ≡ given.events = sym (reached.events_are ∙ ap (λ p. opening p ++ flatten reached.nodes) path.0) in
-    let shape : IsShaped reached.nodes = (fine_shaped holds reached.nodes Flow None fine, matches_feeds Flow (spine reached.nodes) course.state feeds complete) in
+    let flattened : flatten reached.nodes ≡ given.events =
+    sym (reached.events_are ∙ ap (λ p. opening p ++ flatten reached.nodes) path.0) in
+    let shape : IsShaped reached.nodes = (
+      fine_shaped holds reached.nodes Flow None fine,
+      matches_feeds Flow (spine reached.nodes) course.state feeds complete,
+    ) in
     let rules = fine_meets given.bytes given.names reached.nodes Flow None fine in
     let document = Runs-checked given reached.nodes flattened shape rules in
-    let same = Runs-same holds holds given.events beginning course (after_nodes reached.nodes document.0 beginning) runs document.1 in
+    let same = Runs-same holds holds given.events beginning course
+    (after_nodes reached.nodes document.0 beginning) runs document.1 in
     record {
       forest = reached.nodes;
       flattened = flattened;

@@ -81,14 +81,16 @@ or_later : (a b : Bool) → b ≡ true → (a || b) ≡ true
 or_later true b h = refl
 or_later false b h = h
 
-found_is : (test : Text → Bool) (y : Identifier) → ((text : Text) → test text ≡ true → identifier_of text ≡ y) → (texts : List Text) → list_any test texts ≡ true → Contains (map identifier_of texts) y
+found_is : (test : Text → Bool) (y : Identifier) → ((text : Text) → test text ≡ true → identifier_of text ≡ y) →
+    (texts : List Text) → list_any test texts ≡ true → Contains (map identifier_of texts) y
 found_is test y is [] h = absurd (true≢false (sym h))
 found_is test y is (text ∷ texts) h = elim (one_of (test text) (list_any test texts) h) [
   | inl a ↦ first_is (identifier_of text) y (map identifier_of texts) (is text a)
   | inr b ↦ later_is (identifier_of text) y (map identifier_of texts) (found_is test y is texts b)
 ]
 
-is_found : (test : Text → Bool) (y : Identifier) → ((text : Text) → identifier_of text ≡ y → test text ≡ true) → (texts : List Text) → Contains (map identifier_of texts) y → list_any test texts ≡ true
+is_found : (test : Text → Bool) (y : Identifier) → ((text : Text) → identifier_of text ≡ y → test text ≡ true) →
+    (texts : List Text) → Contains (map identifier_of texts) y → list_any test texts ≡ true
 is_found test y passes [] h = absurd (none_is y h)
 is_found test y passes (text ∷ texts) h = elim (first_or_later (identifier_of text) y (map identifier_of texts) h) [
   | inl a ↦ or_first (test text) (list_any test texts) (passes text a)
@@ -96,7 +98,8 @@ is_found test y passes (text ∷ texts) h = elim (first_or_later (identifier_of 
 ]
 
 -- what `contains` answers
-pub among_iff : (texts : List Text) (wanted : Text) → IsTrue (list_any (is_at (text_cmp wanted)) texts) ↔ Contains (map identifier_of texts) (identifier_of wanted)
+pub among_iff : (texts : List Text) (wanted : Text) → IsTrue (list_any (is_at (text_cmp wanted)) texts) ↔ Contains
+    (map identifier_of texts) (identifier_of wanted)
 among_iff texts wanted = (
   found_is (is_at (text_cmp wanted)) (identifier_of wanted) (λ text h. sym (one_identifier wanted text h)) texts,
   is_found (is_at (text_cmp wanted)) (identifier_of wanted) (λ text h. one_identifier-back wanted text (sym h)) texts,
@@ -104,25 +107,36 @@ among_iff texts wanted = (
 
 -- what `insert` leaves: one identifier more
 abbrev HasOneMore : List Text → Text → List Text → Type 0
-HasOneMore some text others = (y : Identifier) → Contains (map identifier_of some) y ↔ ((identifier_of text ≡ y) ⊎ Contains (map identifier_of others) y)
+HasOneMore some text others = (y : Identifier) → Contains (map identifier_of some) y ↔
+    ((identifier_of text ≡ y) ⊎ Contains (map identifier_of others) y)
 
 has_one_more : (text : Text) (others : List Text) → HasOneMore (text ∷ others) text others
 has_one_more text others y = (
   first_or_later (identifier_of text) y (map identifier_of others),
-  λ h. elim h [ inl a ↦ first_is (identifier_of text) y (map identifier_of others) a | inr b ↦ later_is (identifier_of text) y (map identifier_of others) b ],
+  λ h. elim h [
+    | inl a ↦ first_is (identifier_of text) y (map identifier_of others) a
+    | inr b ↦ later_is
+        (identifier_of text) y (map identifier_of others) b
+  ],
 )
 
-has_it : (text first : Text) (others : List Text) → identifier_of text ≡ identifier_of first → HasOneMore (first ∷ others) text (first ∷ others)
+has_it : (text first : Text) (others : List Text) → identifier_of text ≡ identifier_of first →
+    HasOneMore (first ∷ others) text (first ∷ others)
 has_it text first others e y = (
   λ h. inr h,
   λ h. elim h [ inl a ↦ first_is (identifier_of first) y (map identifier_of others) (sym e ∙ a) | inr b ↦ b ],
 )
 
-has_it_later : (text first : Text) (some others : List Text) → HasOneMore some text others → HasOneMore (first ∷ some) text (first ∷ others)
+has_it_later : (text first : Text) (some others : List Text) → HasOneMore some text others →
+    HasOneMore (first ∷ some) text (first ∷ others)
 has_it_later text first some others more y = (
   λ h. elim (first_or_later (identifier_of first) y (map identifier_of some) h) [
     | inl a ↦ inr (first_is (identifier_of first) y (map identifier_of others) a)
-    | inr b ↦ elim ((more y).0 b) [ inl c ↦ inl c | inr d ↦ inr (later_is (identifier_of first) y (map identifier_of others) d) ]
+    | inr b ↦ elim ((more y).0 b) [
+      | inl c ↦ inl c
+      | inr d ↦ inr
+          (later_is (identifier_of first) y (map identifier_of others) d)
+    ]
   ],
   λ h. elim h [
     | inl a ↦ later_is (identifier_of first) y (map identifier_of some) ((more y).1 (inl a))
@@ -133,7 +147,9 @@ has_it_later text first some others more y = (
   ],
 )
 
-put_before : (order : Ordering) (text first : Text) (some others : List Text) → (is_eq order ≡ true → identifier_of text ≡ identifier_of first) → HasOneMore some text others → HasOneMore (match_ordering order (text ∷ first ∷ others) (first ∷ others) (first ∷ some)) text (first ∷ others)
+put_before : (order : Ordering) (text first : Text) (some others : List Text) →
+    (is_eq order ≡ true → identifier_of text ≡ identifier_of first) → HasOneMore some text others →
+    HasOneMore (match_ordering order (text ∷ first ∷ others) (first ∷ others) (first ∷ some)) text (first ∷ others)
 put_before Less text first some others same more = has_one_more text (first ∷ others)
 put_before Equal text first some others same more = has_it text first others (same refl)
 put_before Greater text first some others same more = has_it_later text first some others more
@@ -141,10 +157,13 @@ put_before Greater text first some others same more = has_it_later text first so
 inserted : (texts : List Text) (text : Text) → HasOneMore (insert_key text_cmp texts text) text texts
 inserted [] text = has_one_more text []
 inserted (first ∷ texts) text =
-    put_before (text_cmp text first) text first (insert_key text_cmp texts text) texts (one_identifier text first) (inserted texts text)
+    put_before (text_cmp text first) text first (insert_key text_cmp texts text) texts (one_identifier text first)
+    (inserted texts text)
 
 -- the set with one identifier more, before those that are still to come
-HaveSame-inserted : (texts : List Text) (text : Text) (rest all : List Identifier) → HaveSame (map identifier_of texts ++ identifier_of text ∷ rest) all → HaveSame (map identifier_of (insert_key text_cmp texts text) ++ rest) all
+HaveSame-inserted : (texts : List Text) (text : Text) (rest all : List Identifier) →
+    HaveSame (map identifier_of texts ++ identifier_of text ∷ rest) all →
+    HaveSame (map identifier_of (insert_key text_cmp texts text) ++ rest) all
 HaveSame-inserted texts text rest all same z =
     let x : Identifier = identifier_of text in
     let before : List Identifier = map identifier_of texts in
@@ -166,26 +185,37 @@ HaveSame-inserted texts text rest all same z =
       ],
     )
 
--- a loop over mentions puts in what they define, which F gives: at one that defines an identifier, at another, and at the end
-module _ (F : List Mentioned → List Identifier) (mentioned : List Mentioned) (i : ℕ) (texts : List Text) (same : HaveSame (map identifier_of texts ++ F (drop i mentioned)) (F mentioned)) where
-  pub HaveSame-put : (n : Mentioned) (text : Text) (x : Identifier) → i < length mentioned → F (get_or mentioned i n ∷ drop (i + 1) mentioned) ≡ x ∷ F (drop (i + 1) mentioned) → identifier_of text ≡ x → HaveSame (map identifier_of (insert_key text_cmp texts text) ++ F (drop (i + 1) mentioned)) (F mentioned)
+-- a loop over mentions puts in what they define, which F gives: at one that defines an identifier, at another, and
+-- at the end
+module _ (F : List Mentioned → List Identifier) (mentioned : List Mentioned) (i : ℕ) (texts : List Text)
+    (same : HaveSame (map identifier_of texts ++ F (drop i mentioned)) (F mentioned)) where
+  pub HaveSame-put : (n : Mentioned) (text : Text) (x : Identifier) → i < length mentioned →
+      F (get_or mentioned i n ∷ drop (i + 1) mentioned) ≡ x ∷ F (drop (i + 1) mentioned) → identifier_of text ≡ x →
+      HaveSame (map identifier_of (insert_key text_cmp texts text) ++ F (drop (i + 1) mentioned)) (F mentioned)
   HaveSame-put n text x inside first is =
       HaveSame-inserted texts text (F (drop (i + 1) mentioned)) (F mentioned)
-      (subst (λ xs. HaveSame (map identifier_of texts ++ xs) (F mentioned)) (at_drop_more F mentioned i n inside ∙ first ∙ ap (λ y. y ∷ F (drop (i + 1) mentioned)) (sym is)) same)
+      (subst (λ xs. HaveSame (map identifier_of texts ++ xs) (F mentioned)) (at_drop_more F mentioned i n inside
+      ∙ first ∙ ap (λ y. y ∷ F (drop (i + 1) mentioned)) (sym is)) same)
 
-  pub HaveSame-passed : (n : Mentioned) → i < length mentioned → F (get_or mentioned i n ∷ drop (i + 1) mentioned) ≡ F (drop (i + 1) mentioned) → HaveSame (map identifier_of texts ++ F (drop (i + 1) mentioned)) (F mentioned)
+  pub HaveSame-passed : (n : Mentioned) → i < length mentioned →
+      F (get_or mentioned i n ∷ drop (i + 1) mentioned) ≡ F (drop (i + 1) mentioned) →
+      HaveSame (map identifier_of texts ++ F (drop (i + 1) mentioned)) (F mentioned)
   HaveSame-passed n inside first =
-      subst (λ xs. HaveSame (map identifier_of texts ++ xs) (F mentioned)) (at_drop_more F mentioned i n inside ∙ first) same
+      subst (λ xs. HaveSame (map identifier_of texts ++ xs) (F mentioned)) (at_drop_more F mentioned i n inside
+      ∙ first) same
 
   pub HaveSame-all : length mentioned ≤ i → F [] ≡ [] → HaveSame (map identifier_of texts) (F mentioned)
   HaveSame-all end none =
-      subst (λ xs. HaveSame xs (F mentioned)) (ap (λ xs. map identifier_of texts ++ xs) (ap F (drop_all i mentioned end) ∙ none) ∙ append-nil (map identifier_of texts)) same
+      subst (λ xs. HaveSame xs (F mentioned)) (ap (λ xs. map identifier_of texts
+      ++ xs) (ap F (drop_all i mentioned end) ∙ none) ∙ append-nil (map identifier_of texts)) same
 
 -- what a mention that defines nothing adds
-pub defined_by-other : (bytes : List ℕ) (mention : Mention) (others : List Identifier) → ((label : Position) → mention ≡ Definition label → ⊥) → defined_by bytes mention others ≡ others
+pub defined_by-other : (bytes : List ℕ) (mention : Mention) (others : List Identifier) →
+    ((label : Position) → mention ≡ Definition label → ⊥) → defined_by bytes mention others ≡ others
 defined_by-other bytes (Definition label) others no_such = absurd (no_such label refl)
 defined_by-other bytes _ others no_such = refl
 
-pub footnoted_by-other : (bytes : List ℕ) (mention : Mention) (others : List Identifier) → ((label : Position) → mention ≡ FootnoteDefinition label → ⊥) → footnoted_by bytes mention others ≡ others
+pub footnoted_by-other : (bytes : List ℕ) (mention : Mention) (others : List Identifier) →
+    ((label : Position) → mention ≡ FootnoteDefinition label → ⊥) → footnoted_by bytes mention others ≡ others
 footnoted_by-other bytes (FootnoteDefinition label) others no_such = absurd (no_such label refl)
 footnoted_by-other bytes _ others no_such = refl

@@ -42,17 +42,23 @@ module _ (inside : Inside) (given : Document) (index : ℕ) (kept : IsKept insid
 
   pub definitions-enter : All (λ i. EntersAt given.events i Definition) inside.definitions.items
   definitions-enter =
-      subst (λ ds. All (λ i. EntersAt given.events i Definition) ds) (sym (definitions-kept kept.0.0 flattened)) (definitions-entered given.events kept.0.0 flattened)
+      subst (λ ds. All (λ i. EntersAt given.events i Definition) ds) (sym (definitions-kept kept.0.0 flattened))
+      (definitions-entered given.events kept.0.0 flattened)
 
   -- an exit
-  pub ended-kept : (is : Reading → Bool) (text : Point → Point → Option (List ℕ)) (name : Name) → HaveText given.bytes given.names is text → ExitsAt given.events index name → has_reading is (standing_of name) ≡ true → EndedAt text given index
+  pub ended-kept : (is : Reading → Bool) (text : Point → Point → Option (List ℕ)) (name : Name) →
+      HaveText given.bytes given.names is text → ExitsAt given.events index name →
+      has_reading is (standing_of name) ≡ true → EndedAt text given index
   ended-kept is text name have exits reads =
       EndedAt-checked is text given index name have (subst IsChecked same kept.0) exits reads
 
   -- the place that is looked up
-  pub ended-place : (there : List Fact) (found : Option Position) → there ≡ inside.facts.items → found ≡ position_ended inside.events.now there index → found ≡ position_ended given.events (facts_at given.events) index
+  pub ended-place : (there : List Fact) (found : Option Position) → there ≡ inside.facts.items →
+      found ≡ position_ended inside.events.now there index →
+      found ≡ position_ended given.events (facts_at given.events) index
   ended-place there found are is =
-      is ∙ ap (λ (g : Document). position_ended g.events there index) same ∙ ap (λ fs. position_ended given.events fs index) (are ∙ facts_are)
+      is ∙ ap (λ (g : Document). position_ended g.events there index) same
+      ∙ ap (λ fs. position_ended given.events fs index) (are ∙ facts_are)
 
   pub facts-inside : EntersSome given.events index → index < length inside.facts.items
   facts-inside enters =
@@ -63,17 +69,24 @@ module _ (inside : Inside) (given : Document) (index : ℕ) (kept : IsKept insid
 
   pub fact-kept : (fact : Fact) → slice_get inside.facts.items index ≡ Some fact → IsFactAt given index fact
   fact-kept fact got name children enters entered =
-      let found = found-entered given index name enters children fact entered (ap (λ xs. slice_get xs index) (sym facts_are) ∙ got) in
+      let found = found-entered given index name enters children fact entered
+      (ap (λ xs. slice_get xs index) (sym facts_are) ∙ got) in
       (found.0, found.1)
 
   -- a table's columns
-  pub columns-kept : EntersAt given.events index GfmTable → (fact : Fact) → slice_get inside.facts.items index ≡ Some fact → (children : Forest) → IsEnteredAt given index children → slice_get (map (λ t. t.items) inside.tables.items) fact.place ≡ Some (alignments children)
+  pub columns-kept : EntersAt given.events index GfmTable → (fact : Fact) →
+      slice_get inside.facts.items index ≡ Some fact → (children : Forest) → IsEnteredAt given index children →
+      slice_get (map (λ t. t.items) inside.tables.items) fact.place ≡ Some (alignments children)
   columns-kept enters fact got children entered =
-      let found = found-entered given index GfmTable enters children fact entered (ap (λ xs. slice_get xs index) (sym facts_are) ∙ got) in
-      ap (λ (f : Fact). slice_get (map (λ t. t.items) inside.tables.items) f.place) found.1 ∙ ap (λ ts. slice_get ts (Fact.place (fact_at index found.0 GfmTable children))) tables_are ∙ found.2 refl
+      let found = found-entered given index GfmTable enters children fact entered
+      (ap (λ xs. slice_get xs index) (sym facts_are) ∙ got) in
+      ap (λ (f : Fact). slice_get (map (λ t. t.items) inside.tables.items) f.place) found.1
+      ∙ ap (λ ts. slice_get ts (Fact.place (fact_at index found.0 GfmTable children))) tables_are ∙ found.2 refl
 
-  pub columns-inside : EntersAt given.events index GfmTable → (fact : Fact) → slice_get inside.facts.items index ≡ Some fact → fact.place < length inside.tables.items
+  pub columns-inside : EntersAt given.events index GfmTable → (fact : Fact) →
+      slice_get inside.facts.items index ≡ Some fact → fact.place < length inside.tables.items
   columns-inside enters fact got =
       let node = node-entered (GfmTable, enters) in
       subst (λ n. fact.place < n) (length-map inside.tables.items (λ t. t.items))
-      (got_inside (map (λ t. t.items) inside.tables.items) fact.place (alignments node.0) (columns-kept enters fact got node.0 node.1))
+      (got_inside (map (λ t. t.items) inside.tables.items) fact.place (alignments node.0)
+      (columns-kept enters fact got node.0 node.1))

@@ -20,7 +20,8 @@ use Rattle.md_tree.proofs.Entering.{Row, entry_row, exit_row, rows_of, get_at, n
 use Rattle.md_tree.proofs.Searching.{AllAt}
 
 -- a list with a node's part in it, split at the entry, behind it, at the exit and behind that
-module _ {A : Type 0} (xs before inner rest later : List A) (entry exit : A) (is : xs ≡ before ++ ((entry ∷ (inner ++ (exit ∷ rest))) ++ later)) where
+module _ {A : Type 0} (xs before inner rest later : List A) (entry exit : A) (is : xs ≡ before
+    ++ ((entry ∷ (inner ++ (exit ∷ rest))) ++ later)) where
   pub at_entry : xs ≡ before ++ (entry ∷ (inner ++ (exit ∷ (rest ++ later))))
   at_entry = is ∙ ap (λ ys. before ++ (entry ∷ ys)) (append_assoc inner (exit ∷ rest) later)
 
@@ -33,22 +34,29 @@ module _ {A : Type 0} (xs before inner rest later : List A) (entry exit : A) (is
   pub behind_node : xs ≡ (((before ++ entry ∷ []) ++ inner) ++ exit ∷ []) ++ (rest ++ later)
   behind_node = at_exit ∙ sym (append_assoc ((before ++ entry ∷ []) ++ inner) (exit ∷ []) (rest ++ later))
 
-pub length_events : (forest : Forest) (index : ℕ) (events : List Event) → length events ≡ index → length (events ++ flatten forest) ≡ behind index forest
+pub length_events : (forest : Forest) (index : ℕ) (events : List Event) → length events ≡ index →
+    length (events ++ flatten forest) ≡ behind index forest
 length_events Empty index events e = ap length (append-nil events) ∙ e
 length_events (Node name start end children rest) index events e =
     let first = entering name start in
     let last = exiting name end in
     let inside = length_events children (suc index) (events ++ first ∷ []) (length_one events first ∙ ap suc e) in
     ap length (sym (regrouped events (flatten children) (flatten rest) first last))
-    ∙ length_events rest (suc (behind (suc index) children)) (((events ++ first ∷ []) ++ flatten children) ++ last ∷ []) (length_one ((events ++ first ∷ []) ++ flatten children) last ∙ ap suc inside)
+    ∙ length_events rest (suc (behind (suc index) children)) (((events ++ first ∷ []) ++ flatten children) ++ last
+    ∷ []) (length_one ((events ++ first ∷ []) ++ flatten children) last ∙ ap suc inside)
 
-node_there : (events : List Event) (facts : List Fact) (index : ℕ) (fact : Fact) (name : Name) (start end : Point) → slice_get events index ≡ Some (entering name start) → slice_get facts index ≡ Some fact → slice_get events fact.partner ≡ Some (exiting name end) → position_there events facts index ≡ Some (place start end)
+node_there : (events : List Event) (facts : List Fact) (index : ℕ) (fact : Fact) (name : Name) (start end : Point) →
+    slice_get events index ≡ Some (entering name start) → slice_get facts index ≡ Some fact →
+    slice_get events fact.partner ≡ Some (exiting name end) → position_there events facts index ≡ Some (place start end)
 node_there events facts index fact name start end first found last =
     ap (λ o. position_from o (partner_event events (slice_get facts index))) first
     ∙ ap (λ o. position_from (Some (entering name start)) (partner_event events o)) found
     ∙ ap (λ o. position_from (Some (entering name start)) o) last
 
-all_there : (events : List Event) (facts : List Fact) (forest : Forest) (index tables : ℕ) (before later : List Event) (found more : List Fact) → length before ≡ index → length found ≡ index → events ≡ before ++ (flatten forest ++ later) → facts ≡ found ++ (facts_of index tables forest ++ more) → AllAt (position_there events facts) index forest
+all_there : (events : List Event) (facts : List Fact) (forest : Forest) (index tables : ℕ) (before later : List Event)
+    (found more : List Fact) → length before ≡ index → length found ≡ index →
+    events ≡ before ++ (flatten forest ++ later) → facts ≡ found ++ (facts_of index tables forest ++ more) →
+    AllAt (position_there events facts) index forest
 all_there events facts Empty index tables before later found more e f is are = tt
 all_there events facts (Node name start end children rest) index tables before later found more e f is are =
     let exit = behind (suc index) children in
@@ -65,39 +73,60 @@ all_there events facts (Node name start end children rest) index tables before l
     let inside = length_events children (suc index) (before ++ first ∷ []) one in
     let facts_to = length_facts children (suc index) tables (found ++ fact ∷ []) two in (
       node_there events facts index fact name start end
-          (ap (λ es. slice_get es index) (at_entry events before inner (flatten rest) later first last is) ∙ get_at before (inner ++ (last ∷ (flatten rest ++ later))) first index e)
-          (ap (λ fs. slice_get fs index) (at_entry facts found facts_inside facts_behind more fact other are) ∙ get_at found (facts_inside ++ (other ∷ (facts_behind ++ more))) fact index f)
-          (ap (λ es. slice_get es exit) (at_exit events before inner (flatten rest) later first last is) ∙ get_at ((before ++ first ∷ []) ++ inner) (flatten rest ++ later) last exit inside),
-      all_there events facts children (suc index) tables (before ++ first ∷ []) (last ∷ (flatten rest ++ later)) (found ++ fact ∷ []) (other ∷ (facts_behind ++ more)) one two (in_node events before inner (flatten rest) later first last is) (in_node facts found facts_inside facts_behind more fact other are),
-      all_there events facts rest (suc exit) ended (((before ++ first ∷ []) ++ inner) ++ last ∷ []) later (((found ++ fact ∷ []) ++ facts_inside) ++ other ∷ []) more (length_one ((before ++ first ∷ []) ++ inner) last ∙ ap suc inside) (length_one ((found ++ fact ∷ []) ++ facts_inside) other ∙ ap suc facts_to) (behind_node events before inner (flatten rest) later first last is) (behind_node facts found facts_inside facts_behind more fact other are),
+          (ap (λ es. slice_get es index) (at_entry events before inner (flatten rest) later first last is)
+          ∙ get_at before (inner ++ (last ∷ (flatten rest ++ later))) first index e)
+          (ap (λ fs. slice_get fs index) (at_entry facts found facts_inside facts_behind more fact other are)
+          ∙ get_at found (facts_inside ++ (other ∷ (facts_behind ++ more))) fact index f)
+          (ap (λ es. slice_get es exit) (at_exit events before inner (flatten rest) later first last is)
+          ∙ get_at ((before ++ first ∷ []) ++ inner) (flatten rest ++ later) last exit inside),
+      all_there events facts children (suc index) tables (before ++ first ∷ []) (last
+          ∷ (flatten rest ++ later)) (found ++ fact ∷ []) (other
+          ∷ (facts_behind ++ more)) one two (in_node events before inner (flatten rest) later first last is)
+          (in_node facts found facts_inside facts_behind more fact other are),
+      all_there events facts rest (suc exit) ended (((before ++ first ∷ []) ++ inner) ++ last
+          ∷ []) later (((found ++ fact ∷ []) ++ facts_inside) ++ other
+          ∷ []) more (length_one ((before ++ first ∷ []) ++ inner) last
+          ∙ ap suc inside) (length_one ((found ++ fact ∷ []) ++ facts_inside) other
+          ∙ ap suc facts_to) (behind_node events before inner (flatten rest) later first last is)
+          (behind_node facts found facts_inside facts_behind more fact other are),
     )
 
 -- of no node but the first of all the entry is 0
-all_at : (events : List Event) (facts : List Fact) (forest : Forest) (index : ℕ) → AllAt (position_there events facts) (suc index) forest → AllAt (position_at events facts) (suc index) forest
+all_at : (events : List Event) (facts : List Fact) (forest : Forest) (index : ℕ) →
+    AllAt (position_there events facts) (suc index) forest → AllAt (position_at events facts) (suc index) forest
 all_at events facts Empty index all = tt
-all_at events facts (Node name start end children rest) index all =
-    (all.0, all_at events facts children (suc index) all.1, all_at events facts rest (behind (suc (suc index)) children) all.2)
+all_at events facts (Node name start end children rest) index all = (
+  all.0,
+  all_at events facts children (suc index) all.1,
+  all_at events facts rest (behind (suc (suc index)) children) all.2,
+)
 
 -- a row's children are there
 abbrev HasThem : List Event → List Fact → Row → Type 0
 HasThem events facts row =
     (children : Forest) → row.children ≡ Some children → AllAt (position_there events facts) (suc row.index) children
 
-rows_there : (events : List Event) (facts : List Fact) (forest : Forest) (index tables : ℕ) → AllAt (position_there events facts) index forest → All (HasThem events facts) (rows_of index tables forest)
+rows_there : (events : List Event) (facts : List Fact) (forest : Forest) (index tables : ℕ) →
+    AllAt (position_there events facts) index forest → All (HasThem events facts) (rows_of index tables forest)
 rows_there events facts Empty index tables all = All-nil (HasThem events facts)
 rows_there events facts (Node name start end children rest) index tables all =
     let exit = behind (suc index) children in
     let ended = tables_with name (tables_behind tables children) in
     let entry : Row = entry_row index tables name (entering name start) children in
     let last : Row = exit_row exit index name start end in
-    let entry_has : HasThem events facts entry = λ other e. let one : children ≡ other = cc in subst (λ nodes. AllAt (position_there events facts) (suc index) nodes) one all.1 in
+    let entry_has : HasThem events facts entry = λ other e. let one : children ≡ other = cc in
+    subst (λ nodes. AllAt (position_there events facts) (suc index) nodes) one all.1 in
     let last_has : HasThem events facts last = λ other e. cc in
     let later = rows_of (suc exit) ended rest in
     All-cons (HasThem events facts) entry (rows_of (suc index) tables children ++ last ∷ later) entry_has
-    (All-append (HasThem events facts) (rows_of (suc index) tables children) (last ∷ later) (rows_there events facts children (suc index) tables all.1) (All-cons (HasThem events facts) last later last_has (rows_there events facts rest (suc exit) ended all.2)))
+    (All-append (HasThem events facts) (rows_of (suc index) tables children) (last
+    ∷ later) (rows_there events facts children (suc index) tables all.1)
+    (All-cons (HasThem events facts) last later last_has (rows_there events facts rest (suc exit) ended all.2)))
 
 -- the children of the node that the event at an index enters
-pub children-placed : (given : Document) (index : ℕ) (name : Name) → EntersAt given.events index name → (children : Forest) → IsEnteredAt given index children → AllAt (position_at given.events (facts_at given.events)) (suc index) children
+pub children-placed : (given : Document) (index : ℕ) (name : Name) → EntersAt given.events index name →
+    (children : Forest) → IsEnteredAt given index children →
+    AllAt (position_at given.events (facts_at given.events)) (suc index) children
 children-placed given index name enters children entered =
     let forest = entered.0 in
     let events = given.events in
@@ -105,8 +134,13 @@ children-placed given index name enters children entered =
     let rows = rows_of 0 0 forest in
     let past = past_row given index name enters in
     let inside = inside_rows given index name enters forest entered.1 in
-    let all = all_there events facts forest 0 0 [] [] [] [] refl refl (sym entered.1 ∙ sym (append-nil (flatten forest))) (facts-flatten forest events entered.1 ∙ sym (append-nil (facts_of 0 0 forest))) in
+    let all = all_there events facts forest 0 0 [] [] [] [] refl refl (sym entered.1
+    ∙ sym (append-nil (flatten forest))) (facts-flatten forest events entered.1
+    ∙ sym (append-nil (facts_of 0 0 forest))) in
     let none : 0 + index ≡ index = omega arith in
-    let index_is : Row.index (get_or rows index past) ≡ index = numbered_get rows 0 (behind 0 forest) index past (numbered_rows forest 0 0) inside ∙ none in
-    let there = rows_there events facts forest 0 0 all index past inside children (children_there given index name enters forest entered.1 children entered.2) in
-    all_at events facts children index (subst (λ i. AllAt (position_there events facts) (suc i) children) index_is there)
+    let index_is : Row.index (get_or rows index past) ≡ index =
+    numbered_get rows 0 (behind 0 forest) index past (numbered_rows forest 0 0) inside ∙ none in
+    let there = rows_there events facts forest 0 0 all index past inside children
+    (children_there given index name enters forest entered.1 children entered.2) in
+    all_at events facts children index (subst (λ i. AllAt (position_there events facts) (suc i) children) index_is
+    there)

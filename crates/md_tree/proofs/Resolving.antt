@@ -11,7 +11,10 @@ use Rattle.md_tree.specs.Mentions.{defined, footnoted, mentions_among, identifie
 use Rattle.md_tree.specs.Resolve.{HaveSame, IsFound, IsLost, IsUnresolvedBy}
 
 -- what the identifiers have is resolved
-IsResolved-found : (bytes : List ℕ) (mentions : List Mention) (definitions footnotes : List (Option (List ℕ))) (mention : Mention) → HaveSame definitions (defined bytes mentions) → HaveSame footnotes (footnoted bytes mentions) → IsFound bytes definitions footnotes mention → IsResolved bytes mentions mention
+IsResolved-found : (bytes : List ℕ) (mentions : List Mention) (definitions footnotes : List (Option (List ℕ)))
+    (mention : Mention) → HaveSame definitions (defined bytes mentions) →
+    HaveSame footnotes (footnoted bytes mentions) → IsFound bytes definitions footnotes mention →
+    IsResolved bytes mentions mention
 IsResolved-found bytes mentions definitions footnotes (Reference label) d f found =
     (d (identifier_at bytes label)).0 found
 IsResolved-found bytes mentions definitions footnotes (Call label) d f found =
@@ -19,22 +22,45 @@ IsResolved-found bytes mentions definitions footnotes (Call label) d f found =
 IsResolved-found bytes mentions definitions footnotes _ d f found = tt
 
 -- what they lack is not
-IsUnresolvedBy-lost : (bytes : List ℕ) (mentioned : List Mentioned) (definitions footnotes : List (Option (List ℕ))) (mention : Mention) (at index : ℕ) (broken : Rule) → HaveSame definitions (defined bytes (mentions_among mentioned)) → HaveSame footnotes (footnoted bytes (mentions_among mentioned)) → slice_get mentioned at ≡ Some (record { index = index; mention = mention }) → IsLost bytes definitions footnotes mention broken → IsUnresolvedBy bytes mentioned index broken
+IsUnresolvedBy-lost : (bytes : List ℕ) (mentioned : List Mentioned) (definitions footnotes : List (Option (List ℕ)))
+    (mention : Mention) (at index : ℕ) (broken : Rule) →
+    HaveSame definitions (defined bytes (mentions_among mentioned)) →
+    HaveSame footnotes (footnoted bytes (mentions_among mentioned)) →
+    slice_get mentioned at ≡ Some (record { index = index; mention = mention }) →
+    IsLost bytes definitions footnotes mention broken → IsUnresolvedBy bytes mentioned index broken
 IsUnresolvedBy-lost bytes mentioned definitions footnotes (Reference label) at index broken d f here lost =
-    subst (λ r. IsUnresolvedBy bytes mentioned index r) (sym lost.0) (label, (at, here, λ h. lost.1 ((d (identifier_at bytes label)).1 h)))
+    subst (λ r. IsUnresolvedBy bytes mentioned index r) (sym lost.0) (
+      label,
+      (at, here, λ h. lost.1 ((d (identifier_at bytes label)).1 h)),
+    )
 IsUnresolvedBy-lost bytes mentioned definitions footnotes (Call label) at index broken d f here lost =
-    subst (λ r. IsUnresolvedBy bytes mentioned index r) (sym lost.0) (label, (at, here, λ h. lost.1 ((f (identifier_at bytes label)).1 h)))
+    subst (λ r. IsUnresolvedBy bytes mentioned index r) (sym lost.0) (
+      label,
+      (at, here, λ h. lost.1 ((f (identifier_at bytes label)).1 h)),
+    )
 IsUnresolvedBy-lost bytes mentioned definitions footnotes _ at index broken d f here lost = absurd lost
 
 -- the mention of an event
-mention_read : (mentioned : List Mentioned) (index : ℕ) (d : Mentioned) (x : Mention) → index < length mentioned → get_or (mentions_among mentioned) index x ≡ Mentioned.mention (get_or mentioned index d)
+mention_read : (mentioned : List Mentioned) (index : ℕ) (d : Mentioned) (x : Mention) → index < length mentioned →
+    get_or (mentions_among mentioned) index x ≡ Mentioned.mention (get_or mentioned index d)
 mention_read mentioned index d x inside = get_or-map (λ (n : Mentioned). n.mention) mentioned index d x inside
 
-pub IsResolved-at : (bytes : List ℕ) (mentioned : List Mentioned) (definitions footnotes : List (Option (List ℕ))) (index : ℕ) (n : Mentioned) (x : Mention) → HaveSame definitions (defined bytes (mentions_among mentioned)) → HaveSame footnotes (footnoted bytes (mentions_among mentioned)) → index < length mentioned → IsFound bytes definitions footnotes (Mentioned.mention (get_or mentioned index n)) → IsResolved bytes (mentions_among mentioned) (get_or (mentions_among mentioned) index x)
+pub IsResolved-at : (bytes : List ℕ) (mentioned : List Mentioned) (definitions footnotes : List (Option (List ℕ)))
+    (index : ℕ) (n : Mentioned) (x : Mention) → HaveSame definitions (defined bytes (mentions_among mentioned)) →
+    HaveSame footnotes (footnoted bytes (mentions_among mentioned)) → index < length mentioned →
+    IsFound bytes definitions footnotes (Mentioned.mention (get_or mentioned index n)) →
+    IsResolved bytes (mentions_among mentioned) (get_or (mentions_among mentioned) index x)
 IsResolved-at bytes mentioned definitions footnotes index n x d f inside found =
-    subst (λ m. IsResolved bytes (mentions_among mentioned) m) (sym (mention_read mentioned index n x inside)) (IsResolved-found bytes (mentions_among mentioned) definitions footnotes (Mentioned.mention (get_or mentioned index n)) d f found)
+    subst (λ m. IsResolved bytes (mentions_among mentioned) m) (sym (mention_read mentioned index n x inside))
+    (IsResolved-found bytes (mentions_among mentioned) definitions footnotes
+    (Mentioned.mention (get_or mentioned index n)) d f found)
 
-pub IsUnresolvedBy-at : (bytes : List ℕ) (mentioned : List Mentioned) (definitions footnotes : List (Option (List ℕ))) (at : ℕ) (n : Mentioned) (broken : Rule) → HaveSame definitions (defined bytes (mentions_among mentioned)) → HaveSame footnotes (footnoted bytes (mentions_among mentioned)) → at < length mentioned → IsLost bytes definitions footnotes (Mentioned.mention (get_or mentioned at n)) broken → IsUnresolvedBy bytes mentioned (Mentioned.index (get_or mentioned at n)) broken
+pub IsUnresolvedBy-at : (bytes : List ℕ) (mentioned : List Mentioned) (definitions footnotes : List (Option (List ℕ)))
+    (at : ℕ) (n : Mentioned) (broken : Rule) → HaveSame definitions (defined bytes (mentions_among mentioned)) →
+    HaveSame footnotes (footnoted bytes (mentions_among mentioned)) → at < length mentioned →
+    IsLost bytes definitions footnotes (Mentioned.mention (get_or mentioned at n)) broken →
+    IsUnresolvedBy bytes mentioned (Mentioned.index (get_or mentioned at n)) broken
 IsUnresolvedBy-at bytes mentioned definitions footnotes at n broken d f inside lost =
     let one = get_or mentioned at n in
-    IsUnresolvedBy-lost bytes mentioned definitions footnotes one.mention at one.index broken d f (slice_get-get_or mentioned at n inside) lost
+    IsUnresolvedBy-lost bytes mentioned definitions footnotes one.mention at one.index broken d f
+    (slice_get-get_or mentioned at n inside) lost

@@ -7,7 +7,8 @@ use Rattle.std.proofs.lemmas.List.{take-take, take_at, drop-drop, drop_at, drop-
 use Rattle.md_base.specs.Place.{text_when}
 
 -- the part of a run
-pub slice_range-run : (bytes text : List ℕ) (s start end : ℕ) → take (length text) (drop s bytes) ≡ text → s ≤ start → start ≤ end → end - s ≤ length text → slice_range text (start - s) (end - s) ≡ slice_range bytes start end
+pub slice_range-run : (bytes text : List ℕ) (s start end : ℕ) → take (length text) (drop s bytes) ≡ text → s ≤ start →
+    start ≤ end → end - s ≤ length text → slice_range text (start - s) (end - s) ≡ slice_range bytes start end
 slice_range-run bytes text s start end is low ordered high =
     let from = start - s in
     let left = length text - from in
@@ -15,11 +16,14 @@ slice_range-run bytes text s start end is low ordered high =
     let there : s + from ≡ start = omega arith in
     let count : (end - s) - from ≡ end - start = omega arith in
     let rest : drop from text ≡ take left (drop start bytes) =
-    ap (drop from) (sym is ∙ ap (λ n. take n (drop s bytes)) (sym all)) ∙ drop-take from left (drop s bytes) ∙ ap (take left) (drop-drop from s bytes ∙ ap (λ n. drop n bytes) there) in
-    ap (λ n. take n (drop from text)) count ∙ ap (take (end - start)) rest ∙ take-take (end - start) left (drop start bytes) (omega arith)
+    ap (drop from) (sym is ∙ ap (λ n. take n (drop s bytes)) (sym all)) ∙ drop-take from left (drop s bytes)
+    ∙ ap (take left) (drop-drop from s bytes ∙ ap (λ n. drop n bytes) there) in
+    ap (λ n. take n (drop from text)) count ∙ ap (take (end - start)) rest
+    ∙ take-take (end - start) left (drop start bytes) (omega arith)
 
 -- bytes that may be read and are UTF-8 are a text
-pub text_when-some : (readable : Bool) (bytes part : List ℕ) → readable ≡ true → part ≡ bytes → IsUtf8 part → text_when readable bytes ≡ Some part
+pub text_when-some : (readable : Bool) (bytes part : List ℕ) → readable ≡ true → part ≡ bytes → IsUtf8 part →
+    text_when readable bytes ≡ Some part
 text_when-some readable bytes part holds same utf8 = rw (holds, ← same, is_utf8-from_IsUtf8 part utf8) refl
 
 -- indices in order, within the bytes
@@ -27,10 +31,20 @@ pub readable-ordered : (start end n : ℕ) → start ≤ end → end ≤ n → (
 readable-ordered start end n ordered within = search rules
 
 -- a run and what lies behind it, up to the next
-pub IsRun-chunk : (bytes text behind rest : List ℕ) (start : ℕ) → start ≤ length bytes → drop start bytes ≡ text ++ (behind ++ rest) → (start + (length text + length behind) ≤ length bytes) × (drop (start + (length text + length behind)) bytes ≡ rest) × (start + length text ≤ length bytes) × (take (length text) (drop start bytes) ≡ text)
+pub IsRun-chunk : (bytes text behind rest : List ℕ) (start : ℕ) → start ≤ length bytes →
+    drop start bytes ≡ text ++ (behind ++ rest) → (start + (length text + length behind) ≤ length bytes)
+    × (drop (start + (length text + length behind)) bytes ≡ rest) × (start + length text ≤ length bytes)
+    × (take (length text) (drop start bytes) ≡ text)
 IsRun-chunk bytes text behind rest start within is =
     let lengths : length bytes - start ≡ length text + (length behind + length rest) =
-    sym (length-drop start bytes) ∙ ap length is ∙ length-append text (behind ++ rest) ∙ ap (λ n. length text + n) (length-append behind rest) in
+    sym (length-drop start bytes) ∙ ap length is ∙ length-append text (behind ++ rest)
+    ∙ ap (λ n. length text + n) (length-append behind rest) in
     let next : drop (length text + length behind) (drop start bytes) ≡ rest =
-    ap (drop (length text + length behind)) is ∙ sym (drop-drop (length behind) (length text) (text ++ (behind ++ rest))) ∙ ap (drop (length behind)) (drop_at text (behind ++ rest) (length text) refl) ∙ drop_at behind rest (length behind) refl in
-    (omega arith, sym (drop-drop (length text + length behind) start bytes) ∙ next, omega arith, ap (take (length text)) is ∙ take_at text (behind ++ rest) (length text) refl)
+    ap (drop (length text + length behind)) is ∙ sym (drop-drop (length behind) (length text) (text
+    ++ (behind ++ rest))) ∙ ap (drop (length behind)) (drop_at text (behind ++ rest) (length text) refl)
+    ∙ drop_at behind rest (length behind) refl in (
+      omega arith,
+      sym (drop-drop (length text + length behind) start bytes) ∙ next,
+      omega arith,
+      ap (take (length text)) is ∙ take_at text (behind ++ rest) (length text) refl,
+    )

@@ -82,7 +82,8 @@ record Searched (at : At) (from to : Sought) (o r : Option (Option Position)) : 
   found : to.found ≡ found_after from.found o r
   places : at to.place ≡ place_after from.found (at from.place) o r
 
-found_twice : (f : Found) (o r later more : Option (Option Position)) → found_after (found_after f o r) later more ≡ found_after f (or_else o later) (or_else r more)
+found_twice : (f : Found) (o r later more : Option (Option Position)) →
+    found_after (found_after f o r) later more ≡ found_after f (or_else o later) (or_else r more)
 found_twice so_far.Reference o r later more = refl
 found_twice so_far.First o (Some r) later more = refl
 found_twice so_far.First o None later (Some more) = refl
@@ -94,7 +95,9 @@ found_twice so_far.Nothing None None later (Some more) = refl
 found_twice so_far.Nothing None None (Some later) None = refl
 found_twice so_far.Nothing None None None None = refl
 
-place_twice : (f : Found) (p : Option Position) (o r later more : Option (Option Position)) → place_after (found_after f o r) (place_after f p o r) later more ≡ place_after f p (or_else o later) (or_else r more)
+place_twice : (f : Found) (p : Option Position) (o r later more : Option (Option Position)) →
+    place_after (found_after f o r) (place_after f p o r) later more
+    ≡ place_after f p (or_else o later) (or_else r more)
 place_twice so_far.Reference p o r later more = refl
 place_twice so_far.First p o (Some r) later more = refl
 place_twice so_far.First p o None later (Some more) = refl
@@ -106,14 +109,24 @@ place_twice so_far.Nothing p None None later (Some more) = refl
 place_twice so_far.Nothing p None None (Some later) None = refl
 place_twice so_far.Nothing p None None None None = refl
 
-joined : (at : At) (from middle to : Sought) (o r later more : Option (Option Position)) → Searched at from middle o r → Searched at middle to later more → Searched at from to (or_else o later) (or_else r more)
+joined : (at : At) (from middle to : Sought) (o r later more : Option (Option Position)) →
+    Searched at from middle o r → Searched at middle to later more →
+    Searched at from to (or_else o later) (or_else r more)
 joined at from middle to o r later more a b = record {
   wanted = b.wanted ∙ a.wanted;
   found = b.found ∙ ap (λ f. found_after f later more) a.found ∙ found_twice from.found o r later more;
-  places = b.places ∙ ap (λ f. place_after f (at middle.place) later more) a.found ∙ ap (λ p. place_after (found_after from.found o r) p later more) a.places ∙ place_twice from.found (at from.place) o r later more;
+  places = b.places ∙ ap (λ f. place_after f (at middle.place) later more) a.found
+      ∙ ap (λ p. place_after (found_after from.found o r) p later more) a.places
+      ∙ place_twice from.found (at from.place) o r later more;
 }
 
-nothing_where : (at : At) (w : Wanted) (f : Found) (n : ℕ) (has also : Bool) → Searched at (record { wanted = w; found = f; place = n; has_resource = has }) (record { wanted = w; found = f; place = n; has_resource = also }) None None
+nothing_where : (at : At) (w : Wanted) (f : Found) (n : ℕ) (has also : Bool) →
+    Searched at (record { wanted = w; found = f; place = n; has_resource = has }) (record {
+      wanted = w;
+      found = f;
+      place = n;
+      has_resource = also;
+    }) None None
 nothing_where at w so_far.Nothing n has also = record { wanted = refl; found = refl; places = refl }
 nothing_where at w so_far.First n has also = record { wanted = refl; found = refl; places = refl }
 nothing_where at w so_far.Reference n has also = record { wanted = refl; found = refl; places = refl }
@@ -121,12 +134,16 @@ nothing_where at w so_far.Reference n has also = record { wanted = refl; found =
 nothing : (at : At) (s : Sought) → Searched at s s None None
 nothing at s = nothing_where at s.wanted s.found s.place s.has_resource s.has_resource
 
-first_found : (at : At) (w : Wanted) (f : Found) (n : ℕ) (has : Bool) (m : ℕ) (o : Option Position) → at m ≡ o → Searched at (record { wanted = w; found = f; place = n; has_resource = has }) (first_where f (record { wanted = w; found = f; place = n; has_resource = has }) m) (Some o) None
+first_found : (at : At) (w : Wanted) (f : Found) (n : ℕ) (has : Bool) (m : ℕ) (o : Option Position) → at m ≡ o →
+    Searched at (record { wanted = w; found = f; place = n; has_resource = has })
+    (first_where f (record { wanted = w; found = f; place = n; has_resource = has }) m) (Some o) None
 first_found at w so_far.Nothing n has m o e = record { wanted = refl; found = refl; places = e }
 first_found at w so_far.First n has m o e = record { wanted = refl; found = refl; places = refl }
 first_found at w so_far.Reference n has m o e = record { wanted = refl; found = refl; places = refl }
 
-reference_found : (at : At) (w : Wanted) (f : Found) (n : ℕ) (has : Bool) (m : ℕ) (o : Option Position) → at m ≡ o → Searched at (record { wanted = w; found = f; place = n; has_resource = has }) (refer_where f (record { wanted = w; found = f; place = n; has_resource = has }) m) None (Some o)
+reference_found : (at : At) (w : Wanted) (f : Found) (n : ℕ) (has : Bool) (m : ℕ) (o : Option Position) → at m ≡ o →
+    Searched at (record { wanted = w; found = f; place = n; has_resource = has })
+    (refer_where f (record { wanted = w; found = f; place = n; has_resource = has }) m) None (Some o)
 reference_found at w so_far.Nothing n has m o e = record { wanted = refl; found = refl; places = e }
 reference_found at w so_far.First n has m o e = record { wanted = refl; found = refl; places = e }
 reference_found at w so_far.Reference n has m o e = record { wanted = refl; found = refl; places = refl }
@@ -134,41 +151,66 @@ reference_found at w so_far.Reference n has m o e = record { wanted = refl; foun
 -- ---- one node
 
 -- a node that is, or holds, what is sought, by a test
-itself_step : (at : At) (s : Sought) (passes : Bool) (m inner : ℕ) (o : Option Position) → at m ≡ o → Searched at s (seen_as (cond passes looks.Itself looks.Other) s m inner) (cond passes (Some o) None) None
+itself_step : (at : At) (s : Sought) (passes : Bool) (m inner : ℕ) (o : Option Position) → at m ≡ o →
+    Searched at s (seen_as (cond passes looks.Itself looks.Other) s m inner) (cond passes (Some o) None) None
 itself_step at s true m inner o e = first_found at s.wanted s.found s.place s.has_resource m o e
 itself_step at s false m inner o e = nothing at s
 
-holder_step : (at : At) (s : Sought) (passes : Bool) (m inner : ℕ) (o : Option Position) → (passes ≡ true → at inner ≡ o) → Searched at s (seen_as (cond passes looks.Holder looks.Other) s m inner) (cond passes (Some o) None) None
+holder_step : (at : At) (s : Sought) (passes : Bool) (m inner : ℕ) (o : Option Position) →
+    (passes ≡ true → at inner ≡ o) → Searched at s (seen_as (cond passes looks.Holder looks.Other) s m inner)
+    (cond passes (Some o) None) None
 holder_step at s true m inner o e = first_found at s.wanted s.found s.place s.has_resource inner o (e refl)
 holder_step at s false m inner o e = nothing at s
 
-media_step : (at : At) (s : Sought) (name : Name) (start end : Point) (children : Forest) (m inner : ℕ) → at m ≡ Some (place start end) → (is_label name ≡ true → at inner ≡ finds want.Media start end children) → Searched at s (seen_as (sight want.Media name) s m inner) (cond (is_label name) (Some (finds want.Media start end children)) None) (cond (is_reference name) (Some (Some (place start end))) None)
-media_step at s Label start end children m inner here held = first_found at s.wanted s.found s.place s.has_resource inner (finds want.Media start end children) (held refl)
-media_step at s ReferenceString start end children m inner here held = reference_found at s.wanted s.found s.place s.has_resource m (Some (place start end)) here
-media_step at s Resource start end children m inner here held = nothing_where at s.wanted s.found s.place s.has_resource true
+media_step : (at : At) (s : Sought) (name : Name) (start end : Point) (children : Forest) (m inner : ℕ) →
+    at m ≡ Some (place start end) → (is_label name ≡ true → at inner ≡ finds want.Media start end children) →
+    Searched at s (seen_as (sight want.Media name) s m inner)
+    (cond (is_label name) (Some (finds want.Media start end children)) None)
+    (cond (is_reference name) (Some (Some (place start end))) None)
+media_step at s Label start end children m inner here held =
+    first_found at s.wanted s.found s.place s.has_resource inner (finds want.Media start end children) (held refl)
+media_step at s ReferenceString start end children m inner here held =
+    reference_found at s.wanted s.found s.place s.has_resource m (Some (place start end)) here
+media_step at s Resource start end children m inner here held =
+    nothing_where at s.wanted s.found s.place s.has_resource true
 media_step at s _ start end children m inner here held = nothing at s
 
 -- what a holder holds is found in it
 abbrev Held : At → Wanted → Name → Point → Point → Forest → ℕ → Type 0
 Held at want.Item name start end children inner = is_item name ≡ true → at inner ≡ finds want.Item start end children
-Held at want.Prefix name start end children inner = is_item_prefix name ≡ true → at inner ≡ finds want.Prefix start end children
+Held at want.Prefix name start end children inner = is_item_prefix name ≡ true →
+    at inner ≡ finds want.Prefix start end children
 Held at want.Media name start end children inner = is_label name ≡ true → at inner ≡ finds want.Media start end children
 Held at want.Label name start end children inner = is_label name ≡ true → at inner ≡ finds want.Label start end children
-Held at want.FootnotePrefix name start end children inner = is_footnote_prefix name ≡ true → at inner ≡ finds want.FootnotePrefix start end children
+Held at want.FootnotePrefix name start end children inner = is_footnote_prefix name ≡ true →
+    at inner ≡ finds want.FootnotePrefix start end children
 Held at _ name start end children inner = Unit {0}
 
-solid_step : (at : At) (w : Wanted) (s : Sought) (name : Name) (start end : Point) (children : Forest) (m inner : ℕ) → at m ≡ Some (place start end) → Held at w name start end children inner → Searched at s (seen_as (sight w name) s m inner) (cond (seeks w name) (Some (finds w start end children)) None) (cond (refers w name) (Some (Some (place start end))) None)
+solid_step : (at : At) (w : Wanted) (s : Sought) (name : Name) (start end : Point) (children : Forest) (m inner : ℕ) →
+    at m ≡ Some (place start end) → Held at w name start end children inner →
+    Searched at s (seen_as (sight w name) s m inner) (cond (seeks w name) (Some (finds w start end children)) None)
+    (cond (refers w name) (Some (Some (place start end))) None)
 solid_step at want.Nothing s name start end children m inner here held = nothing at s
-solid_step at want.Mark s name start end children m inner here held = itself_step at s (is_heading_mark name) m inner (Some (place start end)) here
-solid_step at want.Item s name start end children m inner here held = holder_step at s (is_item name) m inner (finds want.Item start end children) held
-solid_step at want.Prefix s name start end children m inner here held = holder_step at s (is_item_prefix name) m inner (finds want.Prefix start end children) held
-solid_step at want.Value s name start end children m inner here held = itself_step at s (is_item_value name) m inner (Some (place start end)) here
-solid_step at want.Media s name start end children m inner here held = media_step at s name start end children m inner here held
-solid_step at want.Label s name start end children m inner here held = holder_step at s (is_label name) m inner (finds want.Label start end children) held
-solid_step at want.LabelText s name start end children m inner here held = itself_step at s (is_label_text name) m inner (Some (place start end)) here
-solid_step at want.DefinitionLabel s name start end children m inner here held = itself_step at s (is_definition_label name) m inner (Some (place start end)) here
-solid_step at want.FootnotePrefix s name start end children m inner here held = holder_step at s (is_footnote_prefix name) m inner (finds want.FootnotePrefix start end children) held
-solid_step at want.FootnoteLabel s name start end children m inner here held = itself_step at s (is_footnote_label name) m inner (Some (place start end)) here
+solid_step at want.Mark s name start end children m inner here held =
+    itself_step at s (is_heading_mark name) m inner (Some (place start end)) here
+solid_step at want.Item s name start end children m inner here held =
+    holder_step at s (is_item name) m inner (finds want.Item start end children) held
+solid_step at want.Prefix s name start end children m inner here held =
+    holder_step at s (is_item_prefix name) m inner (finds want.Prefix start end children) held
+solid_step at want.Value s name start end children m inner here held =
+    itself_step at s (is_item_value name) m inner (Some (place start end)) here
+solid_step at want.Media s name start end children m inner here held =
+    media_step at s name start end children m inner here held
+solid_step at want.Label s name start end children m inner here held =
+    holder_step at s (is_label name) m inner (finds want.Label start end children) held
+solid_step at want.LabelText s name start end children m inner here held =
+    itself_step at s (is_label_text name) m inner (Some (place start end)) here
+solid_step at want.DefinitionLabel s name start end children m inner here held =
+    itself_step at s (is_definition_label name) m inner (Some (place start end)) here
+solid_step at want.FootnotePrefix s name start end children m inner here held =
+    holder_step at s (is_footnote_prefix name) m inner (finds want.FootnotePrefix start end children) held
+solid_step at want.FootnoteLabel s name start end children m inner here held =
+    itself_step at s (is_footnote_label name) m inner (Some (place start end)) here
 
 -- ---- what is found, in the words of the definitions
 
@@ -176,10 +218,12 @@ none_through : {A : Type 0} (t : Bool) → or_else {A = A} (cond t None None) No
 none_through true = refl
 none_through false = refl
 
-no_reference : {A : Type 0} (tell : Point → Point → Forest → A) (forest : Forest) → first_on_spine (λ name. false) tell forest ≡ None
+no_reference : {A : Type 0} (tell : Point → Point → Forest → A) (forest : Forest) →
+    first_on_spine (λ name. false) tell forest ≡ None
 no_reference tell Empty = refl
 no_reference tell (Node name start end children rest) =
-    ap (λ o. or_else (cond (is_transparent name) o None) (first_on_spine (λ other. false) tell rest)) (no_reference tell children)
+    ap (λ o. or_else (cond (is_transparent name) o None) (first_on_spine (λ other. false) tell rest))
+    (no_reference tell children)
     ∙ ap (λ o. or_else (cond (is_transparent name) None None) o) (no_reference tell rest)
     ∙ none_through (is_transparent name)
 
@@ -187,19 +231,26 @@ map_or_else : (o p : Option Position) → or_else (option_map Some o) (option_ma
 map_or_else None p = refl
 map_or_else (Some x) p = refl
 
-map_here : (passes through : Bool) (here : Position) (inside : Option Position) → cond passes (Some (Some here)) (cond through (option_map Some inside) None) ≡ option_map Some (cond passes (Some here) (cond through inside None))
+map_here : (passes through : Bool) (here : Position) (inside : Option Position) →
+    cond passes (Some (Some here)) (cond through (option_map Some inside) None)
+    ≡ option_map Some (cond passes (Some here) (cond through inside None))
 map_here true through here inside = refl
 map_here false true here inside = refl
 map_here false false here inside = refl
 
 -- the place of the first node
-places_mapped : (test : Name → Bool) (forest : Forest) → first_on_spine test (λ start end inner. Some (place start end)) forest ≡ option_map Some (first_place test forest)
+places_mapped : (test : Name → Bool) (forest : Forest) →
+    first_on_spine test (λ start end inner. Some (place start end)) forest ≡ option_map Some (first_place test forest)
 places_mapped test Empty = refl
 places_mapped test (Node name start end children rest) =
-    ap (λ o. or_else (cond (test name) (Some (Some (place start end))) (cond (is_transparent name) o None)) (first_on_spine test (λ begin stop inner. Some (place begin stop)) rest)) (places_mapped test children)
-    ∙ ap (λ o. or_else (cond (test name) (Some (Some (place start end))) (cond (is_transparent name) (option_map Some (first_place test children)) None)) o) (places_mapped test rest)
-    ∙ ap (λ o. or_else o (option_map Some (first_place test rest))) (map_here (test name) (is_transparent name) (place start end) (first_place test children))
-    ∙ map_or_else (cond (test name) (Some (place start end)) (cond (is_transparent name) (first_place test children) None)) (first_place test rest)
+    ap (λ o. or_else (cond (test name) (Some (Some (place start end))) (cond (is_transparent name) o None))
+    (first_on_spine test (λ begin stop inner. Some (place begin stop)) rest)) (places_mapped test children)
+    ∙ ap (λ o. or_else (cond (test name) (Some (Some (place start end)))
+    (cond (is_transparent name) (option_map Some (first_place test children)) None)) o) (places_mapped test rest)
+    ∙ ap (λ o. or_else o (option_map Some (first_place test rest)))
+    (map_here (test name) (is_transparent name) (place start end) (first_place test children))
+    ∙ map_or_else (cond (test name) (Some (place start end))
+    (cond (is_transparent name) (first_place test children) None)) (first_place test rest)
 
 unwrap_mapped : (o p : Option Position) → unwrap_or (option_map Some o) p ≡ or_else o p
 unwrap_mapped None p = refl
@@ -213,16 +264,20 @@ abbrev here_place : Point → Point → Forest → Option Position
 here_place start end inner = Some (place start end)
 
 -- what is found where there is no reference
-alone : (o : Option (Option Position)) (forest : Forest) → unwrap_or (first_on_spine (λ name. false) here_place forest) (unwrap_or o None) ≡ unwrap_or o None
+alone : (o : Option (Option Position)) (forest : Forest) →
+    unwrap_or (first_on_spine (λ name. false) here_place forest) (unwrap_or o None) ≡ unwrap_or o None
 alone o forest = ap (λ r. unwrap_or r (unwrap_or o None)) (no_reference here_place forest)
 
-place_found : (test : Name → Bool) (forest : Forest) → unwrap_or (first_on_spine (λ name. false) here_place forest) (unwrap_or (first_on_spine test here_place forest) None) ≡ first_place test forest
+place_found : (test : Name → Bool) (forest : Forest) → unwrap_or (first_on_spine (λ name. false) here_place forest)
+    (unwrap_or (first_on_spine test here_place forest) None) ≡ first_place test forest
 place_found test forest =
-    alone (first_on_spine test here_place forest) forest ∙ ap (λ o. unwrap_or o None) (places_mapped test forest) ∙ unwrap_mapped (first_place test forest) None ∙ or_none (first_place test forest)
+    alone (first_on_spine test here_place forest) forest ∙ ap (λ o. unwrap_or o None) (places_mapped test forest)
+    ∙ unwrap_mapped (first_place test forest) None ∙ or_none (first_place test forest)
 
 -- what a search of a name's own spine finds
 abbrev found_in : Name → Forest → Option Position
-found_in name children = unwrap_or (reference (wanted_by name) children) (unwrap_or (spot (wanted_by name) children) None)
+found_in name children = unwrap_or (reference (wanted_by name) children)
+    (unwrap_or (spot (wanted_by name) children) None)
 
 lie : false ≡ true → ⊥
 lie h = cc
@@ -231,19 +286,23 @@ in_item : (name : Name) (children : Forest) → is_item name ≡ true → found_
 in_item ListItem children h = alone (spot want.Prefix children) children
 in_item _ children h = absurd (lie h)
 
-in_prefix : (name : Name) (children : Forest) → is_item_prefix name ≡ true → found_in name children ≡ first_place is_item_value children
+in_prefix : (name : Name) (children : Forest) → is_item_prefix name ≡ true →
+    found_in name children ≡ first_place is_item_value children
 in_prefix ListItemPrefix children h = place_found is_item_value children
 in_prefix _ children h = absurd (lie h)
 
-in_label : (name : Name) (children : Forest) → is_label name ≡ true → found_in name children ≡ first_place is_label_text children
+in_label : (name : Name) (children : Forest) → is_label name ≡ true →
+    found_in name children ≡ first_place is_label_text children
 in_label Label children h = place_found is_label_text children
 in_label _ children h = absurd (lie h)
 
-in_footnote : (name : Name) (children : Forest) → is_footnote_prefix name ≡ true → found_in name children ≡ first_place is_footnote_label children
+in_footnote : (name : Name) (children : Forest) → is_footnote_prefix name ≡ true →
+    found_in name children ≡ first_place is_footnote_label children
 in_footnote GfmFootnoteDefinitionPrefix children h = place_found is_footnote_label children
 in_footnote _ children h = absurd (lie h)
 
-held : (at : At) (w : Wanted) (name : Name) (start end : Point) (children : Forest) (inner : ℕ) → at inner ≡ found_in name children → Held at w name start end children inner
+held : (at : At) (w : Wanted) (name : Name) (start end : Point) (children : Forest) (inner : ℕ) →
+    at inner ≡ found_in name children → Held at w name start end children inner
 held at want.Item name start end children inner e = λ passes. e ∙ in_item name children passes
 held at want.Prefix name start end children inner e = λ passes. e ∙ in_prefix name children passes
 held at want.Media name start end children inner e = λ passes. e ∙ in_label name children passes
@@ -259,8 +318,10 @@ held at want.FootnoteLabel name start end children inner e = tt
 reader_finds : (name : Name) (children : Forest) → is_reader name ≡ true → found_in name children ≡ reads name children
 reader_finds HeadingAtx children h = place_found is_heading_mark children
 reader_finds ListOrdered children h = alone (spot want.Item children) children
-reader_finds Link children h = ap (λ r. unwrap_or r (label_in children)) (places_mapped is_reference children) ∙ unwrap_mapped (first_place is_reference children) (label_in children)
-reader_finds Image children h = ap (λ r. unwrap_or r (label_in children)) (places_mapped is_reference children) ∙ unwrap_mapped (first_place is_reference children) (label_in children)
+reader_finds Link children h = ap (λ r. unwrap_or r (label_in children)) (places_mapped is_reference children)
+    ∙ unwrap_mapped (first_place is_reference children) (label_in children)
+reader_finds Image children h = ap (λ r. unwrap_or r (label_in children)) (places_mapped is_reference children)
+    ∙ unwrap_mapped (first_place is_reference children) (label_in children)
 reader_finds GfmFootnoteCall children h = alone (spot want.Label children) children
 reader_finds Definition children h = place_found is_definition_label children
 reader_finds GfmFootnoteDefinition children h = alone (spot want.FootnotePrefix children) children
@@ -282,9 +343,42 @@ record Unsought (name : Name) : Type 0 where
   footnote_label : is_footnote_label name ≡ false
 
 unsought : (name : Name) → is_transparent name ≡ true → Unsought name
-unsought (Other number) h = record { mark = refl; item = refl; prefix = refl; value = refl; label = refl; text = refl; reference_string = refl; definition = refl; footnote = refl; footnote_label = refl }
-unsought BlockQuotePrefix h = record { mark = refl; item = refl; prefix = refl; value = refl; label = refl; text = refl; reference_string = refl; definition = refl; footnote = refl; footnote_label = refl }
-unsought SpaceOrTab h = record { mark = refl; item = refl; prefix = refl; value = refl; label = refl; text = refl; reference_string = refl; definition = refl; footnote = refl; footnote_label = refl }
+unsought (Other number) h = record {
+  mark = refl;
+  item = refl;
+  prefix = refl;
+  value = refl;
+  label = refl;
+  text = refl;
+  reference_string = refl;
+  definition = refl;
+  footnote = refl;
+  footnote_label = refl;
+}
+unsought BlockQuotePrefix h = record {
+  mark = refl;
+  item = refl;
+  prefix = refl;
+  value = refl;
+  label = refl;
+  text = refl;
+  reference_string = refl;
+  definition = refl;
+  footnote = refl;
+  footnote_label = refl;
+}
+unsought SpaceOrTab h = record {
+  mark = refl;
+  item = refl;
+  prefix = refl;
+  value = refl;
+  label = refl;
+  text = refl;
+  reference_string = refl;
+  definition = refl;
+  footnote = refl;
+  footnote_label = refl;
+}
 unsought _ h = absurd (lie h)
 
 passed_by : (w : Wanted) (name : Name) → Unsought name → (seeks w name ≡ false) × (refers w name ≡ false)
@@ -304,35 +398,51 @@ passed_by want.FootnoteLabel name u = (u.footnote_label, refl)
 abbrev pub AllAt : At → ℕ → Forest → Type 0
 AllAt at index Empty = Unit {0}
 AllAt at index (Node name start end children rest) =
-    (at index ≡ Some (place start end)) × AllAt at (suc index) children × AllAt at (suc (behind (suc index) children)) rest
+    (at index ≡ Some (place start end)) × AllAt at (suc index) children
+    × AllAt at (suc (behind (suc index) children)) rest
 
 -- a search over some nodes
 abbrev Searches : At → ℕ → Forest → Type 0
 Searches at index forest =
     (s : Sought) → Searched at s (sought_over index forest s) (spot s.wanted forest) (reference s.wanted forest)
 
-node_step : (at : At) → at 0 ≡ None → (index : ℕ) (name : Name) (start end : Point) (children : Forest) (s : Sought) → at index ≡ Some (place start end) → Searches at (suc index) children → (through : Bool) → is_transparent name ≡ through → Searched at s (cond through (sought_over (suc index) children (cond through s (search_of name))) (seen s name index (Sought.place (sought_over (suc index) children (cond through s (search_of name)))))) (cond (seeks s.wanted name) (Some (finds s.wanted start end children)) (cond through (spot s.wanted children) None)) (cond (refers s.wanted name) (Some (Some (place start end))) (cond through (reference s.wanted children) None))
+node_step : (at : At) → at 0 ≡ None → (index : ℕ) (name : Name) (start end : Point) (children : Forest) (s : Sought) →
+    at index ≡ Some (place start end) → Searches at (suc index) children → (through : Bool) →
+    is_transparent name ≡ through → Searched at s (cond through
+    (sought_over (suc index) children (cond through s (search_of name)))
+    (seen s name index (Sought.place (sought_over (suc index) children (cond through s (search_of name))))))
+    (cond (seeks s.wanted name) (Some (finds s.wanted start end children))
+    (cond through (spot s.wanted children) None)) (cond (refers s.wanted name) (Some (Some (place start end)))
+    (cond through (reference s.wanted children) None))
 node_step at none index name start end children s here inside true e =
     let by_it = passed_by s.wanted name (unsought name e) in
-    subst (λ b. Searched at s (sought_over (suc index) children s) (cond b (Some (finds s.wanted start end children)) (spot s.wanted children)) (cond (refers s.wanted name) (Some (Some (place start end))) (reference s.wanted children))) (sym by_it.0)
-    (subst (λ b. Searched at s (sought_over (suc index) children s) (spot s.wanted children) (cond b (Some (Some (place start end))) (reference s.wanted children))) (sym by_it.1) (inside s))
+    subst (λ b. Searched at s (sought_over (suc index) children s)
+    (cond b (Some (finds s.wanted start end children)) (spot s.wanted children))
+    (cond (refers s.wanted name) (Some (Some (place start end))) (reference s.wanted children))) (sym by_it.0)
+    (subst (λ b. Searched at s (sought_over (suc index) children s) (spot s.wanted children)
+    (cond b (Some (Some (place start end))) (reference s.wanted children))) (sym by_it.1) (inside s))
 node_step at none index name start end children s here inside false e =
     let own = sought_over (suc index) children (search_of name) in
     let own_found : at own.place ≡ found_in name children =
-    Searched.places (inside (search_of name)) ∙ ap (λ p. unwrap_or (reference (wanted_by name) children) (unwrap_or (spot (wanted_by name) children) p)) none in
-    solid_step at s.wanted s name start end children index own.place here (held at s.wanted name start end children own.place own_found)
+    Searched.places (inside (search_of name)) ∙ ap (λ p. unwrap_or (reference (wanted_by name) children)
+    (unwrap_or (spot (wanted_by name) children) p)) none in
+    solid_step at s.wanted s name start end children index own.place here
+    (held at s.wanted name start end children own.place own_found)
 
 searched : (at : At) → at 0 ≡ None → (forest : Forest) (index : ℕ) → AllAt at index forest → Searches at index forest
 searched at none Empty index all s = nothing at s
 searched at none (Node name start end children rest) index all s =
     let later = suc (behind (suc index) children) in
     let middle = sought_behind name index (sought_over (suc index) children (sought_inside name s)) s in
-    let here = node_step at none index name start end children s all.0 (searched at none children (suc index) all.1) (is_transparent name) refl in
-    let behind_it = subst (λ w. Searched at middle (sought_over later rest middle) (spot w rest) (reference w rest)) (Searched.wanted here) (searched at none rest later all.2 middle) in
+    let here = node_step at none index name start end children s all.0 (searched at none children (suc index) all.1)
+    (is_transparent name) refl in
+    let behind_it = subst (λ w. Searched at middle (sought_over later rest middle) (spot w rest) (reference w rest))
+    (Searched.wanted here) (searched at none rest later all.2 middle) in
     joined at s middle (sought_over later rest middle) _ _ (spot s.wanted rest) (reference s.wanted rest) here behind_it
 
 -- what a name reads
-pub reads-found : (at : At) → at 0 ≡ None → (name : Name) (children : Forest) (index : ℕ) → AllAt at index children → is_reader name ≡ true → at (Sought.place (sought_over index children (search_of name))) ≡ reads name children
+pub reads-found : (at : At) → at 0 ≡ None → (name : Name) (children : Forest) (index : ℕ) → AllAt at index children →
+    is_reader name ≡ true → at (Sought.place (sought_over index children (search_of name))) ≡ reads name children
 reads-found at none name children index all h =
     Searched.places (searched at none children index all (search_of name))
     ∙ ap (λ p. unwrap_or (reference (wanted_by name) children) (unwrap_or (spot (wanted_by name) children) p)) none
@@ -352,7 +462,8 @@ or-assoc : (a b c : Bool) → ((a || b) || c) ≡ (a || (b || c))
 or-assoc true b c = refl
 or-assoc false b c = refl
 
-any_append : (test : Name → Bool) (xs ys : List Name) → list_any test (xs ++ ys) ≡ (list_any test xs || list_any test ys)
+any_append : (test : Name → Bool) (xs ys : List Name) → list_any test (xs ++ ys)
+    ≡ (list_any test xs || list_any test ys)
 any_append test [] ys = refl
 any_append test (x ∷ xs) ys =
     ap (λ b. test x || b) (any_append test xs ys) ∙ sym (or-assoc (test x) (list_any test xs) (list_any test ys))
@@ -367,30 +478,44 @@ refer_resource so_far.Nothing s n = refl
 refer_resource so_far.First s n = refl
 refer_resource so_far.Reference s n = refl
 
-media_resource : (s : Sought) (name : Name) (m inner : ℕ) → Sought.has_resource (seen_as (sight want.Media name) s m inner) ≡ (s.has_resource || is_resource name)
+media_resource : (s : Sought) (name : Name) (m inner : ℕ) →
+    Sought.has_resource (seen_as (sight want.Media name) s m inner) ≡ (s.has_resource || is_resource name)
 media_resource s Label m inner = first_resource s.found s inner ∙ or-false s.has_resource
 media_resource s ReferenceString m inner = refer_resource s.found s m ∙ or-false s.has_resource
 media_resource s Resource m inner = or-true s.has_resource
 media_resource s _ m inner = or-false s.has_resource
 
-resources : (at : At) → at 0 ≡ None → (forest : Forest) (index : ℕ) → AllAt at index forest → (s : Sought) → s.wanted ≡ want.Media → Sought.has_resource (sought_over index forest s) ≡ (s.has_resource || list_any is_resource (spine_names forest))
+resources : (at : At) → at 0 ≡ None → (forest : Forest) (index : ℕ) → AllAt at index forest → (s : Sought) →
+    s.wanted ≡ want.Media → Sought.has_resource (sought_over index forest s)
+    ≡ (s.has_resource || list_any is_resource (spine_names forest))
 resources at none Empty index all s media = or-false s.has_resource
 resources at none (Node name start end children rest) index all s media =
     let later = suc (behind (suc index) children) in
     let middle = sought_behind name index (sought_over (suc index) children (sought_inside name s)) s in
-    let here = node_step at none index name start end children s all.0 (searched at none children (suc index) all.1) (is_transparent name) refl in
+    let here = node_step at none index name start end children s all.0 (searched at none children (suc index) all.1)
+    (is_transparent name) refl in
     resources at none rest later all.2 middle (Searched.wanted here ∙ media)
-    ∙ ap (λ b. b || list_any is_resource (spine_names rest)) (by (is_transparent name) (resources at none children (suc index) all.1 s media))
-    ∙ or-assoc s.has_resource (list_any is_resource (cond (is_transparent name) (spine_names children) (name ∷ []))) (list_any is_resource (spine_names rest))
-    ∙ ap (λ b. s.has_resource || b) (sym (any_append is_resource (cond (is_transparent name) (spine_names children) (name ∷ [])) (spine_names rest)))
+    ∙ ap (λ b. b || list_any is_resource (spine_names rest))
+    (by (is_transparent name) (resources at none children (suc index) all.1 s media))
+    ∙ or-assoc s.has_resource (list_any is_resource (cond (is_transparent name) (spine_names children) (name ∷ [])))
+    (list_any is_resource (spine_names rest))
+    ∙ ap (λ b. s.has_resource || b) (sym (any_append is_resource
+    (cond (is_transparent name) (spine_names children) (name ∷ [])) (spine_names rest)))
   where
-    by : (through : Bool) → Sought.has_resource (sought_over (suc index) children s) ≡ (s.has_resource || list_any is_resource (spine_names children)) → Sought.has_resource (cond through (sought_over (suc index) children (cond through s (search_of name))) (seen s name index (Sought.place (sought_over (suc index) children (cond through s (search_of name)))))) ≡ (s.has_resource || list_any is_resource (cond through (spine_names children) (name ∷ [])))
+    by : (through : Bool) → Sought.has_resource (sought_over (suc index) children s)
+        ≡ (s.has_resource || list_any is_resource (spine_names children)) →
+        Sought.has_resource (cond through (sought_over (suc index) children (cond through s (search_of name)))
+        (seen s name index (Sought.place (sought_over (suc index) children (cond through s (search_of name))))))
+        ≡ (s.has_resource || list_any is_resource (cond through (spine_names children) (name ∷ [])))
     by true inside = inside
     by false inside =
-        ap (λ w. Sought.has_resource (seen_as (sight w name) s index (Sought.place (sought_over (suc index) children (search_of name))))) media
+        ap (λ w. Sought.has_resource (seen_as (sight w name) s index
+        (Sought.place (sought_over (suc index) children (search_of name))))) media
         ∙ media_resource s name index (Sought.place (sought_over (suc index) children (search_of name)))
         ∙ ap (λ b. s.has_resource || b) (or-false (is_resource name))
 
 -- whether a link or an image has a resource
-pub resource-found : (at : At) → at 0 ≡ None → (name : Name) (children : Forest) (index : ℕ) → AllAt at index children → wanted_by name ≡ want.Media → Sought.has_resource (sought_over index children (search_of name)) ≡ has_resource children
+pub resource-found : (at : At) → at 0 ≡ None → (name : Name) (children : Forest) (index : ℕ) →
+    AllAt at index children → wanted_by name ≡ want.Media →
+    Sought.has_resource (sought_over index children (search_of name)) ≡ has_resource children
 resource-found at none name children index all media = resources at none children index all (search_of name) media

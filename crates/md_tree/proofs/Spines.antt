@@ -33,18 +33,26 @@ symbols-append (name ∷ names) others =
     ∙ sym (append_assoc (shown (standing_of name) []) (symbols_of names) (symbols_of others))
 
 -- what one node shows
-node_shows : (standing : Standing) (name : Name) (through : Bool) (children : Forest) (around : Role) (before : Option Symbol) → standing_of name ≡ standing → through ≡ is_through standing → IsStanding standing around before children → spine children ≡ symbols_of (spine_names children) → shown standing (spine children) ≡ symbols_of (cond through (spine_names children) (name ∷ []))
+node_shows : (standing : Standing) (name : Name) (through : Bool) (children : Forest) (around : Role)
+    (before : Option Symbol) → standing_of name ≡ standing → through ≡ is_through standing →
+    IsStanding standing around before children → spine children ≡ symbols_of (spine_names children) →
+    shown standing (spine children) ≡ symbols_of (cond through (spine_names children) (name ∷ []))
 node_shows Through name through children around before same is stands inner =
     inner ∙ ap (λ t. symbols_of (cond t (spine_names children) (name ∷ []))) (sym is)
 node_shows Space name through children around before same is stands inner =
-    ap (λ nodes. symbols_of (spine_names nodes)) (sym stands) ∙ ap (λ t. symbols_of (cond t (spine_names children) (name ∷ []))) (sym is)
+    ap (λ nodes. symbols_of (spine_names nodes)) (sym stands)
+    ∙ ap (λ t. symbols_of (cond t (spine_names children) (name ∷ []))) (sym is)
 node_shows (Solid symbol usual reading) name through children around before same is stands inner =
     ap (λ st. shown st [] ++ []) (sym same) ∙ ap (λ t. symbols_of (cond t (spine_names children) (name ∷ []))) (sym is)
 node_shows Mdx name through children around before same is stands inner = absurd stands
 
-pub spine-names : (forest : Forest) (around : Role) (before : Option Symbol) → AreShaped forest around before → spine forest ≡ symbols_of (spine_names forest)
+pub spine-names : (forest : Forest) (around : Role) (before : Option Symbol) → AreShaped forest around before →
+    spine forest ≡ symbols_of (spine_names forest)
 spine-names Empty around before shaped = refl
 spine-names (Node name start end children rest) around before shaped =
-    ap (λ symbols. symbols ++ spine rest) (node_shows (standing_of name) name (is_transparent name) children around before refl (looked_through name) shaped.0.1 (spine-names children _ _ shaped.1))
-    ∙ ap (λ symbols. symbols_of (cond (is_transparent name) (spine_names children) (name ∷ [])) ++ symbols) (spine-names rest _ _ shaped.2)
+    ap (λ symbols. symbols ++ spine rest) (node_shows (standing_of name) name
+    (is_transparent name) children around before refl (looked_through name) shaped.0.1
+    (spine-names children _ _ shaped.1))
+    ∙ ap (λ symbols. symbols_of (cond (is_transparent name) (spine_names children) (name ∷ []))
+    ++ symbols) (spine-names rest _ _ shaped.2)
     ∙ sym (symbols-append (cond (is_transparent name) (spine_names children) (name ∷ [])) (spine_names rest))

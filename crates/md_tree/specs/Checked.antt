@@ -9,7 +9,8 @@ use Rattle.md_infer.specs.Facts.{facts_at, tables_at, definitions_at}
 abbrev pub given_of : Inside → Document
 given_of inside = handed inside.events.now inside.bytes.now inside.names.now
 
--- the events are a document's of the grammar, each has what is found at it, the tables, the definitions and the first line
+-- the events are a document's of the grammar, each has what is found at it, the tables, the definitions and the
+-- first line
 -- ending are theirs, and each was visited once
 abbrev pub IsKept : Inside → Type 0
 IsKept inside =

@@ -18,7 +18,8 @@ EntersSome events index = (name : Name) × EntersAt events index name
 -- what is found of the node that the event at an index enters, where some number of tables have ended
 abbrev pub IsFactAt : Document → ℕ → Fact → Type 0
 IsFactAt given index fact =
-    (name : Name) (children : Forest) → EntersAt given.events index name → IsEnteredAt given index children → (tables : ℕ) × (fact ≡ fact_at index tables name children)
+    (name : Name) (children : Forest) → EntersAt given.events index name → IsEnteredAt given index children →
+    (tables : ℕ) × (fact ≡ fact_at index tables name children)
 
 -- an index that is there
 abbrev pub index_if : ℕ → Option ℕ
@@ -37,7 +38,8 @@ partner_event events (Some fact) = slice_get events fact.partner
 
 -- the place of the node that the event at an index enters; 0 stands for no index
 abbrev pub position_there : List Event → List Fact → ℕ → Option Position
-position_there events facts index = position_from (slice_get events index) (partner_event events (slice_get facts index))
+position_there events facts index = position_from (slice_get events index)
+    (partner_event events (slice_get facts index))
 
 abbrev pub position_at : List Event → List Fact → ℕ → Option Position
 position_at events facts zero = None
@@ -45,4 +47,5 @@ position_at events facts (suc index) = position_there events facts (suc index)
 
 -- the place of the node that the event at an index exits
 abbrev pub position_ended : List Event → List Fact → ℕ → Option Position
-position_ended events facts index = position_from (partner_event events (slice_get facts index)) (slice_get events index)
+position_ended events facts index = position_from (partner_event events (slice_get facts index))
+    (slice_get events index)

@@ -29,7 +29,8 @@ use Rattle.md_pattern.specs.Shape.{role_for}
 use Rattle.md_tree.specs.Rules.{place, target_at}
 use Rattle.md_tree.specs.Mentions.{mention_of, mentions_with}
 
--- what waits for the end of a node that has a spine of its own: the spine around it with the node, the symbol before it,
+-- what waits for the end of a node that has a spine of its own: the spine around it with the node, the symbol
+-- before it,
 -- the target of the spine around so far, and what is read of the node
 pub record Outer : Type 0 where
   pub state : State
@@ -98,7 +99,8 @@ items_of state = drop state.position (pattern_of state.role)
 -- the state after a symbol
 abbrev pub advance : State → Symbol → Option State
 advance state symbol =
-    option_map (λ next. record { role = state.role; before = Some symbol; position = next.0; stage = next.1 }) (moved state.stage state.position (items_of state) symbol)
+    option_map (λ next. record { role = state.role; before = Some symbol; position = next.0; stage = next.1 })
+    (moved state.stage state.position (items_of state) symbol)
 
 -- no group is open
 abbrev pub is_whole : Stage → Bool
@@ -122,9 +124,18 @@ may_hold _ = true
 abbrev pub entered_on : Standing → State → Target → Option Entry
 entered_on Through state target = Some (record { state = state; target = target; outer = None })
 entered_on Space state target =
-    Some (record { state = start_of role.Childless; target = Missing; outer = Some (record { state = state; before = state.before; target = target; reading = Free }) })
+    Some (record {
+      state = start_of role.Childless;
+      target = Missing;
+      outer = Some (record { state = state; before = state.before; target = target; reading = Free });
+    })
 entered_on (Solid symbol usual reading) state target =
-    option_map (λ next. record { state = start_of (role_for state.role state.before usual); target = Missing; outer = Some (record { state = next; before = state.before; target = target; reading = reading }) }) (advance state symbol)
+    option_map (λ next. record {
+      state = start_of (role_for state.role state.before usual);
+      target = Missing;
+      outer = Some (record { state = next; before = state.before; target = target; reading = reading });
+    })
+    (advance state symbol)
 entered_on Mdx state target = None
 
 -- the same, where the node around may have children
@@ -169,7 +180,8 @@ after_exit outer start end others course = record {
   mentions = mentions_with course.count (mention_of outer.reading course.target) course.mentions;
 }
 
--- a claim about nodes that stand on a spine: what is read of each, the role around it, the symbol before it, its start, end and target
+-- a claim about nodes that stand on a spine: what is read of each, the role around it, the symbol before it, its
+-- start, end and target
 abbrev pub Reads : Type 1
 Reads = Reading → Role → Option Symbol → Point → Point → Target → Type 0
 
@@ -177,7 +189,8 @@ Reads = Reading → Role → Option Symbol → Point → Point → Target → Ty
 abbrev pub ExitsWhere : Reads → Option Outer → Point → Point → List Open → Course → Course → Type 0
 ExitsWhere holds None start end others from to = to ≡ after_through others from
 ExitsWhere holds (Some outer) start end others from to =
-    IsTrue (is_complete from.state) × holds outer.reading outer.state.role outer.before start end from.target × (to ≡ after_exit outer start end others from)
+    IsTrue (is_complete from.state) × holds outer.reading outer.state.role outer.before start end from.target
+    × (to ≡ after_exit outer start end others from)
 
 -- an exiting event: of the innermost open node
 abbrev pub Exits : Reads → List Open → Name → Point → Course → Course → Type 0

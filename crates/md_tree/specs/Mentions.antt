@@ -1,23 +1,19 @@
 -- What the nodes of a document mention: definitions, and what leads to them.
 use Rattle.std.specs.Prelude.{ℕ, Option, option_map, List, [], ◌∷◌, ◌++◌, map}
 use Rattle.std.specs.List.{Contains}
-use Rattle.md_base.specs.declared.event.Point.{Point}
 use Rattle.md_base.specs.declared.event.Position.{Position}
 use Rattle.md_base.specs.Place.{label_between}
 use Rattle.md_base.specs.Identifier.{normalized}
 use Rattle.md_pattern.specs.declared.kinds.Reading.{Reading}
 use Rattle.md_pattern.specs.declared.kinds.Reading.TheVariants as reading
-use Rattle.md_pattern.specs.declared.kinds.Standing.{Standing}
-use Rattle.md_pattern.specs.declared.kinds.Standing.TheVariants.{Solid}
 use Rattle.md_tree.specs.declared.mention.Target.{Target}
 use Rattle.md_tree.specs.declared.mention.Target.TheVariants.{Missing, Label}
 use Rattle.md_tree.specs.declared.mention.Mention.{Mention}
 use Rattle.md_tree.specs.declared.mention.Mention.TheVariants.{Nothing, Reference, Call, Definition, FootnoteDefinition}
-use Rattle.md_tree.specs.declared.mention.Note.{Note}
 use Rattle.md_tree.specs.declared.mention.Mentioned.{Mentioned}
 use Rattle.md_base.specs.Tree.{Forest, Empty, Node}
 use Rattle.md_pattern.specs.Standing.{standing_of}
-use Rattle.md_tree.specs.Rules.{target_of}
+use Rattle.md_tree.specs.Rules.{reading_of, target_of}
 
 -- what a node mentions, by what is read of it and its target
 abbrev pub mention_of : Reading → Target → Mention
@@ -27,24 +23,11 @@ mention_of reading.Definition (Label label) = Definition label
 mention_of reading.FootnoteDefinition (Label label) = FootnoteDefinition label
 mention_of _ _ = Nothing
 
--- the same for each way to stand
-abbrev pub mention_where : Standing → Target → Mention
-mention_where (Solid symbol usual reading) target = mention_of reading target
-mention_where _ target = Nothing
-
--- a start and a mention
-abbrev pub note : Point → Mention → Note
-note start mention = record { start = start; mention = mention }
-
--- for each event of the nodes, in order: where its node starts, and at an exit what the node mentions
-abbrev pub notes_of : Forest → List Note
-notes_of Empty = []
-notes_of (Node name start end children rest) =
-    note start Nothing ∷ notes_of children ++ note start (mention_where (standing_of name) (target_of children Missing)) ∷ notes_of rest
-
--- what each event mentions
-abbrev pub mentions_in : List Note → List Mention
-mentions_in notes = map (λ note. note.mention) notes
+-- what each event of the nodes mentions, in order: an exit what its node mentions, an entry nothing
+abbrev pub mentions_of : Forest → List Mention
+mentions_of Empty = []
+mentions_of (Node name start end children rest) = Nothing ∷ mentions_of children
+    ++ mention_of (reading_of (standing_of name)) (target_of children Missing) ∷ mentions_of rest
 
 -- what is mentioned, with what one more event mentions, if it mentions anything
 abbrev pub mentions_with : ℕ → Mention → List Mentioned → List Mentioned
@@ -61,8 +44,7 @@ identifier_at bytes label = option_map normalized (label_between bytes label.sta
 
 -- one more identifier, where a definition is mentioned
 abbrev pub defined_by : List ℕ → Mention → List (Option (List ℕ)) → List (Option (List ℕ))
-defined_by bytes (Definition label) others = identifier_at bytes label ∷ others
-defined_by bytes _ others = others
+defined_by bytes mention rest = elim mention [ Definition at ↦ identifier_at bytes at ∷ rest | _ ↦ rest ]
 
 -- the identifiers of the definitions
 abbrev pub defined : List ℕ → List Mention → List (Option (List ℕ))
@@ -71,8 +53,7 @@ defined bytes (mention ∷ mentions) = defined_by bytes mention (defined bytes m
 
 -- one more identifier, where a footnote definition is mentioned
 abbrev pub footnoted_by : List ℕ → Mention → List (Option (List ℕ)) → List (Option (List ℕ))
-footnoted_by bytes (FootnoteDefinition label) others = identifier_at bytes label ∷ others
-footnoted_by bytes _ others = others
+footnoted_by bytes mention rest = elim mention [ FootnoteDefinition at ↦ identifier_at bytes at ∷ rest | _ ↦ rest ]
 
 -- the identifiers of the footnote definitions
 abbrev pub footnoted : List ℕ → List Mention → List (Option (List ℕ))

@@ -58,4 +58,5 @@ has_resource children = list_any is_resource (spine_names children)
 -- the place that is read of the node that the event at an index enters, where its name reads one
 abbrev pub IsReadAt : Document → ℕ → Option Position → Type 0
 IsReadAt given index found =
-    (name : Name) (children : Forest) → EntersAt given.events index name → IsTrue (is_reader name) → IsEnteredAt given index children → found ≡ reads name children
+    (name : Name) (children : Forest) → EntersAt given.events index name → IsTrue (is_reader name) →
+    IsEnteredAt given index children → found ≡ reads name children

@@ -20,7 +20,7 @@ use Rattle.md_pattern.specs.Standing.{standing_of}
 use Rattle.md_pattern.specs.Spine.{spine, IsBegunGroup}
 use Rattle.md_pattern.specs.Shape.{AreShaped, IsShaped, inner_role, inner_before, last_symbol}
 use Rattle.md_tree.specs.Rules.{MeetRules, broken_at}
-use Rattle.md_tree.specs.Mentions.{notes_of, mentions_in, IsResolved}
+use Rattle.md_tree.specs.Mentions.{mentions_of, IsResolved}
 use Rattle.md_tree.specs.Grammar.{Document, IsChecked}
 
 -- a node that is still open, with the whole nodes before it in the node around
@@ -52,7 +52,8 @@ abbrev pub IsShapedPath : List Level → Type 0
 IsShapedPath [] = Unit {0}
 IsShapedPath (level ∷ path) = AreShaped level.before (role_in path) (before_in path) × IsShapedPath path
 
--- the events begin a tree in which each node that has ended matches its pattern: some are open, and these nodes stand whole in the innermost one
+-- the events begin a tree in which each node that has ended matches its pattern: some are open, and these nodes
+-- stand whole in the innermost one
 pub record Begins (events : List Event) (path : List Level) (nodes : Forest) : Type 0 where
   pub events_are : events ≡ opening path ++ flatten nodes
   pub path_shaped : IsShapedPath path
@@ -68,11 +69,12 @@ EndsInGroup symbols = (before group : List Symbol) × (symbols ≡ before ++ gro
 
 -- each node that has ended matches its pattern, and a node, or a group on the document's own spine, is open
 abbrev pub LeaveOpen : List Event → Type 0
-LeaveOpen events =
-    (path : List Level) × (nodes : Forest) × Begins events path nodes × ((path ≢ []) ⊎ ((path ≡ []) × EndsInGroup (spine nodes)))
+LeaveOpen events = (path : List Level) × (nodes : Forest) × Begins events path nodes
+    × ((path ≢ []) ⊎ ((path ≡ []) × EndsInGroup (spine nodes)))
 
 -- the node that ends with the last of these events breaks the rule, and each that has ended by then matches its pattern
-pub record EndsBroken (bytes : List ℕ) (names : List (List ℕ × List ℕ)) (events : List Event) (broken : Rule) : Type 0 where
+pub record EndsBroken (bytes : List ℕ) (names : List (List ℕ × List ℕ)) (events : List Event) (broken : Rule)
+    : Type 0 where
   pub path : List Level
   pub nodes : Forest
   pub name : Name
@@ -83,36 +85,36 @@ pub record EndsBroken (bytes : List ℕ) (names : List (List ℕ × List ℕ)) (
   pub path_shaped : IsShapedPath path
   pub nodes_shaped : AreShaped nodes (role_in path) (before_in path)
   pub shaped : AreShaped (Node name start end children Empty) (role_in path) (symbol_after (before_in path) nodes)
-  pub breaks : broken_at bytes names (role_in path) (symbol_after (before_in path) nodes) name start end children ≡ Some broken
+  pub breaks : broken_at bytes names (role_in path) (symbol_after (before_in path) nodes) name start end children
+      ≡ Some broken
 
--- the events are a document that has its shape and meets the other rules, and what its node that ends at the index leads to isn't there
-pub record EndsUnresolved (bytes : List ℕ) (names : List (List ℕ × List ℕ)) (events : List Event) (index : ℕ) (mention : Mention) : Type 0 where
+-- the events are a document that has its shape and meets the other rules, and what its node that ends at the index
+-- leads to isn't there
+pub record EndsUnresolved (given : Document) (index : ℕ) (mention : Mention) : Type 0 where
   pub forest : Forest
-  pub flattened : flatten forest ≡ events
+  pub flattened : flatten forest ≡ given.events
   pub shape : IsShaped forest
-  pub rules : MeetRules bytes names forest role.Flow None
-  pub mentioned : slice_get (mentions_in (notes_of forest)) index ≡ Some mention
-  pub unresolved : IsResolved bytes (mentions_in (notes_of forest)) mention → ⊥
-
--- the event at the index enters a name of MDX
-abbrev pub EntersMdx : List Event → ℕ → Type 0
-EntersMdx events index =
-    (event : Event) × (slice_get events index ≡ Some event) × (event.kind ≡ Enter) × (standing_of event.name ≡ standing.Mdx)
+  pub rules : MeetRules given.bytes given.names forest role.Flow None
+  pub mentioned : slice_get (mentions_of forest) index ≡ Some mention
+  pub unresolved : IsResolved given.bytes (mentions_of forest) mention → ⊥
 
 -- Order at an event: no tree begins so; Order at the number of events: something is open
 abbrev pub IsOrder : Document → CompileError → Type 0
-IsOrder given (error.Event index rule.Order) =
-    (index ≤ length given.events) × (index < length given.events → BeginNoTree (take (suc index) given.events)) × (index ≡ length given.events → LeaveOpen given.events)
+IsOrder given (error.Event index rule.Order) = (index ≤ length given.events)
+    × (index < length given.events → BeginNoTree (take (suc index) given.events))
+    × (index ≡ length given.events → LeaveOpen given.events)
 IsOrder given _ = Unit {0}
 
 -- Mdx: that event enters a name of MDX
 abbrev pub IsMdx : Document → CompileError → Type 0
-IsMdx given (error.Event index rule.Mdx) = EntersMdx given.events index
+IsMdx given (error.Event index rule.Mdx) = (event : Event) × (slice_get given.events index ≡ Some event)
+    × (event.kind ≡ Enter) × (standing_of event.name ≡ standing.Mdx)
 IsMdx given _ = Unit {0}
 
 -- a rule that is judged when a node ends: the node that ends there breaks it
 abbrev pub IsBroken : Document → ℕ → Rule → Type 0
-IsBroken given index broken = (index < length given.events) × EndsBroken given.bytes given.names (take (suc index) given.events) broken
+IsBroken given index broken = (index < length given.events)
+    × EndsBroken given.bytes given.names (take (suc index) given.events) broken
 
 abbrev pub IsOfNode : Document → CompileError → Type 0
 IsOfNode given (error.Event index rule.Place) = IsBroken given index rule.Place
@@ -125,8 +127,8 @@ IsOfNode given _ = Unit {0}
 
 -- Definition or Footnote: what the node that ends there leads to isn't there, in a document that meets all else
 abbrev pub IsLost : Document → CompileError → Type 0
-IsLost given (error.Event index rule.Definition) = (label : Position) × EndsUnresolved given.bytes given.names given.events index (Reference label)
-IsLost given (error.Event index rule.Footnote) = (label : Position) × EndsUnresolved given.bytes given.names given.events index (Call label)
+IsLost given (error.Event index rule.Definition) = (label : Position) × EndsUnresolved given index (Reference label)
+IsLost given (error.Event index rule.Footnote) = (label : Position) × EndsUnresolved given index (Call label)
 IsLost given _ = Unit {0}
 
 -- an event is refused only where the events are the flattening of no document of the grammar

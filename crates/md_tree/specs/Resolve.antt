@@ -16,12 +16,15 @@ use Rattle.md_tree.specs.Mentions.{mentions_among, IsResolved, identifier_at}
 -- the event at the index mentions this, and nothing of the kind is defined
 abbrev pub LeadsNowhere : List ℕ → List Mentioned → ℕ → Mention → Type 0
 LeadsNowhere bytes mentioned index mention =
-    (at : ℕ) × (slice_get mentioned at ≡ Some (record { index = index; mention = mention })) × (IsResolved bytes (mentions_among mentioned) mention → ⊥)
+    (at : ℕ) × (slice_get mentioned at ≡ Some (record { index = index; mention = mention }))
+    × (IsResolved bytes (mentions_among mentioned) mention → ⊥)
 
 -- the rule that what leads nowhere breaks
 abbrev pub IsUnresolvedBy : List ℕ → List Mentioned → ℕ → Rule → Type 0
-IsUnresolvedBy bytes mentioned index rule.Definition = (label : Position) × LeadsNowhere bytes mentioned index (Reference label)
-IsUnresolvedBy bytes mentioned index rule.Footnote = (label : Position) × LeadsNowhere bytes mentioned index (Call label)
+IsUnresolvedBy bytes mentioned index rule.Definition = (label : Position)
+    × LeadsNowhere bytes mentioned index (Reference label)
+IsUnresolvedBy bytes mentioned index rule.Footnote = (label : Position)
+    × LeadsNowhere bytes mentioned index (Call label)
 IsUnresolvedBy bytes mentioned index _ = ⊥
 
 abbrev pub IsUnresolved : List ℕ → List Mentioned → CompileError → Type 0
@@ -44,6 +47,8 @@ IsFound bytes definitions footnotes _ = Unit {0}
 
 -- it isn't, and so the rule is broken
 abbrev pub IsLost : List ℕ → List (Option (List ℕ)) → List (Option (List ℕ)) → Mention → Rule → Type 0
-IsLost bytes definitions footnotes (Reference label) broken = (broken ≡ rule.Definition) × (Contains definitions (identifier_at bytes label) → ⊥)
-IsLost bytes definitions footnotes (Call label) broken = (broken ≡ rule.Footnote) × (Contains footnotes (identifier_at bytes label) → ⊥)
+IsLost bytes definitions footnotes (Reference label) broken = (broken ≡ rule.Definition)
+    × (Contains definitions (identifier_at bytes label) → ⊥)
+IsLost bytes definitions footnotes (Call label) broken = (broken ≡ rule.Footnote)
+    × (Contains footnotes (identifier_at bytes label) → ⊥)
 IsLost bytes definitions footnotes _ broken = ⊥

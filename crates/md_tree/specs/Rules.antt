@@ -23,11 +23,16 @@ use Rattle.md_base.specs.Tree.{Forest, Empty, Node}
 use Rattle.md_pattern.specs.Standing.{standing_of}
 use Rattle.md_pattern.specs.Shape.{Claim, EachNode}
 
+-- what is read of a node, by how it stands: nothing of one that stands on no spine
+abbrev pub reading_of : Standing → Reading
+reading_of standing = elim standing [ Solid symbol usual read ↦ read | _ ↦ reading.Free ]
+
 -- where a node starts and ends
 abbrev pub place : Point → Point → Position
 place start end = record { start = start; end = end }
 
--- what a node leaves as the target of the node around, by what is read of it, the target so far and what its own spine has
+-- what a node leaves as the target of the node around, by what is read of it, the target so far and what its own
+-- spine has
 abbrev pub target_at : Reading → Target → Target → Position → Target
 target_at reading.Identifier found inner where_it_is = Label where_it_is
 target_at reading.Holder found inner where_it_is = inner
@@ -59,7 +64,7 @@ marker_after _ = None
 
 -- the value of a reference group decodes; no other value is asked to
 abbrev pub is_decodable : List (List ℕ × List ℕ) → Option Symbol → List ℕ → Bool
-is_decodable names before text = option_map_or (λ marker. is_some (decoded names marker text)) (marker_after before) true
+is_decodable names before text = option_map_or (λ mark. is_some (decoded names mark text)) (marker_after before) true
 
 -- the one value in the prefix of an ordered list's first item is the list's number
 abbrev pub is_list_number : Role → Option Symbol → List ℕ → Bool
@@ -81,44 +86,43 @@ unless condition broken = if condition then None else Some broken
 
 -- what a text breaks: its place where there is no text
 abbrev pub broken_by : Option (List ℕ) → (List ℕ → Option Rule) → Option Rule
-broken_by None judged = Some rule.Place
-broken_by (Some text) judged = judged text
+broken_by read judged = elim read [ None ↦ Some rule.Place | Some text ↦ judged text ]
 
 -- the target of a link or an image
 abbrev pub broken_by_target : Target → Option Rule
-broken_by_target Missing = Some rule.Target
-broken_by_target _ = None
+broken_by_target target = elim target [ Missing ↦ Some rule.Target | _ ↦ None ]
 
--- the rule that a node breaks, by what is read of it, the role around it, the symbol before it, its place and its target
-abbrev pub broken_rule : List ℕ → List (List ℕ × List ℕ) → Reading → Role → Option Symbol → Point → Point → Target → Option Rule
-broken_rule bytes names reading.Text around before start end target = broken_by (text_between bytes start end) (λ text. None)
-broken_rule bytes names reading.LineEnding around before start end target =
-    broken_by (text_between bytes start end) (λ text. unless (is_line_ending text) rule.LineEnding)
-broken_rule bytes names reading.Number around before start end target =
-    broken_by (text_between bytes start end) (λ text. unless (is_list_number around before text) rule.ListNumber)
-broken_rule bytes names reading.Value around before start end target =
-    broken_by (text_between bytes start end) (λ text. unless (is_decodable names before text) rule.CharacterReference)
-broken_rule bytes names reading.Mark around before start end target =
-    if fits bytes start end then unless (is_rank around before (columns start end)) rule.HeadingMark else Some rule.Place
-broken_rule bytes names reading.Underline around before start end target = unless (nat_lt start.index (length bytes)) rule.Place
-broken_rule bytes names reading.Identifier around before start end target = broken_by (label_between bytes start end) (λ text. None)
-broken_rule bytes names reading.Media around before start end target = broken_by_target target
-broken_rule bytes names _ around before start end target = None
-
--- the same for each way to stand: of a node that stands on no spine nothing is read
-abbrev pub broken_where : List ℕ → List (List ℕ × List ℕ) → Standing → Role → Option Symbol → Point → Point → Target → Option Rule
-broken_where bytes names (Solid symbol usual reading) around before start end target =
-    broken_rule bytes names reading around before start end target
-broken_where bytes names _ around before start end target = None
+-- the rule that a node breaks, by what is read of it, the role around it, the symbol before it, its place and its
+-- target
+abbrev pub broken_rule : List ℕ → List (List ℕ × List ℕ) → Reading → Role → Option Symbol → Point → Point → Target
+    → Option Rule
+broken_rule bytes names read around before start end target = elim read [
+  | reading.Text ↦ broken_by (text_between bytes start end) (λ text. None)
+  | reading.LineEnding ↦
+      broken_by (text_between bytes start end) (λ text. unless (is_some (ending_of text)) rule.LineEnding)
+  | reading.Number ↦
+      broken_by (text_between bytes start end) (λ text. unless (is_list_number around before text) rule.ListNumber)
+  | reading.Value ↦
+      broken_by (text_between bytes start end) (λ text. unless (is_decodable names before text) rule.CharacterReference)
+  | reading.Mark ↦
+      if fits bytes start end then unless (is_rank around before (columns start end)) rule.HeadingMark
+      else Some rule.Place
+  | reading.Underline ↦ unless (nat_lt start.index (length bytes)) rule.Place
+  | reading.Identifier ↦ broken_by (label_between bytes start end) (λ text. None)
+  | reading.Media ↦ broken_by_target target
+  | _ ↦ None
+]
 
 -- the rule that a node breaks, in a node of a role and after a symbol on its spine
-abbrev pub broken_at : List ℕ → List (List ℕ × List ℕ) → Role → Option Symbol → Name → Point → Point → Forest → Option Rule
+abbrev pub broken_at : List ℕ → List (List ℕ × List ℕ) → Role → Option Symbol → Name → Point → Point → Forest
+    → Option Rule
 broken_at bytes names around before name start end children =
-    broken_where bytes names (standing_of name) around before start end (target_of children Missing)
+    broken_rule bytes names (reading_of (standing_of name)) around before start end (target_of children Missing)
 
 -- a node meets the rules that are judged by itself and by what stands before it in the nodes around
 abbrev pub MeetsRules : List ℕ → List (List ℕ × List ℕ) → Claim
-MeetsRules bytes names around before name start end children = broken_at bytes names around before name start end children ≡ None
+MeetsRules bytes names around before name start end children =
+    broken_at bytes names around before name start end children ≡ None
 
 -- each node meets them
 abbrev pub MeetRules : List ℕ → List (List ℕ × List ℕ) → Forest → Role → Option Symbol → Type 0

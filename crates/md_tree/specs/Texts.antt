@@ -30,7 +30,8 @@ ExitsAt events index name = IsEventAt events index Exit name
 -- for each event of the nodes, in order: nothing at an entry, at an exit where the node starts and ends
 abbrev pub positions_of : Forest → List (Option Position)
 positions_of Empty = []
-positions_of (Node name start end children rest) = None ∷ positions_of children ++ Some (place start end) ∷ positions_of rest
+positions_of (Node name start end children rest) = None ∷ positions_of children ++ Some (place start end)
+    ∷ positions_of rest
 
 -- what is read of a node is its text
 abbrev pub is_text : Reading → Bool
@@ -67,9 +68,13 @@ ExitsIdentifier events index = (name : Name) × ExitsAt events index name × IsT
 -- the text of the node that ends at an index, in the document that the events are
 abbrev pub IsTextAt : Document → ℕ → List ℕ → Type 0
 IsTextAt given index text =
-    (forest : Forest) (position : Position) → flatten forest ≡ given.events → slice_get (positions_of forest) index ≡ Some (Some position) → text_between given.bytes position.start position.end ≡ Some text
+    (forest : Forest) (position : Position) → flatten forest ≡ given.events →
+    slice_get (positions_of forest) index ≡ Some (Some position) →
+    text_between given.bytes position.start position.end ≡ Some text
 
 -- the same of the text between its indices
 abbrev pub IsIdentifierAt : Document → ℕ → List ℕ → Type 0
 IsIdentifierAt given index text =
-    (forest : Forest) (position : Position) → flatten forest ≡ given.events → slice_get (positions_of forest) index ≡ Some (Some position) → label_between given.bytes position.start position.end ≡ Some text
+    (forest : Forest) (position : Position) → flatten forest ≡ given.events →
+    slice_get (positions_of forest) index ≡ Some (Some position) →
+    label_between given.bytes position.start position.end ≡ Some text

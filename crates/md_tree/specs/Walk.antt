@@ -43,15 +43,28 @@ target_seen events (aim.Label entry exit) = Label (place_at events entry exit)
 
 abbrev pub outer_seen : List Event → KeptOuter → Outer
 outer_seen events outer =
-    record { state = outer.state; before = outer.before; target = target_seen events outer.target; reading = outer.reading }
+    record {
+      state = outer.state;
+      before = outer.before;
+      target = target_seen events outer.target;
+      reading = outer.reading;
+    }
 
 abbrev pub open_seen : List Event → KeptOpen → Open
 open_seen events open_node =
-    record { name = open_node.name; start = point_at events open_node.entry; outer = option_map (λ outer. outer_seen events outer) open_node.outer }
+    record {
+      name = open_node.name;
+      start = point_at events open_node.entry;
+      outer = option_map (λ outer. outer_seen events outer) open_node.outer;
+    }
 
 abbrev pub entry_seen : List Event → KeptEntry → Entry
 entry_seen events entry =
-    record { state = entry.state; target = target_seen events entry.target; outer = option_map (λ outer. outer_seen events outer) entry.outer }
+    record {
+      state = entry.state;
+      target = target_seen events entry.target;
+      outer = option_map (λ outer. outer_seen events outer) entry.outer;
+    }
 
 -- the open nodes, of which the vector has the innermost last
 abbrev pub opens_seen : List Event → List KeptOpen → List Open
@@ -73,17 +86,20 @@ Anything reading around before start end target = Unit {0}
 
 -- a node that breaks no rule
 abbrev pub Unbroken : List ℕ → List (List ℕ × List ℕ) → Reads
-Unbroken bytes names reading around before start end target = broken_rule bytes names reading around before start end target ≡ None
+Unbroken bytes names reading around before start end target =
+    broken_rule bytes names reading around before start end target ≡ None
 
 -- a node that breaks a rule
 abbrev pub Broken : List ℕ → List (List ℕ × List ℕ) → Rule → Reads
-Broken bytes names broken reading around before start end target = broken_rule bytes names reading around before start end target ≡ Some broken
+Broken bytes names broken reading around before start end target =
+    broken_rule bytes names reading around before start end target ≡ Some broken
 
 -- the innermost open node would end here, and breaks the rule
 abbrev pub BreaksWhere : List ℕ → List (List ℕ × List ℕ) → Rule → Option Outer → Point → Point → Course → Type 0
 BreaksWhere bytes names broken None start end course = ⊥
 BreaksWhere bytes names broken (Some outer) start end course =
-    IsTrue (is_complete course.state) × Broken bytes names broken outer.reading outer.state.role outer.before start end course.target
+    IsTrue (is_complete course.state) × Broken bytes names broken outer.reading outer.state.role outer.before start
+    end course.target
 
 abbrev pub BreaksAtExit : List ℕ → List (List ℕ × List ℕ) → Rule → List Open → Name → Point → Course → Type 0
 BreaksAtExit bytes names broken [] name point course = ⊥
@@ -98,7 +114,8 @@ StopsAtEntry _ name point course = ⊥
 
 -- why an exiting event stops a walk: no node may end there, or its node breaks a rule
 abbrev pub StopsAtExit : List ℕ → List (List ℕ × List ℕ) → Rule → Name → Point → Course → Type 0
-StopsAtExit bytes names rule.Order name point course = (next : Course) → Exits Anything course.open_nodes name point course next → ⊥
+StopsAtExit bytes names rule.Order name point course = (next : Course) →
+    Exits Anything course.open_nodes name point course next → ⊥
 StopsAtExit bytes names rule.Mdx name point course = ⊥
 StopsAtExit bytes names broken name point course = BreaksAtExit bytes names broken course.open_nodes name point course
 
@@ -115,7 +132,8 @@ IsStop bytes names index kind name point course (error.Event named broken) =
 -- such a node may not end, or it breaks a rule
 abbrev pub StopsInside : List ℕ → List (List ℕ × List ℕ) → Rule → Outer → Position → Course → Type 0
 StopsInside bytes names rule.Order outer position course = is_complete course.state ≡ false
-StopsInside bytes names broken outer position course = BreaksWhere bytes names broken (Some outer) position.start position.end course
+StopsInside bytes names broken outer position course = BreaksWhere bytes names broken
+    (Some outer) position.start position.end course
 
 abbrev pub IsStopInside : List ℕ → List (List ℕ × List ℕ) → ℕ → Outer → Position → Course → CompileError → Type 0
 IsStopInside bytes names index outer position course error.Memory = Unit {0}

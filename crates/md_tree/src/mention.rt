@@ -1,6 +1,6 @@
 //! What nodes mention by their labels.
 
-use md_base::{Point, Position};
+use md_base::Position;
 
 /// What identifies a link, an image, a footnote call or a definition.
 #[derive(Clone, Copy, Debug, PartialEq, Eq)]
@@ -26,12 +26,5 @@ pub enum Mention {
 #[derive(Clone, Copy, Debug, PartialEq, Eq)]
 pub struct Mentioned {
     pub index: usize,
-    pub mention: Mention,
-}
-
-/// What is said of an event: where its node starts, and at an exit what the node mentions.
-#[derive(Clone, Copy, Debug, PartialEq, Eq)]
-pub struct Note {
-    pub start: Point,
     pub mention: Mention,
 }

@@ -74,10 +74,8 @@ text_at given at = unwrap_or (text_between given.bytes at.start at.end) []
 
 -- directly in a tight list
 abbrev pub is_tight : Container → Bool
-is_tight TightList = true
-is_tight _ = false
+is_tight container = elim container [ TightList ↦ true | _ ↦ false ]
 
 -- in a container
 abbrev pub is_contained : Container → Bool
-is_contained Nothing = false
-is_contained _ = true
+is_contained container = elim container [ Nothing ↦ false | _ ↦ true ]

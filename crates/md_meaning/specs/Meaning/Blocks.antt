@@ -1,9 +1,8 @@
 -- What lists, headings and code mean.
-use Rattle.std.specs.Prelude.{ℕ, Bool, true, false, not, ◌&&◌, ◌||◌, if◌then◌else◌, List, [], ◌∷◌, ◌++◌, codes, bytes_eq}
+use Rattle.std.specs.Prelude.{ℕ, Bool, true, false, not, ◌&&◌, ◌||◌, ◌==◌, if◌then◌else◌, List, [], ◌∷◌, ◌++◌, codes, bytes_eq, count_by}
 use Rattle.std.specs.Option.{option_map_or}
 use Rattle.std.specs.List.{list_any}
 use Rattle.std.specs.Fmt.{decimal}
-use Rattle.md_base.specs.declared.event.Name.{Name}
 use Rattle.md_text.specs.Encode.{encoded}
 use Rattle.md_base.specs.Children.{spine_names, last_name, last_contributing}
 use Rattle.md_base.specs.NameTests.{is_heading_mark, is_fence, is_chunk, is_item_prefix, is_paragraph}
@@ -21,14 +20,12 @@ start_attribute number =
 
 -- the same for the number of a list's first item, without leading zeros
 abbrev pub list_start : Given → At → List Piece
-list_start given at =
-    option_map_or (λ place. start_attribute (without_zeros (text_of given.bytes place.start place.end)))
-    (number_in_list at.children) []
+list_start given at = option_map_or
+    (λ here. start_attribute (without_zeros (text_of given.bytes here.start here.end))) (number_in_list at.children) []
 
 -- the last child that contributes is the item's prefix, or a paragraph in a tight list
 abbrev pub ends_in_line : At → Bool
-ends_in_line at =
-    option_map_or is_item_prefix (last_contributing at.children) false
+ends_in_line at = option_map_or is_item_prefix (last_contributing at.children) false
     || option_map_or is_paragraph (last_contributing at.children) false && is_tight at.around.container
 
 -- a heading's tag
@@ -54,14 +51,9 @@ chunk given at = said (encoded true (serialized_of given.bytes at.start at.end))
 abbrev pub code_end : At → List Piece
 code_end at = when (list_any is_chunk (spine_names at.children)) (Needed ∷ []) ++ said (codes "</code></pre>")
 
--- one name passes a test, and no other
-abbrev pub one_passes : (Name → Bool) → List Name → Bool
-one_passes test [] = false
-one_passes test (name ∷ names) = if test name then not (list_any test names) else one_passes test names
-
 -- code that has one fence alone
 abbrev pub is_unclosed : At → Bool
-is_unclosed at = one_passes is_fence (spine_names at.children)
+is_unclosed at = count_by is_fence (spine_names at.children) == 1
 
 -- code that isn't closed before its container ends, with more in it than its fence
 abbrev pub runs_out : At → Bool
@@ -70,7 +62,5 @@ runs_out at =
 
 -- code or math between fences
 abbrev pub fenced : At → List ℕ → List Piece → List Piece
-fenced at start inner =
-    on_own_line start
-    ++ (inner
-    ++ (when (runs_out at) (Forced ∷ []) ++ (code_end at ++ when (is_unclosed at) (Needed ∷ []))))
+fenced at start inner = on_own_line start
+    ++ (inner ++ (when (runs_out at) (Forced ∷ []) ++ (code_end at ++ when (is_unclosed at) (Needed ∷ []))))

@@ -5,11 +5,11 @@ use Rattle.md_base.specs.declared.event.Position.{Position}
 use Rattle.md_base.specs.Tree.{Forest}
 use Rattle.md_base.specs.Children.{first_on_spine}
 use Rattle.md_base.specs.NameTests.{is_label, is_label_text, is_reference, is_footnote_prefix, is_footnote_label, is_item, is_item_prefix, is_item_value}
-use Rattle.md_meaning.specs.Places.{position}
+use Rattle.md_tree.specs.Rules.{place}
 
 -- the place of the first node on the spine whose name passes a test
 abbrev pub first : (Name → Bool) → Forest → Option Position
-first test children = first_on_spine test position children
+first test children = first_on_spine test (λ start end inner. place start end) children
 
 -- what is found in the first such node
 abbrev pub in_first : (Name → Bool) → (Forest → Option Position) → Forest → Option Position

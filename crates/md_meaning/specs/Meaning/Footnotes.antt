@@ -1,12 +1,13 @@
 -- What footnote calls mean, and the section of footnotes at a document's end.
-use Rattle.std.specs.Prelude.{ℕ, ◌+◌, ◌-◌, zero, suc, true, not, ◌&&◌, ◌||◌, ◌==◌, if◌then◌else◌, List, [], ◌∷◌, ◌++◌, length, take, drop, find, Option, option_map, bytes_eq, codes, string_bytes}
+use Rattle.std.specs.Prelude.{ℕ, ◌-◌, zero, suc, true, not, ◌&&◌, ◌||◌, ◌==◌, if◌then◌else◌, List, [], ◌∷◌, ◌++◌, length, take, drop, find, Option, option_map, bytes_eq, codes, string_bytes}
 use Rattle.std.specs.Option.{option_map_or}
+use Rattle.std.specs.List.{flat_map}
 use Rattle.std.specs.Fmt.{decimal}
 use Rattle.md_text.specs.Encode.{encoded}
 use Rattle.md_text.specs.Url.{sanitized}
 use Rattle.md_meaning.specs.declared.options.CompileOptions.{CompileOptions}
 use Rattle.md_meaning.specs.Calls.{distinct, count_of}
-use Rattle.md_meaning.specs.Footnotes.{Footnote}
+use Rattle.md_meaning.specs.Given.{Footnote}
 use Rattle.md_meaning.specs.Places.{identifier_at}
 use Rattle.md_meaning.specs.Meaning.Layout.{Piece, Text, Needed, Forced, on_own_line, when}
 use Rattle.md_meaning.specs.Meaning.Finds.{label_in_node}
@@ -20,19 +21,8 @@ option_or text unset = option_map_or (λ set. encoded true set) text unset
 abbrev pub id_prefix : CompileOptions → List ℕ
 id_prefix options = option_or (option_map string_bytes options.gfm_footnote_clobber_prefix) (codes "user-content-")
 
-abbrev pub back_label : CompileOptions → List ℕ
-back_label options = option_or (option_map string_bytes options.gfm_footnote_back_label) (codes "Back to content")
-
-abbrev pub section_label : CompileOptions → List ℕ
-section_label options = option_or (option_map string_bytes options.gfm_footnote_label) (codes "Footnotes")
-
 abbrev pub section_tag : CompileOptions → List ℕ
 section_tag options = option_or (option_map string_bytes options.gfm_footnote_label_tag_name) (codes "h2")
-
--- the attributes stand as they are given
-abbrev pub section_attributes : CompileOptions → List ℕ
-section_attributes options =
-    option_map_or string_bytes options.gfm_footnote_label_attributes (codes "class=\"sr-only\"")
 
 -- the id of a footnote: the prefix, `fn-` and the identifier as a URL
 abbrev pub footnote_id : CompileOptions → List ℕ → List ℕ
@@ -68,9 +58,9 @@ call given at =
 
 -- the way back to a call; the arrow is U+21A9
 abbrev pub backreference : CompileOptions → List ℕ → ℕ → List ℕ
-backreference options identifier occurrence =
-    codes "<a href=\"#" ++ (call_id options identifier occurrence
-    ++ (codes "\" data-footnote-backref=\"\" aria-label=\"" ++ (back_label options
+backreference options identifier occurrence = codes "<a href=\"#" ++ (call_id options identifier occurrence
+    ++ (codes "\" data-footnote-backref=\"\" aria-label=\""
+    ++ (option_or (option_map string_bytes options.gfm_footnote_back_label) (codes "Back to content")
     ++ (codes "\" class=\"data-footnote-backref\">" ++ ((226 ∷ 134 ∷ 169 ∷ [])
     ++ ((if occurrence == 1 then [] else codes "<sup>" ++ (decimal occurrence ++ codes "</sup>")) ++ codes "</a>"))))))
 
@@ -107,22 +97,17 @@ item given footnotes identifier =
     ∷ (body (text_with footnotes identifier) (backreferences given.options identifier (count_of given.calls identifier))
     ++ on_own_line (codes "</li>"))
 
-abbrev pub items : Given → List Footnote → List (List ℕ) → List Piece
-items given footnotes [] = []
-items given footnotes (identifier ∷ identifiers) = item given footnotes identifier ++ items given footnotes identifiers
-
 -- the section's heading, and the list's tag
 abbrev pub section_start : CompileOptions → List Piece
 section_start options =
     Needed ∷ Text (codes "<section data-footnotes=\"\" class=\"footnotes\"><") ∷ Text (section_tag options)
-    ∷ Text (codes " id=\"footnote-label\" ") ∷ Text (section_attributes options)
-    ∷ Text (codes ">") ∷ Text (section_label options)
+    ∷ Text (codes " id=\"footnote-label\" ")
+    ∷ Text (option_map_or string_bytes options.gfm_footnote_label_attributes (codes "class=\"sr-only\""))
+    ∷ Text (codes ">") ∷ Text (option_or (option_map string_bytes options.gfm_footnote_label) (codes "Footnotes"))
     ∷ Text (codes "</") ∷ Text (section_tag options) ∷ Text (codes ">") ∷ Forced ∷ Text (codes "<ol>") ∷ []
 
 -- the section, where there is a call: one item for each identifier by its number
 abbrev pub section : Given → List Footnote → List Piece
-section given footnotes =
-    when (not (length given.calls == 0))
-    (section_start given.options
-    ++ (items given footnotes (distinct given.calls)
+section given footnotes = when (not (length given.calls == 0)) (section_start given.options
+    ++ (flat_map (item given footnotes) (distinct given.calls)
     ++ (Forced ∷ Text (codes "</ol>") ∷ Forced ∷ Text (codes "</section>") ∷ Forced ∷ [])))

@@ -20,8 +20,7 @@ means given at CharacterReferenceValue inner = written at (reference given at)
 means given at LineEnding inner = line_ending given at
 means given at BlankLineEnding inner = when at.is_last (Needed ∷ [])
 means given at BlockQuote inner = on_own_line (codes "<blockquote>") ++ (inner ++ on_own_line (codes "</blockquote>"))
-means given at ListOrdered inner =
-    on_own_line (codes "<ol") ++ (list_start given at
+means given at ListOrdered inner = on_own_line (codes "<ol") ++ (list_start given at
     ++ (said (codes ">") ++ (inner ++ (Forced ∷ said (codes "</ol>")))))
 means given at ListUnordered inner = on_own_line (codes "<ul>") ++ (inner ++ (Forced ∷ said (codes "</ul>")))
 means given at ListItem inner =

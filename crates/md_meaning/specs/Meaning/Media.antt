@@ -2,20 +2,13 @@
 use Rattle.std.specs.Prelude.{ℕ, Bool, true, ◌||◌, if◌then◌else◌, List, [], ◌∷◌, ◌++◌, Option, None, unwrap_or, find, bytes_eq, codes}
 use Rattle.std.specs.Option.{option_map_or}
 use Rattle.md_text.specs.Encode.{encoded}
-use Rattle.md_text.specs.Url.{sanitized, sanitized_with}
+use Rattle.md_text.specs.Url.{sanitized, sanitized_with, link_protocols, image_protocols}
 use Rattle.md_meaning.specs.declared.options.CompileOptions.{CompileOptions}
 use Rattle.md_meaning.specs.Piece.{Target}
 use Rattle.md_meaning.specs.Places.{identifier_at}
 use Rattle.md_meaning.specs.Meaning.Finds.{referring_in}
 use Rattle.md_meaning.specs.Meaning.Layout.{Piece, Text, said}
 use Rattle.md_meaning.specs.Meaning.At.{Given, At, text_at, nothing_found, target_in}
-
--- the protocols that a link may have, and those that an image may have
-abbrev pub link_protocols : List (List ℕ)
-link_protocols = codes "http" ∷ codes "https" ∷ codes "irc" ∷ codes "ircs" ∷ codes "mailto" ∷ codes "xmpp" ∷ []
-
-abbrev pub image_protocols : List (List ℕ)
-image_protocols = codes "http" ∷ codes "https" ∷ []
 
 -- a URL as it is written, judged unless that is off
 abbrev pub url : Bool → List (List ℕ) → List ℕ → List ℕ
@@ -30,8 +23,7 @@ src options destination =
 
 -- where the first definition with an identifier leads
 abbrev pub defined_by : Given → List ℕ → Target
-defined_by given identifier =
-    option_map_or (λ defined. defined.target)
+defined_by given identifier = option_map_or (λ defined. defined.target)
     (find (λ defined. bytes_eq defined.identifier identifier) given.definitions) (target_in nothing_found)
 
 -- where a link or an image leads: as its resource says, else as the definition to which it refers
@@ -63,10 +55,8 @@ image given at label = if at.around.in_image then said label else picture given.
 
 -- an autolink: its text, which leads to itself behind a prefix unless it is plain
 abbrev pub autolink : Given → At → Bool → List ℕ → List Piece
-autolink given at plain prefix =
-    if plain then said (encoded true (text_at given at))
-    else anchor given.options (record { destination = prefix ++ text_at given at; title = None })
-    (encoded true (text_at given at))
+autolink given at plain prefix = if plain then said (encoded true (text_at given at)) else anchor given.options
+    (record { destination = prefix ++ text_at given at; title = None }) (encoded true (text_at given at))
 
 -- a literal one is plain in a link as well
 abbrev pub literal : Given → At → List ℕ → List Piece

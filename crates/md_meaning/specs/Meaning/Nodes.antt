@@ -8,8 +8,7 @@ use Rattle.md_infer.specs.Looseness.{is_loose}
 use Rattle.md_base.specs.NameTests.{is_transparent, is_definition_label, is_link_definition, is_footnote_definition}
 use Rattle.md_meaning.specs.declared.facts.Surroundings.{Surroundings}
 use Rattle.md_meaning.specs.Surroundings.{inside}
-use Rattle.md_meaning.specs.Given.{Defined}
-use Rattle.md_meaning.specs.Footnotes.{Footnote}
+use Rattle.md_meaning.specs.Given.{Defined, Footnote}
 use Rattle.md_meaning.specs.Places.{identifier_at}
 use Rattle.md_meaning.specs.Meaning.Layout.{Piece, layout}
 use Rattle.md_meaning.specs.Meaning.Finds.{first, footnote_label}
@@ -23,9 +22,6 @@ pub record Meant : Type 0 where
   pub found : Found
   pub definitions : List Defined
   pub footnotes : List Footnote
-
-abbrev pub nothing_meant : Meant
-nothing_meant = record { pieces = []; found = nothing_found; definitions = []; footnotes = [] }
 
 abbrev pub both : Meant → Meant → Meant
 both first later = record {
@@ -70,7 +66,7 @@ followed given at name inner later =
 
 -- what some nodes mean, by what stands round them and before them
 abbrev pub meant : Given → Surroundings → Before → Forest → Meant
-meant given around before Empty = nothing_meant
+meant given around before Empty = record { pieces = []; found = nothing_found; definitions = []; footnotes = [] }
 meant given around before (Node name start end children rest) =
     followed given
     (record {

@@ -18,9 +18,7 @@ written at text = said (encoded at.around.is_escaping text)
 
 -- the marker that a name is: `x`, `#` or `&`
 abbrev pub marker : Name → ℕ
-marker CharacterReferenceMarkerHexadecimal = 120
-marker CharacterReferenceMarkerNumeric = 35
-marker _ = 38
+marker name = elim name [ CharacterReferenceMarkerHexadecimal ↦ 120 | CharacterReferenceMarkerNumeric ↦ 35 | _ ↦ 38 ]
 
 -- what a reference stands for: the last mark before its value says how to read it
 abbrev pub reference : Given → At → List ℕ
@@ -34,16 +32,13 @@ is_dropped at =
 
 -- a line ending: a space in code, else its own text unless it is dropped
 abbrev pub line_ending : Given → At → List Piece
-line_ending given at =
-    if at.around.in_code then said (codes " ")
+line_ending given at = if at.around.in_code then said (codes " ")
     else (if is_dropped at then [] else said (text_at given at))
 
 -- HTML, which the tag filter disarms where it may stand
 abbrev pub html : Given → At → List ℕ
-html given at =
-    if given.options.allow_dangerous_html && given.options.gfm_tagfilter
-    then tag_filtered (text_at given at)
-    else text_at given at
+html given at = if given.options.allow_dangerous_html && given.options.gfm_tagfilter
+    then tag_filtered (text_at given at) else text_at given at
 
 -- outside images
 abbrev pub unless_in_image : At → List Piece → List Piece
@@ -55,8 +50,7 @@ span at start inner end = if at.around.in_image then inner else start ++ (inner 
 
 -- a task's tag, up to what tells that it is done
 abbrev pub task_start : Given → List Piece
-task_start given =
-    Text (codes "<input type=\"checkbox\" ")
+task_start given = Text (codes "<input type=\"checkbox\" ")
     ∷ when (not given.options.gfm_task_list_item_checkable) (said (codes "disabled=\"\" "))
 
 -- this byte stands there
@@ -66,15 +60,12 @@ is_at byte text index = option_map_or (λ found. found == byte) (slice_get text 
 -- a text whose backslashes directly before pipes are gone
 abbrev pub without_escapes : List ℕ → List ℕ
 without_escapes [] = []
-without_escapes (byte ∷ bytes) =
-    (if byte == 92 && is_at 124 bytes 0 then [] else byte ∷ []) ++ without_escapes bytes
+without_escapes (byte ∷ bytes) = (if byte == 92 && is_at 124 bytes 0 then [] else byte ∷ []) ++ without_escapes bytes
 
 -- one space less at each end of a text that begins and ends with one and isn't all spaces
 abbrev pub trimmed : List ℕ → List ℕ
-trimmed text =
-    if is_at 32 text 0 && is_at 32 text (length text - 1) && not (list_all (λ byte. byte == 32) text)
-    then take (length text - 2) (drop 1 text)
-    else text
+trimmed text = if is_at 32 text 0 && is_at 32 text (length text - 1) && not (list_all (λ byte. byte == 32) text)
+    then take (length text - 2) (drop 1 text) else text
 
 -- the text of code where it stands
 abbrev pub code_text : At → List ℕ → List ℕ
@@ -82,6 +73,5 @@ code_text at text = trimmed (if at.around.in_table then without_escapes text els
 
 -- code in a text
 abbrev pub code : At → List ℕ → List ℕ → List Piece
-code at tag text =
-    if at.around.in_image then said (code_text at text)
+code at tag text = if at.around.in_image then said (code_text at text)
     else Text tag ∷ Text (code_text at text) ∷ Text (codes "</code>") ∷ []

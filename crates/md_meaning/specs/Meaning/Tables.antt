@@ -1,6 +1,7 @@
 -- What rows and cells of tables mean.
 use Rattle.std.specs.Prelude.{ℕ, Bool, if◌then◌else◌, List, [], ◌∷◌, ◌++◌, drop, codes, slice_get, count_by}
 use Rattle.std.specs.Option.{option_map_or}
+use Rattle.std.specs.List.{flat_map}
 use Rattle.md_base.specs.declared.event.AlignKind.{AlignKind}
 use Rattle.md_base.specs.declared.event.AlignKind.TheVariants as align
 use Rattle.md_base.specs.Children.{spine_names}
@@ -24,17 +25,10 @@ cell_of in_head text kind =
 
 -- a cell, where the table has its column
 abbrev pub cell : At → List ℕ → List Piece
-cell at text =
-    option_map_or (λ kind. cell_of at.around.in_head text kind)
+cell at text = option_map_or (λ kind. cell_of at.around.in_head text kind)
     (slice_get at.before.columns (count_by is_cell at.before.spine)) []
-
--- an empty cell for each of some columns
-abbrev pub empty_cells : Bool → List AlignKind → List Piece
-empty_cells in_head [] = []
-empty_cells in_head (kind ∷ kinds) = cell_of in_head [] kind ++ empty_cells in_head kinds
 
 -- the end of a row, with empty cells for the columns that it has no cells for
 abbrev pub row_end : At → List Piece
-row_end at =
-    empty_cells at.around.in_head (drop (count_by is_cell (spine_names at.children)) at.before.columns)
-    ++ on_own_line (codes "</tr>")
+row_end at = flat_map (cell_of at.around.in_head [])
+    (drop (count_by is_cell (spine_names at.children)) at.before.columns) ++ on_own_line (codes "</tr>")

@@ -9,24 +9,32 @@ use Rattle.md_meaning.specs.Trees.{at, at_column}
 -- heading with emphasis: the tree, its bytes and its text
 abbrev pub heading_with_emphasis : Forest
 heading_with_emphasis =
-    Node HeadingAtx (at 0) (at 21) (Node HeadingAtxSequence (at 0) (at 2) (Empty) (Node SpaceOrTab (at 2) (at 3) (Empty) (Node HeadingAtxText (at 3) (at 21) (Node Data (at 3) (at 7) (Empty) (Node Emphasis (at 7) (at 15) (Node Data (at 8) (at 14) (Empty) (Empty)) (Node Data (at 15) (at 21) (Empty) (Empty)))) (Empty)))) (Empty)
+    Node HeadingAtx (at 0) (at 21) (Node HeadingAtxSequence (at 0) (at 2) (Empty)
+    (Node SpaceOrTab (at 2) (at 3) (Empty) (Node HeadingAtxText (at 3) (at 21)
+    (Node Data (at 3) (at 7) (Empty) (Node Emphasis (at 7) (at 15) (Node Data (at 8) (at 14) (Empty) (Empty))
+    (Node Data (at 15) (at 21) (Empty) (Empty)))) (Empty)))) (Empty)
 
 abbrev pub heading_with_emphasis_bytes : List ℕ
 heading_with_emphasis_bytes = codes "## Hi, *Saturn*! " ++ (240 ∷ []) ++ (159 ∷ []) ++ (170 ∷ []) ++ (144 ∷ [])
 
 abbrev pub heading_with_emphasis_text : List ℕ
-heading_with_emphasis_text = codes "<h2>Hi, <em>Saturn</em>! " ++ (240 ∷ []) ++ (159 ∷ []) ++ (170 ∷ []) ++ (144 ∷ []) ++ codes "</h2>"
+heading_with_emphasis_text = codes "<h2>Hi, <em>Saturn</em>! " ++ (240 ∷ []) ++ (159 ∷ []) ++ (170 ∷ []) ++ (144 ∷ [])
+    ++ codes "</h2>"
 
 -- fence in a quote: the tree, its bytes and its text
 abbrev pub fence_in_a_quote : Forest
 fence_in_a_quote =
-    Node BlockQuote (at 0) (at 9) (Node BlockQuotePrefix (at 0) (at 2) (Empty) (Node CodeFenced (at 2) (at 9) (Node CodeFencedFence (at 2) (at 5) (Empty) (Node LineEnding (at 5) (at 6) (Empty) (Node BlockQuotePrefix (at 6) (at 8) (Empty) (Node CodeFlowChunk (at 8) (at 9) (Empty) (Empty))))) (Empty))) (Empty)
+    Node BlockQuote (at 0) (at 9) (Node BlockQuotePrefix (at 0) (at 2) (Empty)
+    (Node CodeFenced (at 2) (at 9) (Node CodeFencedFence (at 2) (at 5) (Empty)
+    (Node LineEnding (at 5) (at 6) (Empty) (Node BlockQuotePrefix (at 6) (at 8) (Empty)
+    (Node CodeFlowChunk (at 8) (at 9) (Empty) (Empty))))) (Empty))) (Empty)
 
 abbrev pub fence_in_a_quote_bytes : List ℕ
 fence_in_a_quote_bytes = codes "> ```" ++ (10 ∷ []) ++ codes "> a"
 
 abbrev pub fence_in_a_quote_text : List ℕ
-fence_in_a_quote_text = codes "<blockquote>" ++ (10 ∷ []) ++ codes "<pre><code>a" ++ (10 ∷ []) ++ codes "</code></pre>" ++ (10 ∷ []) ++ codes "</blockquote>"
+fence_in_a_quote_text = codes "<blockquote>" ++ (10 ∷ []) ++ codes "<pre><code>a" ++ (10 ∷ [])
+    ++ codes "</code></pre>" ++ (10 ∷ []) ++ codes "</blockquote>"
 
 -- virtual spaces: the tree, its bytes and its text
 abbrev pub virtual_spaces : Forest
@@ -42,7 +50,8 @@ virtual_spaces_text = codes "<pre><code>  a" ++ (9 ∷ []) ++ codes "  " ++ (10 
 -- setext heading: the tree, its bytes and its text
 abbrev pub setext_heading : Forest
 setext_heading =
-    Node HeadingSetextText (at 0) (at 1) (Node Data (at 0) (at 1) (Empty) (Empty)) (Node LineEnding (at 1) (at 2) (Empty) (Node HeadingSetextUnderlineSequence (at 2) (at 4) (Empty) (Empty)))
+    Node HeadingSetextText (at 0) (at 1) (Node Data (at 0) (at 1) (Empty) (Empty))
+    (Node LineEnding (at 1) (at 2) (Empty) (Node HeadingSetextUnderlineSequence (at 2) (at 4) (Empty) (Empty)))
 
 abbrev pub setext_heading_bytes : List ℕ
 setext_heading_bytes = codes "a" ++ (10 ∷ []) ++ codes "--"
@@ -67,7 +76,10 @@ html_as_it_is_text = codes "<i>"
 -- closed fence with an info: the tree, its bytes and its text
 abbrev pub closed_fence_with_an_info : Forest
 closed_fence_with_an_info =
-    Node CodeFenced (at 0) (at 12) (Node CodeFencedFence (at 0) (at 5) (Node CodeFencedFenceInfo (at 3) (at 5) (Node Data (at 3) (at 5) (Empty) (Empty)) (Empty)) (Node LineEnding (at 5) (at 6) (Empty) (Node CodeFlowChunk (at 6) (at 8) (Empty) (Node LineEnding (at 8) (at 9) (Empty) (Node CodeFencedFence (at 9) (at 12) (Empty) (Empty)))))) (Empty)
+    Node CodeFenced (at 0) (at 12) (Node CodeFencedFence (at 0) (at 5)
+    (Node CodeFencedFenceInfo (at 3) (at 5) (Node Data (at 3) (at 5) (Empty) (Empty)) (Empty))
+    (Node LineEnding (at 5) (at 6) (Empty) (Node CodeFlowChunk (at 6) (at 8) (Empty)
+    (Node LineEnding (at 8) (at 9) (Empty) (Node CodeFencedFence (at 9) (at 12) (Empty) (Empty)))))) (Empty)
 
 abbrev pub closed_fence_with_an_info_bytes : List ℕ
 closed_fence_with_an_info_bytes = codes "```rs" ++ (10 ∷ []) ++ codes "a<" ++ (10 ∷ []) ++ codes "```"
@@ -78,7 +90,8 @@ closed_fence_with_an_info_text = codes "<pre><code class=\"language-rs\">a&lt;" 
 -- unclosed fence: the tree, its bytes and its text
 abbrev pub unclosed_fence : Forest
 unclosed_fence =
-    Node CodeFenced (at 0) (at 5) (Node CodeFencedFence (at 0) (at 3) (Empty) (Node LineEnding (at 3) (at 4) (Empty) (Node CodeFlowChunk (at 4) (at 5) (Empty) (Empty)))) (Empty)
+    Node CodeFenced (at 0) (at 5) (Node CodeFencedFence (at 0) (at 3) (Empty)
+    (Node LineEnding (at 3) (at 4) (Empty) (Node CodeFlowChunk (at 4) (at 5) (Empty) (Empty)))) (Empty)
 
 abbrev pub unclosed_fence_bytes : List ℕ
 unclosed_fence_bytes = codes "```" ++ (10 ∷ []) ++ codes "a"
@@ -89,13 +102,15 @@ unclosed_fence_text = codes "<pre><code>a" ++ (10 ∷ []) ++ codes "</code></pre
 -- unclosed fence alone in a quote: the tree, its bytes and its text
 abbrev pub unclosed_fence_alone_in_a_quote : Forest
 unclosed_fence_alone_in_a_quote =
-    Node BlockQuote (at 0) (at 4) (Node BlockQuotePrefix (at 0) (at 1) (Empty) (Node CodeFenced (at 1) (at 4) (Node CodeFencedFence (at 1) (at 4) (Empty) (Empty)) (Empty))) (Empty)
+    Node BlockQuote (at 0) (at 4) (Node BlockQuotePrefix (at 0) (at 1) (Empty)
+    (Node CodeFenced (at 1) (at 4) (Node CodeFencedFence (at 1) (at 4) (Empty) (Empty)) (Empty))) (Empty)
 
 abbrev pub unclosed_fence_alone_in_a_quote_bytes : List ℕ
 unclosed_fence_alone_in_a_quote_bytes = codes ">```"
 
 abbrev pub unclosed_fence_alone_in_a_quote_text : List ℕ
-unclosed_fence_alone_in_a_quote_text = codes "<blockquote>" ++ (10 ∷ []) ++ codes "<pre><code></code></pre>" ++ (10 ∷ []) ++ codes "</blockquote>"
+unclosed_fence_alone_in_a_quote_text = codes "<blockquote>" ++ (10 ∷ []) ++ codes "<pre><code></code></pre>"
+    ++ (10 ∷ []) ++ codes "</blockquote>"
 
 -- code without a chunk: the tree, its bytes and its text
 abbrev pub code_without_a_chunk : Forest
@@ -111,7 +126,9 @@ code_without_a_chunk_text = codes "<pre><code></code></pre>"
 -- HTML where it is escaped: the tree, its bytes and its text
 abbrev pub html_by_default : Forest
 html_by_default =
-    Node HtmlFlow (at 0) (at 3) (Node HtmlFlowData (at 0) (at 3) (Empty) (Empty)) (Node LineEnding (at 3) (at 4) (Empty) (Node Paragraph (at 4) (at 7) (Node HtmlText (at 4) (at 7) (Node HtmlTextData (at 4) (at 7) (Empty) (Empty)) (Empty)) (Empty)))
+    Node HtmlFlow (at 0) (at 3) (Node HtmlFlowData (at 0) (at 3) (Empty) (Empty))
+    (Node LineEnding (at 3) (at 4) (Empty) (Node Paragraph (at 4) (at 7)
+    (Node HtmlText (at 4) (at 7) (Node HtmlTextData (at 4) (at 7) (Empty) (Empty)) (Empty)) (Empty)))
 
 abbrev pub html_by_default_bytes : List ℕ
 html_by_default_bytes = codes "<i>" ++ (10 ∷ []) ++ codes "<b>"
@@ -136,7 +153,9 @@ filtered_html_text = codes "&lt;xmp><i>"
 -- setext heading behind two endings: the tree, its bytes and its text
 abbrev pub setext_heading_behind_two_endings : Forest
 setext_heading_behind_two_endings =
-    Node HeadingSetextText (at 0) (at 1) (Node Data (at 0) (at 1) (Empty) (Empty)) (Node LineEnding (at 1) (at 2) (Empty) (Node LineEnding (at 2) (at 3) (Empty) (Node HeadingSetextUnderlineSequence (at 3) (at 4) (Empty) (Empty))))
+    Node HeadingSetextText (at 0) (at 1) (Node Data (at 0) (at 1) (Empty) (Empty))
+    (Node LineEnding (at 1) (at 2) (Empty) (Node LineEnding (at 2) (at 3) (Empty)
+    (Node HeadingSetextUnderlineSequence (at 3) (at 4) (Empty) (Empty))))
 
 abbrev pub setext_heading_behind_two_endings_bytes : List ℕ
 setext_heading_behind_two_endings_bytes = codes "a" ++ (10 ∷ []) ++ (10 ∷ []) ++ codes "="
@@ -155,13 +174,15 @@ heading_mark_over_a_cut_tab_bytes = (9 ∷ [])
 abbrev pub heading_mark_over_a_cut_tab_text : List ℕ
 heading_mark_over_a_cut_tab_text = codes "<h6></h6>"
 
--- a tag that is split between two data nodes, which passes the tag filter: the options, the tree, its bytes and its text
+-- a tag that is split between two data nodes, which passes the tag filter: the options, the tree, its bytes and its
+-- text
 abbrev pub split_tag_options : CompileOptions
 split_tag_options = record default_options { allow_dangerous_html = true; gfm_tagfilter = true }
 
 abbrev pub split_tag : Forest
 split_tag =
-    Node HtmlFlow (at 0) (at 5) (Node HtmlFlowData (at 0) (at 3) (Empty) (Node HtmlFlowData (at 3) (at 5) (Empty) (Empty))) (Empty)
+    Node HtmlFlow (at 0) (at 5) (Node HtmlFlowData (at 0) (at 3) (Empty)
+    (Node HtmlFlowData (at 3) (at 5) (Empty) (Empty))) (Empty)
 
 abbrev pub split_tag_bytes : List ℕ
 split_tag_bytes = codes "<xmp>"
@@ -172,10 +193,12 @@ split_tag_text = codes "<xmp>"
 -- an unclosed fence in a transparent node, which is not the last child: the tree, its bytes and its text
 abbrev pub fence_in_another_name : Forest
 fence_in_another_name =
-    Node BlockQuote (at 0) (at 3) (Node CodeFenced (at 0) (at 3) (Node (Other 1) (at 0) (at 3) (Node CodeFencedFence (at 0) (at 3) (Empty) (Empty)) (Empty)) (Empty)) (Empty)
+    Node BlockQuote (at 0) (at 3) (Node CodeFenced (at 0) (at 3)
+    (Node (Other 1) (at 0) (at 3) (Node CodeFencedFence (at 0) (at 3) (Empty) (Empty)) (Empty)) (Empty)) (Empty)
 
 abbrev pub fence_in_another_name_bytes : List ℕ
 fence_in_another_name_bytes = codes "```"
 
 abbrev pub fence_in_another_name_text : List ℕ
-fence_in_another_name_text = codes "<blockquote>" ++ (10 ∷ []) ++ codes "<pre><code>" ++ (10 ∷ []) ++ codes "</code></pre>" ++ (10 ∷ []) ++ codes "</blockquote>"
+fence_in_another_name_text = codes "<blockquote>" ++ (10 ∷ []) ++ codes "<pre><code>" ++ (10 ∷ [])
+    ++ codes "</code></pre>" ++ (10 ∷ []) ++ codes "</blockquote>"

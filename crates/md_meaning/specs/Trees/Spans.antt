@@ -29,29 +29,47 @@ backslash_before_a_pipe_text = codes "<code>a\\|b</code>"
 -- spans and breaks: the tree, its bytes and its text
 abbrev pub spans_and_breaks : Forest
 spans_and_breaks =
-    Node Paragraph (at 0) (at 19) (Node Emphasis (at 0) (at 3) (Node Data (at 1) (at 2) (Empty) (Empty)) (Node Strong (at 3) (at 8) (Node Data (at 5) (at 6) (Empty) (Empty)) (Node GfmStrikethrough (at 8) (at 13) (Node Data (at 10) (at 11) (Empty) (Empty)) (Node HardBreakEscape (at 13) (at 14) (Empty) (Node LineEnding (at 14) (at 15) (Empty) (Node HardBreakTrailing (at 15) (at 17) (Empty) (Node LineEnding (at 17) (at 18) (Empty) (Node Data (at 18) (at 19) (Empty) (Empty))))))))) (Empty)
+    Node Paragraph (at 0) (at 19) (Node Emphasis (at 0) (at 3) (Node Data (at 1) (at 2) (Empty) (Empty))
+    (Node Strong (at 3) (at 8) (Node Data (at 5) (at 6) (Empty) (Empty))
+    (Node GfmStrikethrough (at 8) (at 13) (Node Data (at 10) (at 11) (Empty) (Empty))
+    (Node HardBreakEscape (at 13) (at 14) (Empty) (Node LineEnding (at 14) (at 15) (Empty)
+    (Node HardBreakTrailing (at 15) (at 17) (Empty) (Node LineEnding (at 17) (at 18) (Empty)
+    (Node Data (at 18) (at 19) (Empty) (Empty))))))))) (Empty)
 
 abbrev pub spans_and_breaks_bytes : List ℕ
 spans_and_breaks_bytes = codes "*a***b**~~c~~\\" ++ (10 ∷ []) ++ codes "  " ++ (10 ∷ []) ++ codes "d"
 
 abbrev pub spans_and_breaks_text : List ℕ
-spans_and_breaks_text = codes "<p><em>a</em><strong>b</strong><del>c</del><br />" ++ (10 ∷ []) ++ codes "<br />" ++ (10 ∷ []) ++ codes "d</p>"
+spans_and_breaks_text = codes "<p><em>a</em><strong>b</strong><del>c</del><br />" ++ (10 ∷ []) ++ codes "<br />"
+    ++ (10 ∷ []) ++ codes "d</p>"
 
 -- math: the tree, its bytes and its text
 abbrev pub math : Forest
 math =
-    Node Paragraph (at 0) (at 3) (Node MathText (at 0) (at 3) (Node MathTextData (at 1) (at 2) (Empty) (Empty)) (Empty)) (Node LineEnding (at 3) (at 4) (Empty) (Node MathFlow (at 4) (at 12) (Node MathFlowFence (at 4) (at 7) (Node MathFlowFenceMeta (at 6) (at 7) (Node Data (at 6) (at 7) (Empty) (Empty)) (Empty)) (Node LineEnding (at 7) (at 8) (Empty) (Node MathFlowChunk (at 8) (at 9) (Empty) (Node LineEnding (at 9) (at 10) (Empty) (Node MathFlowFence (at 10) (at 12) (Empty) (Empty)))))) (Empty)))
+    Node Paragraph (at 0) (at 3) (Node MathText (at 0) (at 3) (Node MathTextData (at 1) (at 2) (Empty) (Empty))
+    (Empty)) (Node LineEnding (at 3) (at 4) (Empty) (Node MathFlow (at 4) (at 12)
+    (Node MathFlowFence (at 4) (at 7) (Node MathFlowFenceMeta (at 6) (at 7)
+    (Node Data (at 6) (at 7) (Empty) (Empty)) (Empty))
+    (Node LineEnding (at 7) (at 8) (Empty) (Node MathFlowChunk (at 8) (at 9) (Empty)
+    (Node LineEnding (at 9) (at 10) (Empty) (Node MathFlowFence (at 10) (at 12) (Empty) (Empty)))))) (Empty)))
 
 abbrev pub math_bytes : List ℕ
 math_bytes = codes "$a$" ++ (10 ∷ []) ++ codes "$$m" ++ (10 ∷ []) ++ codes "b" ++ (10 ∷ []) ++ codes "$$"
 
 abbrev pub math_text : List ℕ
-math_text = codes "<p><code class=\"language-math math-inline\">a</code></p>" ++ (10 ∷ []) ++ codes "<pre><code class=\"language-math math-display\">b" ++ (10 ∷ []) ++ codes "</code></pre>"
+math_text = codes "<p><code class=\"language-math math-inline\">a</code></p>" ++ (10 ∷ [])
+    ++ codes "<pre><code class=\"language-math math-display\">b" ++ (10 ∷ []) ++ codes "</code></pre>"
 
 -- number references: the tree, its bytes and its text
 abbrev pub number_references : Forest
 number_references =
-    Node Paragraph (at 0) (at 11) (Node CharacterReferenceMarker (at 0) (at 1) (Empty) (Node CharacterReferenceMarkerNumeric (at 1) (at 2) (Empty) (Node CharacterReferenceValue (at 2) (at 4) (Empty) (Node CharacterReferenceMarker (at 5) (at 6) (Empty) (Node CharacterReferenceMarkerNumeric (at 6) (at 7) (Empty) (Node CharacterReferenceMarkerHexadecimal (at 7) (at 8) (Empty) (Node CharacterReferenceValue (at 8) (at 10) (Empty) (Empty)))))))) (Empty)
+    Node Paragraph (at 0) (at 11) (Node CharacterReferenceMarker (at 0) (at 1) (Empty)
+    (Node CharacterReferenceMarkerNumeric (at 1) (at 2) (Empty)
+    (Node CharacterReferenceValue (at 2) (at 4) (Empty)
+    (Node CharacterReferenceMarker (at 5) (at 6) (Empty)
+    (Node CharacterReferenceMarkerNumeric (at 6) (at 7) (Empty)
+    (Node CharacterReferenceMarkerHexadecimal (at 7) (at 8) (Empty)
+    (Node CharacterReferenceValue (at 8) (at 10) (Empty) (Empty)))))))) (Empty)
 
 abbrev pub number_references_bytes : List ℕ
 number_references_bytes = codes "&#60;&#x3C;"

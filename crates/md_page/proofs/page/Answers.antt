@@ -1,13 +1,13 @@
 -- The text is put together in five steps.
-use Rattle.std.proofs.Common.{◌≡◌, ℕ, true, List, [], ◌++◌, string_bytes, sym, ap, ◌∙◌}
+use Rattle.std.proofs.Common.{◌≡◌, ℕ, true, List, ◌++◌, ap, ◌∙◌}
 use Rattle.std.proofs.lemmas.List.{append_assoc}
 use Rattle.md_text.specs.Encode.{encoded}
-use Rattle.md_page.specs.Page.{page_text}
 use Rattle.md_page.proofs.Pages.{before_title, before_body, behind_body}
 use Rattle.md_page.proofs.Given.{page_given}
 use Rattle.md_page.proofs.page.Goals as goal
 
-joined : (title body : List ℕ) → ((before_title ++ title) ++ before_body) ++ body ++ behind_body ≡ before_title ++ (title ++ (before_body ++ (body ++ behind_body)))
+joined : (title body : List ℕ) → ((before_title ++ title) ++ before_body) ++ body ++ behind_body ≡ before_title
+    ++ (title ++ (before_body ++ (body ++ behind_body)))
 joined title body =
     append_assoc ((before_title ++ title) ++ before_body) body behind_body
     ∙ append_assoc (before_title ++ title) before_body (body ++ behind_body)
@@ -22,10 +22,13 @@ returns-clause-text c =
     (c.in_ok-push_str-3.ensures.bytes
     ∙ ap (λ t. t ++ before_body)
     (c.in_ok-push_str-2.ensures.bytes
-    ∙ ap (λ t. t ++ c.as_str.result.now) (c.in_ok-push_str.ensures.bytes ∙ ap (λ t. t ++ before_title) c.new-text.ensures.bytes))))
+    ∙ ap (λ t. t ++ c.as_str.result.now) (c.in_ok-push_str.ensures.bytes
+    ∙ ap (λ t. t ++ before_title) c.new-text.ensures.bytes))))
     ∙ joined c.as_str.result.now c.as_str-2.result.now
-    ∙ ap (λ t. before_title ++ (t ++ (before_body ++ (c.as_str-2.result.now ++ behind_body)))) (c.as_str.ensures.value ∙ c.in_ok-escaped.ensures.by_byte)
-    ∙ ap (λ t. before_title ++ (encoded true c.args.title.now ++ (before_body ++ (t ++ behind_body)))) c.as_str-2.ensures.text
+    ∙ ap (λ t. before_title ++ (t ++ (before_body ++ (c.as_str-2.result.now ++ behind_body)))) (c.as_str.ensures.value
+    ∙ c.in_ok-escaped.ensures.by_byte)
+    ∙ ap (λ t. before_title ++ (encoded true c.args.title.now ++ (before_body ++ (t ++ behind_body))))
+    c.as_str-2.ensures.text
 
 pub returns-clause-page : goal.returns-clause-page
 returns-clause-page c =

@@ -1,7 +1,7 @@
 use super::*;
 
 /// Lists of events, each by what it shows.
-const CASES: [Case; 33] = [
+static CASES: [Case; 33] = [
     (
         "places fit and are texts",
         &[(Enter, Name::Data, 0), (Exit, Name::Data, 2)],

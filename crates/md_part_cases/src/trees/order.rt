@@ -1,7 +1,7 @@
 use super::*;
 
 /// Lists of events, each by what it shows.
-const CASES: [Case; 34] = [
+static CASES: [Case; 34] = [
     ("nothing is a document", &[], b"", &[], None),
     (
         "a lone exit is out of order",

@@ -3,7 +3,8 @@
 ghost use Rattle.std.specs.Prelude.{◌≡◌, ◌∷◌, [], ◌++◌, codes};
 ghost use Rattle.md_text.specs.Filter.{disarmed_names};
 ghost use Rattle.md_text.specs.Html.{HasReading, HasReadingWith};
-ghost use Rattle.md_text.specs.Safe.{link_protocols, image_protocols, is_safe_link, is_safe_image};
+ghost use Rattle.md_text.specs.Url.{link_protocols, image_protocols};
+ghost use Rattle.md_text.specs.Safe.{is_safe_link, is_safe_image};
 
 /// Each element of the table may stand alone.
 pub fn elements_stand_alone()

@@ -6,8 +6,14 @@ use Rattle.md_base.proofs.EnumLemmas.{Tests, same_decides}
 use Rattle.md_base.proofs.name.is_same_name.Goals as goal
 
 number_test : Tests enum.parts
-number_test =
-    ((λ x y. eqb x.0 y.0, λ x y. Decides-like (eqb x.0 y.0) (λ e i. (e i, tt)) (λ e i. (e i).0) (Decides-eqb x.0 y.0)), tt)
+number_test = (
+  (
+    λ x y. eqb x.0 y.0,
+    λ x y. Decides-like (eqb x.0 y.0) (λ e i. (e i, tt)) (λ e i. (e i).0)
+        (Decides-eqb x.0 y.0),
+  ),
+  tt,
+)
 
 pub returns : goal.returns
 unfolding number_test

@@ -7,7 +7,8 @@ pub returns-in-Ok-clause-text : goal.returns-in-Ok-clause-text
 returns-in-Ok-clause-text c =
     handed_over (IsRendered c.args.events.now c.args.bytes.now c.args.options.now c.args.names.now) c.as_str.result.now
     c.args.buffer.now _ c.hand_over.result
-    (subst (IsRendered c.args.events.now c.args.bytes.now c.args.options.now c.args.names.now) (sym c.as_str.ensures.value) c.in-Ok.ensures.ok) c.hand_over.ensures
+    (subst (IsRendered c.args.events.now c.args.bytes.now c.args.options.now c.args.names.now)
+    (sym c.as_str.ensures.value) c.in-Ok.ensures.ok) c.hand_over.ensures
 
 pub returns-in-Ok-clause-refused : goal.returns-in-Ok-clause-refused
 returns-in-Ok-clause-refused c =
@@ -34,7 +35,8 @@ returns-in-Ok-clause-fields c = text_of_compile _ _ _ c.hand_over.result c.hand_
 
 pub returns-in-Err-clause-text : goal.returns-in-Err-clause-text
 returns-in-Err-clause-text c =
-    failure_hands_over (IsRendered c.args.events.now c.args.bytes.now c.args.options.now c.args.names.now) c.args.buffer.now c.in-Err.failure
+    failure_hands_over (IsRendered c.args.events.now c.args.bytes.now c.args.options.now c.args.names.now)
+    c.args.buffer.now c.in-Err.failure
     c.answer_to.result c.answer_to.ensures
 
 pub returns-in-Err-clause-refused : goal.returns-in-Err-clause-refused

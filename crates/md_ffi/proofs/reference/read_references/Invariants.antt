@@ -6,4 +6,5 @@ use Rattle.md_ffi.proofs.reference.read_references.Given as goal
 -- what has been read, then what is left, is the whole
 abbrev pub invariant-loop-reference : goal.invariant-loop-reference
 invariant-loop-reference l =
-    map Some (name_table l.read.items) ++ map reference_of (drop l.reference-index l.references) ≡ map reference_of l.references
+    map Some (name_table l.read.items) ++ map reference_of (drop l.reference-index l.references)
+    ≡ map reference_of l.references

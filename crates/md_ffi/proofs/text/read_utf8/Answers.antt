@@ -4,4 +4,5 @@ use Rattle.md_script.proofs.SettingLemmas.{read_text}
 use Rattle.md_ffi.proofs.text.read_utf8.Goals as goal
 
 pub returns : goal.returns
-returns c = ap option_copied c.ok.ensures.value ∙ read_text c.args.bytes.now _ c.from_utf8.result c.from_utf8.ensures.cases
+returns c = ap option_copied c.ok.ensures.value ∙ read_text c.args.bytes.now _ c.from_utf8.result
+    c.from_utf8.ensures.cases

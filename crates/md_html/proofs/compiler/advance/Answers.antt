@@ -26,10 +26,13 @@ returns-then-is_leaf-clause-runs c document flat =
     let before : State = c.args.printer.now in
     let behind : State = c.leaf.new.printer in
     ap (λ es. machine.run given (drop 1 es) (drop (c.args.index + 2) nodes) behind) c.in-Some.ensures.cases.0
-    ∙ run-leaf given document c.args.checked.now.events c.args.index event exit beyond before behind flat (ap (λ es. event ∷ es) (sym c.in-Some.ensures.cases.0) ∙ c.requires) c.if-is_leaf.ensures
+    ∙ run-leaf given document c.args.checked.now.events c.args.index event exit beyond before behind flat
+    (ap (λ es. event ∷ es) (sym c.in-Some.ensures.cases.0) ∙ c.requires) c.if-is_leaf.ensures
     (λ (ahead : Ahead) (loose : Bool) (columns : List AlignKind).
     c.in_ok-leaf.ensures ahead loose columns
-    ∙ ap (λ b. machine.exited given b false event.name exit.point (machine.entered given ahead loose columns false event.name event.point before)) (c.is_empty-is_last.ensures ∙ is_nil-length beyond))
+    ∙ ap (λ b. machine.exited given b false event.name exit.point
+    (machine.entered given ahead loose columns false event.name event.point before)) (c.is_empty-is_last.ensures
+    ∙ is_nil-length beyond))
     ∙ ap (λ es. machine.run given (event ∷ es) (drop c.args.index nodes) before) (sym c.in-Some.ensures.cases.0)
 
 pub returns-clause-runs : goal.returns-clause-runs
@@ -42,7 +45,10 @@ returns-clause-runs c document flat =
     let before : State = c.args.printer.now in
     let nodes : List (Option Forest) = children_of document in
     let told : Option Forest = get_or nodes index None in
-    let there : slice_get nodes index ≡ Some told = told-at document events index event flat (drop-first events index event later c.requires) in
+    let there : slice_get nodes index ≡ Some told = told-at document events index event flat
+    (drop-first events index event later c.requires) in
     ap (λ s. machine.run given later (drop (index + 1) nodes) s) (c.in_ok-step.ensures told (document, flat, there))
-    ∙ ap (λ b. machine.run given later (drop (index + 1) nodes) (machine.stepped given event.kind event.name event.point told b before)) (c.is_empty.ensures ∙ is_nil-length later)
+    ∙ ap (λ b. machine.run given later (drop (index + 1) nodes)
+    (machine.stepped given event.kind event.name event.point told b before)) (c.is_empty.ensures
+    ∙ is_nil-length later)
     ∙ ap (λ cs. machine.run given (event ∷ later) cs before) (sym (drop-found nodes index told there))

@@ -13,8 +13,10 @@ pub returns-in-GfmTable : goal.returns-in-GfmTable
 returns-in-GfmTable c =
     let given = c.args.checked.now in
     let index = c.args.index in
-    let P : Vec AlignKind Global → Type 0 = λ columns. (children : Forest) → IsEnteredAt given index children → columns.items ≡ alignments children in
-    let Q : Vec AlignKind Global → Type 0 = λ columns. (told : Option Forest) → IsToldAt given index told → columns.items ≡ machine.columns_told c.args.name told in
+    let P : Vec AlignKind Global → Type 0 = λ columns. (children : Forest) → IsEnteredAt given index children →
+    columns.items ≡ alignments children in
+    let Q : Vec AlignKind Global → Type 0 = λ columns. (told : Option Forest) → IsToldAt given index told →
+    columns.items ≡ machine.columns_told c.args.name told in
     let entered = c.gfm_table_align.ensures.entered in
     on_answer P Q
     (λ columns aligned told there.

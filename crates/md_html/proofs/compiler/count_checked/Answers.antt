@@ -37,14 +37,18 @@ returns c =
     let known : List Defined = c.in_ok-definitions.definitions in
     let read = c.ending_of.ensures.grammatical in
     let shaped : (document : Forest) → flatten document ≡ checked.events → IsShaped document = λ document flat.
-    subst IsShaped (flatten_one GfmTable (record { line = 0; column = 0; index = 0; vs = 0 }) read.0 document (read.1.flattened ∙ sym flat)) read.1.grammatical.shape
+    subst IsShaped (flatten_one GfmTable (record { line = 0; column = 0; index = 0; vs = 0 }) read.0 document
+    (read.1.flattened ∙ sym flat)) read.1.grammatical.shape
     in
-    let built : IsBuilt checked.bytes Blocks read.0 = grammatical-built checked.bytes checked.names read.0 read.1.grammatical in
-    let printed : (document : Forest) → flatten document ≡ checked.events → string_bytes c.in_ok-text.text ≡ printed_meaning options checked.names checked.bytes document = λ document flat.
+    let built : IsBuilt checked.bytes Blocks read.0 = grammatical-built checked.bytes checked.names read.0
+    read.1.grammatical in
+    let printed : (document : Forest) → flatten document ≡ checked.events →
+    string_bytes c.in_ok-text.text ≡ printed_meaning options checked.names checked.bytes document = λ document flat.
     c.in_ok-text.ensures
     ∙ ap (λ s. (finished (given ending known) s).text) (c.in_ok-ran.ensures.printed document flat)
     ∙ text-run options names bytes given_events ending known document flat
-    (c.ending_of.ensures.ending document flat ∙ ap (λ b. ending_at options b (first_ending document)) (sym c.bytes.ensures))
+    (c.ending_of.ensures.ending document flat ∙ ap (λ b. ending_at options b (first_ending document))
+    (sym c.bytes.ensures))
     (λ identifier.
     c.in_ok-definitions.ensures identifier
     ∙ ap (λ ds. defined_target ds identifier)
@@ -54,14 +58,20 @@ returns c =
     ∙ ap (λ n. printed_meaning options n bytes document) c.names.ensures
     ∙ ap (λ b. printed_meaning options c.args.checked.now.names b document) c.bytes.ensures
     in
-    let own = c.in_ok-own.ensures.visits read.0 (shaped read.0 read.1.flattened) read.1.flattened (c.definitions.ensures.definitions read.0 read.1.flattened) in
+    let own = c.in_ok-own.ensures.visits read.0 (shaped read.0 read.1.flattened) read.1.flattened
+    (c.definitions.ensures.definitions read.0 read.1.flattened) in
     record {
       meaning = λ document flat.
           printed document flat
           ∙ printed-is-meant options checked.names checked.bytes document
-          (subst (λ forest. IsGrammatical checked.bytes checked.names forest) (flatten_one GfmTable (record { line = 0; column = 0; index = 0; vs = 0 }) read.0 document (read.1.flattened ∙ sym flat)) read.1.grammatical);
-      one_reading = λ keeps. subst (λ t. HasOneReadingWith any_attribute t) (sym (printed read.0 read.1.flattened)) (one-reading checked.bytes checked.names options read.0 built keeps);
-      safe_links = λ keeps. subst (λ t. HasOneReadingWith is_safe_link t) (sym (printed read.0 read.1.flattened)) (safe-links checked.bytes checked.names options read.0 built keeps);
-      safe_images = λ keeps. subst (λ t. HasOneReadingWith is_safe_image t) (sym (printed read.0 read.1.flattened)) (safe-images checked.bytes checked.names options read.0 built keeps);
+          (subst (λ forest. IsGrammatical checked.bytes checked.names forest)
+          (flatten_one GfmTable (record { line = 0; column = 0; index = 0; vs = 0 }) read.0 document
+          (read.1.flattened ∙ sym flat)) read.1.grammatical);
+      one_reading = λ keeps. subst (λ t. HasOneReadingWith any_attribute t) (sym (printed read.0 read.1.flattened))
+          (one-reading checked.bytes checked.names options read.0 built keeps);
+      safe_links = λ keeps. subst (λ t. HasOneReadingWith is_safe_link t) (sym (printed read.0 read.1.flattened))
+          (safe-links checked.bytes checked.names options read.0 built keeps);
+      safe_images = λ keeps. subst (λ t. HasOneReadingWith is_safe_image t) (sym (printed read.0 read.1.flattened))
+          (safe-images checked.bytes checked.names options read.0 built keeps);
       most = omega (arith, own, c.in_ok-ran.ensures.visits, c.saturating_add-visits.ensures);
     }

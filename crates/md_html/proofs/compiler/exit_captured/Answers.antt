@@ -26,12 +26,16 @@ returns c =
     machine.leaving name
     (machine.printing given.ending
     (machine.closing_in given last name end start.page (machine.leaving_table b start))
-    (machine.logging given.bytes start.frame.ahead name start.page (machine.leaving_table b (machine.releasing true start)))) in
+    (machine.logging given.bytes start.frame.ahead name start.page
+    (machine.leaving_table b (machine.releasing true start)))) in
     let whole : machine.leaving name c.close_and_log.new.printer ≡ machine.exited given last true name end start =
     ap (λ s. machine.leaving name s) c.in_ok-close_and_log.ensures
-    ∙ ap (λ exit. after exit (machine.ahead_by c.place-place.result) c.release-inner.result c.release-inner.new.self) c.exit-exit.ensures
-    ∙ ap (λ ahead. after (exit_in last end start) ahead c.release-inner.result c.release-inner.new.self) c.place-place.ensures
-    ∙ ap (λ inner. after (exit_in last end start) start.frame.ahead inner c.release-inner.new.self) c.release-inner.ensures.page
+    ∙ ap (λ exit. after exit (machine.ahead_by c.place-place.result) c.release-inner.result c.release-inner.new.self)
+    c.exit-exit.ensures
+    ∙ ap (λ ahead. after (exit_in last end start) ahead c.release-inner.result c.release-inner.new.self)
+    c.place-place.ensures
+    ∙ ap (λ inner. after (exit_in last end start) start.frame.ahead inner c.release-inner.new.self)
+    c.release-inner.ensures.page
     ∙ ap (λ s. after (exit_in last end start) start.frame.ahead start.page s) c.release-inner.ensures.state
     ∙ sym (ap (λ b. tabled b) (no_table name c.requires)) in
     subst (λ s. OnOk c.leave.result (c.leave.new.self ≡ s)) whole c.leave.ensures

@@ -19,13 +19,15 @@ returns c =
     let end = c.args.end in
     let after : Exit → State → State = λ exit s.
     machine.leaving name
-    (machine.printing given.ending (closing_at given exit s.log.called (first_or [] s.tables) s.frame.ahead s.frame.passed blank name) s) in
+    (machine.printing given.ending (closing_at given exit s.log.called
+    (first_or [] s.tables) s.frame.ahead s.frame.passed blank name) s) in
     let tabled : Bool → State = λ b. machine.leaving_table b start in
     let whole : machine.leaving name c.close.new.printer ≡ machine.exited given last false name end start =
     ap (λ s. machine.leaving name s) c.in_ok-close.ensures
     ∙ ap (λ exit. after exit c.leave_table_if.new.self) c.exit-exit.ensures
     ∙ ap (λ s. after (exit_in last end start) s) c.leave_table_if.ensures
     ∙ ap (λ b. after (exit_in last end start) (tabled b)) c.is_table.ensures
-    ∙ ap (λ s. machine.leaving name (machine.printing given.ending (machine.closing_in given last name end blank (tabled (is_table name))) s))
+    ∙ ap (λ s. machine.leaving name (machine.printing given.ending
+    (machine.closing_in given last name end blank (tabled (is_table name))) s))
     (sym (unseen given.bytes start.frame.ahead name blank (tabled (is_table name)) c.requires)) in
     subst (λ s. OnOk c.leave.result (c.leave.new.self ≡ s)) whole c.leave.ensures

@@ -12,9 +12,11 @@ pub returns-in-ListOrdered : goal.returns-in-ListOrdered
 returns-in-ListOrdered c = λ told there.
     let entered = c.list_loose.ensures.entered in
     c.list_loose.ensures.loose entered.0 entered.1
-    ∙ ap (λ o. option_map_or is_loose o false) (told-entered c.args.checked.now c.args.index told entered.0 there entered.1)
+    ∙ ap (λ o. option_map_or is_loose o false) (told-entered c.args.checked.now c.args.index told entered.0 there
+    entered.1)
     ∙ list_told told c.args.name c.in-ListOrdered.is
   where
-    list_told : (told : Option Forest) (name : Name) → (name ≡ ListOrdered) ⊎ (name ≡ ListUnordered) → option_map_or is_loose told false ≡ loose_told name told
+    list_told : (told : Option Forest) (name : Name) → (name ≡ ListOrdered) ⊎ (name ≡ ListUnordered) →
+        option_map_or is_loose told false ≡ loose_told name told
     list_told told name (inl e) = ap (λ n. loose_told n told) (sym e)
     list_told told name (inr e) = ap (λ n. loose_told n told) (sym e)

@@ -32,7 +32,8 @@ pub returns-then-is_reader : goal.returns-then-is_reader
 returns-then-is_reader c = λ told there.
     let entered = c.reads.ensures.entered in
     ap ahead_by (c.reads.ensures.reads c.args.name entered.0 c.requires (sym c.if-is_reader.ensures) entered.1)
-    ∙ ap (λ o. ahead_by (option_map_or (reads c.args.name) o None)) (told-entered c.args.checked.now c.args.index told entered.0 there entered.1)
+    ∙ ap (λ o. ahead_by (option_map_or (reads c.args.name) o None))
+    (told-entered c.args.checked.now c.args.index told entered.0 there entered.1)
 
 pub returns-else-is_reader : goal.returns-else-is_reader
 returns-else-is_reader c = λ told there. none-told c.args.name told (sym c.if-is_reader.ensures)

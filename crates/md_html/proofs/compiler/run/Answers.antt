@@ -24,12 +24,16 @@ loop-event-preserved c =
     let split : event ∷ later ≡ drop index events = sym c.in-Some.ensures.cases.0 ∙ c.loop-event.invariant.0 in
     let behind : later ≡ drop (index + 1) events = drop-later events index event later split in
     let got : slice_get events index ≡ Some event = drop-first events index event later split in (
-      sliced later more ∙ ap (λ es. drop more es) behind ∙ drop-drop more (index + 1) events ∙ ap (λ n. drop n events) (next index more),
-      within index more (length events) (length later) (ap (λ es. length es) behind ∙ length-drop (index + 1) events) (slice_get_within events index event got) c.in_ok-more.ensures.within,
+      sliced later more ∙ ap (λ es. drop more es) behind ∙ drop-drop more (index + 1) events
+          ∙ ap (λ n. drop n events) (next index more),
+      within index more (length events) (length later) (ap (λ es. length es) behind
+          ∙ length-drop (index + 1) events) (slice_get_within events index event got) c.in_ok-more.ensures.within,
       λ document flat.
-          ap (λ es. machine.run given es (drop (index + (1 + more)) (children_of document)) c.advance.new.printer) (sliced later more)
+          ap (λ es. machine.run given es (drop (index + (1 + more)) (children_of document)) c.advance.new.printer)
+          (sliced later more)
           ∙ c.in_ok-more.ensures.runs document flat
-          ∙ ap (λ es. machine.run given es (drop index (children_of document)) c.loop-event.printer) (sym c.in-Some.ensures.cases.0)
+          ∙ ap (λ es. machine.run given es (drop index (children_of document)) c.loop-event.printer)
+          (sym c.in-Some.ensures.cases.0)
           ∙ c.loop-event.invariant.2 document flat,
     )
   where

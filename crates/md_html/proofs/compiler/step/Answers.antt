@@ -14,13 +14,21 @@ pub returns-in_ok-columns-in-Enter : goal.returns-in_ok-columns-in-Enter
 returns-in_ok-columns-in-Enter c =
     let given = given_of c.args.source.now in
     let event = c.args.event in
-    let at : Ahead → Bool → List AlignKind → State = λ ahead loose columns. machine.entered given ahead loose columns (is_captured event.name) event.name event.point c.args.printer.now in
-    on_answer (λ _. c.enter.new.printer ≡ at (machine.ahead_by c.place_read-place.result) c.is_loose-loose.result c.in_ok-columns-in-Enter.columns.items)
-    (λ _. (told : Option Forest) → IsToldAt c.args.checked.now c.args.index told → c.enter.new.printer ≡ machine.stepped given event.kind event.name event.point told c.args.is_last c.args.printer.now)
+    let at : Ahead → Bool → List AlignKind → State = λ ahead loose columns. machine.entered given ahead loose columns
+    (is_captured event.name) event.name event.point c.args.printer.now in
+    on_answer (λ _. c.enter.new.printer ≡ at (machine.ahead_by c.place_read-place.result) c.is_loose-loose.result
+    c.in_ok-columns-in-Enter.columns.items)
+    (λ _. (told : Option Forest) → IsToldAt c.args.checked.now c.args.index told →
+    c.enter.new.printer ≡ machine.stepped given event.kind event.name event.point told c.args.is_last
+    c.args.printer.now)
     (λ _ entered told there.
     entered
-    ∙ ap (λ ahead. at ahead c.is_loose-loose.result c.in_ok-columns-in-Enter.columns.items) (c.place_read-place.ensures told there)
-    ∙ ap (λ loose. at (machine.ahead_told event.name told) loose c.in_ok-columns-in-Enter.columns.items) (c.is_loose-loose.ensures told there)
-    ∙ ap (λ columns. at (machine.ahead_told event.name told) (machine.loose_told event.name told) columns) (c.in_ok-columns-in-Enter.ensures told there)
-    ∙ ap (λ kind. machine.stepped given kind event.name event.point told c.args.is_last c.args.printer.now) (sym c.in-Enter.is))
+    ∙ ap (λ ahead. at ahead c.is_loose-loose.result c.in_ok-columns-in-Enter.columns.items)
+    (c.place_read-place.ensures told there)
+    ∙ ap (λ loose. at (machine.ahead_told event.name told) loose c.in_ok-columns-in-Enter.columns.items)
+    (c.is_loose-loose.ensures told there)
+    ∙ ap (λ columns. at (machine.ahead_told event.name told) (machine.loose_told event.name told) columns)
+    (c.in_ok-columns-in-Enter.ensures told there)
+    ∙ ap (λ kind. machine.stepped given kind event.name event.point told c.args.is_last c.args.printer.now)
+    (sym c.in-Enter.is))
     c.enter.result c.enter.ensures

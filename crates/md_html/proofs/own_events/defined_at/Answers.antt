@@ -19,18 +19,22 @@ returns c = λ document flat place there.
     let given : Given = given_of c.args.source.now in
     let read = c.run_node.ensures.grammatical in
     let shaped : IsShaped document =
-    subst IsShaped (flatten_one GfmTable (record { line = 0; column = 0; index = 0; vs = 0 }) read.0 document (read.1.flattened ∙ sym flat)) read.1.grammatical.shape
+    subst IsShaped (flatten_one GfmTable (record { line = 0; column = 0; index = 0; vs = 0 }) read.0 document
+    (read.1.flattened ∙ sym flat)) read.1.grammatical.shape
     in
     let own = own-run given document place c.args.entry shaped there in
     let logged : c.into_definitions-logged.result.items ≡ own.0 ∷ [] =
     c.into_definitions-logged.ensures
     ∙ ap (λ (s : State). s.log.definitions) (c.in_ok-printer.ensures.printed document flat)
-    ∙ ap (λ es. (machine.run given (events_at es c.args.entry (slice_get (partners_of 0 document) c.args.entry)) (drop c.args.entry (children_of document)) machine.beginning).log.definitions) (sym flat)
+    ∙ ap (λ es. (machine.run given (events_at es c.args.entry (slice_get (partners_of 0 document) c.args.entry))
+    (drop c.args.entry (children_of document)) machine.beginning).log.definitions) (sym flat)
     ∙ own.2
     in
-    c.pop.ensures.value own.0 (positive c.into_definitions-logged.result.len (c.into_definitions-logged.result.ok.0 ∙ ap (λ ds. length ds) logged))
+    c.pop.ensures.value own.0 (positive c.into_definitions-logged.result.len (c.into_definitions-logged.result.ok.0
+    ∙ ap (λ ds. length ds) logged))
     ∙ ap (λ ds. Some (get_or ds (c.into_definitions-logged.result.len - 1) own.0)) logged
-    ∙ ap (λ n. Some (get_or (own.0 ∷ []) (n - 1) own.0)) (c.into_definitions-logged.result.ok.0 ∙ ap (λ ds. length ds) logged)
+    ∙ ap (λ n. Some (get_or (own.0 ∷ []) (n - 1) own.0)) (c.into_definitions-logged.result.ok.0
+    ∙ ap (λ ds. length ds) logged)
     ∙ sym own.1
   where
     positive : (n : ℕ) → n ≡ 1 → 0 < n

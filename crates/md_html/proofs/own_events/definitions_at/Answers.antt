@@ -11,7 +11,8 @@ use Rattle.md_html.proofs.own_events.definitions_at.Goals as goal
 
 pub loop-entry-init : goal.loop-entry-init
 loop-entry-init c = (
-  λ document flat are. c.new-definitions.ensures.items ∙ take-none (own_definitions (given_of c.args.source.now) document),
+  λ document flat are. c.new-definitions.ensures.items ∙ take-none
+      (own_definitions (given_of c.args.source.now) document),
   λ document shaped flat are. omega arith,
 )
 
@@ -23,13 +24,16 @@ loop-entry-preserved c =
           c.in_ok-push_found.ensures
           ∙ ap (λ ds. ds ++ option_to_list c.in_ok-defined.defined) (c.loop-entry.invariant.0 document flat are)
           ∙ ap (λ o. take index own ++ option_to_list o)
-          (c.in_ok-defined.ensures document flat index (ap (λ es. slice_get es index) (sym are) ∙ slice_get-get_or c.args.entries.now index _ c.loop-entry-test.true))
+          (c.in_ok-defined.ensures document flat index (ap (λ es. slice_get es index) (sym are)
+          ∙ slice_get-get_or c.args.entries.now index _ c.loop-entry-test.true))
           ∙ take-next own index,
       λ document shaped flat are.
           let added = c.saturating_add-visits.ensures in
           total-next (own_sizes document) index c.visits_at.result c.loop-entry.visits c.saturating_add-visits.result
-          (size-found document c.args.checked.now.events index _ c.visits_at.result shaped flat (c.visits_at.ensures document flat)
-          (ap (λ es. slice_get es index) (sym are) ∙ slice_get-get_or c.args.entries.now index _ c.loop-entry-test.true))
+          (size-found document c.args.checked.now.events index _ c.visits_at.result shaped flat
+          (c.visits_at.ensures document flat)
+          (ap (λ es. slice_get es index) (sym are) ∙ slice_get-get_or c.args.entries.now index _
+          c.loop-entry-test.true))
           (c.loop-entry.invariant.1 document shaped flat are)
           (omega (arith, added)),
     )
@@ -38,8 +42,10 @@ pub returns : goal.returns
 returns c = record {
   definitions = λ document flat are.
       c.loop-entry.invariant.0 document flat are
-      ∙ take-own-all (given_of c.args.source.now) document c.args.entries.now c.loop-entry.entry-index are c.loop-entry-test.false;
+      ∙ take-own-all (given_of c.args.source.now) document c.args.entries.now c.loop-entry.entry-index are
+      c.loop-entry-test.false;
   visits = λ document shaped flat are.
-      within-document (given_of c.args.source.now) document c.args.checked.now.events c.loop-entry.entry-index c.loop-entry.visits shaped flat
+      within-document (given_of c.args.source.now) document c.args.checked.now.events c.loop-entry.entry-index
+      c.loop-entry.visits shaped flat
       (c.loop-entry.invariant.1 document shaped flat are);
 }

@@ -21,9 +21,12 @@ loop-event-init c =
     let part = events-part all c.args.entry c.partner.result in (
       (part.0, part.1 ∙ ap (λ own. own ++ part.0) (sym rest_is)),
       λ document flat.
-          ap (λ s. machine.run (given_of c.args.source.now) c.node_events-rest.result.now (drop c.args.entry (children_of document)) s) c.new-printer.ensures
-          ∙ ap (λ own. machine.run (given_of c.args.source.now) own (drop c.args.entry (children_of document)) machine.beginning) rest_is
-          ∙ ap (λ p. machine.run (given_of c.args.source.now) (events_at all c.args.entry p) (drop c.args.entry (children_of document)) machine.beginning)
+          ap (λ s. machine.run (given_of c.args.source.now) c.node_events-rest.result.now
+          (drop c.args.entry (children_of document)) s) c.new-printer.ensures
+          ∙ ap (λ own. machine.run (given_of c.args.source.now) own
+          (drop c.args.entry (children_of document)) machine.beginning) rest_is
+          ∙ ap (λ p. machine.run (given_of c.args.source.now) (events_at all c.args.entry p)
+          (drop c.args.entry (children_of document)) machine.beginning)
           (partner-at c.args.checked.now c.args.entry c.partner.result document c.partner.ensures flat),
     )
 
@@ -53,15 +56,19 @@ loop-event-preserved c =
     let later : List Event = c.in-Some.later.now in
     let more : List Event = c.loop-event.invariant.0.0 in
     let printer = c.loop-event.printer in
-    let split : event ∷ (later ++ more) ≡ drop index events = sym (c.loop-event.invariant.0.1 ∙ ap (λ r. r ++ more) c.in-Some.ensures.cases.0) in
+    let split : event ∷ (later ++ more) ≡ drop index events =
+    sym (c.loop-event.invariant.0.1 ∙ ap (λ r. r ++ more) c.in-Some.ensures.cases.0) in
     let got : slice_get events index ≡ Some event = drop-first events index event (later ++ more) split in (
       (more, sym (drop-later events index event (later ++ more) split)),
       λ document flat.
           let nodes : List (Option Forest) = children_of document in
           let told : Option Forest = get_or nodes index None in
           let there : slice_get nodes index ≡ Some told = told-at document events index event flat got in
-          ap (λ s. machine.run given later (drop (index + 1) nodes) s) (c.in_ok-step.ensures told (document, flat, there))
-          ∙ ap (λ b. machine.run given later (drop (index + 1) nodes) (machine.stepped given event.kind event.name event.point told b printer)) (c.is_empty-is_last.ensures ∙ is_nil-length later)
+          ap (λ s. machine.run given later (drop (index + 1) nodes) s)
+          (c.in_ok-step.ensures told (document, flat, there))
+          ∙ ap (λ b. machine.run given later (drop (index + 1) nodes)
+          (machine.stepped given event.kind event.name event.point told b printer)) (c.is_empty-is_last.ensures
+          ∙ is_nil-length later)
           ∙ ap (λ cs. machine.run given (event ∷ later) cs printer) (sym (drop-found nodes index told there))
           ∙ ap (λ es. machine.run given es (drop index nodes) printer) (sym c.in-Some.ensures.cases.0)
           ∙ c.loop-event.invariant.1 document flat,

@@ -8,4 +8,5 @@ pub returns : goal.returns
 returns c = λ document flat.
     ap (λ es. length es) c.node_events.ensures
     ∙ ap (λ es. length (events_at es c.args.entry c.partner.result)) c.events.ensures.events
-    ∙ ap (λ p. length (events_at c.args.checked.now.events c.args.entry p)) (partner-at c.args.checked.now c.args.entry c.partner.result document c.partner.ensures flat)
+    ∙ ap (λ p. length (events_at c.args.checked.now.events c.args.entry p))
+    (partner-at c.args.checked.now c.args.entry c.partner.result document c.partner.ensures flat)

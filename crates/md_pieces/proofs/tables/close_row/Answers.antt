@@ -11,7 +11,8 @@ pub returns : goal.returns
 returns c =
     let ending = c.args.ending.now in
     let start : State = c.args.printer.now in
-    let row : Passed → List Piece = λ passed. tables.empty_cells c.args.exit.now.around.in_head (drop passed.spine.cells (first_or [] start.tables)) in
+    let row : Passed → List Piece = λ passed. tables.empty_cells c.args.exit.now.around.in_head
+    (drop passed.spine.cells (first_or [] start.tables)) in
     let cells : List Piece = row c.passed-passed.result in
     let tag : List Piece = Needed ∷ Text (codes "</tr>") ∷ [] in
     let P : State → Type 0 = λ s. OnOk c.on_own_line.result (c.on_own_line.new.printer ≡ s) in

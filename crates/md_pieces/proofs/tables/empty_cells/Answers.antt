@@ -17,14 +17,17 @@ loop-kind-preserved c =
     let own : List Piece = tables.cell_pieces c.args.in_head c.in-Some.kind [] in
     let later : List Piece = tables.empty_cells c.args.in_head (drop (index + 1) columns) in (
       ap (λ s. s.tables) c.in_ok-cell.ensures ∙ c.loop-kind.invariant.0,
-      ap (λ s. printing ending (tables.empty_cells c.args.in_head (drop (index + 1) (first_or [] s.tables))) s) c.in_ok-cell.ensures
+      ap (λ s. printing ending (tables.empty_cells c.args.in_head (drop (index + 1) (first_or [] s.tables))) s)
+          c.in_ok-cell.ensures
           ∙ sym (printing-append ending own later before)
-          ∙ ap (λ kinds. printing ending (tables.empty_cells c.args.in_head kinds) before) (sym (drop-found columns index c.in-Some.kind (sym c.in-Some.ensures.column)))
+          ∙ ap (λ kinds. printing ending (tables.empty_cells c.args.in_head kinds) before)
+          (sym (drop-found columns index c.in-Some.kind (sym c.in-Some.ensures.column)))
           ∙ c.loop-kind.invariant.1,
     )
 
 pub returns : goal.returns
 returns c =
     let before : State = c.loop-kind.printer in
-    ap (λ kinds. printing c.args.ending.now (tables.empty_cells c.args.in_head kinds) before) (sym (drop-missing (first_or [] before.tables) c.loop-kind.index (sym c.in_default.ensures.column)))
+    ap (λ kinds. printing c.args.ending.now (tables.empty_cells c.args.in_head kinds) before)
+    (sym (drop-missing (first_or [] before.tables) c.loop-kind.index (sym c.in_default.ensures.column)))
     ∙ c.loop-kind.invariant.1

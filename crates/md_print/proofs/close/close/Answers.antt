@@ -23,7 +23,9 @@ returns-in-Text c =
       end = exit.end;
       inner = blank;
     } in
-    subst (λ s. OnOk c.close_text.result (c.close_text.new.printer ≡ s)) (printing-group c.args.source.now.ending.now at c.args.name Text (sym c.in-Text.is ∙ c.group_of.ensures) start) c.close_text.ensures
+    subst (λ s. OnOk c.close_text.result (c.close_text.new.printer ≡ s))
+    (printing-group c.args.source.now.ending.now at c.args.name Text (sym c.in-Text.is ∙ c.group_of.ensures) start)
+    c.close_text.ensures
 
 pub returns-in-Span : goal.returns-in-Span
 returns-in-Span c =
@@ -40,7 +42,9 @@ returns-in-Span c =
       end = exit.end;
       inner = blank;
     } in
-    subst (λ s. OnOk c.close_span.result (c.close_span.new.printer ≡ s)) (printing-group c.args.source.now.ending.now at c.args.name Span (sym c.in-Span.is ∙ c.group_of.ensures) start) c.close_span.ensures
+    subst (λ s. OnOk c.close_span.result (c.close_span.new.printer ≡ s))
+    (printing-group c.args.source.now.ending.now at c.args.name Span (sym c.in-Span.is ∙ c.group_of.ensures) start)
+    c.close_span.ensures
 
 pub returns-in-Block : goal.returns-in-Block
 returns-in-Block c =
@@ -57,7 +61,9 @@ returns-in-Block c =
       end = exit.end;
       inner = blank;
     } in
-    subst (λ s. OnOk c.close_block.result (c.close_block.new.printer ≡ s)) (printing-group c.args.source.now.ending.now at c.args.name Block (sym c.in-Block.is ∙ c.group_of.ensures) start) c.close_block.ensures
+    subst (λ s. OnOk c.close_block.result (c.close_block.new.printer ≡ s))
+    (printing-group c.args.source.now.ending.now at c.args.name Block (sym c.in-Block.is
+    ∙ c.group_of.ensures) start) c.close_block.ensures
 
 pub returns-in-Autolink : goal.returns-in-Autolink
 returns-in-Autolink c =
@@ -74,7 +80,9 @@ returns-in-Autolink c =
       end = exit.end;
       inner = blank;
     } in
-    subst (λ s. OnOk c.close_autolink.result (c.close_autolink.new.printer ≡ s)) (printing-group c.args.source.now.ending.now at c.args.name Autolink (sym c.in-Autolink.is ∙ c.group_of.ensures) start) c.close_autolink.ensures
+    subst (λ s. OnOk c.close_autolink.result (c.close_autolink.new.printer ≡ s))
+    (printing-group c.args.source.now.ending.now at c.args.name Autolink (sym c.in-Autolink.is
+    ∙ c.group_of.ensures) start) c.close_autolink.ensures
 
 pub returns-in-Table : goal.returns-in-Table
 returns-in-Table c =
@@ -91,4 +99,6 @@ returns-in-Table c =
       end = exit.end;
       inner = blank;
     } in
-    subst (λ s. OnOk c.close_table.result (c.close_table.new.printer ≡ s)) (printing-group c.args.source.now.ending.now at c.args.name Table (sym c.in-Table.is ∙ c.group_of.ensures) start) c.close_table.ensures
+    subst (λ s. OnOk c.close_table.result (c.close_table.new.printer ≡ s))
+    (printing-group c.args.source.now.ending.now at c.args.name Table (sym c.in-Table.is
+    ∙ c.group_of.ensures) start) c.close_table.ensures

@@ -13,7 +13,8 @@ use Rattle.std.proofs.lemmas.List.{append-nil}
 use Rattle.std.proofs.Common.{codes}
 use Rattle.md_print.proofs.close.close_captured.Goals as goal
 
-chosen : (ending : List ℕ) (b : Bool) (label : List ℕ) (pieces : List Piece) (state : State) → printing [] pieces state ≡ printing ending pieces state →
+chosen : (ending : List ℕ) (b : Bool) (label : List ℕ) (pieces : List Piece) (state : State) →
+    printing [] pieces state ≡ printing ending pieces state →
     printing [] (if b then said label else pieces) state ≡ printing ending (if b then said label else pieces) state
 chosen ending true label pieces state e = refl
 chosen ending false label pieces state e = e
@@ -21,10 +22,13 @@ chosen ending false label pieces state e = e
 code_ending : (ending : List ℕ) (around : Surroundings) (tag text : List ℕ) (state : State) →
     printing [] (code_pieces around tag text) state ≡ printing ending (code_pieces around tag text) state
 code_ending ending around tag text state =
-    chosen ending around.in_image (code_text around text) (Text tag ∷ Text (code_text around text) ∷ said (codes "</code>")) state refl
+    chosen ending around.in_image (code_text around text) (Text tag ∷ Text (code_text around text)
+    ∷ said (codes "</code>")) state refl
 
 -- nothing more is printed
-alone : (ending : List ℕ) (pieces : List Piece) (state : State) → printing [] pieces state ≡ printing ending pieces state → printing [] pieces state ≡ printing ending (pieces ++ []) state
+alone : (ending : List ℕ) (pieces : List Piece) (state : State) →
+    printing [] pieces state ≡ printing ending pieces state →
+    printing [] pieces state ≡ printing ending (pieces ++ []) state
 alone ending pieces state same = same ∙ ap (λ ps. printing ending ps state) (sym (append-nil pieces))
 
 pub returns-in-CodeText : goal.returns-in-CodeText
@@ -34,8 +38,11 @@ returns-in-CodeText c =
     let ending = c.args.source.now.ending.now in
     let start : State = c.args.printer.now in
     let P : State → Type 0 = λ s. OnOk c.code.result (c.code.new.printer ≡ s) in
-    let Q : Name → Type 0 = λ n. P (printing ending (closing_at given exit start.log.called (first_or [] start.tables) (ahead_by c.args.place) start.frame.passed c.args.inner n) start) in
-    subst Q (sym c.in-CodeText.is) (subst P (alone ending (code_pieces exit.around (codes "<code>") c.args.inner.text) start (code_ending ending exit.around (codes "<code>") c.args.inner.text start)) c.code.ensures)
+    let Q : Name → Type 0 = λ n. P (printing ending (closing_at given exit start.log.called (first_or [] start.tables)
+    (ahead_by c.args.place) start.frame.passed c.args.inner n) start) in
+    subst Q (sym c.in-CodeText.is) (subst P (alone ending
+    (code_pieces exit.around (codes "<code>") c.args.inner.text) start
+    (code_ending ending exit.around (codes "<code>") c.args.inner.text start)) c.code.ensures)
 
 pub returns-in-MathText : goal.returns-in-MathText
 returns-in-MathText c =
@@ -44,5 +51,9 @@ returns-in-MathText c =
     let ending = c.args.source.now.ending.now in
     let start : State = c.args.printer.now in
     let P : State → Type 0 = λ s. OnOk c.code-in-MathText.result (c.code-in-MathText.new.printer ≡ s) in
-    let Q : Name → Type 0 = λ n. P (printing ending (closing_at given exit start.log.called (first_or [] start.tables) (ahead_by c.args.place) start.frame.passed c.args.inner n) start) in
-    subst Q (sym c.in-MathText.is) (subst P (alone ending (code_pieces exit.around (codes "<code class=\"language-math math-inline\">") c.args.inner.text) start (code_ending ending exit.around (codes "<code class=\"language-math math-inline\">") c.args.inner.text start)) c.code-in-MathText.ensures)
+    let Q : Name → Type 0 = λ n. P (printing ending (closing_at given exit start.log.called (first_or [] start.tables)
+    (ahead_by c.args.place) start.frame.passed c.args.inner n) start) in
+    subst Q (sym c.in-MathText.is) (subst P (alone ending
+    (code_pieces exit.around (codes "<code class=\"language-math math-inline\">") c.args.inner.text) start
+    (code_ending ending exit.around (codes "<code class=\"language-math math-inline\">") c.args.inner.text start))
+    c.code-in-MathText.ensures)

@@ -15,6 +15,8 @@ returns c =
     let end : List Piece = said (codes ">") in
     let P : State → Type 0 = λ s. OnOk c.put.result (c.put.new.self ≡ s) in
     subst P
-    (ap (λ s. printing ending end s) (c.in_ok-start.ensures ∙ ap (λ s. printing ending number s) c.in_ok-on_own_line.ensures)
-    ∙ sym (printing-append ending tag (number ++ end) c.args.printer.now ∙ printing-append ending number end (printing ending tag c.args.printer.now)))
+    (ap (λ s. printing ending end s) (c.in_ok-start.ensures
+    ∙ ap (λ s. printing ending number s) c.in_ok-on_own_line.ensures)
+    ∙ sym (printing-append ending tag (number ++ end) c.args.printer.now
+    ∙ printing-append ending number end (printing ending tag c.args.printer.now)))
     c.put.ensures

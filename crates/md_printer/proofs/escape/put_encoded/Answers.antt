@@ -22,8 +22,11 @@ loop-index-preserved c =
     let before : State = c.loop-index.printer in
     let later : List ℕ = encoded html (drop (index + 1) rest) in (
       ap (λ text. printing [] (said (encoded html text)) c.put-in-Some.new.self) c.range_from-rest.ensures.value
-          ∙ ap (λ s. printing [] (said later) s) (c.in_ok-put-2.ensures ∙ ap (λ s. printing [] (said other) s) (c.in_ok-put.ensures ∙ ap (λ text. printing [] (said text) before) (c.range.ensures.value ∙ from_start rest index)))
-          ∙ printed-parts (take index rest) other later (encoded html rest) before (encoded-at html rest other index found.0 found.2 found.3)
+          ∙ ap (λ s. printing [] (said later) s) (c.in_ok-put-2.ensures
+          ∙ ap (λ s. printing [] (said other) s) (c.in_ok-put.ensures
+          ∙ ap (λ text. printing [] (said text) before) (c.range.ensures.value ∙ from_start rest index)))
+          ∙ printed-parts (take index rest) other later (encoded html rest) before
+          (encoded-at html rest other index found.0 found.2 found.3)
           ∙ c.loop-index.invariant.0,
       c.range_from-rest.utf8,
     )

@@ -9,7 +9,8 @@ use Rattle.md_printer.proofs.escape.put_encoded.Given as goal
 
 abbrev pub invariant-loop-index : goal.invariant-loop-index
 invariant-loop-index l =
-    (printing [] (said (encoded l.escaping l.rest)) l.printer ≡ printing [] (said (encoded l.escaping l.text)) l.fn.printer) × shadow (Utf8 l.rest)
+    (printing [] (said (encoded l.escaping l.rest)) l.printer
+    ≡ printing [] (said (encoded l.escaping l.text)) l.fn.printer) × shadow (Utf8 l.rest)
 
 abbrev pub decreases-loop-index : goal.decreases-loop-index
 decreases-loop-index l = length l.rest

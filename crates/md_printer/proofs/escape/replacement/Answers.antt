@@ -12,4 +12,5 @@ pub returns-in_default : goal.returns-in_default
 returns-in_default c =
     let html = c.args.escaping in
     let other = λ (n : ℕ) (ne : c.args.byte ≢ n). ap (λ b. html && b) (ne_eqb c.args.byte n ne) ∙ and_false html in
-    encoded_byte-plain html c.args.byte (ne_eqb _ _ c.if-byte-eq0.false) (other 38 (λ e. omega arith)) (other 34 (λ e. omega arith)) (other 60 (λ e. omega arith)) (other 62 (λ e. omega arith))
+    encoded_byte-plain html c.args.byte (ne_eqb _ _ c.if-byte-eq0.false) (other 38 (λ e. omega arith))
+    (other 34 (λ e. omega arith)) (other 60 (λ e. omega arith)) (other 62 (λ e. omega arith))

@@ -6,7 +6,8 @@ use Rattle.std.specs.Str.{IsCharBoundary, IsUtf8}
 use Rattle.std.proofs.lemmas.Str.{IsCharBoundary-after_ascii}
 use Rattle.md_printer.proofs.source.has_leading_zero.Goals as goal
 
-zero_cut : (text : List ℕ) → IsUtf8 text → 1 < length text → (b : Bool) → nat_eq (get_or text 0 0) 48 ≡ b → OnTrue b (IsCharBoundary text 1)
+zero_cut : (text : List ℕ) → IsUtf8 text → 1 < length text → (b : Bool) → nat_eq (get_or text 0 0) 48 ≡ b →
+    OnTrue b (IsCharBoundary text 1)
 zero_cut text utf8 long true e =
     let zero : get_or text 0 0 ≡ 48 = eqb-true (get_or text 0 0) 48 e in
     IsCharBoundary-after_ascii text 0 utf8 (omega arith) (omega arith)

@@ -4,7 +4,8 @@ use Rattle.md_script.proofs.script.first_line.Goals as goal
 
 pub returns-in-Some-clause-lines : goal.returns-in-Some-clause-lines
 returns-in-Some-clause-lines c =
-    lines_cut c.args.input.now c.in-Some.line.now c.in-Some.following.now c.in-Some.ensures.found c.in-Some.ensures.front c.in-Some.ensures.back
+    lines_cut c.args.input.now c.in-Some.line.now c.in-Some.following.now c.in-Some.ensures.found
+    c.in-Some.ensures.front c.in-Some.ensures.back
 
 pub returns-in-None-clause-lines : goal.returns-in-None-clause-lines
 returns-in-None-clause-lines c = lines_alone c.args.input.now (sym c.in-None.ensures.found)

@@ -6,13 +6,16 @@ use Rattle.md_script.proofs.script.read_script.Goals as goal
 
 pub returns-then-is_end-clause-ok : goal.returns-then-is_end-clause-ok
 returns-then-is_end-clause-ok c =
-    script_ends_at c.lines.invariant c.first_line.result.0.now c.first_line.result.1 c.unwrap_or-document.result _ c.in_ok-options.options
+    script_ends_at c.lines.invariant c.first_line.result.0.now c.first_line.result.1 c.unwrap_or-document.result _
+    c.in_ok-options.options
     c.first_line.ensures.lines (sym c.if-is_end.ensures) c.unwrap_or-document.ensures refl
-    (subst (λ items. HasOptions (texts_of items) c.in_ok-options.options) c.as_slice.ensures.value c.in_ok-options.ensures)
+    (subst (λ items. HasOptions (texts_of items) c.in_ok-options.options) c.as_slice.ensures.value
+    c.in_ok-options.ensures)
 
 pub returns-then-not-branch-clause-err : goal.returns-then-not-branch-clause-err
 returns-then-not-branch-clause-err c =
-    line_stops c.lines.invariant c.first_line.result.0.now c.first_line.result.1 c.first_line.ensures.lines (sym c.if-is_end.ensures)
+    line_stops c.lines.invariant c.first_line.result.0.now c.first_line.result.1 c.first_line.ensures.lines
+    (sym c.if-is_end.ensures)
     (sym c.in_ok-take_line.ensures.taken ∙ c.if-not-branch.true)
 
 pub returns-in_default-following-clause-err : goal.returns-in_default-following-clause-err
@@ -23,15 +26,20 @@ returns-in_default-following-clause-err c =
 pub lines-preserved-in-Some : goal.lines-preserved-in-Some
 lines-preserved-in-Some c =
     let more = plain_more c.lines.invariant c.in-Some.event c.in-Some.following.now c.in-Some.ensures in
-    subst (λ events. Progress c.args.input.now (c.lines.read_lines + 1) events (texts_of c.lines.settings.items) c.in-Some.following.now) (sym c.in_ok-keep.ensures) more
+    subst (λ events. Progress c.args.input.now (c.lines.read_lines + 1) events
+    (texts_of c.lines.settings.items) c.in-Some.following.now) (sym c.in_ok-keep.ensures) more
 
 pub lines-preserved : goal.lines-preserved
 lines-preserved c =
     let line = c.first_line.result.0.now in
-    let taken : takes (texts_of c.lines.settings.items) line ≡ true = sym c.in_ok-take_line.ensures.taken ∙ c.if-not-branch.false in
-    let more = line_more c.lines.invariant line c.in-Some-following.following.now (rw c.in-Some-following.is at c.first_line.ensures.lines)
+    let taken : takes (texts_of c.lines.settings.items) line ≡ true = sym c.in_ok-take_line.ensures.taken
+    ∙ c.if-not-branch.false in
+    let more = line_more c.lines.invariant line c.in-Some-following.following.now
+    (rw c.in-Some-following.is at c.first_line.ensures.lines)
     (rw c.in-Some-following.is at c.first_line.ensures.len) taken in
-    subst (λ events. Progress c.args.input.now (c.lines.read_lines + 1) events (texts_of c.take_line.new.settings.items) c.in-Some-following.following.now)
+    subst (λ events. Progress c.args.input.now (c.lines.read_lines + 1) events
+    (texts_of c.take_line.new.settings.items) c.in-Some-following.following.now)
     (sym c.in_ok-take_line.ensures.events)
-    (subst (λ settings. Progress c.args.input.now (c.lines.read_lines + 1) (c.lines.events.items ++ option_to_list (event_of line)) settings c.in-Some-following.following.now)
+    (subst (λ settings. Progress c.args.input.now (c.lines.read_lines + 1) (c.lines.events.items
+    ++ option_to_list (event_of line)) settings c.in-Some-following.following.now)
     (sym (c.in_ok-take_line.ensures.settings c.if-not-branch.false)) more)

@@ -14,7 +14,8 @@ returns-then-count-eq0-clause-ok g c =
     let none : c.in-Ok.count ≡ 0 = search rules in
     let more = c.in-Ok.ensures.bytes in
     let all = Consumes-trans _ _ _ _ _ c.loop.invariant.0 more.0 in (
-      subst (Consumes (left c.args.reader.now) (left c.read.new.self)) (ap (λ n. c.loop.input.items ++ take n room) none ∙ append-nil _) all,
+      subst (Consumes (left c.args.reader.now) (left c.read.new.self))
+          (ap (λ n. c.loop.input.items ++ take n room) none ∙ append-nil _) all,
       more.1 none (search (rules, places)),
     )
 
@@ -24,6 +25,7 @@ loop-preserved g c =
     let same : c.deref.result.now ≡ room = search (rules, places) in
     let more = c.in-Ok.ensures.bytes in
     let all = Consumes-trans _ _ _ _ _ c.loop.invariant.0 more.0 in (
-      subst (Consumes _ _) (sym (c.in_ok-extend_from_slice.ensures.items ∙ ap (λ bs. c.loop.input.items ++ take c.in-Ok.count bs) same)) all,
+      subst (Consumes _ _) (sym (c.in_ok-extend_from_slice.ensures.items
+          ∙ ap (λ bs. c.loop.input.items ++ take c.in-Ok.count bs) same)) all,
       search (rules, places),
     )

@@ -5,4 +5,5 @@ use Rattle.md_script.proofs.serving.read_input.Given as goal
 
 abbrev pub invariant-loop : goal.invariant-loop
 invariant-loop g l =
-    Consumes (g.R.Read.remaining l.initial.reader) (g.R.Read.remaining l.reader) l.input.items × (0 < length l.buffer.items)
+    Consumes (g.R.Read.remaining l.initial.reader) (g.R.Read.remaining l.reader) l.input.items
+    × (0 < length l.buffer.items)

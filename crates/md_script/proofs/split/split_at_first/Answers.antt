@@ -4,7 +4,9 @@ use Rattle.md_script.proofs.split.split_at_first.Goals as goal
 
 pub returns-in_err-index-clause-found : goal.returns-in_err-index-clause-found
 returns-in_err-index-clause-found c =
-    ap is_some c.from_residual.ensures ∙ ap is_some c.in_err-index.ensures ∙ any_from_position (λ byte. eqb byte c.args.separator) c.args.bytes.now
+    ap is_some c.from_residual.ensures ∙ ap is_some c.in_err-index.ensures
+    ∙ any_from_position (λ byte. eqb byte c.args.separator) c.args.bytes.now
 
 pub returns-clause-found : goal.returns-clause-found
-returns-clause-found c = ap is_some c.in_ok-index.ensures ∙ any_from_position (λ byte. eqb byte c.args.separator) c.args.bytes.now
+returns-clause-found c = ap is_some c.in_ok-index.ensures
+    ∙ any_from_position (λ byte. eqb byte c.args.separator) c.args.bytes.now

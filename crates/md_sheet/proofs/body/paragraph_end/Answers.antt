@@ -9,10 +9,12 @@ use Rattle.md_sheet.proofs.Tally.{bytes_eq-sym}
 pub returns-then-ends_with-clause-cut : goal.returns-then-ends_with-clause-cut
 returns-then-ends_with-clause-cut c =
     let text : List ℕ = c.args.text.now in
-    let kept : c.without_endings-kept.result.now ≡ notes.without_endings text = c.without_endings-kept.ensures ∙ ap (λ t. notes.without_endings t) c.as_bytes.ensures.value in
+    let kept : c.without_endings-kept.result.now ≡ notes.without_endings text = c.without_endings-kept.ensures
+    ∙ ap (λ t. notes.without_endings t) c.as_bytes.ensures.value in
     let ends : notes.ends_in_paragraph text ≡ true =
     ap (λ w. bytes_eq (drop (length w - 4) w) (codes "</p>")) (sym kept)
-    ∙ bytes_eq-sym (drop (length c.without_endings-kept.result.now - 4) c.without_endings-kept.result.now) (codes "</p>")
+    ∙ bytes_eq-sym (drop (length c.without_endings-kept.result.now - 4) c.without_endings-kept.result.now)
+    (codes "</p>")
     ∙ sym c.if-ends_with.ensures.value
     in
     let cut = paragraph-cut text ends in

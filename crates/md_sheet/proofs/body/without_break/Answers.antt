@@ -7,7 +7,8 @@ pub returns-then-is_break : goal.returns-then-is_break
 returns-then-is_break c =
     let rest = c.in-Some.rest.now in
     let last = c.in-Some.last.now in (
-      sym (ap (λ t. notes.without_endings t) c.in-Some.ensures.cases.0 ∙ without-break rest last (sym c.is_break.ensures ∙ c.if-is_break.true)),
+      sym (ap (λ t. notes.without_endings t) c.in-Some.ensures.cases.0
+          ∙ without-break rest last (sym c.is_break.ensures ∙ c.if-is_break.true)),
       omega (arith, c.in-Some.ensures.cases.1),
     )
 

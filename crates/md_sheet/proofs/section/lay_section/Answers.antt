@@ -10,8 +10,10 @@ use Rattle.md_meaning.specs.declared.options.CompileOptions.{CompileOptions}
 use Rattle.md_sheet.proofs.Lists.{lay-append}
 
 -- where there is a call the section has its three parts
-parts : (options : CompileOptions) (footnotes : List notes.Footnote) (calls : List Called) → (length calls == 0) ≡ false →
-    notes.section_opening options ++ (notes.items_pieces options footnotes calls ++ notes.section_closing) ≡ notes.section_pieces options footnotes calls
+parts : (options : CompileOptions) (footnotes : List notes.Footnote) (calls : List Called) →
+    (length calls == 0) ≡ false →
+    notes.section_opening options ++ (notes.items_pieces options footnotes calls ++ notes.section_closing)
+    ≡ notes.section_pieces options footnotes calls
 parts options footnotes [] h = absurd (true≢false h)
 parts options footnotes (called ∷ others) h = refl
 
@@ -26,7 +28,10 @@ returns c =
     let items : List Piece = notes.items_pieces options footnotes calls in
     let P : Page → Type 0 = λ s. OnOk c.section_end.result (c.section_end.new.sheet ≡ s) in
     subst P
-    (ap (λ s. lay ending s notes.section_closing) (c.in_ok-items.ensures ∙ ap (λ s. lay ending s items) c.in_ok-section_start.ensures)
-    ∙ sym (lay-append ending start opening (items ++ notes.section_closing) ∙ lay-append ending (lay ending start opening) items notes.section_closing)
-    ∙ ap (λ pieces. lay ending start pieces) (parts options footnotes calls (sym c.is_empty.ensures ∙ c.if-is_empty.false)))
+    (ap (λ s. lay ending s notes.section_closing) (c.in_ok-items.ensures
+    ∙ ap (λ s. lay ending s items) c.in_ok-section_start.ensures)
+    ∙ sym (lay-append ending start opening (items ++ notes.section_closing)
+    ∙ lay-append ending (lay ending start opening) items notes.section_closing)
+    ∙ ap (λ pieces. lay ending start pieces) (parts options footnotes calls (sym c.is_empty.ensures
+    ∙ c.if-is_empty.false)))
     c.section_end.ensures

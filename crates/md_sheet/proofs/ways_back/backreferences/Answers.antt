@@ -5,9 +5,11 @@ use Rattle.std.proofs.Common.{ap, sym, ◌∙◌, append_assoc, arith}
 use Rattle.md_meaning.specs.declared.options.CompileOptions.{CompileOptions}
 
 one_more : (options : CompileOptions) (identifier : List ℕ) (n : ℕ) →
-    notes.backreferences options identifier n ++ ((if n == 0 then [] else 32 ∷ []) ++ notes.backreference options identifier (n + 1)) ≡ notes.backreferences options identifier (n + 1)
+    notes.backreferences options identifier n ++ ((if n == 0 then [] else 32 ∷ [])
+    ++ notes.backreference options identifier (n + 1)) ≡ notes.backreferences options identifier (n + 1)
 one_more options identifier n =
-    ap (λ m. notes.backreferences options identifier n ++ ((if n == 0 then [] else 32 ∷ []) ++ notes.backreference options identifier m)) (next n)
+    ap (λ m. notes.backreferences options identifier n ++ ((if n == 0 then [] else 32 ∷ [])
+    ++ notes.backreference options identifier m)) (next n)
     ∙ ap (λ m. notes.backreferences options identifier m) (sym (next n))
   where
     next : (m : ℕ) → m + 1 ≡ suc m
@@ -20,8 +22,10 @@ loop-done-preserved c =
     let done = c.loop-done.done in (
       c.in_ok-push_backreference.ensures
           ∙ ap (λ t. t ++ notes.backreference options identifier (done + 1)) c.in_ok-push_space.ensures
-          ∙ append_assoc (string_bytes c.loop-done.text) (if done == 0 then [] else 32 ∷ []) (notes.backreference options identifier (done + 1))
-          ∙ ap (λ t. t ++ ((if done == 0 then [] else 32 ∷ []) ++ notes.backreference options identifier (done + 1))) c.loop-done.invariant.0
+          ∙ append_assoc (string_bytes c.loop-done.text) (if done == 0 then [] else 32
+          ∷ []) (notes.backreference options identifier (done + 1))
+          ∙ ap (λ t. t ++ ((if done == 0 then [] else 32 ∷ []) ++ notes.backreference options identifier (done + 1)))
+          c.loop-done.invariant.0
           ∙ one_more options identifier done,
       search rules,
     )

@@ -5,4 +5,5 @@ use Rattle.md_text.proofs.EncodeLemmas.{encoded-chars}
 use Rattle.md_text.proofs.escape.encode.Goals as goal
 
 pub returns-clause-by_character : goal.returns-clause-by_character
-returns-clause-by_character c = grind (arith, common_steps) ∙ encoded-chars c.args.encode_html c.args.value.now c.utf8.value
+returns-clause-by_character c = grind (arith, common_steps)
+    ∙ encoded-chars c.args.encode_html c.args.value.now c.utf8.value

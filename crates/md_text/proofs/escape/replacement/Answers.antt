@@ -12,4 +12,5 @@ pub returns-in_default : goal.returns-in_default
 returns-in_default c =
     let html = c.args.encode_html in
     let other = λ (n : ℕ) (ne : c.args.c ≢ n). ap (λ b. html && b) (ne_eqb c.args.c n ne) ∙ and_false html in
-    encoded-plain html c.args.c (ne_eqb _ _ c.if-c-eq0.false) (other 38 (λ e. omega arith)) (other 34 (λ e. omega arith)) (other 60 (λ e. omega arith)) (other 62 (λ e. omega arith))
+    encoded-plain html c.args.c (ne_eqb _ _ c.if-c-eq0.false) (other 38 (λ e. omega arith))
+    (other 34 (λ e. omega arith)) (other 60 (λ e. omega arith)) (other 62 (λ e. omega arith))

@@ -5,4 +5,5 @@ use Rattle.md_text.proofs.names.lowered_is_one_of.Given as goal
 -- what is left decides
 abbrev pub invariant-loop-text : goal.invariant-loop-text
 invariant-loop-text l =
-    is_one_of (map (λ text. text.now) (drop l.text-index l.texts)) (lowered l.name) ≡ is_one_of (map (λ text. text.now) l.texts) (lowered l.name)
+    is_one_of (map (λ text. text.now) (drop l.text-index l.texts)) (lowered l.name)
+    ≡ is_one_of (map (λ text. text.now) l.texts) (lowered l.name)

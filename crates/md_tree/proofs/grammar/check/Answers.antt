@@ -15,7 +15,8 @@ use Rattle.md_tree.proofs.Checking.{IsRefusal-undone, IsRefusal-lost, IsChecked-
 use Rattle.md_tree.proofs.grammar.check.Goals as goal
 
 -- no node of a course is open, and so none of a walk
-none_mapped : (events : List Event) (opens : List Open) → map (λ open_node. open_seen events open_node) opens ≡ [] → opens ≡ []
+none_mapped : (events : List Event) (opens : List Open) → map (λ open_node. open_seen events open_node) opens ≡ [] →
+    opens ≡ []
 none_mapped events [] e = refl
 none_mapped events (open_node ∷ opens) e = cc
 
@@ -24,11 +25,17 @@ none_open events opens e = none_mapped events opens (sym (reverse-reverse _) ∙
 
 pub returns-then-not-is_done-clause-outside : goal.returns-then-not-is_done-clause-outside
 returns-then-not-is_done-clause-outside c =
-    IsRefusal.outside (IsRefusal-undone (handed c.args.events.now c.args.bytes.now c.args.names.now) (course_of c.args.events.now (length c.args.events.now) c.in_ok-read.read.walk) c.in_ok-read.ensures.walked (λ e. c.is_done.ensures.undone c.if-not-is_done.true (none_open c.args.events.now c.in_ok-read.read.walk.open_nodes.items e)))
+    IsRefusal.outside (IsRefusal-undone (handed c.args.events.now c.args.bytes.now c.args.names.now)
+    (course_of c.args.events.now (length c.args.events.now) c.in_ok-read.read.walk) c.in_ok-read.ensures.walked
+    (λ e. c.is_done.ensures.undone c.if-not-is_done.true
+    (none_open c.args.events.now c.in_ok-read.read.walk.open_nodes.items e)))
 
 pub returns-then-not-is_done-clause-order : goal.returns-then-not-is_done-clause-order
 returns-then-not-is_done-clause-order c =
-    IsRefusal.order (IsRefusal-undone (handed c.args.events.now c.args.bytes.now c.args.names.now) (course_of c.args.events.now (length c.args.events.now) c.in_ok-read.read.walk) c.in_ok-read.ensures.walked (λ e. c.is_done.ensures.undone c.if-not-is_done.true (none_open c.args.events.now c.in_ok-read.read.walk.open_nodes.items e)))
+    IsRefusal.order (IsRefusal-undone (handed c.args.events.now c.args.bytes.now c.args.names.now)
+    (course_of c.args.events.now (length c.args.events.now) c.in_ok-read.read.walk) c.in_ok-read.ensures.walked
+    (λ e. c.is_done.ensures.undone c.if-not-is_done.true
+    (none_open c.args.events.now c.in_ok-read.read.walk.open_nodes.items e)))
 
 pub returns-in_err-resolve-clause-outside : goal.returns-in_err-resolve-clause-outside
 returns-in_err-resolve-clause-outside c =
@@ -36,9 +43,13 @@ returns-in_err-resolve-clause-outside c =
     let given = handed c.args.events.now c.args.bytes.now c.args.names.now in
     let mentions = c.in_ok-read.read.walk.mentions.items in
     let done = c.is_done.ensures.done c.if-not-is_done.false in
-    let walked : IsWalked given mentions = IsWalked-done given (course_of c.args.events.now (length c.args.events.now) c.in_ok-read.read.walk) c.in_ok-read.ensures.walked (ap (opens_seen c.args.events.now) done.0) done.1 in
+    let walked : IsWalked given mentions = IsWalked-done given
+    (course_of c.args.events.now (length c.args.events.now) c.in_ok-read.read.walk) c.in_ok-read.ensures.walked
+    (ap (opens_seen c.args.events.now) done.0) done.1 in
     rw (p.1, p.2)
-    (IsRefusal.outside (IsRefusal-lost given mentions c.in_err-resolve.field-0.0 walked (subst (λ ms. IsUnresolved c.args.bytes.now ms c.in_err-resolve.field-0.0) c.deref.ensures.value c.in_err-resolve.ensures.refused)))
+    (IsRefusal.outside (IsRefusal-lost given mentions c.in_err-resolve.field-0.0 walked
+    (subst (λ ms. IsUnresolved c.args.bytes.now ms c.in_err-resolve.field-0.0) c.deref.ensures.value
+    c.in_err-resolve.ensures.refused)))
 
 pub returns-in_err-resolve-clause-lost : goal.returns-in_err-resolve-clause-lost
 returns-in_err-resolve-clause-lost c =
@@ -46,14 +57,21 @@ returns-in_err-resolve-clause-lost c =
     let given = handed c.args.events.now c.args.bytes.now c.args.names.now in
     let mentions = c.in_ok-read.read.walk.mentions.items in
     let done = c.is_done.ensures.done c.if-not-is_done.false in
-    let walked : IsWalked given mentions = IsWalked-done given (course_of c.args.events.now (length c.args.events.now) c.in_ok-read.read.walk) c.in_ok-read.ensures.walked (ap (opens_seen c.args.events.now) done.0) done.1 in
+    let walked : IsWalked given mentions = IsWalked-done given
+    (course_of c.args.events.now (length c.args.events.now) c.in_ok-read.read.walk) c.in_ok-read.ensures.walked
+    (ap (opens_seen c.args.events.now) done.0) done.1 in
     rw (p.1, p.2)
-    (IsRefusal.lost (IsRefusal-lost given mentions c.in_err-resolve.field-0.0 walked (subst (λ ms. IsUnresolved c.args.bytes.now ms c.in_err-resolve.field-0.0) c.deref.ensures.value c.in_err-resolve.ensures.refused)))
+    (IsRefusal.lost (IsRefusal-lost given mentions c.in_err-resolve.field-0.0 walked
+    (subst (λ ms. IsUnresolved c.args.bytes.now ms c.in_err-resolve.field-0.0) c.deref.ensures.value
+    c.in_err-resolve.ensures.refused)))
 
 pub new-requires-clause-grammatical : goal.new-requires-clause-grammatical
 new-requires-clause-grammatical c =
     let given = handed c.args.events.now c.args.bytes.now c.args.names.now in
     let mentions = c.in_ok-read.read.walk.mentions.items in
     let done = c.is_done.ensures.done c.if-not-is_done.false in
-    let walked : IsWalked given mentions = IsWalked-done given (course_of c.args.events.now (length c.args.events.now) c.in_ok-read.read.walk) c.in_ok-read.ensures.walked (ap (opens_seen c.args.events.now) done.0) done.1 in
-    IsChecked-walked given mentions walked (subst (λ ms. All (IsResolved c.args.bytes.now (mentions_among ms)) (mentions_among ms)) c.deref.ensures.value c.in_ok-resolve.ensures.ok)
+    let walked : IsWalked given mentions = IsWalked-done given
+    (course_of c.args.events.now (length c.args.events.now) c.in_ok-read.read.walk) c.in_ok-read.ensures.walked
+    (ap (opens_seen c.args.events.now) done.0) done.1 in
+    IsChecked-walked given mentions walked (subst (λ ms. All (IsResolved c.args.bytes.now (mentions_among ms))
+    (mentions_among ms)) c.deref.ensures.value c.in_ok-resolve.ensures.ok)

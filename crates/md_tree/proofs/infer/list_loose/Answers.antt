@@ -10,7 +10,8 @@ use Rattle.md_infer.proofs.Telling.{with_items-told, without_items-told}
 use Rattle.md_tree.proofs.infer.list_loose.Goals as goal
 
 -- a list of either kind
-enters_list : (events : List Event) (index : ℕ) → EntersAt events index ListOrdered ⊎ EntersAt events index ListUnordered → EntersSome events index
+enters_list : (events : List Event) (index : ℕ) → EntersAt events index ListOrdered ⊎ EntersAt events index
+    ListUnordered → EntersSome events index
 enters_list events index (inl ordered) = (ListOrdered, ordered)
 enters_list events index (inr unordered) = (ListUnordered, unordered)
 

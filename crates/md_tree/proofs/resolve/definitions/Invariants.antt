@@ -5,4 +5,5 @@ use Rattle.md_tree.proofs.resolve.definitions.Given as goal
 
 abbrev pub invariant-loop-mentioned : goal.invariant-loop-mentioned
 invariant-loop-mentioned l =
-    HaveSame (identifiers_of l.found ++ defined l.bytes (mentions_among (drop l.mentioned-index l.mentions))) (defined l.bytes (mentions_among l.mentions))
+    HaveSame (identifiers_of l.found ++ defined l.bytes (mentions_among (drop l.mentioned-index l.mentions)))
+    (defined l.bytes (mentions_among l.mentions))

@@ -11,11 +11,22 @@ read bytes mentioned = footnoted bytes (mentions_among mentioned)
 
 pub loop-mentioned-preserved : goal.loop-mentioned-preserved
 loop-mentioned-preserved c =
-    let later : List (Option (List ℕ)) = read c.args.bytes.now (drop (c.loop-mentioned.mentioned-index + 1) c.args.mentions.now) in
+    let later : List (Option (List ℕ)) = read c.args.bytes.now
+    (drop (c.loop-mentioned.mentioned-index + 1) c.args.mentions.now) in
     elim c.match-mentioned.branch [
-      | in-FootnoteDefinition+in_ok-identifier+in_ok-insert w ↦ rw (w.found-is, w.in_ok-insert.ensures.keys) (HaveSame-put (read c.args.bytes.now) c.args.mentions.now c.loop-mentioned.mentioned-index c.loop-mentioned.found.keys c.loop-mentioned.invariant _ w.in_ok-identifier.field-0 _ c.loop-mentioned-test.true (ap (λ mention. footnoted_by c.args.bytes.now mention later) w.in-FootnoteDefinition.is) w.in_ok-identifier.ensures)
-      | in_default w ↦ rw w.found-is (HaveSame-passed (read c.args.bytes.now) c.args.mentions.now c.loop-mentioned.mentioned-index c.loop-mentioned.found.keys c.loop-mentioned.invariant _ c.loop-mentioned-test.true (footnoted_by-other c.args.bytes.now _ later w.in_default.not-FootnoteDefinition))
+      | in-FootnoteDefinition+in_ok-identifier+in_ok-insert w ↦ rw (
+        w.found-is,
+        w.in_ok-insert.ensures.keys,
+      ) (HaveSame-put (read c.args.bytes.now) c.args.mentions.now
+          c.loop-mentioned.mentioned-index c.loop-mentioned.found.keys c.loop-mentioned.invariant _
+          w.in_ok-identifier.field-0 _ c.loop-mentioned-test.true
+          (ap (λ mention. footnoted_by c.args.bytes.now mention later) w.in-FootnoteDefinition.is)
+          w.in_ok-identifier.ensures)
+      | in_default w ↦ rw w.found-is (HaveSame-passed (read c.args.bytes.now) c.args.mentions.now
+          c.loop-mentioned.mentioned-index c.loop-mentioned.found.keys c.loop-mentioned.invariant _
+          c.loop-mentioned-test.true (footnoted_by-other c.args.bytes.now _ later w.in_default.not-FootnoteDefinition))
     ]
 
 pub returns : goal.returns
-returns c = HaveSame-all (read c.args.bytes.now) c.args.mentions.now c.loop-mentioned.mentioned-index c.loop-mentioned.found.keys c.loop-mentioned.invariant c.loop-mentioned-test.false refl
+returns c = HaveSame-all (read c.args.bytes.now) c.args.mentions.now c.loop-mentioned.mentioned-index
+    c.loop-mentioned.found.keys c.loop-mentioned.invariant c.loop-mentioned-test.false refl

@@ -5,4 +5,5 @@ use Rattle.md_tree.proofs.resolve.resolve.Given as goal
 
 abbrev pub invariant-loop-mentioned : goal.invariant-loop-mentioned
 invariant-loop-mentioned l =
-    (k : ℕ) (d : Mention) → k < l.mentioned-index → IsResolved l.bytes (mentions_among l.mentions) (get_or (mentions_among l.mentions) k d)
+    (k : ℕ) (d : Mention) → k < l.mentioned-index → IsResolved l.bytes (mentions_among l.mentions)
+    (get_or (mentions_among l.mentions) k d)

@@ -6,4 +6,5 @@ use Rattle.md_tree.proofs.texts.runs.Given as goal
 
 abbrev pub invariant-loop-chunk : goal.invariant-loop-chunk
 invariant-loop-chunk l =
-    (l.start ≤ length l.fn.bytes) × (drop l.start l.fn.bytes ≡ utf8_chunks_rest l.chunk-iterator) × AreRuns l.fn.bytes l.runs.items
+    (l.start ≤ length l.fn.bytes) × (drop l.start l.fn.bytes ≡ utf8_chunks_rest l.chunk-iterator)
+    × AreRuns l.fn.bytes l.runs.items

@@ -11,7 +11,9 @@ use Rattle.md_base.proofs.slice.Slice.as_str.Goals as goal
 abbrev chosen : List ℕ → Bool → Option (List ℕ)
 chosen bytes test = cond test (Some bytes) None
 
-read : {E : Type 0} (bytes : List ℕ) (Fault : E → Type 0) (r : Result (Bor (List ℕ)) E) → MatchResult r (λ s. (s.now ≡ bytes) × IsUtf8 bytes) (λ e. (¬ IsUtf8 bytes) × Fault e) → option_copied (result_ok r) ≡ text_when true bytes
+read : {E : Type 0} (bytes : List ℕ) (Fault : E → Type 0) (r : Result (Bor (List ℕ)) E) →
+    MatchResult r (λ s. (s.now ≡ bytes) × IsUtf8 bytes) (λ e. (¬ IsUtf8 bytes) × Fault e) →
+    option_copied (result_ok r) ≡ text_when true bytes
 read bytes Fault (Ok s) h = ap Some h.0 ∙ sym (ap (chosen bytes) (is_utf8-from_IsUtf8 bytes h.1))
 read bytes Fault (Err e) h =
     elim (cases_Bool (is_utf8 bytes)) [
@@ -20,4 +22,5 @@ read bytes Fault (Err e) h =
     ]
 
 pub returns : goal.returns
-returns c = ap option_copied c.ok.ensures.value ∙ read c.args.self.now.bytes.now _ c.from_utf8.result c.from_utf8.ensures.cases
+returns c = ap option_copied c.ok.ensures.value ∙ read c.args.self.now.bytes.now _ c.from_utf8.result
+    c.from_utf8.ensures.cases

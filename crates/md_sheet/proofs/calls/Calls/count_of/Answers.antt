@@ -10,13 +10,15 @@ returns-in-Some c =
     let entries = c.self.inside.counts.items in
     c.count_at.ensures
     ∙ ap (λ es. option_map_or (λ e. e.1) (slice_get es c.in-Some.place) 0) c.as_slice.ensures.value
-    ∙ ap (λ o. option_map_or (λ place. option_map_or (λ e. e.1) (slice_get entries place) 0) o 0) (sym (sym (c.self.invariant c.args.identifier.now) ∙ sym c.place_of.ensures ∙ c.in-Some.is))
+    ∙ ap (λ o. option_map_or (λ place. option_map_or (λ e. e.1) (slice_get entries place) 0) o 0)
+    (sym (sym (c.self.invariant c.args.identifier.now) ∙ sym c.place_of.ensures ∙ c.in-Some.is))
     ∙ count-at entries c.args.identifier.now
     ∙ ap (λ calls. count_among calls c.args.identifier.now) c.self.view_is
 
 pub returns-in-None : goal.returns-in-None
 returns-in-None c =
     let entries = c.self.inside.counts.items in
-    ap (λ o. option_map_or (λ place. option_map_or (λ e. e.1) (slice_get entries place) 0) o 0) (sym (sym (c.self.invariant c.args.identifier.now) ∙ sym c.place_of.ensures ∙ c.in-None.is))
+    ap (λ o. option_map_or (λ place. option_map_or (λ e. e.1) (slice_get entries place) 0) o 0)
+    (sym (sym (c.self.invariant c.args.identifier.now) ∙ sym c.place_of.ensures ∙ c.in-None.is))
     ∙ count-at entries c.args.identifier.now
     ∙ ap (λ calls. count_among calls c.args.identifier.now) c.self.view_is

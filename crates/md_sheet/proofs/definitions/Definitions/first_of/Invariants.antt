@@ -4,7 +4,8 @@ use Rattle.md_sheet.proofs.definitions.Definitions.first_of.Given as goal
 
 abbrev pub invariant-loop-definition : goal.invariant-loop-definition
 invariant-loop-definition l =
-    (identifier : List ℕ) → defined_target (l.rest.items ++ l.definitions) identifier ≡ defined_target l.fn.list.items identifier
+    (identifier : List ℕ) → defined_target (l.rest.items ++ l.definitions) identifier
+    ≡ defined_target l.fn.list.items identifier
 
 abbrev pub decreases-loop-definition : goal.decreases-loop-definition
 decreases-loop-definition l = length l.rest.items

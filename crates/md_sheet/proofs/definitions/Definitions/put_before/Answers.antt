@@ -7,6 +7,7 @@ use Rattle.md_sheet.proofs.definitions.Definitions.put_before.Goals as goal
 pub returns : goal.returns
 returns c = λ identifier.
     let others = definitions_in c.self.inside.targets.entries in
-    target-put c.self.inside.targets c.insert.new.self c.definition.inside.identifier c.definition.inside.target c.in_ok-insert.ensures.updates identifier
+    target-put c.self.inside.targets c.insert.new.self c.definition.inside.identifier c.definition.inside.target
+    c.in_ok-insert.ensures.updates identifier
     ∙ ap (λ d. defined_target (d ∷ others) identifier) c.definition.view_is
     ∙ ap (λ ds. defined_target (c.args.definition ∷ ds) identifier) c.self.view_is

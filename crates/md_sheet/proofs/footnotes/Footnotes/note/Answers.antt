@@ -12,7 +12,8 @@ returns-in-Some c =
     let told : Footnote = record { identifier = q; text = string_bytes c.args.text } in
     sym c.self.view_is
     ∙ noted-present c.self.inside.texts.items q (string_bytes c.args.text) c.in-Some.field-0
-    (sym (c.self.invariant q) ∙ ap (λ text. get_by_text c.self.inside.places text) (sym c.as_str.ensures.value) ∙ sym c.place_of.ensures ∙ c.in-Some.is)
+    (sym (c.self.invariant q) ∙ ap (λ text. get_by_text c.self.inside.places text) (sym c.as_str.ensures.value)
+    ∙ sym c.place_of.ensures ∙ c.in-Some.is)
     ∙ ap (λ fs. noted fs told) c.self.view_is
 
 pub returns-in-None : goal.returns-in-None
@@ -22,6 +23,7 @@ returns-in-None c =
     on_ok_weaker c.put_last.result
     (λ put. ap (λ es. footnotes_in es) put
     ∙ noted-new c.self.inside.texts.items c.args.identifier c.args.text
-    (sym (c.self.invariant q) ∙ ap (λ text. get_by_text c.self.inside.places text) (sym c.as_str.ensures.value) ∙ sym c.place_of.ensures ∙ c.in-None.is)
+    (sym (c.self.invariant q) ∙ ap (λ text. get_by_text c.self.inside.places text) (sym c.as_str.ensures.value)
+    ∙ sym c.place_of.ensures ∙ c.in-None.is)
     ∙ ap (λ fs. noted fs told) c.self.view_is)
     c.put_last.ensures.entries

@@ -10,13 +10,15 @@ returns-in-Some c =
     let entries = c.self.inside.texts.items in
     c.text_at.ensures
     ∙ ap (λ es. option_map_or (λ e. string_bytes e.1) (slice_get es c.in-Some.place) []) c.as_slice.ensures.value
-    ∙ ap (λ o. option_map_or (λ place. option_map_or (λ e. string_bytes e.1) (slice_get entries place) []) o []) (sym (sym (c.self.invariant c.args.identifier.now) ∙ sym c.place_of.ensures ∙ c.in-Some.is))
+    ∙ ap (λ o. option_map_or (λ place. option_map_or (λ e. string_bytes e.1) (slice_get entries place) []) o [])
+    (sym (sym (c.self.invariant c.args.identifier.now) ∙ sym c.place_of.ensures ∙ c.in-Some.is))
     ∙ text-at entries c.args.identifier.now
     ∙ ap (λ fs. footnote_text fs c.args.identifier.now) c.self.view_is
 
 pub returns-in-None : goal.returns-in-None
 returns-in-None c =
     let entries = c.self.inside.texts.items in
-    ap (λ o. option_map_or (λ place. option_map_or (λ e. string_bytes e.1) (slice_get entries place) []) o []) (sym (sym (c.self.invariant c.args.identifier.now) ∙ sym c.place_of.ensures ∙ c.in-None.is))
+    ap (λ o. option_map_or (λ place. option_map_or (λ e. string_bytes e.1) (slice_get entries place) []) o [])
+    (sym (sym (c.self.invariant c.args.identifier.now) ∙ sym c.place_of.ensures ∙ c.in-None.is))
     ∙ text-at entries c.args.identifier.now
     ∙ ap (λ fs. footnote_text fs c.args.identifier.now) c.self.view_is

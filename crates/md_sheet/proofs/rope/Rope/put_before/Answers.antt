@@ -5,7 +5,8 @@ use Rattle.md_sheet.proofs.Ropes.{joined-push, counted_up-append}
 use Rattle.md_sheet.proofs.rope.Rope.put_before.Goals as goal
 
 -- the text is put before all others
-text_before : (c : goal.After-self-1) → joined c.push.new.self.items ++ string_bytes c.self.inside.last ≡ string_bytes c.args.text ++ (joined c.self.inside.front.items ++ string_bytes c.self.inside.last)
+text_before : (c : goal.After-self-1) → joined c.push.new.self.items ++ string_bytes c.self.inside.last
+    ≡ string_bytes c.args.text ++ (joined c.self.inside.front.items ++ string_bytes c.self.inside.last)
 text_before c =
     let parts = c.self.inside.front.items in
     let behind : List ℕ = string_bytes c.self.inside.last in
@@ -20,7 +21,8 @@ pub invariant_of-self-2 : goal.invariant_of-self-2
 invariant_of-self-2 c =
     c.saturating_add-length.ensures
     ∙ ap (λ n. min (c.self.inside.length + n) (2 ^ 64 - 1)) (own_length c)
-    ∙ counted_up-append (string_bytes c.args.text) (joined c.self.inside.front.items ++ string_bytes c.self.inside.last) c.self.inside.length c.self.invariant
+    ∙ counted_up-append (string_bytes c.args.text) (joined c.self.inside.front.items
+    ++ string_bytes c.self.inside.last) c.self.inside.length c.self.invariant
     ∙ ap (λ t. counted_up t) (sym (text_before c))
 
 pub returns : goal.returns

@@ -8,8 +8,10 @@ use Rattle.md_tree.proofs.checked.Checked.definitions.Goals as goal
 
 pub returns-clause-definitions : goal.returns-clause-definitions
 returns-clause-definitions c =
-    subst (λ ds. AreDefinitions c.args.self.now ds) (sym c.as_slice.ensures.value) (definitions-kept c.self.inside c.args.self.now 0 c.self.invariant c.self.view_is)
+    subst (λ ds. AreDefinitions c.args.self.now ds) (sym c.as_slice.ensures.value)
+    (definitions-kept c.self.inside c.args.self.now 0 c.self.invariant c.self.view_is)
 
 pub returns-clause-entered : goal.returns-clause-entered
 returns-clause-entered c =
-    subst (λ ds. All (λ i. EntersAt c.args.self.now.events i Definition) ds) (sym c.as_slice.ensures.value) (definitions-enter c.self.inside c.args.self.now 0 c.self.invariant c.self.view_is)
+    subst (λ ds. All (λ i. EntersAt c.args.self.now.events i Definition) ds) (sym c.as_slice.ensures.value)
+    (definitions-enter c.self.inside c.args.self.now 0 c.self.invariant c.self.view_is)

@@ -13,17 +13,22 @@ use Rattle.md_tree.proofs.Placing.{children-placed}
 use Rattle.md_tree.proofs.Searching.{resource-found}
 use Rattle.md_tree.proofs.checked.Checked.has_resource.Goals as goal
 
-enters_media : (events : List Event) (index : ℕ) → EntersAt events index Link ⊎ EntersAt events index Image → EntersSome events index
+enters_media : (events : List Event) (index : ℕ) → EntersAt events index Link ⊎ EntersAt events index Image →
+    EntersSome events index
 enters_media events index (inl link) = (Link, link)
 enters_media events index (inr image) = (Image, image)
 
-resource_is : (given : Document) (index : ℕ) (fact : Fact) → IsFactAt given index fact → EntersAt given.events index Link ⊎ EntersAt given.events index Image → (children : Forest) → IsEnteredAt given index children → fact.has_resource ≡ has_resource children
+resource_is : (given : Document) (index : ℕ) (fact : Fact) → IsFactAt given index fact →
+    EntersAt given.events index Link ⊎ EntersAt given.events index Image → (children : Forest) →
+    IsEnteredAt given index children → fact.has_resource ≡ has_resource children
 resource_is given index fact is (inl link) children entered =
     ap (λ (f : Fact). f.has_resource) (is Link children link entered).1
-    ∙ resource-found (position_at given.events (facts_at given.events)) refl Link children (suc index) (children-placed given index Link link children entered) refl
+    ∙ resource-found (position_at given.events (facts_at given.events)) refl Link children (suc index)
+    (children-placed given index Link link children entered) refl
 resource_is given index fact is (inr image) children entered =
     ap (λ (f : Fact). f.has_resource) (is Image children image entered).1
-    ∙ resource-found (position_at given.events (facts_at given.events)) refl Image children (suc index) (children-placed given index Image image children entered) refl
+    ∙ resource-found (position_at given.events (facts_at given.events)) refl Image children (suc index)
+    (children-placed given index Image image children entered) refl
 
 pub fact-requires : goal.fact-requires
 fact-requires c = enters_media c.args.self.now.events c.args.index c.requires

@@ -9,12 +9,19 @@ use Rattle.md_tree.specs.Indices.{IsPartnerAt}
 use Rattle.md_tree.proofs.Entering.{partners_there}
 use Rattle.md_tree.proofs.checked.Checked.partner.Goals as goal
 
-partner_is : (inside : Inside) (given : Document) (index : ℕ) (partner : Option ℕ) → IsKept inside → given_of inside ≡ given → partner ≡ option_map (λ (f : Fact). f.partner) (slice_get inside.facts.items index) → IsPartnerAt given index partner
+partner_is : (inside : Inside) (given : Document) (index : ℕ) (partner : Option ℕ) → IsKept inside →
+    given_of inside ≡ given → partner ≡ option_map (λ (f : Fact). f.partner) (slice_get inside.facts.items index) →
+    IsPartnerAt given index partner
 partner_is inside given index partner kept same found =
-    let flattened = IsReadAs.flattened kept.0.1 ∙ ap (λ (g : Document). g.events) same in
-    (kept.0.0, flattened, found ∙ partners_there kept.0.0 given.events inside.facts.items index flattened (kept.1 ∙ ap (λ (g : Document). facts_at g.events) same))
+    let flattened = IsReadAs.flattened kept.0.1 ∙ ap (λ (g : Document). g.events) same in (
+      kept.0.0,
+      flattened,
+      found ∙ partners_there kept.0.0 given.events inside.facts.items index flattened (kept.1
+          ∙ ap (λ (g : Document). facts_at g.events) same),
+    )
 
 pub returns : goal.returns
 returns c =
     partner_is c.self.inside c.args.self.now c.args.index c.partner_at.result c.self.invariant c.self.view_is
-    (c.partner_at.ensures ∙ ap (λ fs. option_map (λ (f : Fact). f.partner) (slice_get fs c.args.index)) c.deref.ensures.value)
+    (c.partner_at.ensures ∙ ap (λ fs. option_map (λ (f : Fact). f.partner) (slice_get fs c.args.index))
+    c.deref.ensures.value)

@@ -16,7 +16,8 @@ use Rattle.md_tree.proofs.checked.Checked.reads.Goals as goal
 lie : false ≡ true → ⊥
 lie h = cc
 
-reader_place : (name : Name) (tables contributing : ℕ) (sought : Sought) → is_reader name ≡ true → place_of name tables contributing sought ≡ sought.place
+reader_place : (name : Name) (tables contributing : ℕ) (sought : Sought) → is_reader name ≡ true →
+    place_of name tables contributing sought ≡ sought.place
 reader_place HeadingAtx tables contributing sought h = refl
 reader_place ListOrdered tables contributing sought h = refl
 reader_place Link tables contributing sought h = refl
@@ -33,7 +34,11 @@ returns-clause-reads c = λ name children enters reader entered.
     let found = c.fact.ensures.fact name children enters entered in
     c.position_of.ensures
     ∙ ap (λ (g : Document). position_at g.events c.deref.result.now c.fact.result.place) c.self.view_is
-    ∙ ap (λ fs. position_at given.events fs c.fact.result.place) (c.deref.ensures.value ∙ facts_are c.self.inside given index c.self.invariant c.self.view_is)
+    ∙ ap (λ fs. position_at given.events fs c.fact.result.place) (c.deref.ensures.value
+    ∙ facts_are c.self.inside given index c.self.invariant c.self.view_is)
     ∙ ap (λ (f : Fact). position_at given.events (facts_at given.events) f.place) found.1
-    ∙ ap (λ n. position_at given.events (facts_at given.events) n) (reader_place name (tables_behind found.0 children) (contributing_over (suc index) children 0) (sought_over (suc index) children (search_of name)) reader)
-    ∙ reads-found (position_at given.events (facts_at given.events)) refl name children (suc index) (children-placed given index name enters children entered) reader
+    ∙ ap (λ n. position_at given.events (facts_at given.events) n)
+    (reader_place name (tables_behind found.0 children) (contributing_over (suc index) children 0)
+    (sought_over (suc index) children (search_of name)) reader)
+    ∙ reads-found (position_at given.events (facts_at given.events)) refl name children (suc index)
+    (children-placed given index name enters children entered) reader

@@ -10,31 +10,40 @@ use Rattle.md_tree.proofs.Kept.{ended-kept, ended-place}
 use Rattle.md_tree.proofs.checked.Checked.text.Goals as goal
 
 -- what is known at the index
-ended : (inside : Inside) (given : Document) (index : ℕ) → IsKept inside → given_of inside ≡ given → ExitsText given.events index → EndedAt (text_between given.bytes) given index
+ended : (inside : Inside) (given : Document) (index : ℕ) → IsKept inside → given_of inside ≡ given →
+    ExitsText given.events index → EndedAt (text_between given.bytes) given index
 ended inside given index kept same exits =
-    ended-kept inside given index kept same is_text (text_between given.bytes) exits.0 (text_names given.bytes given.names) exits.1 exits.2
+    ended-kept inside given index kept same is_text (text_between given.bytes) exits.0
+    (text_names given.bytes given.names) exits.1 exits.2
 
 pub unwrap-position-requires : goal.unwrap-position-requires
 unwrap-position-requires c =
     let given = c.args.self.now in
     let here = ended c.self.inside given c.args.index c.self.invariant c.self.view_is c.requires in
-    place_some c.position_ended.result here.position (ended-place c.self.inside given c.args.index c.self.invariant c.self.view_is c.deref.result.now c.position_ended.result c.deref.ensures.value c.position_ended.ensures ∙ here.there)
+    place_some c.position_ended.result here.position (ended-place c.self.inside given c.args.index c.self.invariant
+    c.self.view_is c.deref.result.now c.position_ended.result c.deref.ensures.value c.position_ended.ensures
+    ∙ here.there)
 
 pub unwrap-requires : goal.unwrap-requires
 unwrap-requires c =
     let given = c.args.self.now in
     let here = ended c.self.inside given c.args.index c.self.invariant c.self.view_is c.requires in
-    let place = ended-place c.self.inside given c.args.index c.self.invariant c.self.view_is c.deref.result.now c.position_ended.result c.deref.ensures.value c.position_ended.ensures in
+    let place = ended-place c.self.inside given c.args.index c.self.invariant c.self.view_is c.deref.result.now
+    c.position_ended.result c.deref.ensures.value c.position_ended.ensures in
     let position = c.unwrap-position.result in
     let bytes = ap (λ (g : Document). text_between g.bytes position.start position.end) c.self.view_is in
-    copied_some c.text_at.result here.found (c.text_at.ensures ∙ bytes ∙ EndedAt-read (text_between given.bytes) given c.args.index here c.position_ended.result position place c.unwrap-position.ensures)
+    copied_some c.text_at.result here.found (c.text_at.ensures ∙ bytes
+    ∙ EndedAt-read (text_between given.bytes) given c.args.index here c.position_ended.result position place
+    c.unwrap-position.ensures)
 
 pub returns : goal.returns
 returns c =
     let given = c.args.self.now in
     let here = ended c.self.inside given c.args.index c.self.invariant c.self.view_is c.requires in
-    let place = ended-place c.self.inside given c.args.index c.self.invariant c.self.view_is c.deref.result.now c.position_ended.result c.deref.ensures.value c.position_ended.ensures in
+    let place = ended-place c.self.inside given c.args.index c.self.invariant c.self.view_is c.deref.result.now
+    c.position_ended.result c.deref.ensures.value c.position_ended.ensures in
     let position = c.unwrap-position.result in
     let bytes = ap (λ (g : Document). text_between g.bytes position.start position.end) c.self.view_is in
     EndedAt-text (text_between given.bytes) given c.args.index here c.unwrap.result.now
-    (sym (EndedAt-read (text_between given.bytes) given c.args.index here c.position_ended.result position place c.unwrap-position.ensures) ∙ sym bytes ∙ sym c.text_at.ensures ∙ ap option_copied c.unwrap.ensures)
+    (sym (EndedAt-read (text_between given.bytes) given c.args.index here c.position_ended.result position place
+    c.unwrap-position.ensures) ∙ sym bytes ∙ sym c.text_at.ensures ∙ ap option_copied c.unwrap.ensures)

@@ -14,5 +14,8 @@ returns-then-is_char_boundary-2 c bytes run =
     let to : c.in_ok-to.to ≡ c.args.end - s = search rules in
     let ordered : c.args.start ≤ c.args.end = omega (arith, from, to, c.if-from-to.true) in
     let high : c.args.end - s ≤ length text = omega (arith, to, (c.if-is_char_boundary-2.ensures.test.0 refl).0) in
-    let part : c.range.result.now ≡ slice_range text (c.args.start - s) (c.args.end - s) = rw (← from, ← to) c.range.ensures.value in
-    text_when-some _ _ _ (readable-ordered c.args.start c.args.end (length bytes) ordered (omega (arith, run.0, high, low_end))) (part ∙ slice_range-run bytes text s c.args.start c.args.end run.1 low ordered high) c.range.utf8
+    let part : c.range.result.now ≡ slice_range text (c.args.start - s) (c.args.end - s) =
+    rw (← from, ← to) c.range.ensures.value in
+    text_when-some _ _ _ (readable-ordered c.args.start c.args.end (length bytes) ordered
+    (omega (arith, run.0, high, low_end))) (part ∙ slice_range-run bytes text s c.args.start c.args.end run.1 low
+    ordered high) c.range.utf8

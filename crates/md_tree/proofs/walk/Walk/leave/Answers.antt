@@ -6,5 +6,10 @@ use Rattle.md_tree.proofs.walk.Walk.leave.Goals as goal
 
 pub returns-in-Some-clause-refused : goal.returns-in-Some-clause-refused
 returns-in-Some-clause-refused c =
-    let events = c.args.source.events.now in
-    (refl, StopsInside-broken c.args.source.bytes.now (name_table c.args.source.names.now) c.in-Some.rule (outer_seen events c.args.outer) (point_at events c.args.entry) (point_at events c.args.index) (course_of events c.args.index c.args.self.now) (sym c.can_end.ensures ∙ c.if-not-can_end.false) (sym c.in_ok-rule.ensures ∙ c.in-Some.is))
+    let events = c.args.source.events.now in (
+      refl,
+      StopsInside-broken c.args.source.bytes.now (name_table c.args.source.names.now) c.in-Some.rule
+          (outer_seen events c.args.outer) (point_at events c.args.entry) (point_at events c.args.index)
+          (course_of events c.args.index c.args.self.now) (sym c.can_end.ensures
+          ∙ c.if-not-can_end.false) (sym c.in_ok-rule.ensures ∙ c.in-Some.is),
+    )

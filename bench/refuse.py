@@ -1,0 +1,81 @@
+#!/usr/bin/env python3
+"""Refuses each request for memory of md_memory_cases in turn.
+
+usage: bench/refuse.py PROGRAM      (crates/md_memory_cases/out/md_memory_cases, once `rt run` there has built it)
+
+The Nth request is refused, N from 1 upwards until a run meets no refusal: each run must end with status 0 and write
+what crates/md_memory_cases/stdout has. The calls that need nothing that takes memory must answer where each request is
+refused, and those that read what was checked must make no request more. Ends with status 1 where one of these fails.
+"""
+
+import os
+import subprocess
+import sys
+import tempfile
+
+HERE = os.path.dirname(os.path.abspath(__file__))
+WANTED = os.path.join(HERE, "..", "crates", "md_memory_cases", "stdout")
+MOST_RUNS = 5000
+
+
+def run(program, folder, refused, asked=b""):
+    """The status and the output of a run, and how many requests it made, the most where it crashed."""
+    count = os.path.join(folder, "count")
+    given = {"LD_PRELOAD": os.path.join(folder, "refuse.so"), "REFUSE": str(refused), "COUNT": count}
+    ran = subprocess.run([program], input=asked, env=given, capture_output=True, timeout=60)
+    if not os.path.exists(count):
+        return ran.returncode, ran.stdout, MOST_RUNS
+    with open(count, encoding="ascii") as file:
+        requests = int(file.read())
+    os.remove(count)
+    return ran.returncode, ran.stdout, requests
+
+
+def refuse_each(program, folder, wanted, asked):
+    """Each thing that is wrong, as a line, and the number of requests that were refused."""
+    status, output, ample = run(program, folder, 0, asked)
+    if (status, output) != (0, wanted) or ample == 0:
+        return [f"with ample memory: status {status}, {ample} requests, {output.decode()}"], 0
+    faults = []
+    for number in range(1, MOST_RUNS):
+        status, output, requests = run(program, folder, number, asked)
+        if (status, output) != (0, wanted):
+            faults.append(f"request {number} refused: status {status}, {output.decode()}")
+        if requests < number:
+            return faults, number - 1
+    return [*faults, f"more than {MOST_RUNS} requests"], MOST_RUNS
+
+
+def faults_without_memory(program, folder, wanted):
+    """What is wrong with the calls that take no memory."""
+    faults = []
+    if run(program, folder, "all", b"plain") != (0, wanted, 0):
+        faults.append("a call that takes no memory doesn't answer where each request is refused")
+    checked, methods = (run(program, folder, 0, asked) for asked in (b"checked", b"methods"))
+    if checked != methods:
+        faults.append(f"calls of what was checked: {checked} without them, {methods} with them")
+    return faults
+
+
+def main():
+    if len(sys.argv) != 2:
+        sys.exit(__doc__)
+    with open(WANTED, "rb") as file:
+        wanted = file.read()
+    with tempfile.TemporaryDirectory() as folder:
+        compiler = os.environ.get("CC", "cc")
+        shared = ["-shared", "-fPIC", "-o", os.path.join(folder, "refuse.so")]
+        subprocess.run([compiler, "-O1", *shared, os.path.join(HERE, "refuse.c")], check=True)
+        program = os.path.abspath(sys.argv[1])
+        faults, refused = faults_without_memory(program, folder, wanted), 0
+        for asked in (b"", b"methods"):
+            found, count = refuse_each(program, folder, wanted, asked)
+            faults, refused = faults + found, refused + count
+    for fault in faults:
+        print(f"refused memory: {fault}")
+    print(f"refused memory: {refused} requests refused in turn, {len(faults)} faults")
+    sys.exit(1 if faults else 0)
+
+
+if __name__ == "__main__":
+    main()

@@ -1,0 +1,81 @@
+//! What a script answers, by `run` and by the calls that it makes.
+
+use crate::reading::{REFERENCE_NAMES, read};
+use md_html::{check, compile, compile_checked, compile_counted};
+use md_script::{RunError, run};
+use std::alloc::{AllocError, Global};
+
+/// What is said of a script: its text or why it has none, and a line for each call that answers otherwise.
+pub(crate) fn answer(alloc: Global, script: &[u8]) -> Result<String, AllocError> {
+    let answer = run(alloc, script);
+    let mut said = said_of(alloc, &answer)?;
+    if let Err(RunError::Line(_)) = answer {
+        return Ok(said);
+    }
+    say_unless(&mut said, by_compile(alloc, script) == answer, "compile")?;
+    say_unless(
+        &mut said,
+        by_counted(alloc, script) == answer,
+        "compile_counted",
+    )?;
+    say_unless(
+        &mut said,
+        by_checked(alloc, script) == answer,
+        "compile_checked",
+    )?;
+    Ok(said)
+}
+
+/// The text, or why there is none.
+fn said_of(alloc: Global, answer: &Result<String, RunError>) -> Result<String, AllocError> {
+    match answer {
+        Ok(text) => text.clone(),
+        Err(error) => format!(in alloc; "! {error}"),
+    }
+}
+
+/// Says which call answers otherwise, unless it answers the same.
+fn say_unless(said: &mut String, is_same: bool, call: &str) -> Result<(), AllocError> {
+    if is_same {
+        return Ok(());
+    }
+    write!(said, "\n! {call} answers otherwise")
+}
+
+/// What `compile` answers.
+fn by_compile(alloc: Global, script: &[u8]) -> Result<String, RunError> {
+    let script = read(alloc, script)?;
+    Ok(compile(
+        alloc,
+        script.events.as_slice(),
+        script.document,
+        &script.options,
+        &REFERENCE_NAMES,
+    )?)
+}
+
+/// What `compile_counted` answers; `Memory` unless each event is visited once at least and three times at most.
+fn by_counted(alloc: Global, script: &[u8]) -> Result<String, RunError> {
+    let script = read(alloc, script)?;
+    let counted = compile_counted(
+        alloc,
+        script.events.as_slice(),
+        script.document,
+        &script.options,
+        &REFERENCE_NAMES,
+    )?;
+    let events = script.events.len();
+    if events <= counted.visits && counted.visits / 3 <= events {
+        Ok(counted.text)
+    } else {
+        Err(RunError::Memory)
+    }
+}
+
+/// What `compile_checked` answers, once the events are checked.
+fn by_checked(alloc: Global, script: &[u8]) -> Result<String, RunError> {
+    let script = read(alloc, script)?;
+    let events = script.events.as_slice();
+    let checked = check(alloc, events, script.document, &REFERENCE_NAMES)?;
+    Ok(compile_checked(alloc, &checked, &script.options)?)
+}

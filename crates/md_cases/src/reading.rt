@@ -1,0 +1,269 @@
+//! Scripts read apart from the program's own reader, so that the calls that `run` makes are asked as well.
+
+use md_html::{CompileOptions, Event, Kind, LineEnding, Name, Point};
+use md_script::RunError;
+use std::alloc::{AllocError, Global};
+
+/// What a script stands for.
+#[derive(Drop)]
+pub(crate) struct Script<'a> {
+    pub(crate) events: Vec<Event>,
+    pub(crate) document: &'a [u8],
+    pub(crate) options: CompileOptions,
+}
+
+/// The names of references in a script's document, each with its text.
+pub(crate) static REFERENCE_NAMES: [(&str, &str); 9] = [
+    ("amp", "&"),
+    ("lt", "<"),
+    ("gt", ">"),
+    ("quot", "\""),
+    ("apos", "'"),
+    ("colon", ":"),
+    ("sol", "/"),
+    ("num", "#"),
+    ("quest", "?"),
+];
+
+/// Reads a script of which each line can be read; of another it may name a wrong line.
+pub(crate) fn read(alloc: Global, input: &[u8]) -> Result<Script<'_>, RunError> {
+    let mut script = Script {
+        events: Vec::new(alloc),
+        document: &[],
+        options: CompileOptions::default(),
+    };
+    let mut length: usize = 0;
+    for line in input.split(|byte| *byte == b'\n') {
+        length = length.saturating_add(line.len()).saturating_add(1);
+        if line == b"--".as_slice() {
+            script.document = input.get(length..).unwrap_or(&[]);
+            return Ok(script);
+        }
+        let Ok(text) = std::str::from_utf8(line) else {
+            return Err(RunError::Line(length));
+        };
+        if !take_line(alloc, &mut script, text)? {
+            return Err(RunError::Line(length));
+        }
+    }
+    Err(RunError::Line(length))
+}
+
+/// Takes a line, and tells whether it could be read.
+fn take_line(alloc: Global, script: &mut Script<'_>, line: &str) -> Result<bool, AllocError> {
+    if let Some(option) = line.strip_prefix('!') {
+        return take_option(alloc, &mut script.options, option);
+    }
+    match event_of(line) {
+        Some(event) => {
+            script.events.push(event)?;
+            Ok(true)
+        }
+        None => Ok(false),
+    }
+}
+
+/// The event of a line.
+fn event_of(line: &str) -> Option<Event> {
+    match line.strip_prefix('+') {
+        Some(node) => event(Kind::Enter, node),
+        None => event(Kind::Exit, line.strip_prefix('-')?),
+    }
+}
+
+fn event(kind: Kind, node: &str) -> Option<Event> {
+    let (name, place) = node.split_once(' ')?;
+    let (index, vs) = place.split_once('.').unwrap_or((place, "0"));
+    Some(Event {
+        kind,
+        name: name_of(name)?,
+        point: Point {
+            line: 1,
+            column: 1,
+            index: index.parse().ok()?,
+            vs: vs.parse().ok()?,
+        },
+    })
+}
+
+/// Sets an option, and tells whether there is one.
+fn take_option(
+    alloc: Global,
+    options: &mut CompileOptions,
+    option: &str,
+) -> Result<bool, AllocError> {
+    match option.split_once('=') {
+        Some(("default_line_ending", name)) => Ok(set_ending(options, name)),
+        Some((name, value)) => set_text(options, name, String::from_str(alloc, value)?),
+        None => Ok(set_flag(options, option)),
+    }
+}
+
+fn set_ending(options: &mut CompileOptions, name: &str) -> bool {
+    options.default_line_ending = match name {
+        "lf" => LineEnding::LineFeed,
+        "cr" => LineEnding::CarriageReturn,
+        "crlf" => LineEnding::CarriageReturnLineFeed,
+        _ => return false,
+    };
+    true
+}
+
+fn set_text(options: &mut CompileOptions, name: &str, value: String) -> Result<bool, AllocError> {
+    let option = match name {
+        "gfm_footnote_back_label" => &mut options.gfm_footnote_back_label,
+        "gfm_footnote_clobber_prefix" => &mut options.gfm_footnote_clobber_prefix,
+        "gfm_footnote_label" => &mut options.gfm_footnote_label,
+        "gfm_footnote_label_attributes" => &mut options.gfm_footnote_label_attributes,
+        "gfm_footnote_label_tag_name" => &mut options.gfm_footnote_label_tag_name,
+        _ => return Ok(false),
+    };
+    *option = Some(value);
+    Ok(true)
+}
+
+fn set_flag(options: &mut CompileOptions, name: &str) -> bool {
+    match name {
+        "allow_any_img_src" => options.allow_any_img_src = true,
+        "allow_dangerous_html" => options.allow_dangerous_html = true,
+        "allow_dangerous_protocol" => options.allow_dangerous_protocol = true,
+        "gfm_task_list_item_checkable" => options.gfm_task_list_item_checkable = true,
+        "gfm_tagfilter" => options.gfm_tagfilter = true,
+        _ => return false,
+    }
+    true
+}
+
+fn name_of(text: &str) -> Option<Name> {
+    if let Some(number) = text.strip_prefix("Other") {
+        return Some(Name::Other(number.parse().ok()?));
+    }
+    listed(&NAMES, text)
+}
+
+/// The name beside a spelling.
+fn listed(names: &[(&str, Name)], text: &str) -> Option<Name> {
+    for (spelling, name) in names {
+        if *spelling == text {
+            return Some(*name);
+        }
+    }
+    None
+}
+
+/// The names of nodes, save `Other`.
+static NAMES: [(&str, Name); 86] = [
+    ("AutolinkEmail", Name::AutolinkEmail),
+    ("AutolinkProtocol", Name::AutolinkProtocol),
+    ("GfmAutolinkLiteralEmail", Name::GfmAutolinkLiteralEmail),
+    ("GfmAutolinkLiteralMailto", Name::GfmAutolinkLiteralMailto),
+    (
+        "GfmAutolinkLiteralProtocol",
+        Name::GfmAutolinkLiteralProtocol,
+    ),
+    ("GfmAutolinkLiteralWww", Name::GfmAutolinkLiteralWww),
+    ("GfmAutolinkLiteralXmpp", Name::GfmAutolinkLiteralXmpp),
+    ("LineEnding", Name::LineEnding),
+    ("BlankLineEnding", Name::BlankLineEnding),
+    ("BlockQuote", Name::BlockQuote),
+    ("BlockQuotePrefix", Name::BlockQuotePrefix),
+    ("ListOrdered", Name::ListOrdered),
+    ("ListUnordered", Name::ListUnordered),
+    ("ListItem", Name::ListItem),
+    ("ListItemPrefix", Name::ListItemPrefix),
+    ("ListItemValue", Name::ListItemValue),
+    ("ListItemMarker", Name::ListItemMarker),
+    ("GfmFootnoteDefinition", Name::GfmFootnoteDefinition),
+    (
+        "GfmFootnoteDefinitionPrefix",
+        Name::GfmFootnoteDefinitionPrefix,
+    ),
+    (
+        "GfmFootnoteDefinitionLabelString",
+        Name::GfmFootnoteDefinitionLabelString,
+    ),
+    ("Data", Name::Data),
+    ("CharacterEscapeValue", Name::CharacterEscapeValue),
+    ("CharacterReferenceMarker", Name::CharacterReferenceMarker),
+    (
+        "CharacterReferenceMarkerNumeric",
+        Name::CharacterReferenceMarkerNumeric,
+    ),
+    (
+        "CharacterReferenceMarkerHexadecimal",
+        Name::CharacterReferenceMarkerHexadecimal,
+    ),
+    ("CharacterReferenceValue", Name::CharacterReferenceValue),
+    ("CodeIndented", Name::CodeIndented),
+    ("CodeFenced", Name::CodeFenced),
+    ("CodeFencedFence", Name::CodeFencedFence),
+    ("CodeFencedFenceInfo", Name::CodeFencedFenceInfo),
+    ("CodeFencedFenceMeta", Name::CodeFencedFenceMeta),
+    ("CodeFlowChunk", Name::CodeFlowChunk),
+    ("MathFlow", Name::MathFlow),
+    ("MathFlowFence", Name::MathFlowFence),
+    ("MathFlowFenceMeta", Name::MathFlowFenceMeta),
+    ("MathFlowChunk", Name::MathFlowChunk),
+    ("CodeText", Name::CodeText),
+    ("CodeTextData", Name::CodeTextData),
+    ("MathText", Name::MathText),
+    ("MathTextData", Name::MathTextData),
+    ("HtmlFlow", Name::HtmlFlow),
+    ("HtmlFlowData", Name::HtmlFlowData),
+    ("HtmlText", Name::HtmlText),
+    ("HtmlTextData", Name::HtmlTextData),
+    ("Definition", Name::Definition),
+    ("DefinitionLabelString", Name::DefinitionLabelString),
+    (
+        "DefinitionDestinationString",
+        Name::DefinitionDestinationString,
+    ),
+    ("DefinitionTitleString", Name::DefinitionTitleString),
+    ("Link", Name::Link),
+    ("Image", Name::Image),
+    ("Label", Name::Label),
+    ("LabelText", Name::LabelText),
+    ("Resource", Name::Resource),
+    ("ResourceDestinationString", Name::ResourceDestinationString),
+    ("ResourceTitleString", Name::ResourceTitleString),
+    ("ReferenceString", Name::ReferenceString),
+    ("GfmFootnoteCall", Name::GfmFootnoteCall),
+    ("HeadingAtx", Name::HeadingAtx),
+    ("HeadingAtxSequence", Name::HeadingAtxSequence),
+    ("HeadingAtxText", Name::HeadingAtxText),
+    ("HeadingSetextText", Name::HeadingSetextText),
+    (
+        "HeadingSetextUnderlineSequence",
+        Name::HeadingSetextUnderlineSequence,
+    ),
+    ("GfmTable", Name::GfmTable),
+    ("GfmTableHead", Name::GfmTableHead),
+    ("GfmTableBody", Name::GfmTableBody),
+    ("GfmTableRow", Name::GfmTableRow),
+    ("GfmTableCell", Name::GfmTableCell),
+    ("GfmTableDelimiterRow", Name::GfmTableDelimiterRow),
+    (
+        "GfmTableDelimiterCellValue",
+        Name::GfmTableDelimiterCellValue,
+    ),
+    ("GfmTableDelimiterMarker", Name::GfmTableDelimiterMarker),
+    ("Emphasis", Name::Emphasis),
+    ("Strong", Name::Strong),
+    ("GfmStrikethrough", Name::GfmStrikethrough),
+    ("GfmTaskListItemCheck", Name::GfmTaskListItemCheck),
+    (
+        "GfmTaskListItemValueChecked",
+        Name::GfmTaskListItemValueChecked,
+    ),
+    ("HardBreakEscape", Name::HardBreakEscape),
+    ("HardBreakTrailing", Name::HardBreakTrailing),
+    ("Paragraph", Name::Paragraph),
+    ("ThematicBreak", Name::ThematicBreak),
+    ("Frontmatter", Name::Frontmatter),
+    ("SpaceOrTab", Name::SpaceOrTab),
+    ("MdxEsm", Name::MdxEsm),
+    ("MdxFlowExpression", Name::MdxFlowExpression),
+    ("MdxTextExpression", Name::MdxTextExpression),
+    ("MdxJsxFlowTag", Name::MdxJsxFlowTag),
+    ("MdxJsxTextTag", Name::MdxJsxTextTag),
+];

@@ -1,0 +1,100 @@
+//! The calls that take no memory.
+
+ghost use Rattle.md_base.specs.declared.event.Name.TheVariants as name;
+ghost use Rattle.md_tree.specs.Texts.{EntersAt, ExitsAt};
+
+use crate::log::Log;
+use crate::rows::Row;
+use crate::texts::point;
+use md_html::{
+    Checked, CompileOptions, LineEnding, Name, Position, Slice, list_item_loose, list_loose,
+};
+use md_script::{RunError, ServeError};
+use std::io;
+use std::str::FromStr;
+
+/// Makes the calls that ask for nothing that takes memory.
+pub fn ask_each<R: Print>(rt: &R, log: &Log) -> io::Result<()> {
+    let is_right = LineEnding::LineFeed.as_str() == "\n"
+        && LineEnding::from_str("\r\n") == Ok(LineEnding::CarriageReturnLineFeed)
+        && LineEnding::from_str("aaa").is_err();
+    log.tell(rt, is_right, "as_str and from_str", "line endings")?;
+    let options = CompileOptions::default();
+    let is_right = !options.gfm_tagfilter && CompileOptions::gfm().gfm_tagfilter;
+    log.tell(rt, is_right, "default and gfm", "options")?;
+    let is_right = RunError::Line(1).status() == 2 && ServeError::Input.status() == 4;
+    log.tell(rt, is_right, "status", "errors")?;
+    log.tell(rt, slices_answer(), "each call but serialize", "slices")
+}
+
+/// Whether the calls of slices answer over a chunk that is cut within a tab.
+fn slices_answer() -> bool {
+    let position = Position {
+        start: point(0, 2),
+        end: point(2, 3),
+    };
+    let between = Slice::from_indices(b"\ta\t", 1, 2);
+    match (Slice::from_position(b"\ta\t", &position), between) {
+        (Some(slice), Some(between)) => {
+            position.to_indices() == (0, 2)
+                && slice.len() == 6
+                && slice.as_str() == Some("a\t")
+                && between.as_str() == Some("a")
+        }
+        _ => false,
+    }
+}
+
+/// Makes the calls that ask for what was checked.
+pub fn ask_of_checked<R: Print>(rt: &R, log: &Log, row: &Row, checked: &Checked) -> io::Result<()> {
+    let is_right = checked.events().len() == row.events.len()
+        && checked.visits() == row.events.len()
+        && checked.bytes() == row.document.as_bytes()
+        && checked.names().len() < 2;
+    log.tell(rt, is_right, "events, visits, bytes and names", row.name)?;
+    log.tell(rt, partners_answer(row, checked), "partner", row.name)?;
+    if checked.enters(0, Name::ListUnordered) {
+        let is_right = !list_loose(checked, 0, false) && !list_loose(checked, 0, true);
+        log.tell(rt, is_right, "list_loose", row.name)?;
+    }
+    if checked.enters(1, Name::ListItem) {
+        let is_right = !list_item_loose(checked, 1) && checked.last_contributing(1) == Some(10);
+        log.tell(
+            rt,
+            is_right,
+            "list_item_loose and last_contributing",
+            row.name,
+        )?;
+    }
+    if checked.enters(1, Name::Link)
+        && checked.exits(5, Name::Data)
+        && checked.exits(6, Name::LabelText)
+    {
+        log.tell(rt, link_answers(checked), "the calls of a link", row.name)?;
+    }
+    Ok(())
+}
+
+/// Whether each event's partner has it as its partner.
+fn partners_answer(row: &Row, checked: &Checked) -> bool {
+    (0..row.events.len()).all(|index| match checked.partner(index) {
+        Some(other) => other != index && checked.partner(other) == Some(index),
+        None => false,
+    })
+}
+
+/// Whether the calls of a link answer, where one by a label is the second node.
+fn link_answers(checked: &Checked) -> bool
+    requires link { EntersAt checked.now.events 1 name.Link }
+    requires text { ExitsAt checked.now.events 5 name.Data }
+    requires label { ExitsAt checked.now.events 6 name.LabelText }
+{
+    !checked.has_resource(1)
+        && checked
+            .reads(1)
+            .is_some_and(|place| place.to_indices() == (1, 2))
+        && checked.first_ending() == Some(11)
+        && checked.definitions() == [14, 26].as_slice()
+        && checked.text(5) == "a"
+        && checked.identifier(6) == "a"
+}

@@ -1,0 +1,20 @@
+//! `serve` over bytes in memory.
+
+ghost use Rattle.std.specs.Prelude.{OnOk, IfErr};
+ghost use Rattle.md_serve_cases.specs.Memory.{IsAppended, ExplainsAppend};
+
+use md_script::{ServeError, serve};
+use std::alloc::Global;
+
+/// Appends the text of a script to some texts.
+///
+/// # Errors
+///
+/// Those of [`serve`]; then nothing is appended, but where `texts` can't grow: then the front of the text may be.
+pub fn append_text(alloc: Global, script: &[u8], texts: &mut Vec<u8>) -> Result<(), ServeError>
+    ensures ok { OnOk result (IsAppended script.now texts.old.items texts.new.items) }
+    ensures err { IfErr result (ExplainsAppend script.now texts.old.items texts.new.items) }
+{
+    let mut reader = script;
+    serve(alloc, &mut reader, texts)
+}
