@@ -96,6 +96,7 @@ typedef struct bivdrazo_options {
     uint8_t gfm_task_list_item_checkable; /* 1: tasks are printed without `disabled` */
     uint8_t gfm_tagfilter;                /* 1: some tags of HTML that is left as it is are disarmed */
     uint8_t default_line_ending; /* how lines end where the document has no line ending: BIVDRAZO_LINE_FEED, .. */
+    uint8_t gfm_footnote_number_ids; /* 1: footnotes' ids have their numbers in place of their identifiers, and each call's ends in which one it is */
     bivdrazo_text gfm_footnote_back_label;       /* aria-label of a way back; unset: Back to content */
     bivdrazo_text gfm_footnote_clobber_prefix;   /* what footnotes' ids begin with; unset: user-content- */
     bivdrazo_text gfm_footnote_label;            /* the heading of the footnotes; unset: Footnotes */
@@ -118,6 +119,7 @@ BIVDRAZO_ASSERT(offsetof(bivdrazo_event, kind) == 12, "an event's kind");
 BIVDRAZO_ASSERT(offsetof(bivdrazo_event, columns) == 13, "an event's columns");
 BIVDRAZO_ASSERT(offsetof(bivdrazo_text, is_set) == 16, "whether a text is set");
 BIVDRAZO_ASSERT(offsetof(bivdrazo_options, default_line_ending) == 5, "the sixth option");
+BIVDRAZO_ASSERT(offsetof(bivdrazo_options, gfm_footnote_number_ids) == 6, "the last option by its number");
 BIVDRAZO_ASSERT(offsetof(bivdrazo_options, gfm_footnote_back_label) == 8, "the first text");
 BIVDRAZO_ASSERT(offsetof(bivdrazo_options, gfm_footnote_label_tag_name) == 104, "the last text");
 
@@ -154,7 +156,7 @@ static inline bivdrazo_text bivdrazo_text_unset(void) {
 
 /* The default options, which are safe. */
 static inline bivdrazo_options bivdrazo_options_default(void) {
-    bivdrazo_options options = {0,         0,         0,         0,         0,        BIVDRAZO_LINE_FEED,
+    bivdrazo_options options = {0,         0,         0,         0,         0,        BIVDRAZO_LINE_FEED, 0,
                                 {0, 0, 0}, {0, 0, 0}, {0, 0, 0}, {0, 0, 0}, {0, 0, 0}};
     options.gfm_footnote_back_label = bivdrazo_text_unset();
     options.gfm_footnote_clobber_prefix = bivdrazo_text_unset();

@@ -3,7 +3,7 @@
 #define BIVDRAZO_NUMBERS_H
 
 /* The number of this interface: it changes when a layout or a number changes. */
-#define BIVDRAZO_VERSION 1
+#define BIVDRAZO_VERSION 2
 
 /* What became of a call. */
 enum {
@@ -93,6 +93,8 @@ enum {
     BIVDRAZO_OPTION_GFM_FOOTNOTE_LABEL_ATTRIBUTES = 9,
     /* That heading's tag name; unset: `h2`. */
     BIVDRAZO_OPTION_GFM_FOOTNOTE_LABEL_TAG_NAME = 10,
+    /* Make footnotes' ids of their numbers. */
+    BIVDRAZO_OPTION_GFM_FOOTNOTE_NUMBER_IDS = 11,
 };
 
 /* What an event enters or exits. */

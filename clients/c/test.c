@@ -135,6 +135,9 @@ static void test_options(void) {
     options.gfm_footnote_label = bivdrazo_text_unset();
     options.gfm_tagfilter = 2;
     CHECK(answers(html, 0, &options, &none, 0, (bivdrazo_answer){BIVDRAZO_NO_OPTION, 0, 4, 0}));
+    options.gfm_tagfilter = 1;
+    options.gfm_footnote_number_ids = 2;
+    CHECK(answers(html, 0, &options, &none, 0, (bivdrazo_answer){BIVDRAZO_NO_OPTION, 0, 11, 0}));
 }
 
 static void test_lengths(void) {

@@ -96,6 +96,7 @@ static bivdrazo_options random_options(const struct document *document, uint64_t
     options.gfm_task_list_item_checkable = (uint8_t)next_under(state, 2);
     options.gfm_tagfilter = (uint8_t)next_under(state, 2);
     options.default_line_ending = (uint8_t)next_under(state, 3);
+    options.gfm_footnote_number_ids = (uint8_t)next_under(state, 2);
     options.gfm_footnote_back_label = random_text(document, state);
     options.gfm_footnote_clobber_prefix = random_text(document, state);
     options.gfm_footnote_label = random_text(document, state);
@@ -193,7 +194,7 @@ static bool has_right_fields(const bivdrazo_answer *answer, const struct documen
     case BIVDRAZO_NO_EVENT:
         return answer->index < document->events_length && answer->rule == 0 && answer->length == 0;
     case BIVDRAZO_NO_OPTION:
-        return answer->index <= 10 && answer->rule == 0 && answer->length == 0;
+        return answer->index <= 11 && answer->rule == 0 && answer->length == 0;
     default:
         return false;
     }

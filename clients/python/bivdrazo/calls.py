@@ -51,6 +51,7 @@ def compile(
     gfm_footnote_label: str | None = None,
     gfm_footnote_label_attributes: str | None = None,
     gfm_footnote_label_tag_name: str | None = None,
+    gfm_footnote_number_ids: bool = False,
 ) -> str:
     """The HTML of a list of events over a document's bytes.
 
@@ -74,7 +75,8 @@ def compile(
         gfm_footnote_label_attributes,
         gfm_footnote_label_tag_name,
     )
-    options = COptions(*map(bool, flags), line_ending_of(default_line_ending), *map(text_of, texts))
+    ending = line_ending_of(default_line_ending)
+    options = COptions(*map(bool, flags), ending, bool(gfm_footnote_number_ids), *map(text_of, texts))
     made, length = events_of(events)
     references = references_of(names)
     document = bytes(data)

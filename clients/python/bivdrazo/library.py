@@ -59,6 +59,7 @@ class COptions(ctypes.Structure):
         ("gfm_task_list_item_checkable", ctypes.c_uint8),
         ("gfm_tagfilter", ctypes.c_uint8),
         ("default_line_ending", ctypes.c_uint8),
+        ("gfm_footnote_number_ids", ctypes.c_uint8),
         ("gfm_footnote_back_label", CText),
         ("gfm_footnote_clobber_prefix", CText),
         ("gfm_footnote_label", CText),

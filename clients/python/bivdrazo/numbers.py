@@ -3,7 +3,7 @@
 import enum
 
 # The number of this interface: it changes when a layout or a number changes.
-VERSION = 1
+VERSION = 2
 
 # The options, by their numbers, each with its type.
 OPTIONS = (
@@ -18,6 +18,7 @@ OPTIONS = (
     ("gfm_footnote_label", "text"),
     ("gfm_footnote_label_attributes", "text"),
     ("gfm_footnote_label_tag_name", "text"),
+    ("gfm_footnote_number_ids", "flag"),
 )
 
 

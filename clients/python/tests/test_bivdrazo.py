@@ -66,6 +66,8 @@ class Texts(unittest.TestCase):
         )
         self.assertIn('<a href="#fn-a" id="fnref-a"', text)
         self.assertIn('class="sr-only">\u00e9&lt;</h2>\r<ol>\r<li id="fn-a">', text)
+        text = compile(events, b"a", gfm_footnote_number_ids=True)
+        self.assertIn('<a href="#user-content-fn-1" id="user-content-fnref-1-1"', text)
 
     def test_names(self):
         reference = node(Name.CHARACTER_REFERENCE_MARKER, end=1) + node(Name.CHARACTER_REFERENCE_VALUE, start=1, end=2)
@@ -132,6 +134,7 @@ class Errors(unittest.TestCase):
         self.assertEqual(str(error_of(3, 4, 0)), "event 4: no such value")
         self.assertEqual(str(error_of(4, 5, 0)), "name 5: no such value")
         self.assertEqual(str(error_of(5, 8, 0)), "option gfm_footnote_label: no such value")
+        self.assertEqual(str(error_of(5, 11, 0)), "option gfm_footnote_number_ids: no such value")
         self.assertIsInstance(error_of(7, 0, 0), MemoryError)
         self.assertIsInstance(error_of(99, 0, 0), RuntimeError)
 

@@ -113,6 +113,8 @@ pub struct Options {
     pub gfm_tagfilter: bool,
     /// How lines end where the document has no line ending.
     pub default_line_ending: LineEnding,
+    /// Make footnotes' ids of their numbers instead of their identifiers.
+    pub gfm_footnote_number_ids: bool,
     /// The `aria-label` of a way back; else `Back to content`.
     pub gfm_footnote_back_label: Option<String>,
     /// What footnotes' ids begin with; else `user-content-`.

@@ -337,7 +337,7 @@ impl Rule {
 }
 
 /// The number of this interface: it changes when a layout or a number changes.
-pub const VERSION: u32 = 1;
+pub const VERSION: u32 = 2;
 
 pub(crate) const STATUS_OK: u32 = 0;
 pub(crate) const STATUS_TOO_SHORT: u32 = 1;
@@ -366,4 +366,5 @@ pub(crate) const OPTIONS: &[&str] = &[
     "gfm_footnote_label",
     "gfm_footnote_label_attributes",
     "gfm_footnote_label_tag_name",
+    "gfm_footnote_number_ids",
 ];

@@ -85,7 +85,7 @@ fn texts_of_options() {
     let string = node(Name::GfmFootnoteDefinitionLabelString, 0, 1, &[]);
     let prefix = node(Name::GfmFootnoteDefinitionPrefix, 0, 1, &string);
     events.extend(node(Name::GfmFootnoteDefinition, 0, 1, &prefix));
-    let options = Options {
+    let mut options = Options {
         default_line_ending: LineEnding::CarriageReturn,
         gfm_footnote_clobber_prefix: Some(String::new()),
         gfm_footnote_label: Some("é<".to_string()),
@@ -95,6 +95,12 @@ fn texts_of_options() {
     assert!(text.contains("<a href=\"#fn-a\" id=\"fnref-a\""), "{text}");
     assert!(
         text.contains("class=\"sr-only\">é&lt;</h2>\r<ol>\r<li id=\"fn-a\">"),
+        "{text}"
+    );
+    options.gfm_footnote_number_ids = true;
+    let text = compile(&events, b"a", &options, &[]).unwrap();
+    assert!(
+        text.contains("<a href=\"#fn-1\" id=\"fnref-1-1\""),
         "{text}"
     );
 }
@@ -145,6 +151,10 @@ fn statuses() {
     assert_eq!(
         error(5, 0, 8).to_string(),
         "option gfm_footnote_label: no such value"
+    );
+    assert_eq!(
+        error(5, 0, 11).to_string(),
+        "option gfm_footnote_number_ids: no such value"
     );
     assert_eq!(error(7, 0, 0), Error::Memory);
     assert_eq!(error(99, 0, 0), Error::Unknown);

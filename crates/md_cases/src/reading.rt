@@ -129,6 +129,7 @@ fn set_flag(options: &mut CompileOptions, name: &str) -> bool {
         "allow_dangerous_protocol" => options.allow_dangerous_protocol = true,
         "gfm_task_list_item_checkable" => options.gfm_task_list_item_checkable = true,
         "gfm_tagfilter" => options.gfm_tagfilter = true,
+        "gfm_footnote_number_ids" => options.gfm_footnote_number_ids = true,
         _ => return false,
     }
     true

@@ -14,7 +14,7 @@ use Rattle.md_safe.specs.Options as safe
 use Rattle.md_ffi.specs.Standing.{StandFor}
 use Rattle.md_ffi.specs.Events.{event_of}
 use Rattle.md_ffi.specs.References.{reference_of}
-use Rattle.md_ffi.specs.Options.{flag_of, text_of, HasOptions, KeepsGrammar, KeepsLinks, KeepsImages}
+use Rattle.md_ffi.specs.Options.{flag_of, text_of, HasOptions, KeepsGrammar, KeepsLinks, KeepsImages, KeepsIds}
 use Rattle.md_ffi.specs.Rendered.{IsRendered}
 use Rattle.md_ffi.specs.Compiled.{IsCompiled}
 use Rattle.md_ffi.specs.Failures.{failure_of, IsRefusalOf, Explains}
@@ -64,6 +64,16 @@ keeps_images given options has keeps = record {
   permitted_images = flag_off _ _ keeps.permitted_images has.any_img_src;
 }
 
+flag_on : (flag : ℕ) (is_on : Bool) → flag ≡ 1 → flag_of flag ≡ Some is_on → is_on ≡ true
+flag_on flag is_on on stands = let same : Some true ≡ Some is_on = ap flag_of (sym on) ∙ stands in cc
+
+keeps_ids : (given : COptions) (options : CompileOptions) → HasOptions given options → KeepsIds given →
+    safe.KeepsIds options
+keeps_ids given options has keeps = record {
+  grammar = keeps_grammar given options has keeps.grammar;
+  by_number = flag_on _ _ keeps.by_number has.number_ids;
+}
+
 -- ---- what was read, and handed on as slices
 
 pub record IsRead (events : List CEvent) (options : COptions) (names : List CReference) (slice : List Event)
@@ -100,6 +110,7 @@ module _ (events : List CEvent) (bytes : List ℕ) (options : COptions) (names :
     one_reading = λ keeps. compiled.one_reading (keeps_grammar options given read.options_stand keeps);
     safe_links = λ keeps. compiled.safe_links (keeps_links options given read.options_stand keeps);
     safe_images = λ keeps. compiled.safe_images (keeps_images options given read.options_stand keeps);
+    distinct_ids = λ keeps. compiled.distinct_ids (keeps_ids options given read.options_stand keeps);
   }
 
   explained : (why : Failure) → IsRefusalOf (handed slice bytes pairs) why → Explains events bytes options names why

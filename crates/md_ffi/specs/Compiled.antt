@@ -4,9 +4,10 @@ use Rattle.md_base.specs.Tree.{Forest, flatten}
 use Rattle.md_tree.specs.Grammar.{Document, IsChecked}
 use Rattle.md_meaning.specs.declared.options.CompileOptions.{CompileOptions}
 use Rattle.md_meaning.specs.Meaning.{meaning}
-use Rattle.md_safe.specs.Options.{KeepsGrammar, KeepsLinks, KeepsImages}
+use Rattle.md_safe.specs.Options.{KeepsGrammar, KeepsLinks, KeepsImages, KeepsIds}
 use Rattle.md_text.specs.Html.{any_attribute, HasOneReadingWith}
 use Rattle.md_text.specs.Safe.{is_safe_link, is_safe_image}
+use Rattle.md_text.specs.Ids.{HasDistinctIds}
 
 -- it is the meaning of the document that the events are, and safe where the options are
 pub record IsCompiled (given : Document) (options : CompileOptions) (text : List ℕ) : Type 0 where
@@ -16,3 +17,4 @@ pub record IsCompiled (given : Document) (options : CompileOptions) (text : List
   pub one_reading : KeepsGrammar options → HasOneReadingWith any_attribute text
   pub safe_links : KeepsLinks options → HasOneReadingWith is_safe_link text
   pub safe_images : KeepsImages options → HasOneReadingWith is_safe_image text
+  pub distinct_ids : KeepsIds options → HasDistinctIds text

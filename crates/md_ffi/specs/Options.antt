@@ -42,8 +42,9 @@ pub record HasOptions (given : COptions) (options : CompileOptions) : Type 0 whe
       ≡ Some (option_map string_bytes options.gfm_footnote_label_attributes)
   pub label_tag_name : text_of given.gfm_footnote_label_tag_name
       ≡ Some (option_map string_bytes options.gfm_footnote_label_tag_name)
+  pub number_ids : flag_of given.gfm_footnote_number_ids ≡ Some options.gfm_footnote_number_ids
 
--- which fields stand for an option, by their numbers from 0
+-- which fields stand for an option, by the options' numbers from 0
 abbrev pub readable_fields : COptions → List Bool
 readable_fields given =
     is_some (flag_of given.allow_any_img_src) ∷
@@ -57,6 +58,7 @@ readable_fields given =
     is_some (text_of given.gfm_footnote_label) ∷
     is_some (text_of given.gfm_footnote_label_attributes) ∷
     is_some (text_of given.gfm_footnote_label_tag_name) ∷
+    is_some (flag_of given.gfm_footnote_number_ids) ∷
     []
 
 -- the field with this number stands for no option
@@ -78,3 +80,8 @@ pub record KeepsLinks (given : COptions) : Type 0 where
 pub record KeepsImages (given : COptions) : Type 0 where
   pub links : KeepsLinks given
   pub permitted_images : given.allow_any_img_src ≡ 0
+
+-- nothing is written as it is given, and ids go by number
+pub record KeepsIds (given : COptions) : Type 0 where
+  pub grammar : KeepsGrammar given
+  pub by_number : given.gfm_footnote_number_ids ≡ 1

@@ -10,19 +10,20 @@ use Rattle.md_meaning.specs.declared.options.CompileOptions.{CompileOptions}
 use Rattle.md_meaning.specs.Meaning.{meaning}
 use Rattle.md_text.specs.Html.{any_attribute, HasOneReadingWith}
 use Rattle.md_text.specs.Safe.{is_safe_link, is_safe_image}
+use Rattle.md_text.specs.Ids.{HasDistinctIds}
 use Rattle.md_script.specs.Run.{IsRefusedAt}
 use Rattle.md_ffi.specs.Numbers.{rule_number}
 use Rattle.md_ffi.specs.Standing.{StandFor}
 use Rattle.md_ffi.specs.Events.{event_of}
 use Rattle.md_ffi.specs.References.{reference_of}
-use Rattle.md_ffi.specs.Options.{HasOptions, KeepsGrammar, KeepsLinks, KeepsImages}
+use Rattle.md_ffi.specs.Options.{HasOptions, KeepsGrammar, KeepsLinks, KeepsImages, KeepsIds}
 use Rattle.md_ffi.specs.declared.event.CEvent.{CEvent}
 use Rattle.md_ffi.specs.declared.reference.CReference.{CReference}
 use Rattle.md_ffi.specs.declared.option.COptions.{COptions}
 
 -- the text is the meaning of a document of the grammar whose events, options and names are those that were handed
--- in; where the
--- options are safe, it has one reading, with links and images of permitted protocols alone
+-- in; where the options are safe, it has one reading, with links and images of permitted protocols alone, and where
+-- ids go by number no two ids are equal
 pub record IsRendered (events : List CEvent) (bytes : List ℕ) (options : COptions) (names : List CReference)
     (text : List ℕ)
     : Type 0 where
@@ -37,6 +38,7 @@ pub record IsRendered (events : List CEvent) (bytes : List ℕ) (options : COpti
   pub one_reading : KeepsGrammar options → HasOneReadingWith any_attribute text
   pub safe_links : KeepsLinks options → HasOneReadingWith is_safe_link text
   pub safe_images : KeepsImages options → HasOneReadingWith is_safe_image text
+  pub distinct_ids : KeepsIds options → HasDistinctIds text
 
 -- what was handed in stands for events that are refused at this index by this rule
 pub record IsRefusedFor (events : List CEvent) (bytes : List ℕ) (names : List CReference) (index : ℕ) (broken : Rule)

@@ -22,7 +22,7 @@ use md_script::run;
 use std::alloc::Global;
 
 /// The version of what C sees: the layouts of structs, and every number.
-const VERSION: u32 = 1;
+const VERSION: u32 = 2;
 
 /// The HTML of a list of events over a document's bytes, into a buffer.
 ///
@@ -71,7 +71,7 @@ pub extern "C" fn bivdrazo_run(alloc: Global, script: &[u8], buffer: &mut [u8]) 
 /// The version of what C sees.
 #[unsafe(no_mangle)]
 pub extern "C" fn bivdrazo_version() -> u32
-    ensures { result ≡ 1 }
+    ensures { result ≡ 2 }
 {
     VERSION
 }

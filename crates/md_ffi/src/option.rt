@@ -29,6 +29,8 @@ pub struct COptions<'a> {
     pub gfm_tagfilter: u8,
     /// 0 for a line feed, 1 for a carriage return, 2 for both.
     pub default_line_ending: u8,
+    /// The last option by its number; it stands where two bytes were never read.
+    pub gfm_footnote_number_ids: u8,
     pub gfm_footnote_back_label: CText<'a>,
     pub gfm_footnote_clobber_prefix: CText<'a>,
     pub gfm_footnote_label: CText<'a>,
@@ -40,7 +42,7 @@ pub struct COptions<'a> {
 ///
 /// # Errors
 ///
-/// The number of a field that stands for none, in the order of the fields from 0, or want of memory.
+/// The number of an option that stands for none, or want of memory.
 pub(crate) fn read_options(alloc: Global, given: &COptions) -> Result<CompileOptions, Failure>
     ensures ok { IfOk result (HasOptions given.now) }
     ensures err { IfErr result (IsOptionFault given.now) }
@@ -57,6 +59,7 @@ pub(crate) fn read_options(alloc: Global, given: &COptions) -> Result<CompileOpt
         gfm_footnote_label: read_text(alloc, &given.gfm_footnote_label, 8)?,
         gfm_footnote_label_attributes: read_text(alloc, &given.gfm_footnote_label_attributes, 9)?,
         gfm_footnote_label_tag_name: read_text(alloc, &given.gfm_footnote_label_tag_name, 10)?,
+        gfm_footnote_number_ids: read_flag(given.gfm_footnote_number_ids, 11)?,
     })
 }
 

@@ -1,6 +1,6 @@
 -- What a definition says depends on its own events alone.
 use Rattle.std.proofs.Common.{◌≡◌, ◌⊎◌, inl, inr, Bool, true, false, ◌&&◌, ◌||◌, List, [], ◌∷◌, ◌++◌, refl, ap, sym, subst, ◌∙◌, Option, None, append-nil}
-use Rattle.std.specs.Prelude.{if◌then◌else◌, ℕ}
+use Rattle.std.specs.Prelude.{if◌then◌else◌}
 use Rattle.std.specs.List.{list_all}
 use Rattle.std.specs.Option.{option_map_or}
 use Rattle.std.proofs.lemmas.Bool.{true≢false, and_parts}
@@ -26,13 +26,13 @@ use Rattle.md_meaning.specs.declared.options.CompileOptions.{CompileOptions}
 use Rattle.md_meaning.specs.declared.facts.Surroundings.{Surroundings}
 use Rattle.md_meaning.specs.declared.facts.Ahead.{Ahead}
 use Rattle.md_meaning.specs.declared.facts.Passed.{Passed}
-use Rattle.md_meaning.specs.Piece.{Piece, Page, Target, blank, lay}
+use Rattle.md_meaning.specs.Piece.{Piece, Target, blank, lay}
 use Rattle.md_meaning.specs.Surroundings.{inside, outermost, spine_inside}
 use Rattle.md_meaning.specs.Given.{Given, Defined}
 use Rattle.md_meaning.specs.Places.{Before, nothing_before, before_children, before_next, left_of, ahead_of, passed_over, identifier_at}
 use Rattle.md_meaning.specs.Texts.{said, is_slurped}
 use Rattle.md_meaning.specs.Given.{text_of}
-use Rattle.md_meaning.specs.Printed.{is_captured, printed_node, printed, definitions_of}
+use Rattle.md_meaning.specs.Printed.{printed_node, printed, definitions_of}
 use Rattle.md_printer.specs.Machine.{State, run, beginning}
 use Rattle.md_html.proofs.Spines.{AllLetters, spine-all}
 use Rattle.md_html.specs.OwnDefinitions.{defined_alone, own_definitions}

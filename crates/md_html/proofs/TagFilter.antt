@@ -24,7 +24,7 @@ use Rattle.md_meaning.specs.Meaning.Before.{own_marks, marks_of, calls_of, nothi
 use Rattle.md_meaning.specs.Meaning.Spans.{html}
 use Rattle.md_meaning.specs.Meaning.Means.{means}
 use Rattle.md_meaning.specs.Meaning.Nodes.{Meant, meant, node, both, found_at}
-use Rattle.md_meaning.specs.Meaning.Footnotes.{backreference, backreferences, body, text_with, footnote_id, item, section_start, section}
+use Rattle.md_meaning.specs.Meaning.Footnotes.{backreference, backreferences, body, text_with, place_among, footnote_id, item, section_start, section}
 
 -- the options with the tag filter on or off
 abbrev pub filtering : Bool → CompileOptions → CompileOptions
@@ -127,21 +127,24 @@ meant-moot filter given h around before (Node name start end children rest) =
     ∙ ap (λ m. both (node given here name inner) m) (meant-moot filter given h around
     (before_next given here name (found_at given here name inner.pieces)) rest)
 
-ways_back-moot : (filter : Bool) (options : CompileOptions) (identifier : List ℕ) (count : ℕ) →
-    backreferences (filtering filter options) identifier count ≡ backreferences options identifier count
-ways_back-moot filter options identifier zero = refl
-ways_back-moot filter options identifier (suc count) =
-    ap (λ back. back ++ ((if count == 0 then [] else codes " ") ++ backreference options identifier (suc count)))
-    (ways_back-moot filter options identifier count)
+ways_back-moot : (filter : Bool) (options : CompileOptions) (identifier : List ℕ) (number count : ℕ) →
+    backreferences (filtering filter options) identifier number count ≡ backreferences options identifier number count
+ways_back-moot filter options identifier number zero = refl
+ways_back-moot filter options identifier number (suc count) =
+    ap (λ back. back ++ ((if count == 0 then [] else codes " ")
+    ++ backreference options identifier number (suc count)))
+    (ways_back-moot filter options identifier number count)
 
 items-moot : (filter : Bool) (given : Given) (footnotes : List Footnote) (identifiers : List (List ℕ)) →
     flat_map (item (under filter given) footnotes) identifiers ≡ flat_map (item given footnotes) identifiers
 items-moot filter given footnotes [] = refl
 items-moot filter given footnotes (identifier ∷ identifiers) =
-    ap (λ back. (Forced ∷ Text (codes "<li id=\"") ∷ Text (footnote_id given.options identifier) ∷ Text (codes "\">")
+    let number : ℕ = place_among (distinct given.calls) identifier in
+    ap (λ back. (Forced ∷ Text (codes "<li id=\"") ∷ Text (footnote_id given.options identifier number)
+    ∷ Text (codes "\">")
     ∷ Forced ∷ (body (text_with footnotes identifier) back ++ on_own_line (codes "</li>")))
     ++ flat_map (item (under filter given) footnotes) identifiers)
-    (ways_back-moot filter given.options identifier (count_of given.calls identifier))
+    (ways_back-moot filter given.options identifier number (count_of given.calls identifier))
     ∙ ap (λ ps. item given footnotes identifier ++ ps) (items-moot filter given footnotes identifiers)
 
 section-moot : (filter : Bool) (given : Given) (footnotes : List Footnote) →

@@ -1,5 +1,5 @@
 -- The run over a whole document gives its meaning.
-use Rattle.std.proofs.Common.{◌≡◌, ℕ, true, false, List, [], ◌∷◌, ◌++◌, Some, refl, ap, sym, ◌∙◌, append_assoc, append-nil, bytes_eq, fold}
+use Rattle.std.proofs.Common.{◌≡◌, ℕ, suc, true, false, List, [], ◌∷◌, ◌++◌, Some, refl, ap, sym, ◌∙◌, append_assoc, append-nil, bytes_eq, fold}
 use Rattle.std.specs.Prelude.{if◌then◌else◌, find}
 use Rattle.std.specs.Option.{option_map_or}
 use Rattle.std.proofs.lemmas.Slice.Eq.{bytes_eq-Decides}
@@ -16,7 +16,6 @@ use Rattle.md_meaning.specs.Piece.{Piece, Page, blank, lay, layout}
 use Rattle.md_meaning.specs.Surroundings.{outermost}
 use Rattle.md_meaning.specs.Calls.{Called, tally}
 use Rattle.md_meaning.specs.Footnotes.{Footnote, footnote_text, item_pieces, items_pieces, section_opening, section_closing, section_pieces}
-use Rattle.md_meaning.specs.Media.{defined_target}
 use Rattle.md_meaning.specs.Printed.{printed, definitions_of, footnotes_of}
 use Rattle.md_sheet.specs.Seen.{noted}
 use Rattle.md_sheet.proofs.Lists.{lay-append}
@@ -116,15 +115,16 @@ section-noted : (options : CompileOptions) (kept footnotes : List Footnote) (cal
     section_pieces options kept called ≡ section_pieces options footnotes called
 section-noted options kept footnotes [] same = refl
 section-noted options kept footnotes (called ∷ others) same =
-    ap (λ items. section_opening options ++ (items ++ section_closing)) (items-noted (called ∷ others))
+    ap (λ items. section_opening options ++ (items ++ section_closing)) (items-noted 1 (called ∷ others))
   where
-    items-noted : (calls : List Called) → items_pieces options kept calls ≡ items_pieces options footnotes calls
-    items-noted [] = refl
-    items-noted (call ∷ calls) =
-        ap (λ text. item_pieces options text call.identifier call.count
-        ++ items_pieces options kept calls) (same call.identifier)
-        ∙ ap (λ items. item_pieces options (footnote_text footnotes call.identifier) call.identifier call.count
-        ++ items) (items-noted calls)
+    items-noted : (number : ℕ) (calls : List Called) →
+        items_pieces options kept number calls ≡ items_pieces options footnotes number calls
+    items-noted number [] = refl
+    items-noted number (call ∷ calls) =
+        ap (λ text. item_pieces options text call.identifier number call.count
+        ++ items_pieces options kept (suc number) calls) (same call.identifier)
+        ∙ ap (λ items. item_pieces options (footnote_text footnotes call.identifier) call.identifier number call.count
+        ++ items) (items-noted (suc number) calls)
 
 -- the last page, with the section, is the document's
 finished-document : (given : Given) (document : Forest) →

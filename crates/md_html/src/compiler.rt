@@ -14,7 +14,8 @@ ghost use Rattle.md_around.specs.Steps as steps;
 ghost use Rattle.md_meaning.specs.Meaning.{meaning, ending_at};
 ghost use Rattle.md_text.specs.Html.{any_attribute, HasOneReadingWith};
 ghost use Rattle.md_text.specs.Safe.{is_safe_link, is_safe_image};
-ghost use Rattle.md_safe.specs.Options.{KeepsGrammar, KeepsLinks, KeepsImages};
+ghost use Rattle.md_text.specs.Ids.{HasDistinctIds};
+ghost use Rattle.md_safe.specs.Options.{KeepsGrammar, KeepsLinks, KeepsImages, KeepsIds};
 ghost use Rattle.md_printer.specs.Sources.{given_of};
 ghost use Rattle.md_meaning.specs.Places.{first_ending as first_place};
 ghost use Rattle.md_meaning.specs.Printed.{is_captured};
@@ -32,10 +33,10 @@ use md_meaning::CompileOptions;
 use md_print::close::{close, close_captured};
 use md_print::groups::{group_of, is_light};
 use md_print::open::open;
-use md_printer::facts::Exit;
+use md_printer::facts::{Exit, Inner, Told};
 use md_printer::printer::Printer;
 use md_printer::source::{Source, identifier_at};
-use md_sheet::{Defined, Definitions, Sheet};
+use md_sheet::{Defined, Definitions};
 use md_tree::{Checked, CompileError, check, gfm_table_align, list_loose};
 use std::alloc::{AllocError, Global};
 
@@ -53,7 +54,8 @@ pub struct Counted {
 /// `names` is the table of named character references. Nothing is assumed of events, bytes, options or names. Where HTML isn't
 /// allowed and the heading of the footnotes is the usual one, the text has exactly one reading in the HTML grammar. Where
 /// dangerous protocols aren't allowed either, each link in it has no protocol or a permitted one; where any image source
-/// isn't allowed either, so has each image. The default options are such.
+/// isn't allowed either, so has each image. The default options are such. Where footnote ids go by
+/// number and the text has one reading, no two ids in it are equal, with any prefix and any protocols.
 ///
 /// # Errors
 ///
@@ -72,6 +74,7 @@ pub fn compile(
     ensures one_reading { IfOk result (λ text. KeepsGrammar options.now → HasOneReadingWith any_attribute (string_bytes text)) }
     ensures safe_links { IfOk result (λ text. KeepsLinks options.now → HasOneReadingWith is_safe_link (string_bytes text)) }
     ensures safe_images { IfOk result (λ text. KeepsImages options.now → HasOneReadingWith is_safe_image (string_bytes text)) }
+    ensures distinct_ids { IfOk result (λ text. KeepsIds options.now → HasDistinctIds (string_bytes text)) }
 
     ensures outside { IfErr result (IsOutside (handed events.now bytes.now names.now)) }
     ensures order { IfErr result (IsOrder (handed events.now bytes.now names.now)) }
@@ -101,6 +104,7 @@ pub fn compile_counted(
     ensures one_reading { IfOk result (λ counted. KeepsGrammar options.now → HasOneReadingWith any_attribute (string_bytes counted.text)) }
     ensures safe_links { IfOk result (λ counted. KeepsLinks options.now → HasOneReadingWith is_safe_link (string_bytes counted.text)) }
     ensures safe_images { IfOk result (λ counted. KeepsImages options.now → HasOneReadingWith is_safe_image (string_bytes counted.text)) }
+    ensures distinct_ids { IfOk result (λ counted. KeepsIds options.now → HasDistinctIds (string_bytes counted.text)) }
     ensures least { IfOk result (λ counted. length events.now ≤ counted.visits) }
     ensures most { IfOk result (λ counted. counted.visits ≤ 3 * length events.now) }
 
@@ -112,10 +116,7 @@ pub fn compile_counted(
 {
     let checked = check(alloc, events, bytes, names)?;
     let counted = count_checked(alloc, &checked, options)?;
-    Ok(Counted {
-        text: counted.text,
-        visits: counted.visits.saturating_add(checked.visits()),
-    })
+    Ok(counted)
 }
 
 /// The HTML of events that have passed a check: the meaning of the document that they are.
@@ -133,12 +134,13 @@ pub fn compile_checked(
     ensures one_reading { IfOk result (λ text. KeepsGrammar options.now → HasOneReadingWith any_attribute (string_bytes text)) }
     ensures safe_links { IfOk result (λ text. KeepsLinks options.now → HasOneReadingWith is_safe_link (string_bytes text)) }
     ensures safe_images { IfOk result (λ text. KeepsImages options.now → HasOneReadingWith is_safe_image (string_bytes text)) }
+    ensures distinct_ids { IfOk result (λ text. KeepsIds options.now → HasDistinctIds (string_bytes text)) }
 {
     let counted = count_checked(alloc, checked, options)?;
     Ok(counted.text)
 }
 
-/// The HTML of events that have passed a check, and how many events were visited for it.
+/// The HTML of events that have passed a check, and how many events were visited for it, by the check as well.
 fn count_checked(
     alloc: Global,
     checked: &Checked,
@@ -149,24 +151,27 @@ fn count_checked(
     ensures one_reading { IfOk result (λ counted. KeepsGrammar options.now → HasOneReadingWith any_attribute (string_bytes counted.text)) }
     ensures safe_links { IfOk result (λ counted. KeepsLinks options.now → HasOneReadingWith is_safe_link (string_bytes counted.text)) }
     ensures safe_images { IfOk result (λ counted. KeepsImages options.now → HasOneReadingWith is_safe_image (string_bytes counted.text)) }
-    ensures most { IfOk result (λ counted. counted.visits ≤ 2 * length checked.now.events) }
+    ensures distinct_ids { IfOk result (λ counted. KeepsIds options.now → HasDistinctIds (string_bytes counted.text)) }
+    ensures least { IfOk result (λ counted. length checked.now.events ≤ counted.visits) }
+    ensures most { IfOk result (λ counted. counted.visits ≤ 3 * length checked.now.events) }
 {
     let none = Definitions::new(alloc);
     let alone = Source {
+        alloc,
         bytes: checked.bytes(),
         names: checked.names(),
         options,
         ending: ending_of(checked, options),
         definitions: &none,
     };
-    let own = definitions_at(alloc, &alone, checked, checked.definitions())?;
-    let visits = own.visits;
+    let own = definitions_at(&alone, checked, checked.definitions())?;
+    let visits = checked.visits().saturating_add(own.visits);
     let definitions = Definitions::first_of(alloc, own.definitions)?;
     let source = Source {
         definitions: &definitions,
         ..alone
     };
-    let ran = run(alloc, &source, checked)?;
+    let ran = run(&source, checked)?;
     let visits = visits.saturating_add(ran.visits);
     let text = ran.printer.into_text(alloc, options, source.ending)?;
     Ok(Counted { text, visits })
@@ -183,25 +188,21 @@ fn ending_of<'a>(checked: &Checked<'a>, options: &'a CompileOptions) -> &'a str
     }
 }
 
-/// Enters a node; `place` is what its name reads in its children, `loose` says whether it is a loose list, and `columns`
-/// how those of a table are aligned.
+/// Enters a node, which is told this of its children.
 fn enter(
-    alloc: Global,
     printer: &mut Printer,
     source: &Source,
-    place: Option<Position>,
-    loose: bool,
-    columns: Vec<AlignKind>,
+    told: Told,
     name: Name,
     start: Point,
 ) -> Result<(), AllocError>
-    ensures { OnOk result (printer.new ≡ machine.entered (given_of source.now) (machine.ahead_by place) loose columns.items (is_captured name) name start printer.old) }
+    ensures { OnOk result (printer.new ≡ machine.entered (given_of source.now) (machine.ahead_by told.place) told.loose told.columns.items (is_captured name) name start printer.old) }
 {
     let around = printer.around();
-    open(printer, source, around, place, name)?;
-    printer.capture_if(alloc, is_captured(name))?;
-    printer.open_frame(source.options, place, loose, name, start)?;
-    printer.enter_table_if(is_table(name), columns)
+    open(printer, source, around, told.place, name)?;
+    printer.capture_if(source.alloc, is_captured(name))?;
+    printer.open_frame(source.options, &told, name, start)?;
+    printer.enter_table_if(is_table(name), told.columns)
 }
 
 /// The place that a name reads in the children of the node that is entered; of another name none.
@@ -260,44 +261,41 @@ fn columns_of(
     }
 }
 
-/// Prints what a node whose children are captured prints after them, and logs what it is seen for; `inner` is their page,
-/// and `place` what its name reads in them.
+/// Prints what a node whose children are captured prints after them, and logs what it is seen for.
 fn close_and_log(
-    alloc: Global,
     printer: &mut Printer,
     source: &Source,
     exit: &Exit,
-    place: Option<Position>,
-    inner: Sheet,
+    inner: Inner,
     name: Name,
 ) -> Result<(), AllocError>
     requires { is_captured name ≡ true }
     ensures { OnOk result (printer.new ≡ machine.printing source.now.ending.now
-        (closing_at (given_of source.now) exit.now printer.old.log.called (steps.first_or [] printer.old.tables) (machine.ahead_by place) printer.old.frame.passed inner name)
-        (machine.logging source.now.bytes.now (machine.ahead_by place) name inner printer.old)) }
+        (closing_at (given_of source.now) exit.now printer.old.log.called (steps.first_or [] printer.old.tables) (machine.ahead_by inner.place) printer.old.frame.passed inner.page name)
+        (machine.logging source.now.bytes.now (machine.ahead_by inner.place) name inner.page printer.old)) }
 {
     match name {
         Name::GfmFootnoteCall => {
-            close_captured(alloc, printer, source, exit, place, inner, name)?;
-            printer.log_call(identifier_at(alloc, source.bytes, place)?)
+            let place = inner.place;
+            close_captured(printer, source, exit, inner, name)?;
+            printer.log_call(identifier_at(source.alloc, source.bytes, place)?)
         }
         Name::GfmFootnoteDefinition => {
-            let identifier = identifier_at(alloc, source.bytes, place)?;
-            printer.log_footnote(identifier, inner.into_text(alloc)?)
+            let identifier = identifier_at(source.alloc, source.bytes, inner.place)?;
+            printer.log_footnote(identifier, inner.page.into_text(source.alloc)?)
         }
         Name::Definition => {
-            let identifier = identifier_at(alloc, source.bytes, place)?;
-            let target = inner.into_target();
+            let identifier = identifier_at(source.alloc, source.bytes, inner.place)?;
+            let target = inner.page.into_target();
             printer.log_definition(Defined { identifier, target })
         }
-        _ => close_captured(alloc, printer, source, exit, place, inner, name),
+        _ => close_captured(printer, source, exit, inner, name),
     }
 }
 
 /// Exits a node whose children are captured.
 #[inline(never)]
 fn exit_captured(
-    alloc: Global,
     printer: &mut Printer,
     source: &Source,
     is_last: bool,
@@ -309,14 +307,13 @@ fn exit_captured(
 {
     let exit = printer.exit(is_last, end);
     let place = printer.place();
-    let inner = printer.release(alloc);
-    close_and_log(alloc, printer, source, &exit, place, inner, name)?;
+    let page = printer.release(source.alloc);
+    close_and_log(printer, source, &exit, Inner { place, page }, name)?;
     printer.leave(name)
 }
 
 /// Exits a node whose children aren't captured.
 fn exit_streamed(
-    alloc: Global,
     printer: &mut Printer,
     source: &Source,
     is_last: bool,
@@ -328,13 +325,12 @@ fn exit_streamed(
 {
     let exit = printer.exit(is_last, end);
     printer.leave_table_if(is_table(name));
-    close(alloc, printer, source, &exit, name)?;
+    close(printer, source, &exit, name)?;
     printer.leave(name)
 }
 
 /// Exits a node; `is_last` says that nothing follows in the document.
 fn exit(
-    alloc: Global,
     printer: &mut Printer,
     source: &Source,
     is_last: bool,
@@ -344,62 +340,68 @@ fn exit(
     ensures { OnOk result (printer.new ≡ machine.exited (given_of source.now) is_last (is_captured name) name end printer.old) }
 {
     if is_captured(name) {
-        exit_captured(alloc, printer, source, is_last, name, end)
+        exit_captured(printer, source, is_last, name, end)
     } else {
-        exit_streamed(alloc, printer, source, is_last, name, end)
+        exit_streamed(printer, source, is_last, name, end)
     }
+}
+
+/// An event that is visited.
+#[derive(Clone, Copy)]
+pub(crate) struct Visit<'a> {
+    /// Its index in the document.
+    pub(crate) index: usize,
+    /// The event.
+    pub(crate) event: &'a Event,
+    /// Those that are visited after it.
+    pub(crate) later: &'a [Event],
 }
 
 /// Goes one event further.
 pub(crate) fn step(
-    alloc: Global,
     printer: &mut Printer,
     source: &Source,
     checked: &Checked,
-    index: usize,
-    event: Event,
-    is_last: bool,
+    visit: Visit,
 ) -> Result<(), AllocError>
-    requires { slice_get checked.now.events index ≡ Some event }
-    ensures { OnOk result ((told : Option Forest) → IsToldAt checked.now index told
-        → printer.new ≡ machine.stepped (given_of source.now) event.kind event.name event.point told is_last printer.old) }
+    requires { slice_get checked.now.events visit.index ≡ Some visit.event.now }
+    ensures { OnOk result ((told : Option Forest) → IsToldAt checked.now visit.entry.index told → printer.new
+        ≡ machine.stepped (given_of source.now) visit.entry.event.now.kind visit.entry.event.now.name visit.entry.event.now.point told (machine.is_nil visit.entry.later.now) printer.old) }
 {
+    let event = *visit.event;
     match event.kind {
         Kind::Enter => {
-            let place = place_read(checked, index, event.name);
-            let loose = is_loose(checked, index, event.name);
-            let columns = columns_of(alloc, checked, index, event.name)?;
-            enter(
-                alloc,
-                printer,
-                source,
+            let place = place_read(checked, visit.index, event.name);
+            let loose = is_loose(checked, visit.index, event.name);
+            let columns = columns_of(source.alloc, checked, visit.index, event.name)?;
+            let told = Told {
                 place,
                 loose,
                 columns,
-                event.name,
-                event.point,
-            )
+            };
+            enter(printer, source, told, event.name, event.point)
         }
-        Kind::Exit => exit(alloc, printer, source, is_last, event.name, event.point),
+        Kind::Exit => {
+            let is_last = visit.later.is_empty();
+            exit(printer, source, is_last, event.name, event.point)
+        }
     }
 }
 
 /// Goes over a node without children that prints at its exit alone, if at all.
 fn leaf(
-    alloc: Global,
     printer: &mut Printer,
     source: &Source,
     is_last: bool,
     name: Name,
-    start: Point,
-    end: Point,
+    place: Position,
 ) -> Result<(), AllocError>
     requires { is_light (group_of name) ≡ true }
     ensures { OnOk result ((ahead : Ahead) (loose : Bool) (columns : List AlignKind) → printer.new
-        ≡ machine.exited (given_of source.now) is_last false name end (machine.entered (given_of source.now) ahead loose columns false name start printer.old)) }
+        ≡ machine.exited (given_of source.now) is_last false name place.end (machine.entered (given_of source.now) ahead loose columns false name place.start printer.old)) }
 {
-    let exit = printer.leaf(start, is_last, end);
-    close(alloc, printer, source, &exit, name)?;
+    let exit = printer.leaf(place.start, is_last, place.end);
+    close(printer, source, &exit, name)?;
     printer.pass(name)
 }
 
@@ -415,44 +417,30 @@ fn is_leaf(entry: &Event, exit: &Event) -> bool
 
 /// Goes one event further, or two where they enter and exit a node without children: then it answers 1, else 0.
 fn advance(
-    alloc: Global,
     printer: &mut Printer,
     source: &Source,
     checked: &Checked,
-    index: usize,
-    event: &Event,
-    later: &[Event],
+    visit: Visit,
 ) -> Result<usize, AllocError>
-    requires { event.now ∷ later.now ≡ drop index checked.now.events }
-    ensures within { IfOk result (λ more. more ≤ length later.now) }
+    requires { visit.event.now ∷ visit.later.now ≡ drop visit.index checked.now.events }
+    ensures within { IfOk result (λ more. more ≤ length visit.entry.later.now) }
     ensures runs { IfOk result (λ more. (document : Forest) → flatten document ≡ checked.now.events
-        → machine.run (given_of source.now) (drop more later.now) (drop (index + (1 + more)) (children_of document)) printer.new
-        ≡ machine.run (given_of source.now) (event.now ∷ later.now) (drop index (children_of document)) printer.old) }
+        → machine.run (given_of source.now) (drop more visit.entry.later.now) (drop (visit.entry.index + (1 + more)) (children_of document)) printer.new
+        ≡ machine.run (given_of source.now) (visit.entry.event.now ∷ visit.entry.later.now) (drop visit.entry.index (children_of document)) printer.old) }
 {
-    if let Some((exit, beyond)) = later.split_first() {
-        if is_leaf(event, exit) {
+    let entry = visit.event;
+    if let Some((exit, beyond)) = visit.later.split_first() {
+        if is_leaf(entry, exit) {
             let is_last = beyond.is_empty();
-            leaf(
-                alloc,
-                printer,
-                source,
-                is_last,
-                event.name,
-                event.point,
-                exit.point,
-            )?;
+            let place = Position {
+                start: entry.point,
+                end: exit.point,
+            };
+            leaf(printer, source, is_last, entry.name, place)?;
             return Ok(1);
         }
     }
-    step(
-        alloc,
-        printer,
-        source,
-        checked,
-        index,
-        *event,
-        later.is_empty(),
-    )?;
+    step(printer, source, checked, visit)?;
     Ok(0)
 }
 
@@ -464,16 +452,21 @@ struct Ran {
 }
 
 /// Prints the events, one after another.
-fn run(alloc: Global, source: &Source, checked: &Checked) -> Result<Ran, AllocError>
+fn run(source: &Source, checked: &Checked) -> Result<Ran, AllocError>
     ensures printed { IfOk result (λ ran. (document : Forest) → flatten document ≡ checked.now.events
         → ran.printer ≡ machine.run (given_of source.now) checked.now.events (children_of document) machine.beginning) }
     ensures visits { IfOk result (λ ran. ran.visits ≤ length checked.now.events) }
 {
-    let mut printer = Printer::new(alloc);
+    let mut printer = Printer::new(source.alloc);
     let mut rest = checked.events();
     let mut index = 0;
     while let Some((event, later)) = rest.split_first() {
-        let more = advance(alloc, &mut printer, source, checked, index, event, later)?;
+        let visit = Visit {
+            index,
+            event,
+            later,
+        };
+        let more = advance(&mut printer, source, checked, visit)?;
         rest = &later[more..];
         // Each turn visits an event, or an entry and its own exit.
         index += 1 + more;

@@ -12,13 +12,13 @@ ghost use Rattle.md_printer.specs.Sources.{given_of};
 ghost use Rattle.md_html.specs.OwnDefinitions.{own_definitions, events_at};
 ghost use Rattle.md_infer.specs.Partners.{definitions_of as entries_of};
 
-use crate::compiler::step;
+use crate::compiler::{Visit, step};
 use md_base::Event;
 use md_printer::printer::Printer;
 use md_printer::source::Source;
 use md_sheet::Defined;
 use md_tree::Checked;
-use std::alloc::{AllocError, Global};
+use std::alloc::AllocError;
 
 /// The events from an index on.
 fn from_index(events: &[Event], index: usize) -> &[Event]
@@ -56,25 +56,24 @@ fn node_events(events: &[Event], entry: usize, partner: Option<usize>) -> &[Even
 }
 
 /// Prints the events of the node that is entered at an index, as if nothing stood before it and round it.
-fn run_node(
-    alloc: Global,
-    source: &Source,
-    checked: &Checked,
-    entry: usize,
-) -> Result<Printer, AllocError>
+fn run_node(source: &Source, checked: &Checked, entry: usize) -> Result<Printer, AllocError>
     ensures grammatical { IsChecked checked.now }
     ensures printed { IfOk result (λ printer. (document : Forest) → flatten document ≡ checked.now.events
         → printer ≡ machine.run (given_of source.now) (events_at checked.now.events entry (slice_get (partners_of 0 document) entry))
         (drop entry (children_of document)) machine.beginning) }
 {
     let events = checked.events();
-    let mut printer = Printer::new(alloc);
+    let mut printer = Printer::new(source.alloc);
     let mut rest = node_events(events, entry, checked.partner(entry));
     let mut index = entry;
     // Each turn visits an event, which `visits_at` counts.
     while let Some((event, later)) = rest.split_first() {
-        let is_last = later.is_empty();
-        step(alloc, &mut printer, source, checked, index, *event, is_last)?;
+        let visit = Visit {
+            index,
+            event,
+            later,
+        };
+        step(&mut printer, source, checked, visit)?;
         rest = later;
         index += 1;
     }
@@ -83,7 +82,6 @@ fn run_node(
 
 /// What the definition whose entry is at an index defines.
 fn defined_at(
-    alloc: Global,
     source: &Source,
     checked: &Checked,
     entry: usize,
@@ -91,7 +89,7 @@ fn defined_at(
     ensures { IfOk result (λ defined. (document : Forest) → flatten document ≡ checked.now.events → (place : ℕ)
         → slice_get (entries_of 0 document) place ≡ Some entry → defined ≡ slice_get (own_definitions (given_of source.now) document) place) }
 {
-    let printer = run_node(alloc, source, checked, entry)?;
+    let printer = run_node(source, checked, entry)?;
     let mut logged = printer.into_definitions();
     Ok(logged.pop())
 }
@@ -127,7 +125,6 @@ pub(crate) struct Own {
 ///
 /// Only where memory runs out.
 pub(crate) fn definitions_at(
-    alloc: Global,
     source: &Source,
     checked: &Checked,
     entries: &[usize],
@@ -137,12 +134,12 @@ pub(crate) fn definitions_at(
     ensures visits { IfOk result (λ own. (document : Forest) → IsShaped document → flatten document ≡ checked.now.events
         → entries.now ≡ entries_of 0 document → own.visits ≤ length checked.now.events) }
 {
-    let mut definitions = Vec::new(alloc);
+    let mut definitions = Vec::new(source.alloc);
     let mut visits: usize = 0;
     for entry in entries {
         // Each event of the definition is visited once.
         visits = visits.saturating_add(visits_at(checked, *entry));
-        let defined = defined_at(alloc, source, checked, *entry)?;
+        let defined = defined_at(source, checked, *entry)?;
         push_found(&mut definitions, defined)?;
     }
     Ok(Own {

@@ -1,12 +1,13 @@
 //! Texts that may be set into a page.
 
-ghost use Rattle.std.specs.Prelude.{◌≡◌, ◌↔◌, OnOk, IfOk, IfErr, IsTrue};
+ghost use Rattle.std.specs.Prelude.{◌≡◌, ◌↔◌, OnOk, IfOk, IfErr, IsTrue, true};
 ghost use Rattle.md_base.specs.Reference.{name_table};
 ghost use Rattle.md_base.specs.Tree.{Forest, flatten};
 ghost use Rattle.md_tree.specs.Grammar.{IsChecked, handed};
 ghost use Rattle.md_tree.specs.Refusal.{IsOutside, IsOrder, IsMdx, IsOfNode, IsLost};
 ghost use Rattle.md_meaning.specs.Meaning.{meaning};
 ghost use Rattle.md_safe.specs.Options.{KeepsImages};
+ghost use Rattle.md_text.specs.Ids.{HasDistinctIds};
 ghost use Rattle.md_html.specs.Safe.{IsRefusedFor, OfCompile};
 
 use crate::compiler::compile;
@@ -114,6 +115,7 @@ pub fn compile_safe(
     ensures grammatical { OnOk result (IsChecked (handed events.now bytes.now names.now)) }
     ensures meaning { IfOk result (λ html. (document : Forest) → flatten document ≡ events.now →
         html ≡ meaning options.now (name_table names.now) bytes.now document) }
+    ensures distinct_ids { IfOk result (λ html. options.now.gfm_footnote_number_ids ≡ true → HasDistinctIds html) }
 
     ensures outside { IfErr result (OfCompile (IsOutside (handed events.now bytes.now names.now))) }
     ensures order { IfErr result (OfCompile (IsOrder (handed events.now bytes.now names.now))) }

@@ -1,3 +1,4 @@
 pub mod Telling
 pub mod Passing
 pub mod FirstIndex
+pub mod Leaves

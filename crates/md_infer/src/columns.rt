@@ -98,6 +98,7 @@ impl Columns {
     }
 
     /// The exit of a node whose children tell this, in one where values are collected or not.
+    #[inline(always)]
     pub fn exit(
         &mut self,
         alloc: Global,

@@ -7,7 +7,7 @@ ghost use Rattle.md_infer.specs.Ending.{ends_line, ending_behind};
 
 use crate::columns::{Columns, collects_in};
 use crate::names::{is_item, is_link_definition, is_table, is_transparent};
-use crate::seeking::{Sought, search_of, seen};
+use crate::seeking::{Sought, is_idle, search_of, seen};
 use crate::told::{Looseness, NOT_LOOSE, NOTHING_TOLD, Told, told_looseness, told_with};
 use md_base::{AlignKind, Event, Kind, Name};
 use std::alloc::{AllocError, Global};
@@ -88,6 +88,7 @@ fn opened(entry: usize, name: Name, around: &OpenNode) -> OpenNode
 }
 
 /// The last contributing child, after one more child.
+#[inline(always)]
 fn contributing_behind(name: Name, entry: usize, before: usize) -> usize
     ensures { result ≡ spec.contributing_behind name entry before }
 {
@@ -161,6 +162,37 @@ fn partner_alone(partner: usize) -> Fact
     }
 }
 
+/// What is found of a node without children that exits at an index.
+fn fact_alone(name: Name, exit: usize, table: usize) -> Fact
+    ensures { result ≡ spec.fact_alone name exit table }
+{
+    Fact {
+        place: if is_table(name) { table } else { 0 },
+        ..partner_alone(exit)
+    }
+}
+
+/// Goes on with an open node behind a child without children of its own.
+#[inline(always)]
+fn follow_leaf(here: &mut OpenNode, name: Name, entry: usize)
+    ensures { here.new ≡ spec.followed name (spec.opened entry name here.old) here.old }
+{
+    here.contributing = contributing_behind(name, entry, here.contributing);
+    search_leaf(&mut here.sought, name, entry);
+    here.told = told_with(name, NOTHING_TOLD, here.told);
+}
+
+/// Goes on with a search behind a node without children.
+#[inline(always)]
+fn search_leaf(sought: &mut Sought, name: Name, entry: usize)
+    ensures { sought.new ≡ spec.sought_behind name entry (spec.sought_inside name sought.old) sought.old }
+{
+    if is_transparent(name) || is_idle(*sought) {
+        return;
+    }
+    *sought = seen(*sought, name, entry, 0);
+}
+
 /// What is found at each event, the alignments of the tables and the entries of the definitions, both in
 /// the order of their exits, the exit of the first line ending, and how many events were visited for it.
 #[derive(Drop)]
@@ -217,6 +249,22 @@ impl Pass {
         }
     }
 
+    /// Finds what a node without children tells, which exits right behind its entry.
+    pub fn leaf(&mut self, alloc: Global, name: Name) -> Result<(), AllocError>
+        ensures { OnOk result (self.new ≡ spec.passed_exit name (spec.passed_entry name self.old)) }
+    {
+        let entry = self.facts.len();
+        self.columns.enter(name)?;
+        let fact = fact_alone(name, entry + 1, self.columns.count());
+        self.facts.push(fact)?;
+        self.facts.push(partner_alone(entry))?;
+        self.columns
+            .exit(alloc, name, NOTHING_TOLD, self.here.collects)?;
+        define(&mut self.definitions, name, entry)?;
+        follow_leaf(&mut self.here, name, entry);
+        Ok(())
+    }
+
     /// The entry of a node.
     fn enter(&mut self, name: Name) -> Result<(), AllocError>
         ensures { OnOk result (self.new ≡ spec.passed_entry name self.old) }
@@ -224,9 +272,8 @@ impl Pass {
         let entry = self.facts.len();
         self.facts.push(partner_alone(0))?;
         self.columns.enter(name)?;
-        let inner = opened(entry, name, &self.here);
-        let around = std::mem::replace(&mut self.here, inner);
-        self.round.push(around)?;
+        self.round.push(self.here)?;
+        self.here = opened(entry, name, &self.here);
         Ok(())
     }
 

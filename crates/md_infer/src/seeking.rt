@@ -1,6 +1,7 @@
 //! What a name reads of the nodes on its spine: where the one node stands that it seeks.
 
-ghost use Rattle.std.specs.Prelude.{◌≡◌};
+ghost use Rattle.std.specs.Prelude.{◌≡◌, ℕ, true};
+ghost use Rattle.md_base.specs.declared.event.Name.{Name};
 ghost use Rattle.md_infer.specs.Seeking as spec;
 
 use md_base::Name;
@@ -169,10 +170,22 @@ fn refer(sought: Sought, place: usize) -> Sought
     }
 }
 
+/// Whether nothing is sought.
+#[inline(always)]
+pub fn is_idle(sought: Sought) -> bool
+    ensures { result ≡ true → (name : Name) (entry inner : ℕ) → spec.seen sought name entry inner ≡ sought }
+{
+    matches!(sought.wanted, Wanted::Nothing)
+}
+
 /// A search behind a node that is entered here, and in which this was found.
+#[inline(always)]
 pub fn seen(sought: Sought, name: Name, entry: usize, inner: usize) -> Sought
     ensures { result ≡ spec.seen sought name entry inner }
 {
+    if is_idle(sought) {
+        return sought;
+    }
     match sight_of(sought.wanted, name) {
         Sight::Other => sought,
         Sight::Itself => first(sought, entry),

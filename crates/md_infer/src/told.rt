@@ -133,6 +133,7 @@ fn is_nothing(last: Last) -> bool
 }
 
 /// What children tell with one more, of which its own children tell something.
+#[inline(always)]
 pub fn told_with(name: Name, own: Told, before: Told) -> Told
     ensures { result ≡ spec.told_with name own before }
 {

@@ -11,6 +11,7 @@ default_options = record {
   allow_dangerous_protocol = false;
   gfm_task_list_item_checkable = false;
   gfm_tagfilter = false;
+  gfm_footnote_number_ids = false;
   default_line_ending = LineFeed;
   gfm_footnote_back_label = None;
   gfm_footnote_clobber_prefix = None;

@@ -44,18 +44,29 @@ occurrence_suffix occurrence = if occurrence == 1 then [] else 45 ∷ decimal oc
 abbrev pub id_of : CompileOptions → List ℕ → List ℕ → List ℕ
 id_of options kind identifier = prefix_of options ++ (kind ++ sanitized identifier)
 
--- the id of a footnote, and that of one of its calls
-abbrev pub footnote_id : CompileOptions → List ℕ → List ℕ
-footnote_id options identifier = id_of options (codes "fn-") identifier
+-- `fn-` or `fnref-` behind the prefix, and the number
+abbrev pub numbered_id_of : CompileOptions → List ℕ → ℕ → List ℕ
+numbered_id_of options kind number = prefix_of options ++ (kind ++ decimal number)
 
-abbrev pub call_id : CompileOptions → List ℕ → ℕ → List ℕ
-call_id options identifier occurrence = id_of options (codes "fnref-") identifier ++ occurrence_suffix occurrence
+-- the id of the footnote with an identifier and a number
+abbrev pub footnote_id : CompileOptions → List ℕ → ℕ → List ℕ
+footnote_id options identifier number =
+    if options.gfm_footnote_number_ids
+    then numbered_id_of options (codes "fn-") number
+    else id_of options (codes "fn-") identifier
+
+-- the id of one of its calls; a numbered one always has the occurrence
+abbrev pub call_id : CompileOptions → List ℕ → ℕ → ℕ → List ℕ
+call_id options identifier number occurrence =
+    if options.gfm_footnote_number_ids
+    then numbered_id_of options (codes "fnref-") number ++ (45 ∷ decimal occurrence)
+    else id_of options (codes "fnref-") identifier ++ occurrence_suffix occurrence
 
 -- a call with its number and its occurrence
 abbrev pub call_tags : CompileOptions → List ℕ → ℕ → ℕ → List Piece
 call_tags options identifier number occurrence =
-    Text (codes "<sup><a href=\"#") ∷ Text (footnote_id options identifier)
-    ∷ Text (codes "\" id=\"") ∷ Text (call_id options identifier occurrence)
+    Text (codes "<sup><a href=\"#") ∷ Text (footnote_id options identifier number)
+    ∷ Text (codes "\" id=\"") ∷ Text (call_id options identifier number occurrence)
     ∷ Text (codes "\" data-footnote-ref=\"\" aria-describedby=\"footnote-label\">") ∷ Text (decimal number)
     ∷ Text (codes "</a></sup>") ∷ []
 
@@ -76,18 +87,18 @@ abbrev pub arrow : List ℕ
 arrow = 226 ∷ 134 ∷ 169 ∷ []
 
 -- the way back to a call
-abbrev pub backreference : CompileOptions → List ℕ → ℕ → List ℕ
-backreference options identifier occurrence =
-    codes "<a href=\"#" ++ (call_id options identifier occurrence
+abbrev pub backreference : CompileOptions → List ℕ → ℕ → ℕ → List ℕ
+backreference options identifier number occurrence =
+    codes "<a href=\"#" ++ (call_id options identifier number occurrence
     ++ (codes "\" data-footnote-backref=\"\" aria-label=\"" ++ (back_label_of options
     ++ (codes "\" class=\"data-footnote-backref\">" ++ (arrow ++ (occurrence_mark occurrence ++ codes "</a>"))))))
 
 -- the ways back to so many calls, with single spaces between
-abbrev pub backreferences : CompileOptions → List ℕ → ℕ → List ℕ
-backreferences options identifier zero = []
-backreferences options identifier (suc count) =
-    backreferences options identifier count
-    ++ ((if count == 0 then [] else 32 ∷ []) ++ backreference options identifier (suc count))
+abbrev pub backreferences : CompileOptions → List ℕ → ℕ → ℕ → List ℕ
+backreferences options identifier number zero = []
+backreferences options identifier number (suc count) =
+    backreferences options identifier number count
+    ++ ((if count == 0 then [] else 32 ∷ []) ++ backreference options identifier number (suc count))
 
 -- a text without the CR and LF at its end
 abbrev pub without_endings : List ℕ → List ℕ
@@ -114,25 +125,25 @@ abbrev pub footnote_text : List Footnote → List ℕ → List ℕ
 footnote_text footnotes identifier =
     option_map_or (λ footnote. footnote.text) (find (λ footnote. bytes_eq footnote.identifier identifier) footnotes) []
 
--- the beginning of a footnote, up to its text, and its end
-abbrev pub item_opening : CompileOptions → List ℕ → List Piece
-item_opening options identifier =
-    Forced ∷ Text (codes "<li id=\"") ∷ Text (footnote_id options identifier) ∷ Text (codes "\">") ∷ Forced ∷ []
+-- the beginning of a footnote with an id, up to its text, and its end
+abbrev pub item_opening : List ℕ → List Piece
+item_opening id = Forced ∷ Text (codes "<li id=\"") ∷ Text id ∷ Text (codes "\">") ∷ Forced ∷ []
 
 abbrev pub item_closing : List Piece
 item_closing = Needed ∷ Text (codes "</li>") ∷ []
 
--- a footnote with so many calls
-abbrev pub item_pieces : CompileOptions → List ℕ → List ℕ → ℕ → List Piece
-item_pieces options text identifier count =
-    item_opening options identifier ++ (body_pieces text (backreferences options identifier count) ++ item_closing)
+-- a footnote with a number and so many calls
+abbrev pub item_pieces : CompileOptions → List ℕ → List ℕ → (number count : ℕ) → List Piece
+item_pieces options text identifier number count =
+    item_opening (footnote_id options identifier number)
+    ++ (body_pieces text (backreferences options identifier number count) ++ item_closing)
 
--- the footnotes that are called
-abbrev pub items_pieces : CompileOptions → List Footnote → List Called → List Piece
-items_pieces options footnotes [] = []
-items_pieces options footnotes (called ∷ others) =
-    item_pieces options (footnote_text footnotes called.identifier) called.identifier called.count
-    ++ items_pieces options footnotes others
+-- the footnotes that are called, numbered on from the first one's number
+abbrev pub items_pieces : CompileOptions → List Footnote → ℕ → List Called → List Piece
+items_pieces options footnotes number [] = []
+items_pieces options footnotes number (called ∷ others) =
+    item_pieces options (footnote_text footnotes called.identifier) called.identifier number called.count
+    ++ items_pieces options footnotes (suc number) others
 
 -- the section's beginning: its heading, and the list's tag
 abbrev pub section_opening : CompileOptions → List Piece
@@ -146,8 +157,8 @@ section_opening options =
 abbrev pub section_closing : List Piece
 section_closing = Forced ∷ Text (codes "</ol>") ∷ Forced ∷ Text (codes "</section>") ∷ Forced ∷ []
 
--- the section, where there is a call: the footnotes in the order of their first calls
+-- the section, where there is a call: the footnotes in the order of their first calls, from number 1 on
 abbrev pub section_pieces : CompileOptions → List Footnote → List Called → List Piece
 section_pieces options footnotes [] = []
 section_pieces options footnotes (called ∷ others) =
-    section_opening options ++ (items_pieces options footnotes (called ∷ others) ++ section_closing)
+    section_opening options ++ (items_pieces options footnotes 1 (called ∷ others) ++ section_closing)

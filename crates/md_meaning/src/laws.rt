@@ -479,3 +479,23 @@ pub fn meaning_under_carriage_returns()
 pub fn meaning_under_both_ends_of_line()
     ensures { MeansWith options.both_ends_of_line options.each_name_bytes options.each_name options.both_ends_of_line_text }
 {}
+
+/// Footnotes' ids go by number.
+pub fn meaning_under_ids_by_number()
+    ensures { MeansWith options.ids_by_number options.each_name_bytes options.each_name options.ids_by_number_text }
+{}
+
+/// The meaning of a footnote with its ids by number.
+pub fn meaning_of_footnote_by_number()
+    ensures { MeansWith footnotes.ids_by_number footnotes.footnote_bytes footnotes.footnote footnotes.footnote_by_number_text }
+{}
+
+/// The meaning of two footnotes of which one's second call has the id of the other's first.
+pub fn meaning_of_identifiers_that_meet()
+    ensures { Means footnotes.identifiers_that_meet_bytes footnotes.identifiers_that_meet footnotes.identifiers_that_meet_text }
+{}
+
+/// The meaning of the same two with ids by number, where no two are equal.
+pub fn meaning_of_identifiers_that_meet_by_number()
+    ensures { MeansWith footnotes.ids_by_number footnotes.identifiers_that_meet_bytes footnotes.identifiers_that_meet footnotes.identifiers_that_meet_by_number_text }
+{}

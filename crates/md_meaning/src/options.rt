@@ -13,6 +13,8 @@ pub struct CompileOptions {
     pub gfm_task_list_item_checkable: bool,
     /// Disarm some tags of HTML that is left as it is.
     pub gfm_tagfilter: bool,
+    /// Make footnotes' ids of their numbers instead of their identifiers, and end each call's id in which one it is.
+    pub gfm_footnote_number_ids: bool,
     /// How lines end where the document has no line ending.
     pub default_line_ending: LineEnding,
     /// What `aria-label` says of a way back from a footnote; unset: `Back to content`.
@@ -41,6 +43,7 @@ impl Default for CompileOptions {
             allow_dangerous_protocol: false,
             gfm_task_list_item_checkable: false,
             gfm_tagfilter: false,
+            gfm_footnote_number_ids: false,
             default_line_ending: LineEnding::LineFeed,
             gfm_footnote_back_label: None,
             gfm_footnote_clobber_prefix: None,

@@ -164,10 +164,23 @@ fn with_prefix(prefix: String) -> CompileOptions {
 #[test]
 fn ids_begin_with_the_prefix(rt: HostRuntime) -> Result<(), Fail> {
     let options = with_prefix(String::from_str(rt.alloc(), "&-")?);
-    let id = footnote_id(rt.alloc(), &options, "a b")?;
+    let id = footnote_id(rt.alloc(), &options, "a b", 7)?;
     assert_eq!(rt; id.as_str(), "&amp;-fn-a%20b");
     for (occurrence, expected) in [(1, "&amp;-fnref-%C3%A9"), (3, "&amp;-fnref-%C3%A9-3")] {
-        let id = call_id(rt.alloc(), &options, "é", occurrence)?;
+        let id = call_id(rt.alloc(), &options, "é", 7, occurrence)?;
+        assert_eq!(rt; id.as_str(), expected);
+    }
+    Ok(())
+}
+
+#[test]
+fn ids_go_by_number(rt: HostRuntime) -> Result<(), Fail> {
+    let mut options = with_prefix(String::from_str(rt.alloc(), "<")?);
+    options.gfm_footnote_number_ids = true;
+    let id = footnote_id(rt.alloc(), &options, "a b", 12)?;
+    assert_eq!(rt; id.as_str(), "&lt;fn-12");
+    for (occurrence, expected) in [(1, "&lt;fnref-12-1"), (30, "&lt;fnref-12-30")] {
+        let id = call_id(rt.alloc(), &options, "a b", 12, occurrence)?;
         assert_eq!(rt; id.as_str(), expected);
     }
     Ok(())

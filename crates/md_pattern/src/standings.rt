@@ -5,6 +5,7 @@ use crate::kinds::{Reading, Role, Standing, Symbol};
 use md_base::Name;
 
 /// How a node of this name stands among those around it.
+#[inline(always)]
 pub fn standing(name: Name) -> Standing
     ensures { result ≡ standing_of name }
 {

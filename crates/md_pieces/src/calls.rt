@@ -26,8 +26,8 @@ fn tags(
 ) -> Result<(), AllocError>
     ensures { OnOk result (printer.new ≡ printing [] (footnotes.call_tags options.now identifier.now number occurrence) printer.old) }
 {
-    let footnote = footnote_id(alloc, options, identifier)?;
-    let id = call_id(alloc, options, identifier, occurrence)?;
+    let footnote = footnote_id(alloc, options, identifier, number)?;
+    let id = call_id(alloc, options, identifier, number, occurrence)?;
     let number = number.to_string(alloc)?;
     put_tags(printer, footnote.as_str(), id.as_str(), number.as_str())
 }

@@ -9,10 +9,10 @@ ghost use Rattle.md_printer.specs.Sources.{given_of};
 
 use md_base::{Position, SAFE_PROTOCOL_HREF, SAFE_PROTOCOL_SRC};
 use md_meaning::{CompileOptions, Surroundings};
-use md_printer::facts::Exit;
+use md_printer::facts::{Exit, Inner};
 use md_printer::printer::Printer;
 use md_printer::source::{Source, identifier_at, text_of};
-use md_sheet::{Definitions, Notes, Rope, Sheet, Target};
+use md_sheet::{Definitions, Notes, Rope, Target};
 use md_text::{encode, sanitize, sanitize_with_protocols};
 use std::alloc::{AllocError, Global};
 
@@ -142,21 +142,26 @@ fn link_to(
 
 /// Prints a link: in an image its label alone.
 pub fn link(
-    alloc: Global,
     printer: &mut Printer,
     source: &Source,
     exit: &Exit,
-    place: Option<Position>,
-    inner: Sheet,
+    inner: Inner,
 ) -> Result<(), AllocError>
-    ensures { OnOk result (printer.new ≡ printing [] (media.link_pieces (given_of source.now) exit.now.around (ahead_by place) inner) printer.old) }
+    ensures { OnOk result (printer.new ≡ printing [] (media.link_pieces (given_of source.now) exit.now.around (ahead_by inner.place) inner.page) printer.old) }
 {
-    let (label, notes) = inner.into_parts();
+    let Inner { place, page } = inner;
+    let (label, notes) = page.into_parts();
     if exit.around.in_image {
-        return printer.append(alloc, label);
+        return printer.append(source.alloc, label);
     }
-    let target = target_of(alloc, source.bytes, source.definitions, place, &notes)?;
-    link_to(alloc, printer, source.options, target, label)
+    let target = target_of(
+        source.alloc,
+        source.bytes,
+        source.definitions,
+        place,
+        &notes,
+    )?;
+    link_to(source.alloc, printer, source.options, target, label)
 }
 
 /// Prints the beginning of an image, up to its title.
@@ -194,21 +199,26 @@ fn image_of(
 
 /// Prints an image: in another its label alone.
 pub fn image(
-    alloc: Global,
     printer: &mut Printer,
     source: &Source,
     exit: &Exit,
-    place: Option<Position>,
-    inner: Sheet,
+    inner: Inner,
 ) -> Result<(), AllocError>
-    ensures { OnOk result (printer.new ≡ printing [] (media.image_pieces (given_of source.now) exit.now.around (ahead_by place) inner) printer.old) }
+    ensures { OnOk result (printer.new ≡ printing [] (media.image_pieces (given_of source.now) exit.now.around (ahead_by inner.place) inner.page) printer.old) }
 {
-    let (label, notes) = inner.into_parts();
+    let Inner { place, page } = inner;
+    let (label, notes) = page.into_parts();
     if exit.around.in_image {
-        return printer.append(alloc, label);
+        return printer.append(source.alloc, label);
     }
-    let target = target_of(alloc, source.bytes, source.definitions, place, &notes)?;
-    image_of(alloc, printer, source.options, target, label)
+    let target = target_of(
+        source.alloc,
+        source.bytes,
+        source.definitions,
+        place,
+        &notes,
+    )?;
+    image_of(source.alloc, printer, source.options, target, label)
 }
 
 /// A prefix and a text, as one.
@@ -222,7 +232,6 @@ fn joined(alloc: Global, prefix: &str, text: &str) -> Result<String, AllocError>
 
 /// Prints an autolink: its text, in a link to a prefix and its text unless it is plain.
 pub fn autolink(
-    alloc: Global,
     printer: &mut Printer,
     source: &Source,
     exit: &Exit,
@@ -232,11 +241,15 @@ pub fn autolink(
     ensures { OnOk result (printer.new ≡ printing [] (media.autolink_pieces (given_of source.now) prefix.now plain exit.now.start exit.now.end) printer.old) }
 {
     let text = text_of(source.bytes, exit.start, exit.end);
-    let encoded = encode(alloc, text, true)?;
+    let encoded = encode(source.alloc, text, true)?;
     if plain {
         return printer.put(encoded.as_str());
     }
-    let destination = joined(alloc, prefix, text)?;
-    link_start(alloc, printer, source.options, destination.as_str())?;
-    link_end(alloc, printer, Rope::from_string(alloc, encoded))
+    let destination = joined(source.alloc, prefix, text)?;
+    link_start(source.alloc, printer, source.options, destination.as_str())?;
+    link_end(
+        source.alloc,
+        printer,
+        Rope::from_string(source.alloc, encoded),
+    )
 }

@@ -12,7 +12,7 @@ use md_printer::facts::Exit;
 use md_printer::printer::Printer;
 use md_printer::source::{Source, text_of};
 use md_text::gfm_tagfilter;
-use std::alloc::{AllocError, Global};
+use std::alloc::AllocError;
 
 /// Prints a node's text, escaped where its surroundings say so.
 pub fn data(printer: &mut Printer, source: &Source, exit: &Exit) -> Result<(), AllocError>
@@ -23,18 +23,13 @@ pub fn data(printer: &mut Printer, source: &Source, exit: &Exit) -> Result<(), A
 }
 
 /// Prints HTML, disarmed by the tag filter where HTML may stand.
-pub fn html(
-    alloc: Global,
-    printer: &mut Printer,
-    source: &Source,
-    exit: &Exit,
-) -> Result<(), AllocError>
+pub fn html(printer: &mut Printer, source: &Source, exit: &Exit) -> Result<(), AllocError>
     ensures { OnOk result (printer.new ≡ printing [] (texts.html_pieces (given_of source.now) exit.now.around exit.now.start exit.now.end) printer.old) }
 {
     let text = text_of(source.bytes, exit.start, exit.end);
     let escaping = exit.around.is_escaping;
     if source.options.gfm_tagfilter && source.options.allow_dangerous_html {
-        let filtered = gfm_tagfilter(alloc, text)?;
+        let filtered = gfm_tagfilter(source.alloc, text)?;
         return put_encoded(printer, filtered.as_str(), escaping);
     }
     put_encoded(printer, text, escaping)
@@ -52,18 +47,13 @@ fn marker_of(name: Option<Name>) -> u8
 }
 
 /// Prints what a reference stands for, escaped where its surroundings say so.
-pub fn reference(
-    alloc: Global,
-    printer: &mut Printer,
-    source: &Source,
-    exit: &Exit,
-) -> Result<(), AllocError>
+pub fn reference(printer: &mut Printer, source: &Source, exit: &Exit) -> Result<(), AllocError>
     ensures { OnOk result (printer.new ≡ printing [] (texts.reference_pieces (given_of source.now) exit.now.around (left_at exit.now [] []) exit.now.start exit.now.end) printer.old) }
 {
     let value = text_of(source.bytes, exit.start, exit.end);
     let marker = marker_of(exit.spine.last);
-    let decoded = decode_character_reference(alloc, value, marker, source.names)?;
-    let text = decoded.unwrap_or(String::new(alloc));
+    let decoded = decode_character_reference(source.alloc, value, marker, source.names)?;
+    let text = decoded.unwrap_or(String::new(source.alloc));
     put_encoded(printer, text.as_str(), exit.around.is_escaping)
 }
 

@@ -16,7 +16,7 @@ ghost use Rattle.md_printer.specs.Sources.{given_of, closing_at, left_at};
 use crate::groups::{Group, group_of};
 use crate::open::{is_tight, outside_images, rank_of};
 use md_around::names::{is_fence, is_item_prefix, is_paragraph};
-use md_base::{Name, Position};
+use md_base::Name;
 use md_meaning::{Container, Passed, Surroundings};
 use md_pieces::calls::call;
 use md_pieces::code::code_text;
@@ -24,7 +24,7 @@ use md_pieces::media::{autolink, image, is_plain, link};
 use md_pieces::tables::{close_cell, close_row};
 use md_pieces::texts::{data, html, line_ending, reference};
 use md_printer::escape::put_encoded;
-use md_printer::facts::Exit;
+use md_printer::facts::{Exit, Inner};
 use md_printer::lines::on_own_line;
 use md_printer::printer::Printer;
 use md_printer::source::{Source, serialized_of};
@@ -33,7 +33,6 @@ use std::alloc::{AllocError, Global};
 
 /// Prints what a node whose children aren't captured prints after them.
 pub fn close(
-    alloc: Global,
     printer: &mut Printer,
     source: &Source,
     exit: &Exit,
@@ -44,10 +43,10 @@ pub fn close(
         (closing_at (given_of source.now) exit.now printer.old.log.called (first_or [] printer.old.tables) printer.old.frame.ahead printer.old.frame.passed blank name) printer.old) }
 {
     match group_of(name) {
-        Group::Text => close_text(alloc, printer, source, exit, name),
+        Group::Text => close_text(printer, source, exit, name),
         Group::Span => close_span(printer, source, exit, name),
-        Group::Block => close_block(alloc, printer, source, exit, name),
-        Group::Autolink => close_autolink(alloc, printer, source, exit, name),
+        Group::Block => close_block(printer, source, exit, name),
+        Group::Autolink => close_autolink(printer, source, exit, name),
         Group::Table => close_table(printer, source, exit, name),
         Group::Silent | Group::Captured => Ok(()),
     }
@@ -55,7 +54,6 @@ pub fn close(
 
 /// Prints what a text or a break prints after its children.
 fn close_text(
-    alloc: Global,
     printer: &mut Printer,
     source: &Source,
     exit: &Exit,
@@ -72,9 +70,9 @@ fn close_text(
         Name::CharacterEscapeValue => data(printer, source, exit),
         Name::CodeTextData => data(printer, source, exit),
         Name::MathTextData => data(printer, source, exit),
-        Name::CharacterReferenceValue => reference(alloc, printer, source, exit),
-        Name::HtmlFlowData => html(alloc, printer, source, exit),
-        Name::HtmlTextData => html(alloc, printer, source, exit),
+        Name::CharacterReferenceValue => reference(printer, source, exit),
+        Name::HtmlFlowData => html(printer, source, exit),
+        Name::HtmlTextData => html(printer, source, exit),
         Name::HardBreakEscape => outside_images(printer, exit.around, "<br />"),
         Name::HardBreakTrailing => outside_images(printer, exit.around, "<br />"),
         Name::GfmTaskListItemValueChecked => {
@@ -106,7 +104,6 @@ fn close_span(
 
 /// Prints what a block prints after its children.
 fn close_block(
-    alloc: Global,
     printer: &mut Printer,
     source: &Source,
     exit: &Exit,
@@ -130,15 +127,14 @@ fn close_block(
         Name::CodeFencedFence => fence(printer, exit),
         Name::MathFlowFence => fence(printer, exit),
         Name::CodeFencedFenceInfo => printer.put("\""),
-        Name::CodeFlowChunk => chunk(alloc, printer, source, exit),
-        Name::MathFlowChunk => chunk(alloc, printer, source, exit),
+        Name::CodeFlowChunk => chunk(printer, source, exit),
+        Name::MathFlowChunk => chunk(printer, source, exit),
         _ => Ok(()),
     }
 }
 
 /// Prints an autolink.
 fn close_autolink(
-    alloc: Global,
     printer: &mut Printer,
     source: &Source,
     exit: &Exit,
@@ -150,25 +146,19 @@ fn close_autolink(
 {
     let around = exit.around;
     match name {
-        Name::AutolinkEmail => {
-            autolink(alloc, printer, source, exit, "mailto:", around.in_image)
-        }
-        Name::AutolinkProtocol => autolink(alloc, printer, source, exit, "", around.in_image),
+        Name::AutolinkEmail => { autolink(printer, source, exit, "mailto:", around.in_image) }
+        Name::AutolinkProtocol => autolink(printer, source, exit, "", around.in_image),
         Name::GfmAutolinkLiteralEmail => {
-            autolink(alloc, printer, source, exit, "mailto:", is_plain(around))
+            autolink(printer, source, exit, "mailto:", is_plain(around))
         }
-        Name::GfmAutolinkLiteralMailto => {
-            autolink(alloc, printer, source, exit, "", is_plain(around))
-        }
+        Name::GfmAutolinkLiteralMailto => { autolink(printer, source, exit, "", is_plain(around)) }
         Name::GfmAutolinkLiteralProtocol => {
-            autolink(alloc, printer, source, exit, "", is_plain(around))
+            autolink(printer, source, exit, "", is_plain(around))
         }
         Name::GfmAutolinkLiteralWww => {
-            autolink(alloc, printer, source, exit, "http://", is_plain(around))
+            autolink(printer, source, exit, "http://", is_plain(around))
         }
-        Name::GfmAutolinkLiteralXmpp => {
-            autolink(alloc, printer, source, exit, "", is_plain(around))
-        }
+        Name::GfmAutolinkLiteralXmpp => { autolink(printer, source, exit, "", is_plain(around)) }
         _ => Ok(()),
     }
 }
@@ -193,55 +183,52 @@ fn close_table(
     }
 }
 
-/// Prints or notes what a node whose children are captured prints or notes after them; `inner` is their page, and
-/// `place` what its name reads in them.
+/// Prints or notes what a node whose children are captured prints or notes after them.
 pub fn close_captured(
-    alloc: Global,
     printer: &mut Printer,
     source: &Source,
     exit: &Exit,
-    place: Option<Position>,
-    inner: Sheet,
+    inner: Inner,
     name: Name,
 ) -> Result<(), AllocError>
     requires { is_captured name ≡ true }
     ensures { OnOk result (printer.new ≡ printing source.now.ending.now
-        (closing_at (given_of source.now) exit.now printer.old.log.called (first_or [] printer.old.tables) (ahead_by place) printer.old.frame.passed inner name) printer.old) }
+        (closing_at (given_of source.now) exit.now printer.old.log.called (first_or [] printer.old.tables) (ahead_by inner.place) printer.old.frame.passed inner.page name) printer.old) }
 {
     match name {
-        Name::CodeText => code(alloc, printer, exit.around, "<code>", &inner),
+        Name::CodeText => code(source.alloc, printer, exit.around, "<code>", &inner.page),
         Name::MathText => {
             let tag = "<code class=\"language-math math-inline\">";
-            code(alloc, printer, exit.around, tag, &inner)
+            code(source.alloc, printer, exit.around, tag, &inner.page)
         }
         Name::HeadingSetextText => {
-            printer.note_heading(inner.into_text(alloc)?);
+            printer.note_heading(inner.page.into_text(source.alloc)?);
             Ok(())
         }
         Name::DefinitionDestinationString => {
-            printer.note_destination(inner.into_text(alloc)?);
+            printer.note_destination(inner.page.into_text(source.alloc)?);
             Ok(())
         }
         Name::DefinitionTitleString => {
-            printer.note_title(inner.into_text(alloc)?);
+            printer.note_title(inner.page.into_text(source.alloc)?);
             Ok(())
         }
         Name::ResourceDestinationString => {
-            printer.note_destination(inner.into_text(alloc)?);
+            printer.note_destination(inner.page.into_text(source.alloc)?);
             Ok(())
         }
         Name::ResourceTitleString => {
-            printer.note_title(inner.into_text(alloc)?);
+            printer.note_title(inner.page.into_text(source.alloc)?);
             Ok(())
         }
         Name::Resource => {
-            printer.note_resource(inner.into_target());
+            printer.note_resource(inner.page.into_target());
             Ok(())
         }
-        Name::Link => link(alloc, printer, source, exit, place, inner),
-        Name::Image => image(alloc, printer, source, exit, place, inner),
-        Name::GfmFootnoteCall => call(alloc, printer, source, exit, place),
-        Name::GfmTableCell => close_cell(alloc, printer, source.ending, exit, &inner),
+        Name::Link => link(printer, source, exit, inner),
+        Name::Image => image(printer, source, exit, inner),
+        Name::GfmFootnoteCall => call(source.alloc, printer, source, exit, inner.place),
+        Name::GfmTableCell => close_cell(source.alloc, printer, source.ending, exit, &inner.page),
         _ => Ok(()),
     }
 }
@@ -412,15 +399,10 @@ fn fenced(printer: &mut Printer, ending: &str, around: Surroundings) -> Result<(
     need_if(printer, ending, unclosed)
 }
 
-fn chunk(
-    alloc: Global,
-    printer: &mut Printer,
-    source: &Source,
-    exit: &Exit,
-) -> Result<(), AllocError>
+fn chunk(printer: &mut Printer, source: &Source, exit: &Exit) -> Result<(), AllocError>
     ensures { OnOk result (printer.new ≡ printing [] (blocks.chunk_pieces (given_of source.now) exit.now.start exit.now.end) printer.old) }
 {
-    let text = serialized_of(alloc, source.bytes, exit.start, exit.end)?;
+    let text = serialized_of(source.alloc, source.bytes, exit.start, exit.end)?;
     put_encoded(printer, text.as_str(), true)
 }
 

@@ -1,7 +1,8 @@
 //! What the printer keeps of a node.
 
-use md_base::{Name, Point, Position};
+use md_base::{AlignKind, Name, Point, Position};
 use md_meaning::{Passed, Spine, Surroundings};
+use md_sheet::Sheet;
 
 /// A node that is open.
 #[derive(Clone, Copy)]
@@ -35,4 +36,24 @@ pub struct Exit {
     pub is_last: bool,
     /// Where it ends.
     pub end: Point,
+}
+
+/// What a node that is entered is told of its children.
+#[derive(Drop)]
+pub struct Told {
+    /// The place that its name reads in them.
+    pub place: Option<Position>,
+    /// It is a loose list.
+    pub loose: bool,
+    /// How the columns are aligned, of a table.
+    pub columns: Vec<AlignKind>,
+}
+
+/// What a node that is exited has of its children, where they are captured.
+#[derive(Drop)]
+pub struct Inner {
+    /// The place that its name reads in them.
+    pub place: Option<Position>,
+    /// The page that they are laid on.
+    pub page: Sheet,
 }

@@ -10,7 +10,7 @@ ghost use Rattle.md_meaning.specs.Footnotes.{section_pieces};
 ghost use Rattle.md_sheet.specs.Seen.{counted, noted};
 ghost use Rattle.md_meaning.specs.Texts.{said};
 
-use crate::facts::{Exit, Frame};
+use crate::facts::{Exit, Frame, Told};
 use md_around::surroundings::{NO_SPINE, inside, pass, slurps_behind, spine_inside};
 use md_base::{AlignKind, Name, Point, Position};
 use md_meaning::{CompileOptions, Container, Passed, Spine, Surroundings};
@@ -271,24 +271,23 @@ impl Printer {
         }
     }
 
-    /// Opens a node's frame; `loose` says whether the node, as a list, is loose.
+    /// Opens a node's frame.
     pub fn open_frame(
         &mut self,
         options: &CompileOptions,
-        place: Option<Position>,
-        loose: bool,
+        told: &Told,
         name: Name,
         start: Point,
     ) -> Result<(), AllocError>
-        ensures { OnOk result (self.new ≡ machine.opening_frame options.now (machine.ahead_by place) loose name start self.old) }
+        ensures { OnOk result (self.new ≡ machine.opening_frame options.now (machine.ahead_by told.now.place) told.now.loose name start self.old) }
     {
         let parent = self.frame;
         self.frames.push(parent)?;
         self.frame = Frame {
-            around: inside(options, loose, name, parent.around),
+            around: inside(options, told.loose, name, parent.around),
             start,
             is_slurping: self.is_slurping,
-            place,
+            place: told.place,
             passed: Passed {
                 last: None,
                 contributing: None,

@@ -13,13 +13,20 @@ use md_meaning::CompileOptions;
 use md_sheet::Definitions;
 use std::alloc::{AllocError, Global};
 
-/// The document's bytes, the names of references, the options and the line ending that is used.
+/// What all nodes are given.
 #[derive(Clone, Copy)]
 pub struct Source<'a> {
+    /// What their texts are allocated with.
+    pub alloc: Global,
+    /// The document's bytes.
     pub bytes: &'a [u8],
+    /// The names of character references, and what each stands for.
     pub names: &'a [(&'a str, &'a str)],
+    /// The options.
     pub options: &'a CompileOptions,
+    /// The line ending that is used.
     pub ending: &'a str,
+    /// The document's definitions.
     pub definitions: &'a Definitions,
 }
 

@@ -1,7 +1,7 @@
 -- The nodes of blocks print texts with readings.
 use Rattle.std.proofs.Common.{◌≡◌, ℕ, ◌≤◌, Bool, true, false, not, ◌||◌, cond, List, [], ◌∷◌, ◌++◌, refl, sym, ◌∙◌, subst, inl, inr, arith, drop, append_assoc, codes}
 use Rattle.std.specs.Prelude.{slice_get}
-use Rattle.std.proofs.lemmas.Bool.{or_cases}
+use Rattle.std.proofs.lemmas.Bool.{or_cases, or_left, or_right}
 use Rattle.md_base.specs.declared.event.Name.{Name}
 use Rattle.md_base.specs.declared.event.Name.TheVariants.{LineEnding, BlankLineEnding, BlockQuote, ListOrdered, ListUnordered, ListItem, ListItemPrefix, ListItemValue, ListItemMarker, GfmFootnoteDefinition, GfmFootnoteDefinitionPrefix, GfmFootnoteDefinitionLabelString, Definition, DefinitionLabelString, DefinitionDestinationString, DefinitionTitleString, CodeIndented, CodeFenced, CodeFencedFenceMeta, CodeFlowChunk, MathFlow, MathFlowFenceMeta, MathFlowChunk, HtmlFlow, HtmlFlowData, HeadingAtx, HeadingAtxSequence, HeadingAtxText, HeadingSetextText, HeadingSetextUnderlineSequence, GfmTable, GfmTableHead, GfmTableBody, GfmTableRow, GfmTableCell, GfmTableDelimiterRow, GfmTableDelimiterCellValue, GfmTableDelimiterMarker, Paragraph, ThematicBreak, Frontmatter, MdxEsm, MdxFlowExpression, MdxTextExpression, MdxJsxFlowTag, MdxJsxTextTag}
 use Rattle.md_base.specs.declared.event.AlignKind.{AlignKind}
@@ -9,8 +9,8 @@ use Rattle.md_text.specs.Encode.{encoded}
 use Rattle.md_text.specs.Html.{HasReadingWith}
 use Rattle.md_text.proofs.EncodeLaws.{is_escaped-encoded}
 use Rattle.md_text.proofs.EscapedLemmas.{escaped-append}
-use Rattle.md_text.proofs.HtmlJoin.{nothing, text, join}
-use Rattle.md_base.specs.NameTests.{is_transparent}
+use Rattle.md_text.proofs.HtmlJoin.{nothing, text}
+use Rattle.md_base.specs.NameTests.{is_transparent, is_call}
 use Rattle.md_meaning.specs.declared.facts.Surroundings.{Surroundings}
 use Rattle.md_meaning.specs.declared.facts.Passed.{Passed}
 use Rattle.md_meaning.specs.Piece.{Piece, Text, Needed, Forced, Heading, Destination, Title}
@@ -21,18 +21,19 @@ use Rattle.md_meaning.specs.Blocks.{on_own_line, when, item_closing, rank_of, he
 use Rattle.md_meaning.specs.Tables.{empty_cells}
 use Rattle.md_shape.specs.Built.{Blocks, is_part, is_string, is_span, is_in_media, is_autolink}
 use Rattle.md_safe.proofs.Texts.{Escaped}
-use Rattle.md_safe.proofs.Laid.{adds-append, adds-text, adds-nothing, adds-needed, adds-forced, adds-note}
-use Rattle.md_safe.proofs.Tags.{Bracket, IsFramed, void-read, adds-flat, adds-pair, adds-framed, adds-nil, adds-readings, adds-escaped, framed-text, framed-needed, framed-forced}
+use Rattle.md_safe.proofs.Claim.{plain_of}
+use Rattle.md_safe.proofs.Laid.{adds-append, adds-weaker, adds-text, adds-nothing, adds-needed, adds-forced, adds-note}
+use Rattle.md_safe.proofs.Tags.{Bracket, IsFramed, void-read, adds-flat, adds-pair, adds-framed, adds-nil, adds-before, adds-behind, adds-escaped, framed-text, framed-needed, framed-forced}
 use Rattle.md_safe.proofs.Media.{adds-cell_in, adds-empty_cells}
 use Rattle.md_safe.proofs.Elements.{bracket-plain, bracket-code, bracket-heading, adds-setext, ordered-opening, adds-raw, code_tag, math_tag}
 use Rattle.md_safe.proofs.Contents.{lie}
-use Rattle.md_safe.proofs.Spot.{Setting, Spot, node_pieces, IsFitAt, Prints, Inside, narrow-wide, wide-reading, prints-alone, prints-both, prints-own}
+use Rattle.md_safe.proofs.Spot.{IsWhole, Setting, Spot, node_pieces, IsFitAt, Prints, Inside, narrow-wide, wide-reading, prints-alone, prints-both, prints-own}
 use Rattle.md_safe.proofs.StringNodes.{string-node}
 use Rattle.md_safe.proofs.SpanNodes.{page_of, page-holds, span-node, media-node, autolink-node, html-escaped}
 
--- a text with a reading
+-- what is claimed of a text
 abbrev pub Reads : Setting → List ℕ → Type 0
-Reads s x = HasReadingWith s.p x
+Reads s x = s.p.holds x
 
 -- blocks that print something, or are raw
 abbrev pub is_flow : Name → Bool
@@ -54,6 +55,12 @@ is_flow MathFlowChunk = true
 is_flow HtmlFlow = true
 is_flow HtmlFlowData = true
 is_flow _ = false
+
+-- the parts of a heading whose underline comes later
+abbrev pub is_setext : Name → Bool
+is_setext HeadingSetextText = true
+is_setext HeadingSetextUnderlineSequence = true
+is_setext _ = false
 
 -- what prints nothing of its children
 abbrev pub is_hidden : Name → Bool
@@ -141,7 +148,7 @@ paragraph-node s true inner a =
     (framed-needed s.p s.given.ending (codes "<p>") s.ending) a (framed-text s.p s.given.ending (codes "</p>"))
 paragraph-node s false inner a = prints-alone s (Reads s) inner a
 
-setext-fits : (bytes : List ℕ) (dash : Bool) → (1 ≤ cond dash 2 1) × (cond dash 2 1 ≤ 6)
+pub setext-fits : (bytes : List ℕ) (dash : Bool) → (1 ≤ cond dash 2 1) × (cond dash 2 1 ≤ 6)
 setext-fits bytes true = (omega arith, omega arith)
 setext-fits bytes false = (omega arith, omega arith)
 
@@ -151,85 +158,91 @@ chunk-node : (s : Setting) (t : Spot) (inner : List Piece) → Prints s (λ x. x
 chunk-node s t inner a =
     let x : List ℕ = encoded true (serialized_of s.given.bytes t.start t.end) in
     prints-own s (Reads s) inner (said x) a (adds-text s.p s.given.ending (Reads s) x
-    (text s.p x (is_escaped-encoded (serialized_of s.given.bytes t.start t.end))))
+    (s.p.plain x (text s.p.test x (is_escaped-encoded (serialized_of s.given.bytes t.start t.end)))))
+
+-- nothing is claimed of no text
+pub holds-none : (s : Setting) → Reads s []
+holds-none s = s.p.plain [] (nothing s.p.test)
 
 flow-node : (s : Setting) (t : Spot) (name : Name) → t.around.is_escaping ≡ true → is_flow name ≡ true →
-    IsFitAt s t name → (inner : List Piece) → Inside s t Blocks name inner →
+    IsFitAt s t name → (is_setext name ≡ true → IsWhole s.p) → (inner : List Piece) → Inside s t Blocks name inner →
     Prints s (Reads s) (node_pieces s t name inner)
-flow-node s t BlankLineEnding e is fit inner a =
+flow-node s t BlankLineEnding e is fit whole inner a =
     prints-own s (Reads s) inner (blank_line_pieces t.last) a
-    (adds-escaped s.p s.given.ending (blank_line_pieces t.last) (when-needed s t.last))
-flow-node s t BlockQuote e is fit inner a = block-pair s (codes "<blockquote>") (codes "</blockquote>")
+    (adds-weaker s.p s.given.ending (HasReadingWith s.p.test) (Reads s) (blank_line_pieces t.last) s.p.plain
+    (adds-escaped s.p s.given.ending (blank_line_pieces t.last) (when-needed s t.last)))
+flow-node s t BlockQuote e is fit whole inner a = block-pair s (codes "<blockquote>") (codes "</blockquote>")
     (bracket-plain s.p (codes "blockquote") refl) inner a
-flow-node s t ListOrdered e is fit inner a =
+flow-node s t ListOrdered e is fit whole inner a =
     let opening = ordered-opening s.p s.given.ending s.ending s.given.options s.test s.given.bytes
     (ahead_of t.children).number fit in
     adds-pair s.p s.given.ending opening.open_tag (codes "</ol>") (on_own_line (codes "<ol")
     ++ (start_pieces s.given.bytes (ahead_of t.children).number ++ said (codes ">"))) inner (Forced
     ∷ Text (codes "</ol>") ∷ [])
     opening.bracket opening.adds a (framed-forced s.p s.given.ending (codes "</ol>") s.ending)
-flow-node s t ListUnordered e is fit inner a =
+flow-node s t ListUnordered e is fit whole inner a =
     adds-pair s.p s.given.ending (codes "<ul>") (codes "</ul>") (on_own_line (codes "<ul>")) inner (Forced
     ∷ Text (codes "</ul>") ∷ []) (bracket-plain s.p (codes "ul") refl)
     (framed-needed s.p s.given.ending (codes "<ul>") s.ending) a
     (framed-forced s.p s.given.ending (codes "</ul>") s.ending)
-flow-node s t ListItem e is fit inner a =
+flow-node s t ListItem e is fit whole inner a =
     adds-pair s.p s.given.ending (codes "<li>") (codes "</li>") (on_own_line (codes "<li>")) inner
     (item_closing t.around t.passed ++ []) (bracket-plain s.p (codes "li") refl)
     (framed-needed s.p s.given.ending (codes "<li>") s.ending) a (when-end s _ (codes "</li>"))
-flow-node s t Paragraph e is fit inner a = paragraph-node s (not (is_tight t.around.container)) inner a
-flow-node s t ThematicBreak e is fit inner a =
-    adds-readings s.p s.given.ending inner (on_own_line (codes "<hr />")) a
-    (adds-readings s.p s.given.ending (Needed ∷ []) (said (codes "<hr />"))
+flow-node s t Paragraph e is fit whole inner a = paragraph-node s (not (is_tight t.around.container)) inner a
+flow-node s t ThematicBreak e is fit whole inner a =
+    adds-behind s.p s.given.ending inner (on_own_line (codes "<hr />")) a
+    (adds-before (plain_of s.p) s.given.ending (Needed ∷ []) (said (codes "<hr />"))
     (adds-escaped s.p s.given.ending (Needed ∷ []) (adds-needed s.p s.given.ending s.ending))
-    (adds-flat s.p s.given.ending (Reads s) (said (codes "<hr />")) refl (void-read s.p (codes "hr") [] refl refl)))
-flow-node s t HeadingAtx e is fit inner a =
+    (adds-flat s.p s.given.ending (HasReadingWith s.p.test) (said (codes "<hr />")) refl
+    (void-read (plain_of s.p) (codes "hr") [] refl refl)))
+flow-node s t HeadingAtx e is fit whole inner a =
     let rank : ℕ = rank_of s.given.bytes (ahead_of t.children).mark in
     adds-pair s.p s.given.ending (heading_opening rank) (heading_closing rank)
     (on_own_line (heading_opening rank)) inner (said (heading_closing rank)) (bracket-heading s.p rank fit)
     (framed-needed s.p s.given.ending (heading_opening rank) s.ending) a
     (framed-text s.p s.given.ending (heading_closing rank))
-flow-node s t HeadingSetextText e is fit inner a =
-    adds-note s.p s.given.ending (Reads s) (Heading (page_of s inner).text) (nothing s.p)
-    (page-holds s (Reads s) inner a)
-flow-node s t HeadingSetextUnderlineSequence e is fit inner a =
-    adds-readings s.p s.given.ending inner (setext_pieces s.given t.start) a
-    (adds-setext s.p s.given.ending s.ending (setext_rank s.given.bytes t.start)
+flow-node s t HeadingSetextText e is fit whole inner a =
+    adds-note s.p s.given.ending (Reads s) (Heading (page_of s inner).text) (holds-none s)
+    ((whole refl).notes (page_of s inner).text (page-holds s (Reads s) inner a))
+flow-node s t HeadingSetextUnderlineSequence e is fit whole inner a =
+    adds-append s.p s.given.ending (Reads s) (Reads s) (Reads s) inner (setext_pieces s.given t.start) (whole refl).both a
+    (adds-setext s.p s.given.ending (whole refl).recalls s.ending (setext_rank s.given.bytes t.start)
     (setext-fits s.given.bytes (is_dash_at s.given.bytes t.start.index)))
-flow-node s t CodeIndented e is fit inner a =
+flow-node s t CodeIndented e is fit whole inner a =
     adds-pair s.p s.given.ending (codes "<pre><code>") code_end (on_own_line (codes "<pre><code>")) inner
     (indented_closing t.passed ++ []) (bracket-code s.p)
     (framed-needed s.p s.given.ending (codes "<pre><code>") s.ending) a (when-end s t.passed.spine.has_chunk code_end)
-flow-node s t CodeFenced e is fit inner a = adds-raw s.p s.given.ending s.ending code_tag inner
+flow-node s t CodeFenced e is fit whole inner a = adds-raw s.p s.given.ending s.ending code_tag inner
     (fenced_closing t.around t.passed ++ []) a (fenced-end s t.around t.passed)
-flow-node s t MathFlow e is fit inner a = adds-raw s.p s.given.ending s.ending math_tag inner
+flow-node s t MathFlow e is fit whole inner a = adds-raw s.p s.given.ending s.ending math_tag inner
     (fenced_closing t.around t.passed ++ []) a (fenced-end s t.around t.passed)
-flow-node s t CodeFlowChunk e is fit inner a = chunk-node s t inner a
-flow-node s t MathFlowChunk e is fit inner a = chunk-node s t inner a
-flow-node s t HtmlFlow e is fit inner a =
-    adds-readings s.p s.given.ending (Needed ∷ []) (inner
+flow-node s t CodeFlowChunk e is fit whole inner a = chunk-node s t inner a
+flow-node s t MathFlowChunk e is fit whole inner a = chunk-node s t inner a
+flow-node s t HtmlFlow e is fit whole inner a =
+    adds-before s.p s.given.ending (Needed ∷ []) (inner
     ++ []) (adds-escaped s.p s.given.ending (Needed ∷ []) (adds-needed s.p s.given.ending s.ending))
     (prints-alone s (Reads s) inner a)
-flow-node s t HtmlFlowData e is fit inner a =
-    prints-both s (Reads s) (join s.p) inner (html_pieces s.given t.around t.start t.end) a
+flow-node s t HtmlFlowData e is fit whole inner a =
+    prints-both s (Reads s) (HasReadingWith s.p.test) s.p.behind inner (html_pieces s.given t.around t.start t.end) a
     (adds-escaped s.p s.given.ending (html_pieces s.given t.around t.start t.end) (html-escaped s t e))
-flow-node s t _ e is fit inner a = absurd (lie is)
+flow-node s t _ e is fit whole inner a = absurd (lie is)
 
 hidden-node : (s : Setting) (t : Spot) (name : Name) → t.around.is_escaping ≡ true → is_hidden name ≡ true →
     (inner : List Piece) → Inside s t Blocks name inner → Prints s (Reads s) (node_pieces s t name inner)
-hidden-node s t CodeFencedFenceMeta e is inner a = adds-nothing s.p s.given.ending (Reads s) (nothing s.p)
-hidden-node s t MathFlowFenceMeta e is inner a = adds-nothing s.p s.given.ending (Reads s) (nothing s.p)
-hidden-node s t Frontmatter e is inner a = adds-nothing s.p s.given.ending (Reads s) (nothing s.p)
-hidden-node s t Definition e is inner a = adds-nothing s.p s.given.ending (Reads s) (nothing s.p)
-hidden-node s t DefinitionLabelString e is inner a = adds-nothing s.p s.given.ending (Reads s) (nothing s.p)
+hidden-node s t CodeFencedFenceMeta e is inner a = adds-nothing s.p s.given.ending (Reads s) (holds-none s)
+hidden-node s t MathFlowFenceMeta e is inner a = adds-nothing s.p s.given.ending (Reads s) (holds-none s)
+hidden-node s t Frontmatter e is inner a = adds-nothing s.p s.given.ending (Reads s) (holds-none s)
+hidden-node s t Definition e is inner a = adds-nothing s.p s.given.ending (Reads s) (holds-none s)
+hidden-node s t DefinitionLabelString e is inner a = adds-nothing s.p s.given.ending (Reads s) (holds-none s)
 hidden-node s t DefinitionDestinationString e is inner a =
-    adds-note s.p s.given.ending (Reads s) (Destination (page_of s inner).text) (nothing s.p) tt
+    adds-note s.p s.given.ending (Reads s) (Destination (page_of s inner).text) (holds-none s) tt
 hidden-node s t DefinitionTitleString e is inner a =
-    adds-note s.p s.given.ending (Reads s) (Title (page_of s inner).text) (nothing s.p)
+    adds-note s.p s.given.ending (Reads s) (Title (page_of s inner).text) (holds-none s)
     (page-holds s (λ x. t.around.is_escaping ≡ true → Escaped x) inner a e)
-hidden-node s t GfmFootnoteDefinition e is inner a = adds-nothing s.p s.given.ending (Reads s) (nothing s.p)
-hidden-node s t GfmFootnoteDefinitionLabelString e is inner a = adds-nothing s.p s.given.ending (Reads s) (nothing s.p)
-hidden-node s t GfmTableDelimiterRow e is inner a = adds-nothing s.p s.given.ending (Reads s) (nothing s.p)
+hidden-node s t GfmFootnoteDefinition e is inner a = adds-nothing s.p s.given.ending (Reads s) (holds-none s)
+hidden-node s t GfmFootnoteDefinitionLabelString e is inner a = adds-nothing s.p s.given.ending (Reads s) (holds-none s)
+hidden-node s t GfmTableDelimiterRow e is inner a = adds-nothing s.p s.given.ending (Reads s) (holds-none s)
 hidden-node s t _ e is inner a = absurd (lie is)
 
 -- a row
@@ -241,7 +254,7 @@ row-node s in_head kinds inner a =
     (append_assoc inner (empty_cells in_head kinds) (on_own_line (codes "</tr>")))
     (block-pair s (codes "<tr>") (codes "</tr>") (bracket-plain s.p (codes "tr") refl) (inner
     ++ empty_cells in_head kinds)
-    (adds-readings s.p s.given.ending inner (empty_cells in_head kinds) a
+    (adds-behind s.p s.given.ending inner (empty_cells in_head kinds) a
     (adds-empty_cells s.p s.given.ending s.ending s.given.options s.test in_head kinds)))
 
 table-node : (s : Setting) (t : Spot) (name : Name) → is_tabular name ≡ true → (inner : List Piece) →
@@ -286,9 +299,9 @@ covered _ = refl
 
 -- blocks
 pub block-node : (s : Setting) (t : Spot) (name : Name) → t.around.is_escaping ≡ true → is_transparent name ≡ false →
-    is_part name ≡ false → IsFitAt s t name → (inner : List Piece) → Inside s t Blocks name inner →
-    Prints s (Reads s) (node_pieces s t name inner)
-block-node s t name e solid whole fit inner a =
+    is_part name ≡ false → IsFitAt s t name → ((is_setext name || is_call name) ≡ true → IsWhole s.p) →
+    (inner : List Piece) → Inside s t Blocks name inner → Prints s (Reads s) (node_pieces s t name inner)
+block-node s t name e solid whole fit asked inner a =
     elim (or_cases (is_transparent name) _ (covered name)) [
       | inl is ↦ absurd (lie (sym solid ∙ is))
       | inr c ↦ elim (or_cases (is_part name) _ c) [
@@ -297,13 +310,14 @@ block-node s t name e solid whole fit inner a =
           | inl is ↦ string-node s t Blocks name (narrow-wide s.p t.around.is_escaping t.around.in_image (Reads s) e
               (wide-reading s.p t.around.in_image)) is fit inner a
           | inr c ↦ elim (or_cases (is_span name) _ c) [
-            | inl is ↦ span-node s t Blocks name e (wide-reading s.p t.around.in_image) is inner a
+            | inl is ↦ span-node s t Blocks name e (wide-reading s.p t.around.in_image) is
+                (λ call _. (asked (or_right (is_setext name) (is_call name) call)).ids) inner a
             | inr c ↦ elim (or_cases (is_in_media name) _ c) [
               | inl is ↦ media-node s t Blocks name e (wide-reading s.p t.around.in_image) is inner a
               | inr c ↦ elim (or_cases (is_autolink name) _ c) [
                 | inl is ↦ autolink-node s t Blocks name (wide-reading s.p t.around.in_image) is inner a
                 | inr c ↦ elim (or_cases (is_flow name) _ c) [
-                  | inl is ↦ flow-node s t name e is fit inner a
+                  | inl is ↦ flow-node s t name e is fit (λ setext. asked (or_left (is_setext name) (is_call name) setext)) inner a
                   | inr c ↦ elim (or_cases (is_hidden name) _ c) [
                     | inl is ↦ hidden-node s t name e is inner a
                     | inr c ↦ elim (or_cases (is_tabular name) _ c) [

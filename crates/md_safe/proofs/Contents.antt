@@ -5,7 +5,6 @@ use Rattle.std.proofs.lemmas.Bool.{cond_both, or_left, or_right}
 use Rattle.md_base.specs.declared.event.Name.{Name}
 use Rattle.md_base.specs.declared.event.Name.TheVariants.{LineEnding, BlankLineEnding, HtmlFlow, HtmlText, Image, CodeText, MathText, DefinitionLabelString, DefinitionDestinationString, DefinitionTitleString, GfmFootnoteDefinitionLabelString, ResourceDestinationString, ResourceTitleString, ReferenceString, CodeFenced, CodeFencedFence, CodeFencedFenceInfo, CodeFencedFenceMeta, CodeFlowChunk, MathFlow, MathFlowFence, MathFlowFenceMeta, MathFlowChunk, GfmTaskListItemCheck, GfmTaskListItemValueChecked}
 use Rattle.md_base.specs.declared.event.Point.{Point}
-use Rattle.md_text.specs.Html.{Attribute, HasReadingWith}
 use Rattle.md_text.proofs.HtmlJoin.{nothing}
 use Rattle.md_base.specs.Tree.{Forest, Empty, Node}
 use Rattle.md_base.specs.NameTests.{is_transparent}
@@ -16,14 +15,15 @@ use Rattle.md_meaning.specs.declared.facts.Surroundings.{Surroundings}
 use Rattle.md_meaning.specs.Surroundings.{inside, spine_behind}
 use Rattle.md_shape.specs.Built.{Content, Blocks, Spans, Strings, FirstFence, FirstMathFence, Chunks, InfoAndMeta, MetaAlone, Done, Nothing, is_fence, is_line, is_info, is_code_fence, is_math_fence, may_stand, content_of, content_past, content_after, content_inside, content_behind, IsBuilt, IsFit}
 use Rattle.md_safe.proofs.Texts.{Escaped}
+use Rattle.md_safe.proofs.Claim.{Claim}
 use Rattle.md_safe.proofs.Elements.{IsRaw, IsInCode, IsDone, bare-in_code, code_tag, math_tag}
 
 pub lie : false ≡ true → ⊥
 lie e = cc
 
 -- what holds of a text that stands as some content
-abbrev pub Holds : (Attribute → Bool) → Bool → Bool → Content → List ℕ → Type 0
-Holds p escaping in_image Blocks x = HasReadingWith p x
+abbrev pub Holds : Claim → Bool → Bool → Content → List ℕ → Type 0
+Holds p escaping in_image Blocks x = p.holds x
 Holds p escaping in_image Spans x = Escaped x
 Holds p escaping in_image Strings x = escaping ≡ true → Escaped x
 Holds p escaping in_image FirstFence x = IsRaw p code_tag x
@@ -55,9 +55,9 @@ is_first FirstFence = true
 is_first FirstMathFence = true
 is_first _ = false
 
-pub holds-nothing : (p : Attribute → Bool) (escaping in_image : Bool) (content : Content) → is_first content ≡ false →
+pub holds-nothing : (p : Claim) (escaping in_image : Bool) (content : Content) → is_first content ≡ false →
     Holds p escaping in_image content []
-holds-nothing p escaping in_image Blocks h = nothing p
+holds-nothing p escaping in_image Blocks h = p.plain [] (nothing p.test)
 holds-nothing p escaping in_image Spans h = refl
 holds-nothing p escaping in_image Strings h = λ _. refl
 holds-nothing p escaping in_image FirstFence h = absurd (lie (sym h))
@@ -417,3 +417,72 @@ later-inside bytes content Image start end children s fit built = later-after Sp
 later-inside bytes content GfmTaskListItemCheck start end children s fit built = later-after Done children refl
 later-inside bytes content name start end children s fit built =
     later-after content children (plain-later content name refl s)
+
+-- blocks
+abbrev pub is_blocks : Content → Bool
+is_blocks content = elim content [ Blocks ↦ true | _ ↦ false ]
+
+fence-blocks : (content : Content) → is_blocks (content_of CodeFencedFence content) ≡ true → is_blocks content ≡ true
+fence-blocks FirstFence h = absurd (lie h)
+fence-blocks _ h = absurd (lie h)
+
+math_fence-blocks : (content : Content) → is_blocks (content_of MathFlowFence content) ≡ true →
+    is_blocks content ≡ true
+math_fence-blocks FirstMathFence h = absurd (lie h)
+math_fence-blocks _ h = absurd (lie h)
+
+-- blocks stand in blocks alone
+of-blocks : (name : Name) (content : Content) → is_blocks (content_of name content) ≡ true → is_blocks content ≡ true
+of-blocks CodeText content h = absurd (lie h)
+of-blocks MathText content h = absurd (lie h)
+of-blocks DefinitionLabelString content h = absurd (lie h)
+of-blocks DefinitionDestinationString content h = absurd (lie h)
+of-blocks DefinitionTitleString content h = absurd (lie h)
+of-blocks GfmFootnoteDefinitionLabelString content h = absurd (lie h)
+of-blocks ResourceDestinationString content h = absurd (lie h)
+of-blocks ResourceTitleString content h = absurd (lie h)
+of-blocks ReferenceString content h = absurd (lie h)
+of-blocks CodeFencedFenceInfo content h = absurd (lie h)
+of-blocks CodeFencedFenceMeta content h = absurd (lie h)
+of-blocks MathFlowFenceMeta content h = absurd (lie h)
+of-blocks LineEnding content h = absurd (lie h)
+of-blocks BlankLineEnding content h = absurd (lie h)
+of-blocks CodeFlowChunk content h = absurd (lie h)
+of-blocks MathFlowChunk content h = absurd (lie h)
+of-blocks GfmTaskListItemValueChecked content h = absurd (lie h)
+of-blocks Image content h = absurd (lie h)
+of-blocks GfmTaskListItemCheck content h = absurd (lie h)
+of-blocks CodeFenced content h = absurd (lie h)
+of-blocks MathFlow content h = absurd (lie h)
+of-blocks CodeFencedFence content h = fence-blocks content h
+of-blocks MathFlowFence content h = math_fence-blocks content h
+of-blocks _ content h = h
+
+pub inside-blocks : (content : Content) (name : Name) → is_blocks (content_inside content name) ≡ true →
+    is_blocks content ≡ true
+inside-blocks content name =
+    cond_both (is_transparent name) content (content_of name content) (λ c. is_blocks c ≡ true →
+    is_blocks content ≡ true) (λ _ h. h) (λ _ h. of-blocks name content h)
+
+past-blocks : (content : Content) (name : Name) → is_blocks (content_past content name) ≡ true →
+    is_blocks content ≡ true
+past-blocks Blocks name h = refl
+past-blocks Spans name h = h
+past-blocks Strings name h = h
+past-blocks FirstFence name h = absurd (lie h)
+past-blocks FirstMathFence name h = absurd (lie h)
+past-blocks Chunks name h = h
+past-blocks InfoAndMeta name h = cond_both (is_info name) MetaAlone Nothing
+    (λ c. is_blocks c ≡ true → false ≡ true) (λ _ h. h) (λ _ h. h) h
+past-blocks MetaAlone name h = h
+past-blocks Done name h = h
+past-blocks Nothing name h = h
+
+-- what is asked of blocks alone is asked behind nodes of no more
+pub asked-behind : (A : Type 0) (content : Content) (name : Name) (children : Forest) →
+    (is_blocks content ≡ true → A) → is_blocks (content_behind content name children) ≡ true → A
+asked-behind A content name children asked =
+    cond_both (is_transparent name) (content_after content children) (content_past content name)
+    (λ c. is_blocks c ≡ true → A)
+    (λ _. after (λ c. is_blocks c ≡ true → A) (λ c name asked h. asked (past-blocks c name h)) content children asked)
+    (λ _ h. asked (past-blocks content name h))

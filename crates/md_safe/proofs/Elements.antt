@@ -5,7 +5,7 @@ use Rattle.std.specs.Option.{option_map_or}
 use Rattle.std.specs.List.{list_all}
 use Rattle.std.proofs.lemmas.Bool.{agree_below_at, not_from_false}
 use Rattle.md_base.specs.declared.event.Position.{Position}
-use Rattle.md_text.specs.Html.{Attribute, HasReadingWith, opening_tag, closing_tag, is_tag, elements}
+use Rattle.md_text.specs.Html.{opening_tag, closing_tag, is_tag, elements}
 use Rattle.md_text.proofs.HtmlJoin.{text, join}
 use Rattle.md_meaning.specs.declared.options.CompileOptions.{CompileOptions}
 use Rattle.md_meaning.specs.Piece.{Piece, Text, Needed, Recalled}
@@ -15,19 +15,20 @@ use Rattle.md_meaning.specs.Blocks.{on_own_line, start_pieces, heading_name, hea
 use Rattle.md_meaning.specs.Texts.{said}
 use Rattle.md_shape.specs.Built.{is_digit}
 use Rattle.md_safe.proofs.Texts.{Escaped, zeros-escaped}
-use Rattle.md_safe.proofs.Laid.{Adds, adds-append, adds-needed, adds-recalled}
+use Rattle.md_safe.proofs.Claim.{Claim}
+use Rattle.md_safe.proofs.Laid.{Adds, adds-append, adds-weaker, adds-needed, adds-recalled}
 use Rattle.md_safe.proofs.Tags.{IsTest, attribute, IsFramed, Bracket, bracket-tag, bracket-two, element-read, void-read, adds-pair, adds-flat, framed-text, framed-needed, flat, are_texts}
 
-pub bracket-plain : (p : Attribute → Bool) (name : List ℕ) → is_tag elements name [] ≡ true →
+pub bracket-plain : (p : Claim) (name : List ℕ) → is_tag elements name [] ≡ true →
     Bracket p (opening_tag name []) (closing_tag name)
 bracket-plain p name h = bracket-tag p name [] h refl
 
-pub bracket-code : (p : Attribute → Bool) → Bracket p (codes "<pre><code>") code_end
+pub bracket-code : (p : Claim) → Bracket p (codes "<pre><code>") code_end
 bracket-code p = bracket-two p (codes "<pre>") (codes "</pre>") (codes "<code>") (codes "</code>")
     (bracket-plain p (codes "pre") refl) (bracket-plain p (codes "code") refl)
 
 -- a heading of a rank from 1 to 6
-pub bracket-heading : (p : Attribute → Bool) (rank : ℕ) → (1 ≤ rank) × (rank ≤ 6) →
+pub bracket-heading : (p : Claim) (rank : ℕ) → (1 ≤ rank) × (rank ≤ 6) →
     Bracket p (heading_opening rank) (heading_closing rank)
 bracket-heading p rank h =
     let below : rank < 7 = omega (arith, h.1) in
@@ -37,17 +38,17 @@ bracket-heading p rank h =
     ∙ not_from_false (rank == 0) (ne_eqb rank 0 some))
 
 -- the heading that was noted
-pub adds-setext : (p : Attribute → Bool) (ending : List ℕ) → Escaped ending → (rank : ℕ) → (1 ≤ rank) × (rank ≤ 6) →
-    Adds p ending (HasReadingWith p) (Needed ∷ Text (heading_opening rank) ∷ Recalled ∷ Text (heading_closing rank)
+pub adds-setext : (p : Claim) (ending : List ℕ) → ((x : List ℕ) → p.noted x → p.holds x) → Escaped ending → (rank : ℕ) → (1 ≤ rank) × (rank ≤ 6) →
+    Adds p ending p.holds (Needed ∷ Text (heading_opening rank) ∷ Recalled ∷ Text (heading_closing rank)
     ∷ [])
-adds-setext p ending h rank fits =
+adds-setext p ending recalls h rank fits =
     adds-pair p ending (heading_opening rank) (heading_closing rank) (Needed ∷ Text (heading_opening rank)
     ∷ []) (Recalled ∷ []) (Text (heading_closing rank) ∷ [])
-    (bracket-heading p rank fits) (framed-needed p ending (heading_opening rank) h) (adds-recalled p ending)
+    (bracket-heading p rank fits) (framed-needed p ending (heading_opening rank) h) (adds-weaker p ending p.noted p.holds (Recalled ∷ []) recalls (adds-recalled p ending))
     (framed-text p ending (heading_closing rank))
 
 -- some texts behind pieces that add an escaped one
-pub adds-framed_flat : (p : Attribute → Bool) (ending : List ℕ) (xs zs : List Piece) → are_texts zs ≡ true →
+pub adds-framed_flat : (p : Claim) (ending : List ℕ) (xs zs : List Piece) → are_texts zs ≡ true →
     Adds p ending Escaped xs → Adds p ending (IsFramed (flat zs)) (xs ++ zs)
 adds-framed_flat p ending xs zs texts a =
     adds-append p ending Escaped (λ w. w ≡ flat zs) (IsFramed (flat zs)) xs zs
@@ -62,7 +63,7 @@ adds-framed_flat p ending xs zs texts a =
     a (adds-flat p ending (λ w. w ≡ flat zs) zs texts refl)
 
 -- the opening of a list, between pieces
-pub record IsOpening (p : Attribute → Bool) (ending : List ℕ) (close : List ℕ) (pieces : List Piece) : Type 0 where
+pub record IsOpening (p : Claim) (ending : List ℕ) (close : List ℕ) (pieces : List Piece) : Type 0 where
   pub open_tag : List ℕ
   pub adds : Adds p ending (IsFramed open_tag) pieces
   pub bracket : Bracket p open_tag close
@@ -70,8 +71,8 @@ pub record IsOpening (p : Attribute → Bool) (ending : List ℕ) (close : List 
 ol_start : (n : List ℕ) → Escaped n → is_tag elements (codes "ol") (attribute (codes "start") n ∷ []) ≡ true
 ol_start n h = rw h refl
 
-with_start : (p : Attribute → Bool) (ending : List ℕ) → Escaped ending → (options : CompileOptions) →
-    IsTest p options → (n : List ℕ) → Escaped n
+with_start : (p : Claim) (ending : List ℕ) → Escaped ending → (options : CompileOptions) →
+    IsTest p.test options → (n : List ℕ) → Escaped n
     → IsOpening p ending (codes "</ol>") (Needed ∷ Text (codes "<ol") ∷ Text (codes " start=\"") ∷ Text n
     ∷ Text (codes "\"") ∷ Text (codes ">") ∷ [])
 with_start p ending h options test n e =
@@ -86,7 +87,7 @@ with_start p ending h options test n e =
           (cc (test.other (codes "start") n refl)));
     }
 
-without_start : (p : Attribute → Bool) (ending : List ℕ) → Escaped ending →
+without_start : (p : Claim) (ending : List ℕ) → Escaped ending →
     IsOpening p ending (codes "</ol>") (Needed ∷ Text (codes "<ol") ∷ Text (codes ">") ∷ [])
 without_start p ending h =
     record {
@@ -97,8 +98,8 @@ without_start p ending h =
     }
 
 -- an ordered list's opening
-pub ordered-opening : (p : Attribute → Bool) (ending : List ℕ) → Escaped ending → (options : CompileOptions) →
-    IsTest p options → (bytes : List ℕ) (number : Option Position)
+pub ordered-opening : (p : Claim) (ending : List ℕ) → Escaped ending → (options : CompileOptions) →
+    IsTest p.test options → (bytes : List ℕ) (number : Option Position)
     → option_map_or (λ place. list_all is_digit (text_of bytes place.start place.end)) number true ≡ true
     → IsOpening p ending (codes "</ol>") (on_own_line (codes "<ol") ++ (start_pieces bytes number ++ said (codes ">")))
 ordered-opening p ending h options test bytes None fits = without_start p ending h
@@ -113,25 +114,25 @@ ordered-opening p ending h options test bytes (Some place) fits =
         (zeros-escaped (text_of bytes place.start place.end) fits)
 
 -- code in a text
-pub adds-code : (p : Attribute → Bool) (ending : List ℕ) (x : List ℕ) → Escaped x →
-    Adds p ending (HasReadingWith p) (Text (codes "<code>") ∷ Text x ∷ Text (codes "</code>") ∷ [])
+pub adds-code : (p : Claim) (ending : List ℕ) (x : List ℕ) → Escaped x →
+    Adds p ending p.holds (Text (codes "<code>") ∷ Text x ∷ Text (codes "</code>") ∷ [])
 adds-code p ending x h =
-    adds-flat p ending (HasReadingWith p) (Text (codes "<code>") ∷ Text x ∷ Text (codes "</code>") ∷ []) refl
-    (element-read p (codes "code") [] x refl refl (text p x h))
+    adds-flat p ending p.holds (Text (codes "<code>") ∷ Text x ∷ Text (codes "</code>") ∷ []) refl
+    (element-read p (codes "code") [] x refl refl (p.plain x (text p.test x h)))
 
-pub class-passes : (p : Attribute → Bool) (options : CompileOptions) → IsTest p options → (value : List ℕ) →
-    list_all p (attribute (codes "class") value ∷ []) ≡ true
+pub class-passes : (p : Claim) (options : CompileOptions) → IsTest p.test options → (value : List ℕ) →
+    list_all p.test (attribute (codes "class") value ∷ []) ≡ true
 class-passes p options test value = cc (test.other (codes "class") value refl)
 
-pub adds-math : (p : Attribute → Bool) (ending : List ℕ) (options : CompileOptions) → IsTest p options →
+pub adds-math : (p : Claim) (ending : List ℕ) (options : CompileOptions) → IsTest p.test options →
     (x : List ℕ) → Escaped x
-    → Adds p ending (HasReadingWith p) (Text (codes "<code class=\"language-math math-inline\">") ∷ Text x
+    → Adds p ending p.holds (Text (codes "<code class=\"language-math math-inline\">") ∷ Text x
     ∷ Text (codes "</code>") ∷ [])
 adds-math p ending options test x h =
-    adds-flat p ending (HasReadingWith p) (Text (codes "<code class=\"language-math math-inline\">") ∷ Text x
+    adds-flat p ending p.holds (Text (codes "<code class=\"language-math math-inline\">") ∷ Text x
     ∷ Text (codes "</code>") ∷ []) refl
     (element-read p (codes "code") (attribute (codes "class") (codes "language-math math-inline")
-    ∷ []) x refl (class-passes p options test (codes "language-math math-inline")) (text p x h))
+    ∷ []) x refl (class-passes p options test (codes "language-math math-inline")) (p.plain x (text p.test x h)))
 
 -- what a task's mark adds to its tag
 abbrev pub IsDone : Bool → List ℕ → Type 0
@@ -141,45 +142,45 @@ IsDone in_image x = (x ≡ []) ⊎ ((in_image ≡ false) × (x ≡ codes "checke
 abbrev pub task_tag : Bool → List ℕ
 task_tag checkable = codes "<input type=\"checkbox\" " ++ cond checkable [] (codes "disabled=\"\" ")
 
-task-read : (p : Attribute → Bool) (options : CompileOptions) → IsTest p options → (checkable : Bool) (x : List ℕ) →
-    (x ≡ []) ⊎ (x ≡ codes "checked=\"\" ") → HasReadingWith p (task_tag checkable ++ (x ++ codes "/>"))
+task-read : (p : Claim) (options : CompileOptions) → IsTest p.test options → (checkable : Bool) (x : List ℕ) →
+    (x ≡ []) ⊎ (x ≡ codes "checked=\"\" ") → p.holds (task_tag checkable ++ (x ++ codes "/>"))
 task-read p options test checkable x done =
     elim done [
-      | inl e ↦ subst (λ x. HasReadingWith p (task_tag checkable ++ (x ++ codes "/>"))) (sym e) (by checkable)
-      | inr e ↦ subst (λ x. HasReadingWith p (task_tag checkable ++ (x ++ codes "/>"))) (sym e) (on checkable)
+      | inl e ↦ subst (λ x. p.holds (task_tag checkable ++ (x ++ codes "/>"))) (sym e) (by checkable)
+      | inr e ↦ subst (λ x. p.holds (task_tag checkable ++ (x ++ codes "/>"))) (sym e) (on checkable)
     ]
   where
-    kind : p (attribute (codes "type") (codes "checkbox")) ≡ true
+    kind : p.test (attribute (codes "type") (codes "checkbox")) ≡ true
     kind = test.other (codes "type") (codes "checkbox") refl
 
-    disabled : p (attribute (codes "disabled") []) ≡ true
+    disabled : p.test (attribute (codes "disabled") []) ≡ true
     disabled = test.other (codes "disabled") [] refl
 
-    checked : p (attribute (codes "checked") []) ≡ true
+    checked : p.test (attribute (codes "checked") []) ≡ true
     checked = test.other (codes "checked") [] refl
 
-    by : (checkable : Bool) → HasReadingWith p (task_tag checkable ++ codes "/>")
+    by : (checkable : Bool) → p.holds (task_tag checkable ++ codes "/>")
     by true = void-read p (codes "input") (attribute (codes "type") (codes "checkbox") ∷ []) refl (cc kind)
     by false = void-read p (codes "input") (attribute (codes "type") (codes "checkbox")
         ∷ attribute (codes "disabled") [] ∷ []) refl (rw (kind, disabled) refl)
 
-    on : (checkable : Bool) → HasReadingWith p (task_tag checkable ++ (codes "checked=\"\" " ++ codes "/>"))
+    on : (checkable : Bool) → p.holds (task_tag checkable ++ (codes "checked=\"\" " ++ codes "/>"))
     on true = void-read p (codes "input") (attribute (codes "type") (codes "checkbox")
         ∷ attribute (codes "checked") [] ∷ []) refl (rw (kind, checked) refl)
     on false = void-read p (codes "input") (attribute (codes "type") (codes "checkbox")
         ∷ attribute (codes "disabled") [] ∷ attribute (codes "checked") [] ∷ []) refl (rw (kind, disabled, checked) refl)
 
 -- a task outside images
-pub adds-task : (p : Attribute → Bool) (ending : List ℕ) (options : CompileOptions) → IsTest p options →
+pub adds-task : (p : Claim) (ending : List ℕ) (options : CompileOptions) → IsTest p.test options →
     (checkable in_image : Bool) (inner : List Piece) → Adds p ending (IsDone in_image) inner
-    → Adds p ending (HasReadingWith p) ((Text (codes "<input type=\"checkbox\" ")
+    → Adds p ending p.holds ((Text (codes "<input type=\"checkbox\" ")
     ∷ (cond checkable [] (said (codes "disabled=\"\" ")))) ++ (inner ++ said (codes "/>")))
 adds-task p ending options test checkable in_image inner a =
     adds-append p ending (λ x. x ≡ task_tag checkable) (λ w. (x : List ℕ) × (w ≡ x ++ codes "/>")
-    × ((x ≡ []) ⊎ (x ≡ codes "checked=\"\" "))) (HasReadingWith p)
+    × ((x ≡ []) ⊎ (x ≡ codes "checked=\"\" "))) p.holds
     (Text (codes "<input type=\"checkbox\" ") ∷ (cond checkable [] (said (codes "disabled=\"\" ")))) (inner
     ++ said (codes "/>"))
-    (λ x w f g. subst (HasReadingWith p) (ap (λ w. task_tag checkable ++ w) (sym g.1)
+    (λ x w f g. subst p.holds (ap (λ w. task_tag checkable ++ w) (sym g.1)
     ∙ ap (λ x. x ++ w) (sym f)) (task-read p options test checkable g.0 g.2))
     (first checkable)
     (adds-append p ending (IsDone in_image) (λ x. x ≡ codes "/>") (λ w. (x : List ℕ) × (w ≡ x ++ codes "/>")
@@ -194,7 +195,7 @@ adds-task p ending options test checkable in_image inner a =
         ∷ Text (codes "disabled=\"\" ") ∷ []) refl refl
 
 -- a text that ends an opening tag of code and goes on with an escaped text
-pub record IsRaw (p : Attribute → Bool) (tag x : List ℕ) : Type 0 where
+pub record IsRaw (p : Claim) (tag x : List ℕ) : Type 0 where
   pub attributes : List ℕ
   pub body : List ℕ
   pub whole : x ≡ attributes ++ (62 ∷ body)
@@ -209,32 +210,33 @@ raw_regrouped e tag w y g c h = simp append_assoc
 abbrev pub IsBegun : List ℕ → List ℕ → Type 0
 IsBegun tag x = (e : List ℕ) × (x ≡ e ++ tag) × Escaped e
 
-raw-enclosed : (p : Attribute → Bool) (tag x y z : List ℕ) → IsBegun tag x → IsRaw p tag y → IsFramed code_end z →
-    HasReadingWith p (x ++ (y ++ z))
+raw-enclosed : (p : Claim) (tag x y z : List ℕ) → IsBegun tag x → IsRaw p tag y → IsFramed code_end z →
+    p.holds (x ++ (y ++ z))
 raw-enclosed p tag x y z a r c =
-    let inside : HasReadingWith p (r.body ++ c.before) =
-    join p r.body c.before (text p r.body r.escaped) (text p c.before c.escaped_before) in
-    let all : HasReadingWith p (a.0 ++ (((tag ++ (r.attributes ++ (62 ∷ []))) ++ ((r.body ++ c.before) ++ code_end))
+    let inside : p.holds (r.body ++ c.before) =
+    p.plain (r.body ++ c.before) (join p.test r.body c.before (text p.test r.body r.escaped)
+    (text p.test c.before c.escaped_before)) in
+    let all : p.holds (a.0 ++ (((tag ++ (r.attributes ++ (62 ∷ []))) ++ ((r.body ++ c.before) ++ code_end))
     ++ c.after)) =
-    join p a.0 (((tag ++ (r.attributes ++ (62 ∷ []))) ++ ((r.body ++ c.before) ++ code_end))
-    ++ c.after) (text p a.0 a.2)
-    (join p ((tag ++ (r.attributes ++ (62 ∷ []))) ++ ((r.body ++ c.before) ++ code_end)) c.after
-    (r.bracket (r.body ++ c.before) inside) (text p c.after c.escaped_after)) in
-    let parts : HasReadingWith p ((a.0 ++ tag) ++ ((r.attributes ++ (62 ∷ r.body))
+    p.before a.0 (((tag ++ (r.attributes ++ (62 ∷ []))) ++ ((r.body ++ c.before) ++ code_end))
+    ++ c.after) (text p.test a.0 a.2)
+    (p.behind ((tag ++ (r.attributes ++ (62 ∷ []))) ++ ((r.body ++ c.before) ++ code_end)) c.after
+    (r.bracket (r.body ++ c.before) inside) (text p.test c.after c.escaped_after)) in
+    let parts : p.holds ((a.0 ++ tag) ++ ((r.attributes ++ (62 ∷ r.body))
     ++ (c.before ++ (code_end ++ c.after)))) =
-    subst (HasReadingWith p) (raw_regrouped a.0 tag r.attributes r.body c.before code_end c.after) all in
-    subst (λ x. HasReadingWith p (x ++ (y ++ z))) (sym a.1)
-    (subst (λ y. HasReadingWith p ((a.0 ++ tag) ++ (y ++ z))) (sym r.whole)
-    (subst (λ z. HasReadingWith p ((a.0 ++ tag) ++ ((r.attributes ++ (62 ∷ r.body)) ++ z))) (sym c.whole) parts))
+    subst p.holds (raw_regrouped a.0 tag r.attributes r.body c.before code_end c.after) all in
+    subst (λ x. p.holds (x ++ (y ++ z))) (sym a.1)
+    (subst (λ y. p.holds ((a.0 ++ tag) ++ (y ++ z))) (sym r.whole)
+    (subst (λ z. p.holds ((a.0 ++ tag) ++ ((r.attributes ++ (62 ∷ r.body)) ++ z))) (sym c.whole) parts))
 
 -- fenced code or math
-pub adds-raw : (p : Attribute → Bool) (ending : List ℕ) → Escaped ending → (tag : List ℕ) (inner end : List Piece) →
+pub adds-raw : (p : Claim) (ending : List ℕ) → Escaped ending → (tag : List ℕ) (inner end : List Piece) →
     Adds p ending (IsRaw p tag) inner → Adds p ending (IsFramed code_end) end
-    → Adds p ending (HasReadingWith p) ((Needed ∷ Text tag ∷ []) ++ (inner ++ end))
+    → Adds p ending p.holds ((Needed ∷ Text tag ∷ []) ++ (inner ++ end))
 adds-raw p ending h tag inner end a b =
     adds-append p ending (IsBegun tag) (λ w. (y : List ℕ) × (z : List ℕ) × (w ≡ y ++ z) × IsRaw p tag y
-    × IsFramed code_end z) (HasReadingWith p) (Needed ∷ Text tag ∷ []) (inner ++ end)
-    (λ x w f g. subst (λ w. HasReadingWith p (x ++ w)) (sym g.2) (raw-enclosed p tag x g.0 g.1 f g.3 g.4))
+    × IsFramed code_end z) p.holds (Needed ∷ Text tag ∷ []) (inner ++ end)
+    (λ x w f g. subst (λ w. p.holds (x ++ w)) (sym g.2) (raw-enclosed p tag x g.0 g.1 f g.3 g.4))
     (adds-append p ending Escaped (λ x. x ≡ tag) (IsBegun tag) (Needed ∷ []) (Text tag
     ∷ []) (λ x y f g. (x, ap (λ y. x ++ y) g, f)) (adds-needed p ending h)
     (adds-flat p ending (λ x. x ≡ tag) (Text tag ∷ []) refl (append-nil tag)))
@@ -249,10 +251,10 @@ abbrev pub math_tag : List ℕ
 math_tag = codes "<pre><code class=\"language-math math-display\""
 
 -- what may stand in the tag of fenced code
-abbrev pub IsInCode : (Attribute → Bool) → List ℕ → Type 0
+abbrev pub IsInCode : Claim → List ℕ → Type 0
 IsInCode p x = Bracket p (code_tag ++ (x ++ (62 ∷ []))) code_end
 
-pub bare-in_code : (p : Attribute → Bool) → IsInCode p []
+pub bare-in_code : (p : Claim) → IsInCode p []
 bare-in_code p = bracket-code p
 
 code_class : (v : List ℕ) → Escaped v → is_tag elements (codes "code")
@@ -264,7 +266,7 @@ info_regrouped : (v : List ℕ) → codes "<pre>" ++ opening_tag (codes "code")
     ++ ((codes " class=\"language-" ++ (v ++ codes "\"")) ++ (62 ∷ []))
 info_regrouped v = simp append_assoc
 
-pub info-in_code : (p : Attribute → Bool) (options : CompileOptions) → IsTest p options → (v : List ℕ) → Escaped v →
+pub info-in_code : (p : Claim) (options : CompileOptions) → IsTest p.test options → (v : List ℕ) → Escaped v →
     IsInCode p (codes " class=\"language-" ++ (v ++ codes "\""))
 info-in_code p options test v h =
     subst (λ o. Bracket p o code_end) (info_regrouped v)
@@ -274,10 +276,10 @@ info-in_code p options test v h =
     (bracket-tag p (codes "code") (attribute (codes "class") (codes "language-" ++ v)
     ∷ []) (code_class v h) (class-passes p options test (codes "language-" ++ v))))
 
-pub raw-code : (p : Attribute → Bool) (x y : List ℕ) → IsInCode p x → Escaped y → IsRaw p code_tag (x ++ (62 ∷ y))
+pub raw-code : (p : Claim) (x y : List ℕ) → IsInCode p x → Escaped y → IsRaw p code_tag (x ++ (62 ∷ y))
 raw-code p x y h e = record { attributes = x; body = y; whole = refl; bracket = h; escaped = e }
 
-pub raw-math : (p : Attribute → Bool) (options : CompileOptions) → IsTest p options → (y : List ℕ) → Escaped y →
+pub raw-math : (p : Claim) (options : CompileOptions) → IsTest p.test options → (y : List ℕ) → Escaped y →
     IsRaw p math_tag (62 ∷ y)
 raw-math p options test y e =
     record {

@@ -4,7 +4,6 @@ use Rattle.std.proofs.lemmas.Bool.{cond_both}
 use Rattle.md_base.specs.declared.event.Name.{Name}
 use Rattle.md_base.specs.declared.event.Name.TheVariants.{Other, BlockQuotePrefix, SpaceOrTab, Definition, GfmFootnoteDefinition}
 use Rattle.md_base.specs.declared.event.Point.{Point}
-use Rattle.md_text.specs.Html.{HasReadingWith}
 use Rattle.md_base.specs.Tree.{Forest, Empty, Node}
 use Rattle.md_base.specs.NameTests.{is_transparent, is_link_definition, is_footnote_definition}
 use Rattle.md_base.specs.Children.{is_empty}
@@ -19,8 +18,8 @@ use Rattle.md_meaning.specs.Footnotes.{Footnote}
 use Rattle.md_meaning.specs.Printed.{printed, definitions_of, footnotes_of}
 use Rattle.md_shape.specs.Built.{Content, Blocks, Spans, Strings, FirstFence, FirstMathFence, Chunks, InfoAndMeta, MetaAlone, Done, Nothing, may_stand, content_of, content_inside, content_behind, content_after, IsBuilt}
 use Rattle.md_safe.proofs.Laid.{IsEscapedTitle, adds-blank}
-use Rattle.md_safe.proofs.Contents.{Holds, Suits, Follows, lie, second, suits-inside, suits-behind, follows-inside, follows-behind}
-use Rattle.md_safe.proofs.Spot.{Setting, Spot, AreTitles, node_pieces, Prints, Inside}
+use Rattle.md_safe.proofs.Contents.{is_blocks, inside-blocks, asked-behind, Holds, Suits, Follows, lie, second, suits-inside, suits-behind, follows-inside, follows-behind}
+use Rattle.md_safe.proofs.Spot.{IsWhole, Setting, Spot, AreTitles, node_pieces, Prints, Inside}
 use Rattle.md_safe.proofs.Nodes.{any-node, inside-alone}
 
 -- the surroundings of children suit them
@@ -32,7 +31,7 @@ through-suits options loose around content BlockQuotePrefix is h = h
 through-suits options loose around content SpaceOrTab is h = h
 through-suits options loose around content _ is h = absurd (lie is)
 
-children-suit : (options : CompileOptions) → options.allow_dangerous_html ≡ false →
+pub children-suit : (options : CompileOptions) → options.allow_dangerous_html ≡ false →
     (loose : Bool) (around : Surroundings) (content : Content) (name : Name) →
     (is_transparent name || may_stand content name) ≡ true → Suits around.is_escaping around.in_image content
     → Suits (inside options loose name around).is_escaping (inside options loose name around).in_image
@@ -72,37 +71,38 @@ spot_of given around before start end name children rest = record {
 -- nodes print what may stand where they are, before what is printed behind them
 pub forest-prints : (s : Setting) (forest : Forest) (around : Surroundings) (before : Before) (content : Content) →
     IsBuilt s.given.bytes content forest → Suits around.is_escaping around.in_image content →
-    Follows content before.spine
+    Follows content before.spine → (is_blocks content ≡ true → IsWhole s.p)
     → (later : List Piece) → Prints s (Holds s.p around.is_escaping around.in_image (content_after content forest))
     later → Prints s (Holds s.p around.is_escaping around.in_image content) (printed s.given around before forest
     ++ later)
-forest-prints s Empty around before content built suits f later h = h
-forest-prints s (Node name start end children rest) around before content built suits f later h =
+forest-prints s Empty around before content built suits f whole later h = h
+forest-prints s (Node name start end children rest) around before content built suits f whole later h =
     let t : Spot = spot_of s.given around before start end name children rest in
     let around' : Surroundings = inside s.given.options (is_loose children) name around in
     let inner : List Piece = printed s.given around' (before_children name children before) children in
     let others : List Piece = printed s.given around (before_next s.given around name start end children before) rest in
     subst (Prints s (Holds s.p around.is_escaping around.in_image content))
     (sym (append_assoc (node_pieces s t name inner) others later))
-    (any-node s t content name before.spine refl built.0 built.1 suits f inner (others ++ later) built.2
+    (any-node s t content name before.spine refl built.0 built.1 suits f whole inner (others ++ later) built.2
     (λ pieces g.
     forest-prints s children around' (before_children name children before) (content_inside content name) built.2
     (children-suit s.given.options s.test.html (is_loose children) around content name built.0 suits)
-    (children-follow content name before.spine built.0 f) pieces g)
+    (children-follow content name before.spine built.0 f) (λ h. whole (inside-blocks content name h)) pieces g)
     (forest-prints s rest around (before_next s.given around name start end children before)
     (content_behind content name children) built.3
     (suits-behind around.is_escaping around.in_image content name children suits)
-    (follows-behind s.given.bytes content name before.spine children built.0 built.2 f) later h))
+    (follows-behind s.given.bytes content name before.spine children built.0 built.2 f)
+    (asked-behind (IsWhole s.p) content name children whole) later h))
 
 -- the children of a node that isn't transparent print what may stand in it
-children-print : (s : Setting) (name : Name) (start end : Point) (children rest : Forest) (around : Surroundings)
+pub children-print : (s : Setting) (name : Name) (start end : Point) (children rest : Forest) (around : Surroundings)
     (before : Before) (content : Content) → is_transparent name ≡ false →
     IsBuilt s.given.bytes content (Node name start end children rest)
     → Suits around.is_escaping around.in_image content → Follows content before.spine
-    → Inside s (spot_of s.given around before start end name children rest) content name
+    → (is_blocks (content_of name content) ≡ true → IsWhole s.p) → Inside s (spot_of s.given around before start end name children rest) content name
     (printed s.given (inside s.given.options (is_loose children) name around)
     (before_children name children before) children)
-children-print s name start end children rest around before content solid built suits f =
+children-print s name start end children rest around before content solid built suits f whole =
     let t : Spot = spot_of s.given around before start end name children rest in
     let around' : Surroundings = inside s.given.options (is_loose children) name around in
     let may : may_stand content name ≡ true = second (is_transparent name) (may_stand content name) solid built.0 in
@@ -116,7 +116,7 @@ children-print s name start end children rest around before content solid built 
     forest-prints s children around' (before_children name children before) (content_of name content) within
     (suits-inside s.given.options s.test.html (is_loose children) around content name may suits)
     (subst (λ n. Follows (content_of name content) n) (sym (ap (λ b. cond b before.spine []) solid))
-    (follows-inside content name may)) pieces g)
+    (follows-inside content name may)) whole pieces g)
 
 titles-append : (xs ys : List Defined) → AreTitles xs → AreTitles ys → AreTitles (xs ++ ys)
 titles-append [] ys a b = b
@@ -126,24 +126,24 @@ titles-append (x ∷ xs) ys a b = (a.0, titles-append xs ys a.1 b)
 defined-here : (s : Setting) (name : Name) (start end : Point) (children rest : Forest) (around : Surroundings)
     (before : Before) (content : Content) → IsBuilt s.given.bytes content (Node name start end children rest)
     → Suits around.is_escaping around.in_image content → Follows content before.spine
-    → is_link_definition name ≡ true
+    → (is_blocks content ≡ true → IsWhole s.p) → is_link_definition name ≡ true
     → IsEscapedTitle (lay s.given.ending blank (printed s.given
     (inside s.given.options (is_loose children) name around)
     (before_children name children before) children)).notes.target.title
-defined-here s Definition start end children rest around before content built suits f is =
+defined-here s Definition start end children rest around before content built suits f whole is =
     let inner : List Piece = printed s.given (inside s.given.options (is_loose children) Definition around)
     (before_children Definition children before) children in
     (adds-blank s.p s.given.ending (Holds s.p around.is_escaping around.in_image content) inner
-    (children-print s Definition start end children rest around before content refl built suits f)).1.title
-defined-here s _ start end children rest around before content built suits f is = absurd (lie is)
+    (children-print s Definition start end children rest around before content refl built suits f whole)).1.title
+defined-here s _ start end children rest around before content built suits f whole is = absurd (lie is)
 
 -- the titles of all definitions are escaped
 pub definitions-titles : (s : Setting) (forest : Forest) (around : Surroundings) (before : Before) (content : Content)
     → IsBuilt s.given.bytes content forest → Suits around.is_escaping around.in_image content →
-    Follows content before.spine
+    Follows content before.spine → (is_blocks content ≡ true → IsWhole s.p)
     → AreTitles (definitions_of s.given around before forest)
-definitions-titles s Empty around before content built suits f = tt
-definitions-titles s (Node name start end children rest) around before content built suits f =
+definitions-titles s Empty around before content built suits f whole = tt
+definitions-titles s (Node name start end children rest) around before content built suits f whole =
     let around' : Surroundings = inside s.given.options (is_loose children) name around in
     let inner : List Piece = printed s.given around' (before_children name children before) children in
     let own : Defined = record {
@@ -155,20 +155,21 @@ definitions-titles s (Node name start end children rest) around before content b
     (before_next s.given around name start end children before) rest)
     (definitions-titles s children around' (before_children name children before) (content_inside content name) built.2
     (children-suit s.given.options s.test.html (is_loose children) around content name built.0 suits)
-    (children-follow content name before.spine built.0 f))
+    (children-follow content name before.spine built.0 f) (λ h. whole (inside-blocks content name h)))
     (titles-append (cond (is_link_definition name) (own ∷ []) [])
     (definitions_of s.given around (before_next s.given around name start end children before) rest)
     (cond_both (is_link_definition name) (own ∷ []) [] AreTitles
-    (λ is. (defined-here s name start end children rest around before content built suits f is, tt)) (λ _. tt))
+    (λ is. (defined-here s name start end children rest around before content built suits f whole is, tt)) (λ _. tt))
     (definitions-titles s rest around (before_next s.given around name start end children before)
     (content_behind content name children) built.3
     (suits-behind around.is_escaping around.in_image content name children suits)
-    (follows-behind s.given.bytes content name before.spine children built.0 built.2 f)))
+    (follows-behind s.given.bytes content name before.spine children built.0 built.2 f)
+    (asked-behind (IsWhole s.p) content name children whole)))
 
 -- the texts of some footnotes have readings
 abbrev pub AreRead : Setting → List Footnote → Type 0
 AreRead s [] = Unit {0}
-AreRead s (footnote ∷ others) = HasReadingWith s.p footnote.text × AreRead s others
+AreRead s (footnote ∷ others) = s.p.holds footnote.text × AreRead s others
 
 read-append : (s : Setting) (xs ys : List Footnote) → AreRead s xs → AreRead s ys → AreRead s (xs ++ ys)
 read-append s [] ys a b = b
@@ -177,7 +178,7 @@ read-append s (x ∷ xs) ys a b = (a.0, read-append s xs ys a.1 b)
 -- a footnote stands among blocks
 noted-text : (s : Setting) (content : Content) (escaping in_image : Bool) →
     may_stand content GfmFootnoteDefinition ≡ true → (x : List ℕ) → Holds s.p escaping in_image content x →
-    HasReadingWith s.p x
+    s.p.holds x
 noted-text s Blocks escaping in_image stands x h = h
 noted-text s Spans escaping in_image stands x h = absurd (lie stands)
 noted-text s Strings escaping in_image stands x h = absurd (lie stands)
@@ -192,24 +193,24 @@ noted-text s Nothing escaping in_image stands x h = absurd (lie stands)
 noted-here : (s : Setting) (name : Name) (start end : Point) (children rest : Forest) (around : Surroundings)
     (before : Before) (content : Content) → IsBuilt s.given.bytes content (Node name start end children rest)
     → Suits around.is_escaping around.in_image content → Follows content before.spine
-    → is_footnote_definition name ≡ true
-    → HasReadingWith s.p (lay s.given.ending blank (printed s.given
+    → (is_blocks content ≡ true → IsWhole s.p) → is_footnote_definition name ≡ true
+    → s.p.holds (lay s.given.ending blank (printed s.given
     (inside s.given.options (is_loose children) name around) (before_children name children before) children)).text
-noted-here s GfmFootnoteDefinition start end children rest around before content built suits f is =
+noted-here s GfmFootnoteDefinition start end children rest around before content built suits f whole is =
     let inner : List Piece = printed s.given (inside s.given.options (is_loose children) GfmFootnoteDefinition around)
     (before_children GfmFootnoteDefinition children before) children in
     noted-text s content around.is_escaping around.in_image built.0 (lay s.given.ending blank inner).text
     (adds-blank s.p s.given.ending (Holds s.p around.is_escaping around.in_image content) inner
-    (children-print s GfmFootnoteDefinition start end children rest around before content refl built suits f)).0
-noted-here s _ start end children rest around before content built suits f is = absurd (lie is)
+    (children-print s GfmFootnoteDefinition start end children rest around before content refl built suits f whole)).0
+noted-here s _ start end children rest around before content built suits f whole is = absurd (lie is)
 
 -- the texts of all footnotes have readings
 pub footnotes-read : (s : Setting) (forest : Forest) (around : Surroundings) (before : Before) (content : Content) →
     IsBuilt s.given.bytes content forest → Suits around.is_escaping around.in_image content →
-    Follows content before.spine
+    Follows content before.spine → (is_blocks content ≡ true → IsWhole s.p)
     → AreRead s (footnotes_of s.given around before forest)
-footnotes-read s Empty around before content built suits f = tt
-footnotes-read s (Node name start end children rest) around before content built suits f =
+footnotes-read s Empty around before content built suits f whole = tt
+footnotes-read s (Node name start end children rest) around before content built suits f whole =
     let around' : Surroundings = inside s.given.options (is_loose children) name around in
     let inner : List Piece = printed s.given around' (before_children name children before) children in
     let own : Footnote = record {
@@ -221,12 +222,13 @@ footnotes-read s (Node name start end children rest) around before content built
     (before_next s.given around name start end children before) rest)
     (footnotes-read s children around' (before_children name children before) (content_inside content name) built.2
     (children-suit s.given.options s.test.html (is_loose children) around content name built.0 suits)
-    (children-follow content name before.spine built.0 f))
+    (children-follow content name before.spine built.0 f) (λ h. whole (inside-blocks content name h)))
     (read-append s (cond (is_footnote_definition name) (own ∷ []) [])
     (footnotes_of s.given around (before_next s.given around name start end children before) rest)
     (cond_both (is_footnote_definition name) (own ∷ []) [] (AreRead s)
-    (λ is. (noted-here s name start end children rest around before content built suits f is, tt)) (λ _. tt))
+    (λ is. (noted-here s name start end children rest around before content built suits f whole is, tt)) (λ _. tt))
     (footnotes-read s rest around (before_next s.given around name start end children before)
     (content_behind content name children) built.3
     (suits-behind around.is_escaping around.in_image content name children suits)
-    (follows-behind s.given.bytes content name before.spine children built.0 built.2 f)))
+    (follows-behind s.given.bytes content name before.spine children built.0 built.2 f)
+    (asked-behind (IsWhole s.p) content name children whole)))

@@ -1,10 +1,9 @@
 -- What a list of pieces adds to a page.
 use Rattle.std.proofs.Common.{◌≡◌, ℕ, Bool, true, false, cond, List, [], ◌∷◌, ◌++◌, refl, sym, ap, ◌∙◌, subst, append_assoc, append-nil}
 use Rattle.std.specs.Prelude.{Option, Some, None}
-use Rattle.md_text.specs.Html.{Attribute, HasReadingWith}
-use Rattle.md_text.proofs.HtmlJoin.{nothing}
 use Rattle.md_meaning.specs.Piece.{Piece, Text, Needed, Forced, Noted, Recalled, Note, Heading, Destination, Title, Resource, Target, Notes, Page, no_notes, blank, with_note, is_line_start, lay_piece, lay}
 use Rattle.md_safe.proofs.Texts.{Escaped}
+use Rattle.md_safe.proofs.Claim.{Claim}
 
 -- a title is escaped, where there is one
 abbrev pub IsEscapedTitle : Option (List ℕ) → Type 0
@@ -16,22 +15,23 @@ abbrev pub IsGoodTarget : Option Target → Type 0
 IsGoodTarget None = Unit {0}
 IsGoodTarget (Some target) = IsEscapedTitle target.title
 
--- the noted heading has a reading, and the noted titles are escaped
-pub record AreGood (p : Attribute → Bool) (notes : Notes) : Type 0 where
-  pub heading : HasReadingWith p notes.heading
+-- the noted heading is as claimed, and the noted titles are escaped
+pub record AreGood (noted : List ℕ → Type 0) (notes : Notes) : Type 0 where
+  pub heading : noted notes.heading
   pub title : IsEscapedTitle notes.target.title
   pub resource : IsGoodTarget notes.resource
 
 -- a page has one more text, of which something holds, and good notes
-pub record Grows (p : Attribute → Bool) (holds : List ℕ → Type 0) (before after : Page) : Type 0 where
+pub record Grows (noted : List ℕ → Type 0) (holds : List ℕ → Type 0) (before after : Page) : Type 0 where
   pub added : List ℕ
   pub behind : after.text ≡ before.text ++ added
   pub it_holds : holds added
-  pub good : AreGood p after.notes
+  pub good : AreGood noted after.notes
 
 -- pieces add a text of which something holds to each page with good notes
-abbrev pub Adds : (Attribute → Bool) → List ℕ → (List ℕ → Type 0) → List Piece → Type 0
-Adds p ending holds pieces = (page : Page) → AreGood p page.notes → Grows p holds page (lay ending page pieces)
+abbrev pub Adds : Claim → List ℕ → (List ℕ → Type 0) → List Piece → Type 0
+Adds p ending holds pieces = (page : Page) → AreGood p.noted page.notes →
+    Grows p.noted holds page (lay ending page pieces)
 
 pub lay-append : (ending : List ℕ) (page : Page) (xs ys : List Piece) →
     lay ending page (xs ++ ys) ≡ lay ending (lay ending page xs) ys
@@ -39,19 +39,19 @@ lay-append ending page [] ys = refl
 lay-append ending page (x ∷ xs) ys = lay-append ending (lay_piece ending page x) xs ys
 
 -- something else holds as well
-pub adds-weaker : (p : Attribute → Bool) (ending : List ℕ) (f g : List ℕ → Type 0) (pieces : List Piece) →
+pub adds-weaker : (p : Claim) (ending : List ℕ) (f g : List ℕ → Type 0) (pieces : List Piece) →
     ((x : List ℕ) → f x → g x) → Adds p ending f pieces → Adds p ending g pieces
 adds-weaker p ending f g pieces weaker a page good =
     let r = a page good in
     record { added = r.added; behind = r.behind; it_holds = weaker r.added r.it_holds; good = r.good }
 
 -- one list after another
-pub adds-append : (p : Attribute → Bool) (ending : List ℕ) (f g h : List ℕ → Type 0) (xs ys : List Piece) →
+pub adds-append : (p : Claim) (ending : List ℕ) (f g h : List ℕ → Type 0) (xs ys : List Piece) →
     ((x y : List ℕ) → f x → g y → h (x ++ y)) → Adds p ending f xs → Adds p ending g ys → Adds p ending h (xs ++ ys)
 adds-append p ending f g h xs ys both a b page good =
     let r = a page good in
     let s = b (lay ending page xs) r.good in
-    subst (Grows p h page) (sym (lay-append ending page xs ys))
+    subst (Grows p.noted h page) (sym (lay-append ending page xs ys))
     (record {
       added = r.added ++ s.added;
       behind = s.behind ∙ ap (λ t. t ++ s.added) r.behind ∙ append_assoc page.text r.added s.added;
@@ -59,7 +59,7 @@ adds-append p ending f g h xs ys both a b page good =
       good = s.good;
     })
 
-pub adds-nothing : (p : Attribute → Bool) (ending : List ℕ) (f : List ℕ → Type 0) → f [] → Adds p ending f []
+pub adds-nothing : (p : Claim) (ending : List ℕ) (f : List ℕ → Type 0) → f [] → Adds p ending f []
 adds-nothing p ending f h page good = record {
   added = [];
   behind = sym (append-nil page.text);
@@ -67,21 +67,21 @@ adds-nothing p ending f h page good = record {
   good = good;
 }
 
-pub adds-text : (p : Attribute → Bool) (ending : List ℕ) (f : List ℕ → Type 0) (x : List ℕ) → f x →
+pub adds-text : (p : Claim) (ending : List ℕ) (f : List ℕ → Type 0) (x : List ℕ) → f x →
     Adds p ending f (Text x ∷ [])
 adds-text p ending f x h page good = record { added = x; behind = refl; it_holds = h; good = good }
 
-pub adds-forced : (p : Attribute → Bool) (ending : List ℕ) → Escaped ending → Adds p ending Escaped (Forced ∷ [])
+pub adds-forced : (p : Claim) (ending : List ℕ) → Escaped ending → Adds p ending Escaped (Forced ∷ [])
 adds-forced p ending h page good = record { added = ending; behind = refl; it_holds = h; good = good }
 
-pub adds-needed : (p : Attribute → Bool) (ending : List ℕ) → Escaped ending → Adds p ending Escaped (Needed ∷ [])
+pub adds-needed : (p : Claim) (ending : List ℕ) → Escaped ending → Adds p ending Escaped (Needed ∷ [])
 adds-needed p ending h page good = by (is_line_start page.text)
   where
-    by : (starts : Bool) → Grows p Escaped page (record page { text = cond starts page.text (page.text ++ ending) })
+    by : (starts : Bool) → Grows p.noted Escaped page (record page { text = cond starts page.text (page.text ++ ending) })
     by true = record { added = []; behind = sym (append-nil page.text); it_holds = refl; good = good }
     by false = record { added = ending; behind = refl; it_holds = h; good = good }
 
-pub adds-recalled : (p : Attribute → Bool) (ending : List ℕ) → Adds p ending (HasReadingWith p) (Recalled ∷ [])
+pub adds-recalled : (p : Claim) (ending : List ℕ) → Adds p ending p.noted (Recalled ∷ [])
 adds-recalled p ending page good = record {
   added = page.notes.heading;
   behind = refl;
@@ -90,14 +90,14 @@ adds-recalled p ending page good = record {
 }
 
 -- a good note
-abbrev pub IsGoodNote : (Attribute → Bool) → Note → Type 0
-IsGoodNote p (Heading x) = HasReadingWith p x
+abbrev pub IsGoodNote : Claim → Note → Type 0
+IsGoodNote p (Heading x) = p.noted x
 IsGoodNote p (Destination x) = Unit {0}
 IsGoodNote p (Title x) = Escaped x
 IsGoodNote p (Resource target) = IsEscapedTitle target.title
 
-good-with_note : (p : Attribute → Bool) (note : Note) (notes : Notes) → IsGoodNote p note → AreGood p notes →
-    AreGood p (with_note note notes)
+good-with_note : (p : Claim) (note : Note) (notes : Notes) → IsGoodNote p note → AreGood p.noted notes →
+    AreGood p.noted (with_note note notes)
 good-with_note p (Heading x) notes h good = record { heading = h; title = good.title; resource = good.resource }
 good-with_note p (Destination x) notes h good = record {
   heading = good.heading;
@@ -107,7 +107,7 @@ good-with_note p (Destination x) notes h good = record {
 good-with_note p (Title x) notes h good = record { heading = good.heading; title = h; resource = good.resource }
 good-with_note p (Resource target) notes h good = record { heading = good.heading; title = good.title; resource = h }
 
-pub adds-note : (p : Attribute → Bool) (ending : List ℕ) (f : List ℕ → Type 0) (note : Note) → f [] →
+pub adds-note : (p : Claim) (ending : List ℕ) (f : List ℕ → Type 0) (note : Note) → f [] →
     IsGoodNote p note → Adds p ending f (Noted note ∷ [])
 adds-note p ending f note h is page good =
     record {
@@ -117,12 +117,12 @@ adds-note p ending f note h is page good =
       good = good-with_note p note page.notes is good;
     }
 
-pub good-none : (p : Attribute → Bool) → AreGood p no_notes
-good-none p = record { heading = nothing p; title = tt; resource = tt }
+pub good-none : (p : Claim) → AreGood p.noted no_notes
+good-none p = record { heading = p.unnoted; title = tt; resource = tt }
 
 -- pieces laid out on a page of their own
-pub adds-blank : (p : Attribute → Bool) (ending : List ℕ) (f : List ℕ → Type 0) (pieces : List Piece) →
-    Adds p ending f pieces → f (lay ending blank pieces).text × AreGood p (lay ending blank pieces).notes
+pub adds-blank : (p : Claim) (ending : List ℕ) (f : List ℕ → Type 0) (pieces : List Piece) →
+    Adds p ending f pieces → f (lay ending blank pieces).text × AreGood p.noted (lay ending blank pieces).notes
 adds-blank p ending f pieces a =
     let r = a blank (good-none p) in
     (subst f (sym r.behind) r.it_holds, r.good)

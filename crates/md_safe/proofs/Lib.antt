@@ -1,4 +1,5 @@
 pub mod Texts
+pub mod Claim
 pub mod Laid
 pub mod Tags
 pub mod Media
@@ -11,4 +12,10 @@ pub mod BlockNodes
 pub mod Nodes
 pub mod Forests
 pub mod Section
+pub mod CallIds
+pub mod Counted
+pub mod CountedNodes
+pub mod CountedForest
+pub mod Distinct
+pub mod CountedSection
 pub mod Whole

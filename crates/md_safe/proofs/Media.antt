@@ -14,11 +14,12 @@ use Rattle.md_text.proofs.HtmlJoin.{nothing, text, join}
 use Rattle.md_meaning.specs.declared.options.CompileOptions.{CompileOptions}
 use Rattle.md_meaning.specs.Piece.{Piece, Text, Needed, Target}
 use Rattle.md_meaning.specs.Media.{href_of, src_of, link_to, image_of, link_start, link_end, title_pieces}
-use Rattle.md_meaning.specs.Footnotes.{escaped_option, prefix_of, back_label_of, heading_label_of, id_of, footnote_id, call_id, occurrence_suffix, occurrence_mark, call_tags, backreference, backreferences, arrow}
+use Rattle.md_meaning.specs.Footnotes.{escaped_option, prefix_of, back_label_of, heading_label_of, id_of, numbered_id_of, footnote_id, call_id, occurrence_suffix, occurrence_mark, call_tags, backreference, backreferences, arrow}
 use Rattle.md_meaning.specs.Tables.{align_attribute, cell_pieces, cell_in, empty_cells}
 use Rattle.md_safe.proofs.Texts.{Escaped, decimal-escaped}
-use Rattle.md_safe.proofs.Laid.{Adds, IsEscapedTitle, adds-nothing, adds-needed}
-use Rattle.md_safe.proofs.Tags.{IsTest, attribute, element-read, void-read, adds-flat, adds-readings, adds-escaped}
+use Rattle.md_safe.proofs.Claim.{Claim, plain_of, reading}
+use Rattle.md_safe.proofs.Laid.{Adds, IsEscapedTitle, adds-append, adds-nothing, adds-needed}
+use Rattle.md_safe.proofs.Tags.{IsTest, attribute, element-read, void-read, adds-flat, adds-before, adds-escaped}
 
 pub href-escaped : (options : CompileOptions) (x : List ℕ) → Escaped (href_of options x)
 href-escaped options x =
@@ -63,64 +64,64 @@ pass_four : (p : Attribute → Bool) (a b c d : Attribute) → p a ≡ true → 
 pass_four p a b c d h g k l = and_from (p a) (p b && (p c && (p d && true))) h (pass_three p b c d g k l)
 
 -- a link
-pub adds-link : (p : Attribute → Bool) (ending : List ℕ) (options : CompileOptions) (test : IsTest p options)
-    (target : Target) (label : List ℕ) → IsEscapedTitle target.title → HasReadingWith p label →
-    Adds p ending (HasReadingWith p) (link_to options target label)
+pub adds-link : (p : Claim) (ending : List ℕ) (options : CompileOptions) (test : IsTest p.test options)
+    (target : Target) (label : List ℕ) → IsEscapedTitle target.title → p.holds label →
+    Adds p ending p.holds (link_to options target label)
 adds-link p ending options test target label h r = by target.title h
   where
     by : (title : Option (List ℕ)) → IsEscapedTitle title →
-        Adds p ending (HasReadingWith p) (link_start options target.destination ++ (title_pieces title ++ link_end label))
+        Adds p ending p.holds (link_start options target.destination ++ (title_pieces title ++ link_end label))
     by None h =
-        adds-flat p ending (HasReadingWith p) (link_start options target.destination ++ link_end label) refl
+        adds-flat p ending p.holds (link_start options target.destination ++ link_end label) refl
         (element-read p (codes "a") (attribute (codes "href") (href_of options target.destination) ∷ []) label
         (a_href (href_of options target.destination) (href-escaped options target.destination))
-        (pass_one p (attribute (codes "href") (href_of options target.destination)) (test.link target.destination)) r)
+        (pass_one p.test (attribute (codes "href") (href_of options target.destination)) (test.link target.destination)) r)
     by (Some title) h =
-        adds-flat p ending (HasReadingWith p) (link_start options target.destination
+        adds-flat p ending p.holds (link_start options target.destination
         ++ (title_pieces (Some title) ++ link_end label)) refl
         (element-read p (codes "a") (attribute (codes "href") (href_of options target.destination)
         ∷ attribute (codes "title") title ∷ []) label
         (a_href_title (href_of options target.destination) title (href-escaped options target.destination) h)
-        (pass_two p (attribute (codes "href") (href_of options target.destination)) (attribute (codes "title") title)
+        (pass_two p.test (attribute (codes "href") (href_of options target.destination)) (attribute (codes "title") title)
         (test.link target.destination) (test.other (codes "title") title refl)) r)
 
 -- a link with no title
-pub adds-autolink : (p : Attribute → Bool) (ending : List ℕ) (options : CompileOptions) (test : IsTest p options)
-    (destination label : List ℕ) → HasReadingWith p label →
-    Adds p ending (HasReadingWith p) (link_start options destination ++ link_end label)
+pub adds-autolink : (p : Claim) (ending : List ℕ) (options : CompileOptions) (test : IsTest p.test options)
+    (destination label : List ℕ) → p.holds label →
+    Adds p ending p.holds (link_start options destination ++ link_end label)
 adds-autolink p ending options test destination label r =
     adds-link p ending options test (record { destination = destination; title = None }) label tt r
 
 -- an image
-pub adds-image : (p : Attribute → Bool) (ending : List ℕ) (options : CompileOptions) (test : IsTest p options)
+pub adds-image : (p : Claim) (ending : List ℕ) (options : CompileOptions) (test : IsTest p.test options)
     (target : Target) (label : List ℕ) → IsEscapedTitle target.title → Escaped label →
-    Adds p ending (HasReadingWith p) (image_of options target label)
+    Adds p ending p.holds (image_of options target label)
 adds-image p ending options test target label h e = by target.title h
   where
     by : (title : Option (List ℕ)) → IsEscapedTitle title →
-        Adds p ending (HasReadingWith p) (image_of options (record {
+        Adds p ending p.holds (image_of options (record {
           destination = target.destination;
           title = title;
         }) label)
     by None h =
-        adds-flat p ending (HasReadingWith p) (image_of options (record {
+        adds-flat p ending p.holds (image_of options (record {
           destination = target.destination;
           title = None;
         }) label) refl
         (void-read p (codes "img") (attribute (codes "src") (src_of options target.destination)
         ∷ attribute (codes "alt") label ∷ [])
         (img (src_of options target.destination) label (src-escaped options target.destination) e)
-        (pass_two p (attribute (codes "src") (src_of options target.destination)) (attribute (codes "alt") label)
+        (pass_two p.test (attribute (codes "src") (src_of options target.destination)) (attribute (codes "alt") label)
         (test.image target.destination) (test.other (codes "alt") label refl)))
     by (Some title) h =
-        adds-flat p ending (HasReadingWith p) (image_of options (record {
+        adds-flat p ending p.holds (image_of options (record {
           destination = target.destination;
           title = Some title;
         }) label) refl
         (void-read p (codes "img") (attribute (codes "src") (src_of options target.destination)
         ∷ attribute (codes "alt") label ∷ attribute (codes "title") title ∷ [])
         (img_title (src_of options target.destination) label title (src-escaped options target.destination) e h)
-        (pass_three p (attribute (codes "src") (src_of options target.destination)) (attribute (codes "alt") label)
+        (pass_three p.test (attribute (codes "src") (src_of options target.destination)) (attribute (codes "alt") label)
         (attribute (codes "title") title)
         (test.image target.destination) (test.other (codes "alt") label refl) (test.other (codes "title") title refl)))
 
@@ -141,33 +142,57 @@ id-escaped options kind identifier h =
     (escaped_option-escaped (option_map string_bytes options.gfm_footnote_clobber_prefix) (codes "user-content-") refl)
     (escaped-append kind (sanitized identifier) h (sanitized-escaped identifier))
 
-pub footnote_id-escaped : (options : CompileOptions) (identifier : List ℕ) → Escaped (footnote_id options identifier)
-footnote_id-escaped options identifier = id-escaped options (codes "fn-") identifier refl
+numbered-escaped : (options : CompileOptions) (kind : List ℕ) (number : ℕ) → Escaped kind →
+    Escaped (numbered_id_of options kind number)
+numbered-escaped options kind number h =
+    escaped-append (prefix_of options) (kind ++ decimal number)
+    (escaped_option-escaped (option_map string_bytes options.gfm_footnote_clobber_prefix) (codes "user-content-") refl)
+    (escaped-append kind (decimal number) h (decimal-escaped number))
+
+pub footnote_id-escaped : (options : CompileOptions) (identifier : List ℕ) (number : ℕ) →
+    Escaped (footnote_id options identifier number)
+footnote_id-escaped options identifier number =
+    cond_both options.gfm_footnote_number_ids (numbered_id_of options (codes "fn-") number)
+    (id_of options (codes "fn-") identifier) Escaped
+    (λ _. numbered-escaped options (codes "fn-") number refl) (λ _. id-escaped options (codes "fn-") identifier refl)
 
 suffix-escaped : (occurrence : ℕ) → Escaped (occurrence_suffix occurrence)
 suffix-escaped occurrence = cond_both (occurrence == 1) [] (45
     ∷ decimal occurrence) Escaped (λ _. refl) (λ _. decimal-escaped occurrence)
 
-call_id-escaped : (options : CompileOptions) (identifier : List ℕ) (occurrence : ℕ) →
-    Escaped (call_id options identifier occurrence)
-call_id-escaped options identifier occurrence =
-    escaped-append (id_of options (codes "fnref-") identifier) (occurrence_suffix occurrence)
-    (id-escaped options (codes "fnref-") identifier refl) (suffix-escaped occurrence)
+pub call_id-escaped : (options : CompileOptions) (identifier : List ℕ) (number occurrence : ℕ) →
+    Escaped (call_id options identifier number occurrence)
+call_id-escaped options identifier number occurrence =
+    cond_both options.gfm_footnote_number_ids
+    (numbered_id_of options (codes "fnref-") number ++ (45 ∷ decimal occurrence))
+    (id_of options (codes "fnref-") identifier ++ occurrence_suffix occurrence) Escaped
+    (λ _. escaped-append (numbered_id_of options (codes "fnref-") number) (45 ∷ decimal occurrence)
+    (numbered-escaped options (codes "fnref-") number refl) (decimal-escaped occurrence))
+    (λ _. escaped-append (id_of options (codes "fnref-") identifier) (occurrence_suffix occurrence)
+    (id-escaped options (codes "fnref-") identifier refl) (suffix-escaped occurrence))
 
-a_call : (v w : List ℕ) → Escaped v → Escaped w → is_tag elements (codes "a") (attribute (codes "href") (35 ∷ v)
+pub a_call : (v w : List ℕ) → Escaped v → Escaped w → is_tag elements (codes "a") (attribute (codes "href") (35 ∷ v)
     ∷ attribute (codes "id") w ∷ attribute (codes "data-footnote-ref") []
     ∷ attribute (codes "aria-describedby") (codes "footnote-label") ∷ []) ≡ true
 a_call v w h g = rw (h, g) refl
 
-abbrev call_text : List ℕ → List ℕ → List ℕ → List ℕ
+abbrev pub call_text : List ℕ → List ℕ → List ℕ → List ℕ
 call_text v w n =
     codes "<sup><a href=\"#" ++ (v ++ (codes "\" id=\"" ++ (w
     ++ (codes "\" data-footnote-ref=\"\" aria-describedby=\"footnote-label\">" ++ (n ++ codes "</a></sup>")))))
 
-call-read : (p : Attribute → Bool) (options : CompileOptions) (test : IsTest p options) (v w n : List ℕ) → Escaped v →
-    Escaped w → Escaped n → HasReadingWith p (call_text v w n)
-call-read p options test v w n h g k =
-    subst (HasReadingWith p) (by v w n)
+pub call-regrouped : (v w n : List ℕ)
+    → codes "<sup>" ++ ((codes "<a href=\"#" ++ (v ++ (codes "\" id=\""
+    ++ (w ++ (codes "\" data-footnote-ref=\"\" aria-describedby=\"footnote-label\">" ++ (n ++ codes "</a>"))))))
+    ++ codes "</sup>")
+    ≡ call_text v w n
+call-regrouped v w n = simp append_assoc
+
+call-read : (p : Claim) (options : CompileOptions) (test : IsTest p.test options) (v w n : List ℕ) → Escaped v →
+    p.test (attribute (codes "id") w) ≡ true →
+    Escaped w → Escaped n → p.holds (call_text v w n)
+call-read p options test v w n h passes g k =
+    subst p.holds (call-regrouped v w n)
     (element-read p (codes "sup") []
     (codes "<a href=\"#" ++ (v ++ (codes "\" id=\"" ++ (w
     ++ (codes "\" data-footnote-ref=\"\" aria-describedby=\"footnote-label\">" ++ (n ++ codes "</a>"))))))
@@ -175,33 +200,28 @@ call-read p options test v w n h g k =
     (element-read p (codes "a") (attribute (codes "href") (35 ∷ v) ∷ attribute (codes "id") w
     ∷ attribute (codes "data-footnote-ref") [] ∷ attribute (codes "aria-describedby") (codes "footnote-label") ∷ []) n
     (a_call v w h g)
-    (pass_four p (attribute (codes "href") (35 ∷ v)) (attribute (codes "id") w)
+    (pass_four p.test (attribute (codes "href") (35 ∷ v)) (attribute (codes "id") w)
     (attribute (codes "data-footnote-ref") []) (attribute (codes "aria-describedby") (codes "footnote-label"))
-    (test.anchor v) (test.other (codes "id") w refl) (test.other (codes "data-footnote-ref") [] refl)
+    (test.anchor v) passes (test.other (codes "data-footnote-ref") [] refl)
     (test.other (codes "aria-describedby") (codes "footnote-label") refl))
-    (text p n k)))
-  where
-    by : (v w n : List ℕ)
-        → codes "<sup>" ++ ((codes "<a href=\"#" ++ (v ++ (codes "\" id=\""
-        ++ (w ++ (codes "\" data-footnote-ref=\"\" aria-describedby=\"footnote-label\">" ++ (n ++ codes "</a>"))))))
-        ++ codes "</sup>")
-        ≡ call_text v w n
-    by v w n = simp append_assoc
+    (p.plain n (text p.test n k))))
 
 -- a call
-pub adds-call : (p : Attribute → Bool) (ending : List ℕ) (options : CompileOptions) (test : IsTest p options)
-    (identifier : List ℕ) (number occurrence : ℕ) → Adds p ending (HasReadingWith p)
+pub adds-call : (p : Claim) (ending : List ℕ) (options : CompileOptions) (test : IsTest p.test options)
+    (identifier : List ℕ) (number occurrence : ℕ) →
+    p.test (attribute (codes "id") (call_id options identifier number occurrence)) ≡ true → Adds p ending p.holds
     (call_tags options identifier number occurrence)
-adds-call p ending options test identifier number occurrence =
-    adds-flat p ending (HasReadingWith p) (call_tags options identifier number occurrence) refl
-    (call-read p options test (footnote_id options identifier) (call_id options identifier occurrence) (decimal number)
-    (footnote_id-escaped options identifier) (call_id-escaped options identifier occurrence) (decimal-escaped number))
+adds-call p ending options test identifier number occurrence passes =
+    adds-flat p ending p.holds (call_tags options identifier number occurrence) refl
+    (call-read p options test (footnote_id options identifier number) (call_id options identifier number occurrence) (decimal number)
+    (footnote_id-escaped options identifier number) passes (call_id-escaped options identifier number occurrence)
+    (decimal-escaped number))
 
 mark-read : (p : Attribute → Bool) (occurrence : ℕ) → HasReadingWith p (occurrence_mark occurrence)
 mark-read p occurrence =
     cond_both (occurrence == 1) [] (codes "<sup>" ++ (decimal occurrence ++ codes "</sup>")) (HasReadingWith p)
     (λ _. nothing p)
-    (λ _. element-read p (codes "sup") [] (decimal occurrence) refl refl
+    (λ _. element-read (reading p) (codes "sup") [] (decimal occurrence) refl refl
     (text p (decimal occurrence) (decimal-escaped occurrence)))
 
 a_back : (v t : List ℕ) → Escaped v → Escaped t → is_tag elements (codes "a") (attribute (codes "href") (35 ∷ v)
@@ -214,7 +234,7 @@ back-read : (p : Attribute → Bool) (options : CompileOptions) (test : IsTest p
     → HasReadingWith p (codes "<a href=\"#" ++ (v ++ (codes "\" data-footnote-backref=\"\" aria-label=\""
     ++ (t ++ (codes "\" class=\"data-footnote-backref\">" ++ (arrow ++ (m ++ codes "</a>")))))))
 back-read p options test v t m h g r =
-    element-read p (codes "a") (attribute (codes "href") (35 ∷ v) ∷ attribute (codes "data-footnote-backref") []
+    element-read (reading p) (codes "a") (attribute (codes "href") (35 ∷ v) ∷ attribute (codes "data-footnote-backref") []
     ∷ attribute (codes "aria-label") t ∷ attribute (codes "class") (codes "data-footnote-backref") ∷ [])
     (arrow ++ m) (a_back v t h g)
     (pass_four p (attribute (codes "href") (35 ∷ v)) (attribute (codes "data-footnote-backref") [])
@@ -224,81 +244,82 @@ back-read p options test v t m h g r =
     (join p arrow m (text p arrow refl) r)
 
 backreference-read : (p : Attribute → Bool) (options : CompileOptions) (test : IsTest p options) (identifier : List ℕ)
-    (occurrence : ℕ) → HasReadingWith p (backreference options identifier occurrence)
-backreference-read p options test identifier occurrence =
-    back-read p options test (call_id options identifier occurrence) (back_label_of options)
-    (occurrence_mark occurrence) (call_id-escaped options identifier occurrence)
+    (number occurrence : ℕ) → HasReadingWith p (backreference options identifier number occurrence)
+backreference-read p options test identifier number occurrence =
+    back-read p options test (call_id options identifier number occurrence) (back_label_of options)
+    (occurrence_mark occurrence) (call_id-escaped options identifier number occurrence)
     (escaped_option-escaped (option_map string_bytes options.gfm_footnote_back_label) (codes "Back to content") refl)
     (mark-read p occurrence)
 
 -- the ways back to calls
 pub backreferences-read : (p : Attribute → Bool) (options : CompileOptions) (test : IsTest p options)
-    (identifier : List ℕ) (count : ℕ) → HasReadingWith p (backreferences options identifier count)
-backreferences-read p options test identifier zero = nothing p
-backreferences-read p options test identifier (suc count) =
-    join p (backreferences options identifier count) ((cond (count == 0) [] (32 ∷ []))
-    ++ backreference options identifier (suc count))
-    (backreferences-read p options test identifier count)
-    (join p (cond (count == 0) [] (32 ∷ [])) (backreference options identifier (suc count))
+    (identifier : List ℕ) (number count : ℕ) → HasReadingWith p (backreferences options identifier number count)
+backreferences-read p options test identifier number zero = nothing p
+backreferences-read p options test identifier number (suc count) =
+    join p (backreferences options identifier number count) ((cond (count == 0) [] (32 ∷ []))
+    ++ backreference options identifier number (suc count))
+    (backreferences-read p options test identifier number count)
+    (join p (cond (count == 0) [] (32 ∷ [])) (backreference options identifier number (suc count))
     (cond_both (count == 0) [] (32 ∷ []) (HasReadingWith p) (λ _. nothing p) (λ _. text p (32 ∷ []) refl))
-    (backreference-read p options test identifier (suc count)))
+    (backreference-read p options test identifier number (suc count)))
 
 -- a cell's texts
 abbrev cell_texts : Bool → AlignKind → List ℕ → List Piece
 cell_texts in_head kind x = Text (cond in_head (codes "<th") (codes "<td")) ∷ Text (align_attribute kind)
     ∷ Text (codes ">") ∷ Text x ∷ Text (cond in_head (codes "</th>") (codes "</td>")) ∷ []
 
-cell-flat : (p : Attribute → Bool) (ending : List ℕ) (options : CompileOptions) (test : IsTest p options)
-    (in_head : Bool) (kind : AlignKind) (x : List ℕ) → HasReadingWith p x
-    → Adds p ending (HasReadingWith p) (cell_texts in_head kind x)
-cell-flat p ending options test true align.Left x r = adds-flat p ending (HasReadingWith p)
+cell-flat : (p : Claim) (ending : List ℕ) (options : CompileOptions) (test : IsTest p.test options)
+    (in_head : Bool) (kind : AlignKind) (x : List ℕ) → p.holds x
+    → Adds p ending p.holds (cell_texts in_head kind x)
+cell-flat p ending options test true align.Left x r = adds-flat p ending p.holds
     (cell_texts true align.Left x) refl (element-read p (codes "th") (attribute (codes "align") (codes "left")
-    ∷ []) x refl (pass_one p (attribute (codes "align") (codes "left"))
+    ∷ []) x refl (pass_one p.test (attribute (codes "align") (codes "left"))
     (test.other (codes "align") (codes "left") refl)) r)
-cell-flat p ending options test true align.Right x r = adds-flat p ending (HasReadingWith p)
+cell-flat p ending options test true align.Right x r = adds-flat p ending p.holds
     (cell_texts true align.Right x) refl (element-read p (codes "th") (attribute (codes "align") (codes "right")
-    ∷ []) x refl (pass_one p (attribute (codes "align") (codes "right"))
+    ∷ []) x refl (pass_one p.test (attribute (codes "align") (codes "right"))
     (test.other (codes "align") (codes "right") refl)) r)
-cell-flat p ending options test true align.Center x r = adds-flat p ending (HasReadingWith p)
+cell-flat p ending options test true align.Center x r = adds-flat p ending p.holds
     (cell_texts true align.Center x) refl (element-read p (codes "th") (attribute (codes "align") (codes "center")
-    ∷ []) x refl (pass_one p (attribute (codes "align") (codes "center"))
+    ∷ []) x refl (pass_one p.test (attribute (codes "align") (codes "center"))
     (test.other (codes "align") (codes "center") refl)) r)
-cell-flat p ending options test true align.None x r = adds-flat p ending (HasReadingWith p)
+cell-flat p ending options test true align.None x r = adds-flat p ending p.holds
     (cell_texts true align.None x) refl (element-read p (codes "th") [] x refl refl r)
-cell-flat p ending options test false align.Left x r = adds-flat p ending (HasReadingWith p)
+cell-flat p ending options test false align.Left x r = adds-flat p ending p.holds
     (cell_texts false align.Left x) refl (element-read p (codes "td") (attribute (codes "align") (codes "left")
-    ∷ []) x refl (pass_one p (attribute (codes "align") (codes "left"))
+    ∷ []) x refl (pass_one p.test (attribute (codes "align") (codes "left"))
     (test.other (codes "align") (codes "left") refl)) r)
-cell-flat p ending options test false align.Right x r = adds-flat p ending (HasReadingWith p)
+cell-flat p ending options test false align.Right x r = adds-flat p ending p.holds
     (cell_texts false align.Right x) refl (element-read p (codes "td") (attribute (codes "align") (codes "right")
-    ∷ []) x refl (pass_one p (attribute (codes "align") (codes "right"))
+    ∷ []) x refl (pass_one p.test (attribute (codes "align") (codes "right"))
     (test.other (codes "align") (codes "right") refl)) r)
 cell-flat p ending options test false align.Center x r =
-    adds-flat p ending (HasReadingWith p) (cell_texts false align.Center x) refl
+    adds-flat p ending p.holds (cell_texts false align.Center x) refl
     (element-read p (codes "td") (attribute (codes "align") (codes "center")
-    ∷ []) x refl (pass_one p (attribute (codes "align") (codes "center"))
+    ∷ []) x refl (pass_one p.test (attribute (codes "align") (codes "center"))
     (test.other (codes "align") (codes "center") refl)) r)
-cell-flat p ending options test false align.None x r = adds-flat p ending (HasReadingWith p)
+cell-flat p ending options test false align.None x r = adds-flat p ending p.holds
     (cell_texts false align.None x) refl (element-read p (codes "td") [] x refl refl r)
 
-adds-cell : (p : Attribute → Bool) (ending : List ℕ) → Escaped ending →
-    (options : CompileOptions) (test : IsTest p options) (in_head : Bool) (kind : AlignKind) (x : List ℕ) →
-    HasReadingWith p x → Adds p ending (HasReadingWith p) (cell_pieces in_head kind x)
+adds-cell : (p : Claim) (ending : List ℕ) → Escaped ending →
+    (options : CompileOptions) (test : IsTest p.test options) (in_head : Bool) (kind : AlignKind) (x : List ℕ) →
+    p.holds x → Adds p ending p.holds (cell_pieces in_head kind x)
 adds-cell p ending h options test in_head kind x r =
-    adds-readings p ending (Needed ∷ []) (cell_texts in_head kind x)
+    adds-before p ending (Needed ∷ []) (cell_texts in_head kind x)
     (adds-escaped p ending (Needed ∷ []) (adds-needed p ending h)) (cell-flat p ending options test in_head kind x r)
 
-pub adds-cell_in : (p : Attribute → Bool) (ending : List ℕ) → Escaped ending →
-    (options : CompileOptions) (test : IsTest p options) (in_head : Bool) (kind : Option AlignKind) (x : List ℕ) →
-    HasReadingWith p x → Adds p ending (HasReadingWith p) (cell_in in_head kind x)
-adds-cell_in p ending h options test in_head None x r = adds-nothing p ending (HasReadingWith p) (nothing p)
+pub adds-cell_in : (p : Claim) (ending : List ℕ) → Escaped ending →
+    (options : CompileOptions) (test : IsTest p.test options) (in_head : Bool) (kind : Option AlignKind) (x : List ℕ) →
+    p.holds x → Adds p ending p.holds (cell_in in_head kind x)
+adds-cell_in p ending h options test in_head None x r = adds-nothing p ending p.holds (p.plain [] (nothing p.test))
 adds-cell_in p ending h options test in_head (Some kind) x r = adds-cell p ending h options test in_head kind x r
 
-pub adds-empty_cells : (p : Attribute → Bool) (ending : List ℕ) → Escaped ending →
-    (options : CompileOptions) (test : IsTest p options) (in_head : Bool) (kinds : List AlignKind) →
-    Adds p ending (HasReadingWith p) (empty_cells in_head kinds)
-adds-empty_cells p ending h options test in_head [] = adds-nothing p ending (HasReadingWith p) (nothing p)
+pub adds-empty_cells : (p : Claim) (ending : List ℕ) → Escaped ending →
+    (options : CompileOptions) (test : IsTest p.test options) (in_head : Bool) (kinds : List AlignKind) →
+    Adds p ending (HasReadingWith p.test) (empty_cells in_head kinds)
+adds-empty_cells p ending h options test in_head [] = adds-nothing p ending (HasReadingWith p.test) (nothing p.test)
 adds-empty_cells p ending h options test in_head (kind ∷ kinds) =
-    adds-readings p ending (cell_pieces in_head kind []) (empty_cells in_head kinds)
-    (adds-cell p ending h options test in_head kind [] (nothing p))
+    adds-append p ending (HasReadingWith p.test) (HasReadingWith p.test) (HasReadingWith p.test)
+    (cell_pieces in_head kind []) (empty_cells in_head kinds) (join p.test)
+    (adds-cell (plain_of p) ending h options test in_head kind [] (nothing p.test))
     (adds-empty_cells p ending h options test in_head kinds)

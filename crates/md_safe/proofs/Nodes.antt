@@ -17,10 +17,10 @@ use Rattle.md_meaning.specs.Texts.{said, line_ending_pieces, blank_line_pieces}
 use Rattle.md_shape.specs.Built.{Content, Blocks, Spans, Strings, FirstFence, FirstMathFence, Chunks, InfoAndMeta, MetaAlone, Done, Nothing, is_part, is_string, is_span, is_in_media, is_autolink, is_code_fence, is_math_fence, may_stand, content_of, content_past, content_after, IsBuilt}
 use Rattle.md_safe.proofs.Texts.{Escaped}
 use Rattle.md_safe.proofs.Laid.{adds-append, adds-text, adds-nothing, adds-needed, adds-weaker}
-use Rattle.md_safe.proofs.Tags.{adds-nil, adds-readings}
+use Rattle.md_safe.proofs.Tags.{adds-nil}
 use Rattle.md_safe.proofs.Elements.{IsRaw, IsInCode, IsDone, bare-in_code, info-in_code, raw-code, raw-math, code_tag, math_tag}
-use Rattle.md_safe.proofs.Contents.{Holds, Suits, Follows, lie, second, holds-nothing, later-inside}
-use Rattle.md_safe.proofs.Spot.{Setting, Spot, node_pieces, IsFitAt, Here, Prints, Inside, narrow-wide, narrow-escaping, wide-escaped, prints-own}
+use Rattle.md_safe.proofs.Contents.{is_blocks, Holds, Suits, Follows, lie, second, holds-nothing, later-inside}
+use Rattle.md_safe.proofs.Spot.{IsWhole, Setting, Spot, node_pieces, IsFitAt, Here, Prints, Inside, narrow-wide, narrow-escaping, wide-escaped, prints-own}
 use Rattle.md_safe.proofs.StringNodes.{string-node, line_ending-escaped}
 use Rattle.md_safe.proofs.SpanNodes.{span-node, media-node, autolink-node}
 use Rattle.md_safe.proofs.BlockNodes.{block-node}
@@ -38,7 +38,7 @@ span-any s t name suits stands fit inner a =
       | inl is ↦ string-node s t Spans name (narrow-wide s.p t.around.is_escaping t.around.in_image Escaped suits.0 w)
           is fit inner a
       | inr c ↦ elim (or_cases (is_span name) (is_in_media name || is_autolink name) c) [
-        | inl is ↦ span-node s t Spans name suits.0 w is inner a
+        | inl is ↦ span-node s t Spans name suits.0 w is (λ _ out. absurd (lie (sym out ∙ suits.1))) inner a
         | inr c ↦ elim (or_cases (is_in_media name) (is_autolink name) c) [
           | inl is ↦ media-node s t Spans name suits.0 w is inner a
           | inr is ↦ autolink-node s t Spans name w is inner a
@@ -171,32 +171,33 @@ not_part false h = refl
 pub solid-node : (s : Setting) (t : Spot) (content : Content) (name : Name) (names : List Name) →
     t.left.spine.has_fence ≡ list_any fence_name names → is_transparent name ≡ false → may_stand content name ≡ true →
     IsFitAt s t name
-    → Suits t.around.is_escaping t.around.in_image content → Follows content names → (inner rest : List Piece) →
+    → Suits t.around.is_escaping t.around.in_image content → Follows content names →
+    (is_blocks content ≡ true → IsWhole s.p) → (inner rest : List Piece) →
     Inside s t content name inner → Prints s (Here s t (content_past content name)) rest →
     Prints s (Here s t content) (node_pieces s t name inner ++ rest)
-solid-node s t Blocks name names fences solid stands fit suits f inner rest a b =
-    adds-readings s.p s.given.ending (node_pieces s t name inner) rest
-    (block-node s t name suits solid (not_part (is_part name) stands) fit inner a) b
-solid-node s t Spans name names fences solid stands fit suits f inner rest a b =
+solid-node s t Blocks name names fences solid stands fit suits f whole inner rest a b =
+    adds-append s.p s.given.ending s.p.holds s.p.holds s.p.holds (node_pieces s t name inner) rest (whole refl).both
+    (block-node s t name suits solid (not_part (is_part name) stands) fit (λ _. whole refl) inner a) b
+solid-node s t Spans name names fences solid stands fit suits f whole inner rest a b =
     adds-append s.p s.given.ending Escaped Escaped Escaped (node_pieces s t name inner) rest escaped-append
     (span-any s t name suits stands fit inner a) b
-solid-node s t Strings name names fences solid stands fit suits f inner rest a b =
+solid-node s t Strings name names fences solid stands fit suits f whole inner rest a b =
     adds-append s.p s.given.ending (Here s t Strings) (Here s t Strings) (Here s t Strings)
     (node_pieces s t name inner) rest (λ x y f g e. escaped-append x y (f e) (g e))
     (string-node s t Strings name (narrow-escaping t.around.is_escaping) stands fit inner a) b
-solid-node s t FirstFence name names fences solid stands fit suits f inner rest a b =
+solid-node s t FirstFence name names fences solid stands fit suits f whole inner rest a b =
     code_fence-node s t name (fences ∙ f) stands inner rest a b
-solid-node s t FirstMathFence name names fences solid stands fit suits f inner rest a b =
+solid-node s t FirstMathFence name names fences solid stands fit suits f whole inner rest a b =
     math_fence-node s t name (fences ∙ f) stands inner rest a b
-solid-node s t Chunks name names fences solid stands fit suits f inner rest a b =
+solid-node s t Chunks name names fences solid stands fit suits f whole inner rest a b =
     adds-append s.p s.given.ending Escaped Escaped Escaped (node_pieces s t name inner) rest escaped-append
     (line-node s t name (fences ∙ f) stands fit inner a) b
-solid-node s t InfoAndMeta name names fences solid stands fit suits f inner rest a b =
+solid-node s t InfoAndMeta name names fences solid stands fit suits f whole inner rest a b =
     info_or_meta-node s t name suits stands inner rest a b
-solid-node s t MetaAlone name names fences solid stands fit suits f inner rest a b =
+solid-node s t MetaAlone name names fences solid stands fit suits f whole inner rest a b =
     meta-node s t name stands inner rest b
-solid-node s t Done name names fences solid stands fit suits f inner rest a b = done-node s t name stands inner rest a b
-solid-node s t Nothing name names fences solid stands fit suits f inner rest a b = absurd (lie stands)
+solid-node s t Done name names fences solid stands fit suits f whole inner rest a b = done-node s t name stands inner rest a b
+solid-node s t Nothing name names fences solid stands fit suits f whole inner rest a b = absurd (lie stands)
 
 -- what children print before any other pieces
 abbrev pub Before : Setting → Spot → Content → Name → List Piece → Type 0
@@ -235,12 +236,13 @@ inside-alone s t content name stands fit built inner a =
 pub any-node : (s : Setting) (t : Spot) (content : Content) (name : Name) (names : List Name) →
     t.left.spine.has_fence ≡ list_any fence_name names → (is_transparent name || may_stand content name) ≡ true →
     IsFitAt s t name
-    → Suits t.around.is_escaping t.around.in_image content → Follows content names → (inner rest : List Piece)
+    → Suits t.around.is_escaping t.around.in_image content → Follows content names →
+    (is_blocks content ≡ true → IsWhole s.p) → (inner rest : List Piece)
     → IsBuilt s.given.bytes (cond (is_transparent name) content (content_of name content)) t.children
     → Before s t (cond (is_transparent name) content (content_of name content)) name inner
     → Prints s (Here s t (cond (is_transparent name) (content_after content t.children) (content_past content name)))
     rest → Prints s (Here s t content) (node_pieces s t name inner ++ rest)
-any-node s t content name names fences stands fit suits f inner rest = by (is_transparent name) refl
+any-node s t content name names fences stands fit suits f whole inner rest = by (is_transparent name) refl
   where
     by : (through : Bool) → is_transparent name ≡ through
         → IsBuilt s.given.bytes (cond through content (content_of name content)) t.children →
@@ -250,5 +252,5 @@ any-node s t content name names fences stands fit suits f inner rest = by (is_tr
     by true e built a b = through-node s t content name e inner rest a b
     by false e built a b =
         let may : may_stand content name ≡ true = second (is_transparent name) (may_stand content name) e stands in
-        solid-node s t content name names fences e may fit suits f inner rest
+        solid-node s t content name names fences e may fit suits f whole inner rest
         (inside-alone s t content name may fit built inner a) b

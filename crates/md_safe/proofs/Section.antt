@@ -1,73 +1,79 @@
 -- The section of footnotes has a reading.
-use Rattle.std.proofs.Common.{◌≡◌, ℕ, ◌≤◌, Bool, true, false, cond, List, [], ◌∷◌, ◌++◌, length, take, drop, refl, sym, ap, ◌∙◌, subst, arith, append_assoc, append-nil, codes}
+use Rattle.std.proofs.Common.{◌≡◌, ℕ, suc, ◌≤◌, Bool, true, false, cond, List, [], ◌∷◌, ◌++◌, length, take, drop, refl, sym, ap, ◌∙◌, subst, arith, append_assoc, append-nil, codes}
 use Rattle.std.specs.Prelude.{Some, None, option_map, find, bytes_eq, string_bytes}
 use Rattle.std.specs.Option.{option_map_or}
 use Rattle.std.proofs.lemmas.Bool.{cond_both}
 use Rattle.std.proofs.lemmas.List.{take-append-drop, drop-append-le}
 use Rattle.std.proofs.lemmas.Slice.Eq.{bytes_eq-Decides}
-use Rattle.md_text.specs.Html.{Attribute, HasReadingWith, is_tag, elements}
+use Rattle.md_text.specs.Html.{HasReadingWith, is_tag, elements}
 use Rattle.md_text.specs.Laws.{is_line_ends}
 use Rattle.md_text.proofs.EscapedLemmas.{escaped-append}
-use Rattle.md_text.proofs.HtmlJoin.{nothing, text, join}
-use Rattle.md_text.proofs.HtmlPut.{paragraph_takes}
+use Rattle.md_text.proofs.HtmlJoin.{text, join}
 use Rattle.md_meaning.specs.declared.options.CompileOptions.{CompileOptions}
 use Rattle.md_meaning.specs.Piece.{Piece, Text, Needed, Forced}
 use Rattle.md_meaning.specs.Calls.{Called}
 use Rattle.md_meaning.specs.Footnotes.{Footnote, escaped_option, tag_of, attributes_of, heading_label_of, footnote_id, backreferences, without_endings, paragraph_end, ends_in_paragraph, body_pieces, footnote_text, item_pieces, items_pieces, section_opening, section_closing, section_pieces}
 use Rattle.md_safe.proofs.Texts.{Escaped}
+use Rattle.md_safe.proofs.Claim.{Claim, plain_of}
 use Rattle.md_safe.proofs.Laid.{adds-append, adds-text, adds-nothing, adds-needed, adds-forced}
-use Rattle.md_safe.proofs.Tags.{attribute, Bracket, IsFramed, bracket-tag, element-read, adds-pair, adds-flat, adds-framed, adds-readings, adds-escaped, framed-needed, framed-forced, flat}
+use Rattle.md_safe.proofs.Tags.{attribute, Turns, Bracket, adds-turned, IsFramed, bracket-tag, element-read, adds-pair, adds-flat, adds-framed, adds-before, adds-behind, adds-escaped, framed-needed, framed-forced, flat}
 use Rattle.md_safe.proofs.Media.{label-escaped, footnote_id-escaped, backreferences-read}
 use Rattle.md_safe.proofs.Elements.{bracket-plain, adds-framed_flat}
-use Rattle.md_safe.proofs.Spot.{Setting, Prints}
-use Rattle.md_safe.proofs.BlockNodes.{Reads}
+use Rattle.md_safe.proofs.Spot.{PassesIds, IsWhole, Setting, Prints}
+use Rattle.md_safe.proofs.BlockNodes.{Reads, holds-none}
 use Rattle.md_safe.proofs.Forests.{AreRead}
 
 -- an element before what stands in a bracket
-bracket-after : (p : Attribute → Bool) (o c h : List ℕ) → Bracket p o c → HasReadingWith p h → Bracket p (o ++ h) c
-bracket-after p o c h bracket r x rx =
-    subst (HasReadingWith p) (by o h x c) (bracket (h ++ x) (join p h x r rx))
+pub turn-after : (p q : Claim) (o c h : List ℕ) → Bracket q o c → ((x : List ℕ) → p.holds x → q.holds (h ++ x)) →
+    Turns p q (o ++ h) c
+turn-after p q o c h bracket grows x rx =
+    subst q.holds (by o h x c) (bracket (h ++ x) (grows x rx))
   where
     by : (o h x c : List ℕ) → o ++ ((h ++ x) ++ c) ≡ (o ++ h) ++ (x ++ c)
     by o h x c = simp append_assoc
 
+bracket-after : (p : Claim) (o c h : List ℕ) → Bracket p o c → HasReadingWith p.test h → Bracket p (o ++ h) c
+bracket-after p o c h bracket r = turn-after p p o c h bracket (λ x rx. p.before h x r rx)
+
 -- the section's tag and its heading
-abbrev heading_text : List ℕ → List ℕ → List ℕ → List ℕ
+abbrev pub heading_text : List ℕ → List ℕ → List ℕ → List ℕ
 heading_text tag attributes label =
     codes "<section data-footnotes=\"\" class=\"footnotes\"><"
     ++ (tag ++ (codes " id=\"footnote-label\" " ++ (attributes
     ++ (codes ">" ++ (label ++ (codes "</" ++ (tag ++ codes ">")))))))
 
-heading-bracket : (s : Setting) (label : List ℕ) → Escaped label →
+heading-bracket : (s : Setting) (label : List ℕ) → PassesIds s.p.test → Escaped label →
     Bracket s.p (heading_text (codes "h2") (codes "class=\"sr-only\"") label) (codes "</section>")
-heading-bracket s label h =
+heading-bracket s label ids h =
     bracket-after s.p (codes "<section data-footnotes=\"\" class=\"footnotes\">") (codes "</section>")
     (codes "<h2 id=\"footnote-label\" class=\"sr-only\">" ++ (label ++ codes "</h2>"))
     (bracket-tag s.p (codes "section") (attribute (codes "data-footnotes") []
     ∷ attribute (codes "class") (codes "footnotes") ∷ []) refl
     (rw (s.test.other (codes "data-footnotes") [] refl, s.test.other (codes "class") (codes "footnotes") refl) refl))
-    (element-read s.p (codes "h2") (attribute (codes "id") (codes "footnote-label")
+    (element-read (plain_of s.p) (codes "h2") (attribute (codes "id") (codes "footnote-label")
     ∷ attribute (codes "class") (codes "sr-only") ∷ []) label refl
     (rw (
-      s.test.other (codes "id") (codes "footnote-label") refl,
+      ids (codes "footnote-label"),
       s.test.other (codes "class") (codes "sr-only") refl,
     ) refl)
-    (text s.p label h))
+    (text s.p.test label h))
 
-section-bracket : (s : Setting) → s.given.options.gfm_footnote_label_tag_name ≡ None →
+-- the same as the options write it
+section-turn : (s : Setting) (q : Claim) →
+    Turns s.p q (heading_text (codes "h2") (codes "class=\"sr-only\"") (heading_label_of s.given.options))
+    (codes "</section>") → s.given.options.gfm_footnote_label_tag_name ≡ None →
     s.given.options.gfm_footnote_label_attributes ≡ None
-    → Bracket s.p (heading_text (tag_of s.given.options) (attributes_of s.given.options)
+    → Turns s.p q (heading_text (tag_of s.given.options) (attributes_of s.given.options)
     (heading_label_of s.given.options)) (codes "</section>")
-section-bracket s no_tag no_attributes =
+section-turn s q turn no_tag no_attributes =
     let tag : tag_of s.given.options ≡ codes "h2" = ap (λ o. escaped_option (option_map string_bytes o) (codes "h2"))
     no_tag in
     let attributes : attributes_of s.given.options ≡ codes "class=\"sr-only\"" =
     ap (λ o. option_map_or string_bytes o (codes "class=\"sr-only\"")) no_attributes in
-    subst (λ tag. Bracket s.p (heading_text tag (attributes_of s.given.options) (heading_label_of s.given.options))
+    subst (λ tag. Turns s.p q (heading_text tag (attributes_of s.given.options) (heading_label_of s.given.options))
     (codes "</section>")) (sym tag)
-    (subst (λ attributes. Bracket s.p (heading_text (codes "h2") attributes (heading_label_of s.given.options))
-    (codes "</section>")) (sym attributes)
-    (heading-bracket s (heading_label_of s.given.options) (label-escaped s.given.options)))
+    (subst (λ attributes. Turns s.p q (heading_text (codes "h2") attributes (heading_label_of s.given.options))
+    (codes "</section>")) (sym attributes) turn)
 
 -- a text is what stands before the CR and LF at its end, and these
 record Ends (text : List ℕ) : Type 0 where
@@ -95,8 +101,8 @@ ends (byte ∷ bytes) = by (is_line_ends (byte ∷ bytes)) refl (ends bytes)
         }
 
 -- where a paragraph ends a text, the ways back stand before its end
-in_paragraph : (p : Attribute → Bool) (x back : List ℕ) → HasReadingWith p x → HasReadingWith p back →
-    ends_in_paragraph x ≡ true → HasReadingWith p (take (paragraph_end x) x
+in_paragraph : (p : Claim) (x back : List ℕ) → p.holds x → HasReadingWith p.test back →
+    ends_in_paragraph x ≡ true → p.holds (take (paragraph_end x) x
     ++ ((32 ∷ back) ++ drop (paragraph_end x) x))
 in_paragraph p x back r rb h =
     let e = ends x in
@@ -108,16 +114,16 @@ in_paragraph p x back r rb h =
     ∙ drop-append-le n (without_endings x) e.endings fits ∙ ap (λ y. y ++ e.endings) tag in
     let cut : x ≡ take n x ++ codes "</p>" ++ e.endings = sym (take-append-drop n x) ∙ ap (λ y. take n x ++ y) last
     ∙ sym (append_assoc (take n x) (codes "</p>") e.endings) in
-    let put : HasReadingWith p (take n x ++ (32 ∷ back) ++ codes "</p>" ++ e.endings) =
-    paragraph_takes p (take n x) e.endings (32 ∷ back) e.are (subst (HasReadingWith p) cut r)
-    (join p (32 ∷ []) back (text p (32 ∷ []) refl) rb) in
-    subst (HasReadingWith p)
+    let put : p.holds (take n x ++ (32 ∷ back) ++ codes "</p>" ++ e.endings) =
+    p.takes (take n x) e.endings (32 ∷ back) e.are (subst p.holds cut r)
+    (join p.test (32 ∷ []) back (text p.test (32 ∷ []) refl) rb) in
+    subst p.holds
     (append_assoc (take n x ++ (32 ∷ back)) (codes "</p>") e.endings
     ∙ append_assoc (take n x) (32 ∷ back) (codes "</p>" ++ e.endings)
     ∙ ap (λ y. take n x ++ ((32 ∷ back) ++ y)) (sym last))
     put
 
-body-prints : (s : Setting) (x back : List ℕ) → Reads s x → Reads s back → Prints s (Reads s) (body_pieces x back)
+body-prints : (s : Setting) (x back : List ℕ) → Reads s x → HasReadingWith s.p.test back → Prints s (Reads s) (body_pieces x back)
 body-prints s x back r rb =
     cond_both (ends_in_paragraph x)
     (Text (take (paragraph_end x) x) ∷ Text (32 ∷ []) ∷ Text back ∷ Text (drop (paragraph_end x) x) ∷ [])
@@ -128,21 +134,21 @@ body-prints s x back r rb =
     (subst (Reads s) (ap (λ y. take (paragraph_end x) x ++ (32 ∷ (back ++ y)))
     (sym (append-nil (drop (paragraph_end x) x)))) (in_paragraph s.p x back r rb is)))
     (λ _.
-    adds-readings s.p s.given.ending (Text x ∷ []) (Needed ∷ Text back
+    adds-behind s.p s.given.ending (Text x ∷ []) (Needed ∷ Text back
     ∷ []) (adds-text s.p s.given.ending (Reads s) x r)
-    (adds-readings s.p s.given.ending (Needed ∷ []) (Text back
+    (adds-before (plain_of s.p) s.given.ending (Needed ∷ []) (Text back
     ∷ []) (adds-escaped s.p s.given.ending (Needed ∷ []) (adds-needed s.p s.given.ending s.ending))
-    (adds-text s.p s.given.ending (Reads s) back rb)))
+    (adds-text s.p s.given.ending (HasReadingWith s.p.test) back rb)))
 
 -- an item
-li_id : (v : List ℕ) → Escaped v → is_tag elements (codes "li") (attribute (codes "id") v ∷ []) ≡ true
+pub li_id : (v : List ℕ) → Escaped v → is_tag elements (codes "li") (attribute (codes "id") v ∷ []) ≡ true
 li_id v h = rw h refl
 
-item-bracket : (s : Setting) (v : List ℕ) → Escaped v → Bracket s.p (codes "<li id=\""
+item-bracket : (s : Setting) (v : List ℕ) → s.p.test (attribute (codes "id") v) ≡ true → Escaped v → Bracket s.p (codes "<li id=\""
     ++ (v ++ (codes "\">" ++ []))) (codes "</li>")
-item-bracket s v h =
+item-bracket s v passes h =
     subst (λ o. Bracket s.p o (codes "</li>")) (ap (λ x. codes "<li id=\"" ++ x) (append_assoc v (34 ∷ []) (62 ∷ [])))
-    (bracket-tag s.p (codes "li") (attribute (codes "id") v ∷ []) (li_id v h) (cc (s.test.other (codes "id") v refl)))
+    (bracket-tag s.p (codes "li") (attribute (codes "id") v ∷ []) (li_id v h) (cc passes))
 
 item-opening : (s : Setting) (v : List ℕ) → Prints s (IsFramed (codes "<li id=\"" ++ (v ++ (codes "\">" ++ []))))
     (Forced ∷ Text (codes "<li id=\"") ∷ Text v ∷ Text (codes "\">") ∷ Forced ∷ [])
@@ -163,21 +169,22 @@ item-opening s v =
     ∷ []) refl (adds-forced s.p s.given.ending s.ending))
     (adds-forced s.p s.given.ending s.ending)
 
-item-prints : (s : Setting) (x identifier : List ℕ) (count : ℕ) → Reads s x →
-    Prints s (Reads s) (item_pieces s.given.options x identifier count)
-item-prints s x identifier count r =
-    let v : List ℕ = footnote_id s.given.options identifier in
-    let back : List ℕ = backreferences s.given.options identifier count in
-    adds-pair s.p s.given.ending (codes "<li id=\"" ++ (v ++ (codes "\">" ++ []))) (codes "</li>")
+pub item-prints : (s : Setting) (q : Claim) (x identifier : List ℕ) (number count : ℕ) →
+    Turns s.p q (codes "<li id=\"" ++ (footnote_id s.given.options identifier number ++ (codes "\">" ++ [])))
+    (codes "</li>") → Reads s x → Prints s q.holds (item_pieces s.given.options x identifier number count)
+item-prints s q x identifier number count turn r =
+    let v : List ℕ = footnote_id s.given.options identifier number in
+    let back : List ℕ = backreferences s.given.options identifier number count in
+    adds-turned s.p q s.given.ending (codes "<li id=\"" ++ (v ++ (codes "\">" ++ []))) (codes "</li>")
     (Forced ∷ Text (codes "<li id=\"") ∷ Text v ∷ Text (codes "\">") ∷ Forced ∷ []) (body_pieces x back) (Needed
     ∷ Text (codes "</li>") ∷ [])
-    (item-bracket s v (footnote_id-escaped s.given.options identifier)) (item-opening s v)
-    (body-prints s x back r (backreferences-read s.p s.given.options s.test identifier count))
+    turn (item-opening s v)
+    (body-prints s x back r (backreferences-read s.p.test s.given.options s.test identifier number count))
     (framed-needed s.p s.given.ending (codes "</li>") s.ending)
 
 footnote-read : (s : Setting) (footnotes : List Footnote) (identifier : List ℕ) → AreRead s footnotes →
     Reads s (footnote_text footnotes identifier)
-footnote-read s [] identifier h = nothing s.p
+footnote-read s [] identifier h = holds-none s
 footnote-read s (footnote ∷ others) identifier h = by (bytes_eq footnote.identifier identifier)
     (footnote-read s others identifier h.1)
   where
@@ -187,16 +194,20 @@ footnote-read s (footnote ∷ others) identifier h = by (bytes_eq footnote.ident
     by true later = h.0
     by false later = later
 
-items-print : (s : Setting) (footnotes : List Footnote) (called : List Called) → AreRead s footnotes →
-    Prints s (Reads s) (items_pieces s.given.options footnotes called)
-items-print s footnotes [] h = adds-nothing s.p s.given.ending (Reads s) (nothing s.p)
-items-print s footnotes (called ∷ others) h =
-    adds-readings s.p s.given.ending (item_pieces s.given.options
-    (footnote_text footnotes called.identifier) called.identifier called.count)
-    (items_pieces s.given.options footnotes others)
-    (item-prints s (footnote_text footnotes called.identifier) called.identifier called.count
+items-print : (s : Setting) → IsWhole s.p → (footnotes : List Footnote) (number : ℕ) (called : List Called) →
+    AreRead s footnotes →
+    Prints s (Reads s) (items_pieces s.given.options footnotes number called)
+items-print s whole footnotes number [] h = adds-nothing s.p s.given.ending (Reads s) (holds-none s)
+items-print s whole footnotes number (called ∷ others) h =
+    adds-append s.p s.given.ending (Reads s) (Reads s) (Reads s) (item_pieces s.given.options
+    (footnote_text footnotes called.identifier) called.identifier number called.count)
+    (items_pieces s.given.options footnotes (suc number) others) whole.both
+    (item-prints s s.p (footnote_text footnotes called.identifier) called.identifier number called.count
+    (item-bracket s (footnote_id s.given.options called.identifier number)
+    (whole.ids (footnote_id s.given.options called.identifier number))
+    (footnote_id-escaped s.given.options called.identifier number))
     (footnote-read s footnotes called.identifier h))
-    (items-print s footnotes others h)
+    (items-print s whole footnotes (suc number) others h)
 
 -- the beginning of the section
 abbrev head_texts : CompileOptions → List Piece
@@ -207,17 +218,19 @@ head_texts options =
     ∷ Text (codes "</") ∷ Text (tag_of options) ∷ Text (codes ">") ∷ []
 
 -- items between the tags of the list and of the section
-section-around : (s : Setting) → s.given.options.gfm_footnote_label_tag_name ≡ None →
+pub section-around : (s : Setting) (q : Claim) →
+    Turns s.p q (heading_text (codes "h2") (codes "class=\"sr-only\"") (heading_label_of s.given.options))
+    (codes "</section>") → s.given.options.gfm_footnote_label_tag_name ≡ None →
     s.given.options.gfm_footnote_label_attributes ≡ None → (items : List Piece) → Prints s (Reads s) items
-    → Prints s (Reads s) (section_opening s.given.options ++ (items ++ section_closing))
-section-around s no_tag no_attributes items a =
+    → Prints s q.holds (section_opening s.given.options ++ (items ++ section_closing))
+section-around s q turn no_tag no_attributes items a =
     let ol : List Piece = Forced ∷ Text (codes "<ol>") ∷ [] in
     let end : List Piece = Forced ∷ Text (codes "</ol>") ∷ [] in
     let last : List Piece = Forced ∷ Text (codes "</section>") ∷ Forced ∷ [] in
-    subst (λ x. Prints s (Reads s) ((Needed ∷ head_texts s.given.options) ++ (ol ++ x))) (append_assoc items end last)
-    (adds-pair s.p s.given.ending (flat (head_texts s.given.options)) (codes "</section>") (Needed
+    subst (λ x. Prints s q.holds ((Needed ∷ head_texts s.given.options) ++ (ol ++ x))) (append_assoc items end last)
+    (adds-turned s.p q s.given.ending (flat (head_texts s.given.options)) (codes "</section>") (Needed
     ∷ head_texts s.given.options) (ol ++ (items ++ end)) last
-    (section-bracket s no_tag no_attributes)
+    (section-turn s q turn no_tag no_attributes)
     (adds-framed_flat s.p s.given.ending (Needed ∷ []) (head_texts s.given.options) refl
     (adds-needed s.p s.given.ending s.ending))
     (adds-pair s.p s.given.ending (codes "<ol>") (codes "</ol>") ol items end (bracket-plain s.p (codes "ol") refl)
@@ -226,11 +239,11 @@ section-around s no_tag no_attributes items a =
     (adds-framed s.p s.given.ending (codes "</section>") (Forced ∷ []) (Forced
     ∷ []) (adds-forced s.p s.given.ending s.ending) (adds-forced s.p s.given.ending s.ending)))
 
-pub section-prints : (s : Setting) → s.given.options.gfm_footnote_label_tag_name ≡ None →
+pub section-prints : (s : Setting) → IsWhole s.p → s.given.options.gfm_footnote_label_tag_name ≡ None →
     s.given.options.gfm_footnote_label_attributes ≡ None → (footnotes : List Footnote) (called : List Called) →
     AreRead s footnotes
     → Prints s (Reads s) (section_pieces s.given.options footnotes called)
-section-prints s no_tag no_attributes footnotes [] h = adds-nothing s.p s.given.ending (Reads s) (nothing s.p)
-section-prints s no_tag no_attributes footnotes (called ∷ others) h =
-    section-around s no_tag no_attributes (items_pieces s.given.options footnotes (called ∷ others))
-    (items-print s footnotes (called ∷ others) h)
+section-prints s whole no_tag no_attributes footnotes [] h = adds-nothing s.p s.given.ending (Reads s) (holds-none s)
+section-prints s whole no_tag no_attributes footnotes (called ∷ others) h =
+    section-around s s.p (heading-bracket s (heading_label_of s.given.options) whole.ids (label-escaped s.given.options)) no_tag no_attributes (items_pieces s.given.options footnotes 1 (called ∷ others))
+    (items-print s whole footnotes 1 (called ∷ others) h)

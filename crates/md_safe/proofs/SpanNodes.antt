@@ -15,15 +15,17 @@ use Rattle.md_meaning.specs.Calls.{number_among, count_among}
 use Rattle.md_meaning.specs.Places.{ahead_of, identifier_at}
 use Rattle.md_meaning.specs.Texts.{said, code_text, unescaped_pipes, html_pieces, outside_images, code_pieces}
 use Rattle.md_meaning.specs.Media.{link_pieces, image_pieces, autolink_pieces, link_to, image_of, link_start, link_end, target_of}
-use Rattle.md_meaning.specs.Footnotes.{call_tags}
+use Rattle.md_meaning.specs.Footnotes.{call_id, call_tags}
 use Rattle.md_shape.specs.Built.{Content, is_span, is_in_media, is_autolink}
 use Rattle.md_safe.proofs.Texts.{Escaped, pipes-escaped, trimmed-escaped}
+use Rattle.md_base.specs.NameTests.{is_call}
+use Rattle.md_safe.proofs.Claim.{plain_of}
 use Rattle.md_safe.proofs.Laid.{AreGood, adds-text, adds-nothing, adds-weaker, adds-blank, adds-note}
 use Rattle.md_safe.proofs.Tags.{Bracket, void-read, adds-flat, adds-pair, framed-text}
 use Rattle.md_safe.proofs.Media.{adds-link, adds-image, adds-autolink, adds-call}
 use Rattle.md_safe.proofs.Elements.{IsDone, bracket-plain, adds-code, adds-math, adds-task}
 use Rattle.md_safe.proofs.Contents.{Holds, lie}
-use Rattle.md_safe.proofs.Spot.{Setting, Spot, node_pieces, Here, Prints, Inside, IsWide, encoded-escaped, prints-alone, prints-both, target-title}
+use Rattle.md_safe.proofs.Spot.{Setting, Spot, node_pieces, Here, Prints, Inside, IsWide, IsBeside, escaped-beside, PassesIds, encoded-escaped, prints-alone, prints-both, target-title}
 
 -- tags outside images round what stands in a node
 pub prints-pair : (s : Setting) (in_image : Bool) (holds : List ℕ → Type 0) → IsWide s.p in_image holds →
@@ -31,16 +33,16 @@ pub prints-pair : (s : Setting) (in_image : Bool) (holds : List ℕ → Type 0) 
     → Prints s holds ((cond in_image [] (said o)) ++ (inner ++ ((cond in_image [] (said c)) ++ [])))
 prints-pair s true holds w o c bracket inner a = prints-alone s holds inner a
 prints-pair s false holds w o c bracket inner a =
-    adds-weaker s.p s.given.ending (HasReadingWith s.p) holds (said o ++ (inner ++ said c)) (w.outside refl)
+    adds-weaker s.p s.given.ending s.p.holds holds (said o ++ (inner ++ said c)) (w.outside refl)
     (adds-pair s.p s.given.ending o c (said o) inner (said c) bracket (framed-text s.p s.given.ending o)
-    (adds-weaker s.p s.given.ending holds (HasReadingWith s.p) inner w.read a) (framed-text s.p s.given.ending c))
+    (adds-weaker s.p s.given.ending holds s.p.holds inner w.read a) (framed-text s.p s.given.ending c))
 
 -- a text in images, what has a reading outside them
 pub prints-outside : (s : Setting) (in_image : Bool) (holds : List ℕ → Type 0) → IsWide s.p in_image holds →
-    (xs ys : List Piece) → Prints s holds xs → (in_image ≡ false → Prints s (HasReadingWith s.p) ys) →
+    (xs ys : List Piece) → Prints s holds xs → (in_image ≡ false → Prints s s.p.holds ys) →
     Prints s holds (cond in_image xs ys)
 prints-outside s true holds w xs ys a b = a
-prints-outside s false holds w xs ys a b = adds-weaker s.p s.given.ending (HasReadingWith s.p) holds ys
+prints-outside s false holds w xs ys a b = adds-weaker s.p s.given.ending s.p.holds holds ys
     (w.outside refl) (b refl)
 
 -- the page of what stands in a node
@@ -52,7 +54,7 @@ pub page-holds : (s : Setting) (holds : List ℕ → Type 0) (inner : List Piece
 page-holds s holds inner a = (adds-blank s.p s.given.ending holds inner a).0
 
 pub page-good : (s : Setting) (holds : List ℕ → Type 0) (inner : List Piece) → Prints s holds inner →
-    AreGood s.p (page_of s inner).notes
+    AreGood s.p.noted (page_of s inner).notes
 page-good s holds inner a = (adds-blank s.p s.given.ending holds inner a).1
 
 -- an escaped text
@@ -79,9 +81,12 @@ pub prints-nothing : (s : Setting) (in_image : Bool) (holds : List ℕ → Type 
     Prints s holds []
 prints-nothing s in_image holds w = adds-nothing s.p s.given.ending holds (w.own [] refl)
 
-break-read : (s : Setting) → Prints s (HasReadingWith s.p) (said (codes "<br />"))
-break-read s = adds-flat s.p s.given.ending (HasReadingWith s.p) (said (codes "<br />")) refl
-    (void-read s.p (codes "br") [] refl refl)
+-- a break outside images
+break-beside : (s : Setting) (in_image : Bool) →
+    Prints s (IsBeside s.p.test in_image) (cond in_image [] (said (codes "<br />")))
+break-beside s true = adds-nothing s.p s.given.ending (IsBeside s.p.test true) (escaped-beside s.p.test true [] refl)
+break-beside s false = adds-flat s.p s.given.ending (IsBeside s.p.test false) (said (codes "<br />")) refl
+    ((λ e. absurd (lie e)), (λ _. void-read (plain_of s.p) (codes "br") [] refl refl))
 
 done-nothing : (x : List ℕ) → IsDone true x → x ≡ []
 done-nothing x done = elim done [ inl e ↦ e | inr outside ↦ absurd (lie (sym outside.0)) ]
@@ -96,30 +101,32 @@ task-node s true holds w inner a =
     prints-alone s holds inner (adds-weaker s.p s.given.ending (IsDone true) holds inner
     (λ x done. subst holds (sym (done-nothing x done)) (w.own [] refl)) a)
 task-node s false holds w inner a =
-    adds-weaker s.p s.given.ending (HasReadingWith s.p) holds
+    adds-weaker s.p s.given.ending s.p.holds holds
     ((Text (codes "<input type=\"checkbox\" ") ∷ (cond s.given.options.gfm_task_list_item_checkable []
     (said (codes "disabled=\"\" ")))) ++ (inner ++ said (codes "/>")))
     (w.outside refl)
     (adds-task s.p s.given.ending s.given.options s.test s.given.options.gfm_task_list_item_checkable false inner a)
 
 pub span-node : (s : Setting) (t : Spot) (content : Content) (name : Name) → t.around.is_escaping ≡ true →
-    IsWide s.p t.around.in_image (Here s t content) → is_span name ≡ true → (inner : List Piece) →
+    IsWide s.p t.around.in_image (Here s t content) → is_span name ≡ true →
+    (is_call name ≡ true → t.around.in_image ≡ false → PassesIds s.p.test) → (inner : List Piece) →
     Inside s t content name inner
     → Prints s (Here s t content) (node_pieces s t name inner)
-span-node s t content HtmlText e w is inner a =
+span-node s t content HtmlText e w is ids inner a =
     prints-alone s (Here s t content) inner (subst (λ b. Prints s (Holds s.p b t.around.in_image content) inner)
     (ap not s.test.html ∙ sym e) a)
-span-node s t content HtmlTextData e w is inner a =
-    prints-both s (Here s t content) w.both inner (html_pieces s.given t.around t.start t.end) a
-    (adds-weaker s.p s.given.ending Escaped (Here s t content) (html_pieces s.given t.around t.start t.end) w.own
-    (html-escaped s t e))
-span-node s t content Emphasis e w is inner a = prints-pair s t.around.in_image (Here s t content) w (codes "<em>")
+span-node s t content HtmlTextData e w is ids inner a =
+    prints-both s (Here s t content) (IsBeside s.p.test t.around.in_image) w.both inner
+    (html_pieces s.given t.around t.start t.end) a
+    (adds-weaker s.p s.given.ending Escaped (IsBeside s.p.test t.around.in_image)
+    (html_pieces s.given t.around t.start t.end) (escaped-beside s.p.test t.around.in_image) (html-escaped s t e))
+span-node s t content Emphasis e w is ids inner a = prints-pair s t.around.in_image (Here s t content) w (codes "<em>")
     (codes "</em>") (bracket-plain s.p (codes "em") refl) inner a
-span-node s t content Strong e w is inner a = prints-pair s t.around.in_image (Here s t content) w (codes "<strong>")
+span-node s t content Strong e w is ids inner a = prints-pair s t.around.in_image (Here s t content) w (codes "<strong>")
     (codes "</strong>") (bracket-plain s.p (codes "strong") refl) inner a
-span-node s t content GfmStrikethrough e w is inner a = prints-pair s t.around.in_image (Here s t content) w
+span-node s t content GfmStrikethrough e w is ids inner a = prints-pair s t.around.in_image (Here s t content) w
     (codes "<del>") (codes "</del>") (bracket-plain s.p (codes "del") refl) inner a
-span-node s t content CodeText e w is inner a =
+span-node s t content CodeText e w is ids inner a =
     let x : List ℕ = code_text t.around (page_of s inner).text in
     let h : Escaped x = code_text-escaped t (page_of s inner).text (page-holds s (λ x. t.around.is_escaping ≡ true →
     Escaped x) inner a e) in
@@ -127,7 +134,7 @@ span-node s t content CodeText e w is inner a =
     (prints-outside s t.around.in_image (Here s t content) w (said x) (Text (codes "<code>") ∷ Text x
     ∷ Text (codes "</code>") ∷ [])
     (prints-escaped s t.around.in_image (Here s t content) w x h) (λ _. adds-code s.p s.given.ending x h))
-span-node s t content MathText e w is inner a =
+span-node s t content MathText e w is ids inner a =
     let x : List ℕ = code_text t.around (page_of s inner).text in
     let h : Escaped x = code_text-escaped t (page_of s inner).text (page-holds s (λ x. t.around.is_escaping ≡ true →
     Escaped x) inner a e) in
@@ -137,7 +144,7 @@ span-node s t content MathText e w is inner a =
     (Text (codes "<code class=\"language-math math-inline\">") ∷ Text x ∷ Text (codes "</code>") ∷ [])
     (prints-escaped s t.around.in_image (Here s t content) w x h)
     (λ _. adds-math s.p s.given.ending s.given.options s.test x h))
-span-node s t content Link e w is inner a =
+span-node s t content Link e w is ids inner a =
     let page : Page = page_of s inner in
     let h : Here s t content page.text = page-holds s (Here s t content) inner a in
     prints-alone s (Here s t content) (link_pieces s.given t.around (ahead_of t.children) page)
@@ -147,7 +154,7 @@ span-node s t content Link e w is inner a =
     (λ _.
     adds-link s.p s.given.ending s.given.options s.test (target_of s.given (ahead_of t.children) page.notes) page.text
     (target-title s (ahead_of t.children) page (page-good s (Here s t content) inner a).resource) (w.read page.text h)))
-span-node s t content Image e w is inner a =
+span-node s t content Image e w is ids inner a =
     let page : Page = page_of s inner in
     let h : Escaped page.text = page-holds s Escaped inner a in
     prints-alone s (Here s t content) (image_pieces s.given t.around (ahead_of t.children) page)
@@ -157,24 +164,24 @@ span-node s t content Image e w is inner a =
     (λ _.
     adds-image s.p s.given.ending s.given.options s.test (target_of s.given (ahead_of t.children) page.notes) page.text
     (target-title s (ahead_of t.children) page (page-good s Escaped inner a).resource) h))
-span-node s t content HardBreakEscape e w is inner a =
-    prints-both s (Here s t content) w.both inner (outside_images t.around (said (codes "<br />"))) a
-    (prints-outside s t.around.in_image (Here s t content) w [] (said (codes "<br />"))
-    (prints-nothing s t.around.in_image (Here s t content) w) (λ _. break-read s))
-span-node s t content HardBreakTrailing e w is inner a =
-    prints-both s (Here s t content) w.both inner (outside_images t.around (said (codes "<br />"))) a
-    (prints-outside s t.around.in_image (Here s t content) w [] (said (codes "<br />"))
-    (prints-nothing s t.around.in_image (Here s t content) w) (λ _. break-read s))
-span-node s t content GfmTaskListItemCheck e w is inner a = task-node s t.around.in_image (Here s t content) w inner a
-span-node s t content GfmFootnoteCall e w is inner a =
+span-node s t content HardBreakEscape e w is ids inner a =
+    prints-both s (Here s t content) (IsBeside s.p.test t.around.in_image) w.both inner
+    (outside_images t.around (said (codes "<br />"))) a (break-beside s t.around.in_image)
+span-node s t content HardBreakTrailing e w is ids inner a =
+    prints-both s (Here s t content) (IsBeside s.p.test t.around.in_image) w.both inner
+    (outside_images t.around (said (codes "<br />"))) a (break-beside s t.around.in_image)
+span-node s t content GfmTaskListItemCheck e w is ids inner a = task-node s t.around.in_image (Here s t content) w inner a
+span-node s t content GfmFootnoteCall e w is ids inner a =
     let identifier : List ℕ = identifier_at s.given.bytes (ahead_of t.children).label in
     prints-outside s t.around.in_image (Here s t content) w []
     (call_tags s.given.options identifier (number_among t.left.called identifier)
     (suc (count_among t.left.called identifier)))
     (prints-nothing s t.around.in_image (Here s t content) w)
-    (λ _. adds-call s.p s.given.ending s.given.options s.test identifier (number_among t.left.called identifier)
-    (suc (count_among t.left.called identifier)))
-span-node s t content _ e w is inner a = absurd (lie is)
+    (λ out. adds-call s.p s.given.ending s.given.options s.test identifier (number_among t.left.called identifier)
+    (suc (count_among t.left.called identifier))
+    (ids refl out (call_id s.given.options identifier (number_among t.left.called identifier)
+    (suc (count_among t.left.called identifier)))))
+span-node s t content _ e w is ids inner a = absurd (lie is)
 
 -- what stands in links, images and calls
 pub media-node : (s : Setting) (t : Spot) (content : Content) (name : Name) → t.around.is_escaping ≡ true →
@@ -200,21 +207,19 @@ link-node : (s : Setting) (t : Spot) (holds : List ℕ → Type 0) → IsWide s.
     Prints s holds inner
     → Prints s holds (inner ++ (autolink_pieces s.given prefix plain t.start t.end ++ []))
 link-node s t holds w prefix plain outside inner a =
-    prints-both s holds w.both inner (autolink_pieces s.given prefix plain t.start t.end) a
-    (cond_both plain (said (encoded true (text_of s.given.bytes t.start t.end)))
-    (link_start s.given.options (prefix ++ text_of s.given.bytes t.start t.end)
-    ++ link_end (encoded true (text_of s.given.bytes t.start t.end))) (Prints s holds)
-    (λ _. prints-escaped s t.around.in_image holds w (encoded true (text_of s.given.bytes t.start t.end))
-    (is_escaped-encoded (text_of s.given.bytes t.start t.end)))
+    let x : List ℕ = text_of s.given.bytes t.start t.end in
+    let beside : List ℕ → Type 0 = IsBeside s.p.test t.around.in_image in
+    prints-both s holds beside w.both inner (autolink_pieces s.given prefix plain t.start t.end) a
+    (cond_both plain (said (encoded true x)) (link_start s.given.options (prefix ++ x) ++ link_end (encoded true x))
+    (Prints s beside)
+    (λ _. adds-text s.p s.given.ending beside (encoded true x)
+    (escaped-beside s.p.test t.around.in_image (encoded true x) (is_escaped-encoded x)))
     (λ no.
-    adds-weaker s.p s.given.ending (HasReadingWith s.p) holds
-    (link_start s.given.options (prefix ++ text_of s.given.bytes t.start t.end)
-    ++ link_end (encoded true (text_of s.given.bytes t.start t.end)))
-    (w.outside (outside no))
-    (adds-autolink s.p s.given.ending s.given.options s.test (prefix
-    ++ text_of s.given.bytes t.start t.end) (encoded true (text_of s.given.bytes t.start t.end))
-    (text s.p (encoded true (text_of s.given.bytes t.start t.end))
-    (is_escaped-encoded (text_of s.given.bytes t.start t.end))))))
+    adds-weaker s.p s.given.ending (HasReadingWith s.p.test) beside
+    (link_start s.given.options (prefix ++ x) ++ link_end (encoded true x))
+    (λ y h. ((λ e. absurd (lie (sym (outside no) ∙ e))), (λ _. h)))
+    (adds-autolink (plain_of s.p) s.given.ending s.given.options s.test (prefix ++ x) (encoded true x)
+    (text s.p.test (encoded true x) (is_escaped-encoded x)))))
 
 literal-node : (s : Setting) (t : Spot) (holds : List ℕ → Type 0) → IsWide s.p t.around.in_image holds →
     (prefix : List ℕ) (inner : List Piece) → Prints s holds inner

@@ -21,9 +21,9 @@ data-node : (s : Setting) (t : Spot) (content : Content) → IsNarrow t.around.i
     (inner : List Piece) → Prints s (Here s t content) inner → (x : List ℕ)
     → Prints s (Here s t content) (inner ++ (Text (encoded t.around.is_escaping x) ∷ []))
 data-node s t content n inner a x =
-    prints-both s (Here s t content) n.both inner (said (encoded t.around.is_escaping x)) a
-    (adds-text s.p s.given.ending (Here s t content) (encoded t.around.is_escaping x)
-    (n.own (encoded t.around.is_escaping x) (encoded-escaped t.around.is_escaping x)))
+    let beside : List ℕ → Type 0 = λ y. t.around.is_escaping ≡ true → Escaped y in
+    prints-both s (Here s t content) beside n.both inner (said (encoded t.around.is_escaping x)) a
+    (adds-text s.p s.given.ending beside (encoded t.around.is_escaping x) (encoded-escaped t.around.is_escaping x))
 
 -- a line ending
 pub line_ending-escaped : (s : Setting) (t : Spot) → is_line_ends (text_of s.given.bytes t.start t.end) ≡ true →

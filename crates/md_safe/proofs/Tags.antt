@@ -3,21 +3,23 @@ use Rattle.std.specs.Str.{bytes_eq}
 use Rattle.std.specs.List.{list_all}
 use Rattle.std.proofs.Common.{◌≡◌, ℕ, Bool, true, false, not, ◌&&◌, List, [], ◌∷◌, ◌++◌, refl, sym, ap, ◌∙◌, subst, append_assoc, codes}
 use Rattle.md_text.specs.Html.{Attribute, HasReadingWith, opening_tag, closing_tag, is_tag, elements, void_tags}
-use Rattle.md_text.proofs.HtmlJoin.{text, join, element, void, opening-before}
+use Rattle.md_text.proofs.HtmlJoin.{text, void, opening-before}
 use Rattle.md_text.proofs.HtmlWriting.{attributes_before, written_attributes-before}
 use Rattle.md_meaning.specs.declared.options.CompileOptions.{CompileOptions}
 use Rattle.md_meaning.specs.Piece.{Piece, Text, Needed, Forced, Noted, Recalled}
 use Rattle.md_meaning.specs.Media.{href_of, src_of}
 use Rattle.md_safe.proofs.Texts.{Escaped}
+use Rattle.md_safe.proofs.Claim.{Claim}
 use Rattle.md_safe.proofs.Laid.{Adds, adds-append, adds-text, adds-weaker, adds-needed, adds-forced, adds-nothing}
 
 -- an attribute
 abbrev pub attribute : List ℕ → List ℕ → Attribute
 attribute name value = record { name = name; value = value }
 
--- neither `href` nor `src`
+-- neither `href` nor `src`, and no `id`
 abbrev pub is_other_name : List ℕ → Bool
-is_other_name name = not (bytes_eq name (codes "href")) && not (bytes_eq name (codes "src"))
+is_other_name name = not (bytes_eq name (codes "href")) && (not (bytes_eq name (codes "src"))
+    && not (bytes_eq name (codes "id")))
 
 -- what is known of a test on attributes, and of the options
 pub record IsTest (p : Attribute → Bool) (options : CompileOptions) : Type 0 where
@@ -27,40 +29,45 @@ pub record IsTest (p : Attribute → Bool) (options : CompileOptions) : Type 0 w
   pub image : (destination : List ℕ) → p (attribute (codes "src") (src_of options destination)) ≡ true
   pub html : options.allow_dangerous_html ≡ false
 
--- two texts that give one with a reading round one that has a reading
-abbrev pub Bracket : (Attribute → Bool) → List ℕ → List ℕ → Type 0
-Bracket p o c = (x : List ℕ) → HasReadingWith p x → HasReadingWith p (o ++ (x ++ c))
+-- two texts round one of which something is claimed, so that something is claimed of all
+abbrev pub Turns : Claim → Claim → List ℕ → List ℕ → Type 0
+Turns p q o c = (x : List ℕ) → p.holds x → q.holds (o ++ (x ++ c))
 
-pub bracket-tag : (p : Attribute → Bool) (name : List ℕ) (attributes : List Attribute) →
-    is_tag elements name attributes ≡ true → list_all p attributes ≡ true →
+-- two texts that keep a claim round one of which it is made
+abbrev pub Bracket : Claim → List ℕ → List ℕ → Type 0
+Bracket p o c = Turns p p o c
+
+pub bracket-tag : (p : Claim) (name : List ℕ) (attributes : List Attribute) →
+    is_tag elements name attributes ≡ true → list_all p.test attributes ≡ true →
     Bracket p (opening_tag name attributes) (closing_tag name)
 bracket-tag p name attributes h a x r =
-    subst (HasReadingWith p) (sym (opening-before name attributes (x ++ closing_tag name)))
-    (element p name attributes x h a r)
+    subst p.holds (sym (opening-before name attributes (x ++ closing_tag name)))
+    (p.within name attributes x h a r)
 
-pub bracket-two : (p : Attribute → Bool) (o c o' c' : List ℕ) → Bracket p o c → Bracket p o' c' →
+pub bracket-two : (p : Claim) (o c o' c' : List ℕ) → Bracket p o c → Bracket p o' c' →
     Bracket p (o ++ o') (c' ++ c)
 bracket-two p o c o' c' a b x r =
-    subst (HasReadingWith p) (by o c o' c' x) (a (o' ++ (x ++ c')) (b x r))
+    subst p.holds (by o c o' c' x) (a (o' ++ (x ++ c')) (b x r))
   where
     by : (o c o' c' x : List ℕ) → o ++ ((o' ++ (x ++ c')) ++ c) ≡ (o ++ o') ++ (x ++ (c' ++ c))
     by o c o' c' x = simp append_assoc
 
 -- an element, attribute by attribute
-pub element-read : (p : Attribute → Bool) (name : List ℕ) (attributes : List Attribute) (inside : List ℕ) →
-    is_tag elements name attributes ≡ true → list_all p attributes ≡ true → HasReadingWith p inside
-    → HasReadingWith p (60 ∷ (name ++ attributes_before attributes (62 ∷ (inside ++ (60 ∷ 47 ∷ (name ++ (62 ∷ [])))))))
+pub element-read : (p : Claim) (name : List ℕ) (attributes : List Attribute) (inside : List ℕ) →
+    is_tag elements name attributes ≡ true → list_all p.test attributes ≡ true → p.holds inside
+    → p.holds (60 ∷ (name ++ attributes_before attributes (62 ∷ (inside ++ (60 ∷ 47 ∷ (name ++ (62 ∷ [])))))))
 element-read p name attributes inside h a r =
-    subst (λ x. HasReadingWith p (60 ∷ (name ++ x))) (written_attributes-before attributes (62
-    ∷ (inside ++ (60 ∷ 47 ∷ (name ++ (62 ∷ [])))))) (element p name attributes inside h a r)
+    subst (λ x. p.holds (60 ∷ (name ++ x))) (written_attributes-before attributes (62
+    ∷ (inside ++ (60 ∷ 47 ∷ (name ++ (62 ∷ [])))))) (p.within name attributes inside h a r)
 
 -- a void tag, attribute by attribute
-pub void-read : (p : Attribute → Bool) (name : List ℕ) (attributes : List Attribute) →
-    is_tag void_tags name attributes ≡ true → list_all p attributes ≡ true
-    → HasReadingWith p (60 ∷ (name ++ attributes_before attributes (32 ∷ 47 ∷ 62 ∷ [])))
+pub void-read : (p : Claim) (name : List ℕ) (attributes : List Attribute) →
+    is_tag void_tags name attributes ≡ true → list_all p.test attributes ≡ true
+    → p.holds (60 ∷ (name ++ attributes_before attributes (32 ∷ 47 ∷ 62 ∷ [])))
 void-read p name attributes h a =
-    subst (λ x. HasReadingWith p (60 ∷ (name ++ x))) (written_attributes-before attributes (32 ∷ 47 ∷ 62 ∷ []))
-    (void p name attributes h a)
+    p.plain (60 ∷ (name ++ attributes_before attributes (32 ∷ 47 ∷ 62 ∷ [])))
+    (subst (λ x. HasReadingWith p.test (60 ∷ (name ++ x))) (written_attributes-before attributes (32 ∷ 47 ∷ 62 ∷ []))
+    (void p.test name attributes h a))
 
 -- a text between two escaped ones
 pub record IsFramed (c x : List ℕ) : Type 0 where
@@ -74,37 +81,43 @@ regrouped : (e o f y g c h : List ℕ) → e ++ ((o ++ (((f ++ y) ++ g) ++ c)) +
     ++ (y ++ (g ++ (c ++ h)))
 regrouped e o f y g c h = simp append_assoc
 
-enclosed : (p : Attribute → Bool) (o c x y z : List ℕ) → Bracket p o c → IsFramed o x → HasReadingWith p y →
-    IsFramed c z → HasReadingWith p (x ++ (y ++ z))
-enclosed p o c x y z bracket a r b =
-    let inside : HasReadingWith p ((a.after ++ y) ++ b.before) =
-    join p (a.after ++ y) b.before (join p a.after y (text p a.after a.escaped_after) r)
-    (text p b.before b.escaped_before) in
-    let all : HasReadingWith p (a.before ++ ((o ++ (((a.after ++ y) ++ b.before) ++ c)) ++ b.after)) =
-    join p a.before ((o ++ (((a.after ++ y) ++ b.before) ++ c)) ++ b.after) (text p a.before a.escaped_before)
-    (join p (o ++ (((a.after ++ y) ++ b.before) ++ c)) b.after (bracket ((a.after ++ y) ++ b.before) inside)
-    (text p b.after b.escaped_after)) in
-    let parts : HasReadingWith p ((a.before ++ (o ++ a.after)) ++ (y ++ (b.before ++ (c ++ b.after)))) =
-    subst (HasReadingWith p) (regrouped a.before o a.after y b.before c b.after) all in
-    subst (λ x. HasReadingWith p (x ++ (y ++ z))) (sym a.whole)
-    (subst (λ z. HasReadingWith p ((a.before ++ (o ++ a.after)) ++ (y ++ z))) (sym b.whole) parts)
+enclosed : (p q : Claim) (o c x y z : List ℕ) → Turns p q o c → IsFramed o x → p.holds y →
+    IsFramed c z → q.holds (x ++ (y ++ z))
+enclosed p q o c x y z bracket a r b =
+    let inside : p.holds ((a.after ++ y) ++ b.before) =
+    p.behind (a.after ++ y) b.before (p.before a.after y (text p.test a.after a.escaped_after) r)
+    (text p.test b.before b.escaped_before) in
+    let all : q.holds (a.before ++ ((o ++ (((a.after ++ y) ++ b.before) ++ c)) ++ b.after)) =
+    q.before a.before ((o ++ (((a.after ++ y) ++ b.before) ++ c)) ++ b.after) (text q.test a.before a.escaped_before)
+    (q.behind (o ++ (((a.after ++ y) ++ b.before) ++ c)) b.after (bracket ((a.after ++ y) ++ b.before) inside)
+    (text q.test b.after b.escaped_after)) in
+    let parts : q.holds ((a.before ++ (o ++ a.after)) ++ (y ++ (b.before ++ (c ++ b.after)))) =
+    subst q.holds (regrouped a.before o a.after y b.before c b.after) all in
+    subst (λ x. q.holds (x ++ (y ++ z))) (sym a.whole)
+    (subst (λ z. q.holds ((a.before ++ (o ++ a.after)) ++ (y ++ z))) (sym b.whole) parts)
 
--- pieces between those of a bracket
-pub adds-pair : (p : Attribute → Bool) (ending o c : List ℕ) (xs ys zs : List Piece) → Bracket p o c →
-    Adds p ending (IsFramed o) xs → Adds p ending (HasReadingWith p) ys → Adds p ending (IsFramed c) zs
-    → Adds p ending (HasReadingWith p) (xs ++ (ys ++ zs))
-adds-pair p ending o c xs ys zs bracket a r b =
-    adds-append p ending (IsFramed o) (λ w. (y : List ℕ) × (z : List ℕ) × (w ≡ y ++ z) × HasReadingWith p y
-    × IsFramed c z) (HasReadingWith p) xs (ys ++ zs)
-    (λ x w f g. subst (λ w. HasReadingWith p (x ++ w)) (sym g.2) (enclosed p o c x g.0 g.1 bracket f g.3 g.4))
+-- pieces between those of two texts
+pub adds-turned : (p q : Claim) (ending o c : List ℕ) (xs ys zs : List Piece) → Turns p q o c →
+    Adds p ending (IsFramed o) xs → Adds p ending p.holds ys → Adds p ending (IsFramed c) zs
+    → Adds p ending q.holds (xs ++ (ys ++ zs))
+adds-turned p q ending o c xs ys zs bracket a r b =
+    adds-append p ending (IsFramed o) (λ w. (y : List ℕ) × (z : List ℕ) × (w ≡ y ++ z) × p.holds y
+    × IsFramed c z) q.holds xs (ys ++ zs)
+    (λ x w f g. subst (λ w. q.holds (x ++ w)) (sym g.2) (enclosed p q o c x g.0 g.1 bracket f g.3 g.4))
     a
-    (adds-append p ending (HasReadingWith p) (IsFramed c) (λ w. (y : List ℕ) × (z : List ℕ) × (w ≡ y ++ z)
-    × HasReadingWith p y × IsFramed c z) ys zs
+    (adds-append p ending p.holds (IsFramed c) (λ w. (y : List ℕ) × (z : List ℕ) × (w ≡ y ++ z)
+    × p.holds y × IsFramed c z) ys zs
     (λ y z f g. (y, z, refl, f, g))
     r b)
 
+-- pieces between those of a bracket
+pub adds-pair : (p : Claim) (ending o c : List ℕ) (xs ys zs : List Piece) → Bracket p o c →
+    Adds p ending (IsFramed o) xs → Adds p ending p.holds ys → Adds p ending (IsFramed c) zs
+    → Adds p ending p.holds (xs ++ (ys ++ zs))
+adds-pair p ending o c xs ys zs bracket a r b = adds-turned p p ending o c xs ys zs bracket a r b
+
 -- a tag between pieces that add escaped texts
-pub adds-framed : (p : Attribute → Bool) (ending c : List ℕ) (xs zs : List Piece) → Adds p ending Escaped xs →
+pub adds-framed : (p : Claim) (ending c : List ℕ) (xs zs : List Piece) → Adds p ending Escaped xs →
     Adds p ending Escaped zs → Adds p ending (IsFramed c) (xs ++ (Text c ∷ zs))
 adds-framed p ending c xs zs a b =
     adds-append p ending Escaped (λ w. (z : List ℕ) × (w ≡ c ++ z) × Escaped z) (IsFramed c) xs (Text c ∷ zs)
@@ -120,32 +133,34 @@ adds-framed p ending c xs zs a b =
     (λ x z f g. (z, ap (λ x. x ++ z) f, g))
     (adds-text p ending (λ x. x ≡ c) c refl) b)
 
-pub adds-nil : (p : Attribute → Bool) (ending : List ℕ) → Adds p ending Escaped []
+pub adds-nil : (p : Claim) (ending : List ℕ) → Adds p ending Escaped []
 adds-nil p ending = adds-nothing p ending Escaped refl
 
 -- a tag alone, or on a line of its own
-pub framed-text : (p : Attribute → Bool) (ending c : List ℕ) → Adds p ending (IsFramed c) (Text c ∷ [])
+pub framed-text : (p : Claim) (ending c : List ℕ) → Adds p ending (IsFramed c) (Text c ∷ [])
 framed-text p ending c = adds-framed p ending c [] [] (adds-nil p ending) (adds-nil p ending)
 
-pub framed-needed : (p : Attribute → Bool) (ending c : List ℕ) → Escaped ending →
+pub framed-needed : (p : Claim) (ending c : List ℕ) → Escaped ending →
     Adds p ending (IsFramed c) (Needed ∷ Text c ∷ [])
 framed-needed p ending c h = adds-framed p ending c (Needed ∷ []) [] (adds-needed p ending h) (adds-nil p ending)
 
-pub framed-forced : (p : Attribute → Bool) (ending c : List ℕ) → Escaped ending →
+pub framed-forced : (p : Claim) (ending c : List ℕ) → Escaped ending →
     Adds p ending (IsFramed c) (Forced ∷ Text c ∷ [])
 framed-forced p ending c h = adds-framed p ending c (Forced ∷ []) [] (adds-forced p ending h) (adds-nil p ending)
 
--- readings one after another
-pub adds-readings : (p : Attribute → Bool) (ending : List ℕ) (xs ys : List Piece) →
-    Adds p ending (HasReadingWith p) xs → Adds p ending (HasReadingWith p) ys →
-    Adds p ending (HasReadingWith p) (xs ++ ys)
-adds-readings p ending xs ys a b = adds-append p ending (HasReadingWith p) (HasReadingWith p) (HasReadingWith p) xs ys
-    (join p) a b
+-- what is claimed before or behind what has a reading
+pub adds-before : (p : Claim) (ending : List ℕ) (xs ys : List Piece) → Adds p ending (HasReadingWith p.test) xs →
+    Adds p ending p.holds ys → Adds p ending p.holds (xs ++ ys)
+adds-before p ending xs ys a b = adds-append p ending (HasReadingWith p.test) p.holds p.holds xs ys p.before a b
+
+pub adds-behind : (p : Claim) (ending : List ℕ) (xs ys : List Piece) → Adds p ending p.holds xs →
+    Adds p ending (HasReadingWith p.test) ys → Adds p ending p.holds (xs ++ ys)
+adds-behind p ending xs ys a b = adds-append p ending p.holds (HasReadingWith p.test) p.holds xs ys p.behind a b
 
 -- an escaped text has a reading
-pub adds-escaped : (p : Attribute → Bool) (ending : List ℕ) (xs : List Piece) → Adds p ending Escaped xs →
-    Adds p ending (HasReadingWith p) xs
-adds-escaped p ending xs a = adds-weaker p ending Escaped (HasReadingWith p) xs (text p) a
+pub adds-escaped : (p : Claim) (ending : List ℕ) (xs : List Piece) → Adds p ending Escaped xs →
+    Adds p ending (HasReadingWith p.test) xs
+adds-escaped p ending xs a = adds-weaker p ending Escaped (HasReadingWith p.test) xs (text p.test) a
 
 -- the texts of some pieces in one
 abbrev pub flat : List Piece → List ℕ
@@ -158,7 +173,7 @@ are_texts [] = true
 are_texts (Text x ∷ pieces) = are_texts pieces
 are_texts (_ ∷ pieces) = false
 
-pub adds-flat : (p : Attribute → Bool) (ending : List ℕ) (f : List ℕ → Type 0) (pieces : List Piece) →
+pub adds-flat : (p : Claim) (ending : List ℕ) (f : List ℕ → Type 0) (pieces : List Piece) →
     are_texts pieces ≡ true → f (flat pieces) → Adds p ending f pieces
 adds-flat p ending f [] texts h = adds-nothing p ending f h
 adds-flat p ending f (Text x ∷ pieces) texts h =

@@ -48,7 +48,7 @@ line_ends-escaped (b ∷ text) h =
     ])
     (line_ends-escaped text parts.1)
 
-digit-plain : (b : ℕ) → is_digit b ≡ true → is_plain b ≡ true
+pub digit-plain : (b : ℕ) → is_digit b ≡ true → is_plain b ≡ true
 digit-plain b h =
     let parts = and_parts (nat_le 48 b) (nat_le b 57) h in
     let low : 48 ≤ b = leb-true 48 b parts.0 in

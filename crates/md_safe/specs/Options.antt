@@ -1,5 +1,5 @@
 -- The options under which output is safe.
-use Rattle.std.specs.Prelude.{◌≡◌, false, None}
+use Rattle.std.specs.Prelude.{◌≡◌, true, false, None}
 use Rattle.md_meaning.specs.declared.options.CompileOptions.{CompileOptions}
 
 -- nothing is written as it is given: HTML is escaped, and the heading of the footnotes is the usual one
@@ -17,3 +17,8 @@ pub record KeepsLinks (options : CompileOptions) : Type 0 where
 pub record KeepsImages (options : CompileOptions) : Type 0 where
   pub links : KeepsLinks options
   pub permitted_images : options.allow_any_img_src ≡ false
+
+-- nothing is written as it is given, and the ids of footnotes and of their calls go by number
+pub record KeepsIds (options : CompileOptions) : Type 0 where
+  pub grammar : KeepsGrammar options
+  pub by_number : options.gfm_footnote_number_ids ≡ true

@@ -1,14 +1,16 @@
 //! What holds of the meaning of every document, as the contracts of functions that do nothing.
 
-ghost use Rattle.std.specs.Prelude.{ℕ, List};
+ghost use Rattle.std.specs.Prelude.{ℕ, ◌<◌, ◌^◌, List, length, false};
 ghost use Rattle.md_text.specs.Html.{any_attribute, HasOneReadingWith};
 ghost use Rattle.md_text.specs.Safe.{is_safe_link, is_safe_image};
-ghost use Rattle.md_base.specs.Tree.{Forest};
+ghost use Rattle.md_text.specs.Ids.{HasDistinctIds};
+ghost use Rattle.md_base.specs.Tree.{Forest, flatten};
 ghost use Rattle.md_meaning.specs.declared.options.CompileOptions.{CompileOptions};
 ghost use Rattle.md_meaning.specs.Whole.{printed_meaning as meaning};
 ghost use Rattle.md_shape.specs.Built.{Blocks, IsBuilt};
+ghost use Rattle.md_shape.specs.Underlined.{IsUnderlined};
 ghost use Rattle.md_meaning.specs.Defaults.{default_options, gfm_options};
-ghost use Rattle.md_safe.specs.Options.{KeepsGrammar, KeepsLinks, KeepsImages};
+ghost use Rattle.md_safe.specs.Options.{KeepsGrammar, KeepsLinks, KeepsImages, KeepsIds};
 
 /// A document that is built of what may stand where it is means a text of the HTML grammar with exactly one
 /// reading, where the options write nothing as it is given; and in that reading each link, and each image, has
@@ -23,6 +25,14 @@ pub fn safe_options_make_safe_output()
     ensures safe_images { (bytes : List ℕ) (names : List (List ℕ × List ℕ)) (options : CompileOptions) (document : Forest)
         → IsBuilt bytes Blocks document → KeepsImages options
         → HasOneReadingWith is_safe_image (meaning options names bytes document) }
+{}
+
+/// Where ids go by number and the options write nothing as it is given, no two ids in the text are equal, whatever the
+/// prefix, if the document has no more events than 64 bits count.
+pub fn ids_by_number_are_distinct()
+    ensures { (bytes : List ℕ) (names : List (List ℕ × List ℕ)) (options : CompileOptions) (document : Forest)
+        → IsBuilt bytes Blocks document → IsUnderlined false document → KeepsIds options
+        → length (flatten document) < 2 ^ 64 → HasDistinctIds (meaning options names bytes document) }
 {}
 
 /// The default options are safe, and so are those of GitHub flavored Markdown.

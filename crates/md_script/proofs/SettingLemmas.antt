@@ -108,6 +108,7 @@ options_by_marked lines options h = record {
   dangerous_protocol = h.dangerous_protocol ∙ given_by_marked lines (codes "allow_dangerous_protocol");
   checkable = h.checkable ∙ given_by_marked lines (codes "gfm_task_list_item_checkable");
   tagfilter = h.tagfilter ∙ given_by_marked lines (codes "gfm_tagfilter");
+  number_ids = h.number_ids ∙ given_by_marked lines (codes "gfm_footnote_number_ids");
   ending = h.ending ∙ ap (λ text. unwrap_or (option_and_then ending_named text) LineFeed)
       (text_by_marked lines ending_name);
   back_label = h.back_label ∙ text_by_marked lines (codes "gfm_footnote_back_label");

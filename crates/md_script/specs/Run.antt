@@ -8,9 +8,10 @@ use Rattle.md_tree.specs.Grammar.{Document, IsChecked}
 use Rattle.md_tree.specs.Refusal.{IsRefusal}
 use Rattle.md_meaning.specs.declared.options.CompileOptions.{CompileOptions}
 use Rattle.md_meaning.specs.Meaning.{meaning}
-use Rattle.md_safe.specs.Options.{KeepsGrammar, KeepsLinks, KeepsImages}
+use Rattle.md_safe.specs.Options.{KeepsGrammar, KeepsLinks, KeepsImages, KeepsIds}
 use Rattle.md_text.specs.Html.{any_attribute, HasOneReadingWith}
 use Rattle.md_text.specs.Safe.{is_safe_link, is_safe_image}
+use Rattle.md_text.specs.Ids.{HasDistinctIds}
 use Rattle.md_script.specs.Script.{IsReadable, IsFirstUnreadable, StandsFor}
 use Rattle.md_script.specs.declared.error.RunError.{RunError}
 use Rattle.md_script.specs.declared.error.RunError.TheVariants as error
@@ -27,14 +28,15 @@ abbrev pub document_of : List Event → List ℕ → Document
 document_of events bytes = record { events = events; bytes = bytes; names = reference_names }
 
 -- the events are of the grammar over the bytes, and the text is the meaning of their document; where the options
--- are safe, it
--- has one reading, with links and images of permitted protocols alone
+-- are safe, it has one reading, with links and images of permitted protocols alone, and where ids go by number no two
+-- ids are equal
 pub record IsCompiled (events : List Event) (bytes : List ℕ) (options : CompileOptions) (text : List ℕ) : Type 0 where
   pub grammatical : IsChecked (document_of events bytes)
   pub means : (document : Forest) → flatten document ≡ events → text ≡ meaning options reference_names bytes document
   pub one_reading : KeepsGrammar options → HasOneReadingWith any_attribute text
   pub safe_links : KeepsLinks options → HasOneReadingWith is_safe_link text
   pub safe_images : KeepsImages options → HasOneReadingWith is_safe_image text
+  pub distinct_ids : KeepsIds options → HasDistinctIds text
 
 -- why events give no text
 abbrev pub ExplainsEvents : List Event → List ℕ → RunError → Type 0

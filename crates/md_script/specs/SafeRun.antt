@@ -1,5 +1,5 @@
 -- What `run_safe` answers: a safe text, or why there is none.
-use Rattle.std.specs.Prelude.{◌≡◌, ℕ, List}
+use Rattle.std.specs.Prelude.{◌≡◌, ℕ, true, List}
 use Rattle.md_base.specs.declared.event.Event.{Event}
 use Rattle.md_base.specs.Tree.{Forest, flatten}
 use Rattle.md_tree.specs.declared.rule.Rule.{Rule}
@@ -8,6 +8,7 @@ use Rattle.md_tree.specs.Grammar.{IsChecked}
 use Rattle.md_tree.specs.Refusal.{IsRefusal}
 use Rattle.md_meaning.specs.Meaning.{meaning}
 use Rattle.md_meaning.specs.declared.options.CompileOptions.{CompileOptions}
+use Rattle.md_text.specs.Ids.{HasDistinctIds}
 use Rattle.md_safe.specs.Options.{KeepsImages}
 use Rattle.md_html.specs.declared.safe_html.SafeError.{SafeError}
 use Rattle.md_html.specs.declared.safe_html.SafeError.TheVariants as safe
@@ -18,12 +19,14 @@ use Rattle.md_script.specs.Error.{run_error_of}
 use Rattle.md_script.specs.Run.{reference_names, document_of, ExplainsEvents, ExplainsRun}
 use Rattle.md_script.specs.Script.{StandsFor}
 
--- the options are safe, the events are of the grammar over the bytes, and the text is the meaning of their document
+-- the options are safe, the events are of the grammar over the bytes, and the text is the meaning of their document;
+-- where ids go by number no two ids are equal
 pub record IsSafelyCompiled (events : List Event) (bytes : List ℕ) (options : CompileOptions)
     (text : List ℕ) : Type 0 where
   pub safe : KeepsImages options
   pub grammatical : IsChecked (document_of events bytes)
   pub means : (document : Forest) → flatten document ≡ events → text ≡ meaning options reference_names bytes document
+  pub distinct_ids : options.gfm_footnote_number_ids ≡ true → HasDistinctIds text
 
 -- why events give no safe text: their options aren't safe, or they are and the events give no text
 abbrev pub ExplainsSafeEvents : List Event → List ℕ → CompileOptions → SafeRunError → Type 0

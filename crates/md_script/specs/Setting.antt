@@ -17,7 +17,7 @@ abbrev pub flag_names : List (List ℕ)
 flag_names =
     codes "allow_any_img_src" ∷ codes "allow_dangerous_html" ∷ codes "allow_dangerous_protocol"
     ∷ codes "gfm_task_list_item_checkable"
-    ∷ codes "gfm_tagfilter" ∷ []
+    ∷ codes "gfm_tagfilter" ∷ codes "gfm_footnote_number_ids" ∷ []
 
 -- the options that are texts
 abbrev pub text_names : List (List ℕ)
@@ -88,6 +88,7 @@ pub record HasOptions (lines : List (List ℕ)) (options : CompileOptions) : Typ
   pub dangerous_protocol : options.allow_dangerous_protocol ≡ is_given lines (codes "allow_dangerous_protocol")
   pub checkable : options.gfm_task_list_item_checkable ≡ is_given lines (codes "gfm_task_list_item_checkable")
   pub tagfilter : options.gfm_tagfilter ≡ is_given lines (codes "gfm_tagfilter")
+  pub number_ids : options.gfm_footnote_number_ids ≡ is_given lines (codes "gfm_footnote_number_ids")
   pub ending : options.default_line_ending ≡ unwrap_or (option_and_then ending_named (text_given lines ending_name))
       LineFeed
   pub back_label : option_map string_bytes options.gfm_footnote_back_label

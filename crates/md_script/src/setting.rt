@@ -11,12 +11,13 @@ use md_text::LineEnding;
 use std::alloc::{AllocError, Global};
 
 /// The options that are off or on.
-const FLAG_NAMES: [&[u8]; 5] = [
+const FLAG_NAMES: [&[u8]; 6] = [
     b"allow_any_img_src",
     b"allow_dangerous_html",
     b"allow_dangerous_protocol",
     b"gfm_task_list_item_checkable",
     b"gfm_tagfilter",
+    b"gfm_footnote_number_ids",
 ];
 
 /// The options that are texts.
@@ -196,6 +197,7 @@ pub(crate) fn options_given(alloc: Global, lines: &[&[u8]]) -> Result<CompileOpt
         allow_dangerous_protocol: is_given(lines, b"allow_dangerous_protocol"),
         gfm_task_list_item_checkable: is_given(lines, b"gfm_task_list_item_checkable"),
         gfm_tagfilter: is_given(lines, b"gfm_tagfilter"),
+        gfm_footnote_number_ids: is_given(lines, b"gfm_footnote_number_ids"),
         default_line_ending: line_ending_given(lines),
         gfm_footnote_back_label: text_given(alloc, lines, b"gfm_footnote_back_label")?,
         gfm_footnote_clobber_prefix: text_given(alloc, lines, b"gfm_footnote_clobber_prefix")?,

@@ -9,3 +9,4 @@ pub mod Listed
 pub mod Decoding
 pub mod Fitting
 pub mod Grammatical
+pub mod Underlines

@@ -1,18 +1,26 @@
 //! What holds of every document of the grammar, as the contracts of functions that do nothing.
 
-ghost use Rattle.std.specs.Prelude.{◌≡◌, ℕ, List, [], map};
+ghost use Rattle.std.specs.Prelude.{◌≡◌, ℕ, List, [], map, false};
 ghost use Rattle.md_base.specs.Tree.{Forest};
 ghost use Rattle.md_tree.specs.Grammar.{IsGrammatical};
 ghost use Rattle.md_meaning.specs.declared.facts.Surroundings.{Surroundings};
 ghost use Rattle.md_meaning.specs.Meaning.At.{Given, Before};
 ghost use Rattle.md_meaning.specs.Meaning.Nodes.{meant};
 ghost use Rattle.md_shape.specs.Built.{Blocks, IsBuilt};
+ghost use Rattle.md_shape.specs.Underlined.{IsUnderlined};
 ghost use Rattle.md_shape.specs.Leads.{Everywhere, EverywhereAfter, HasItsText, HasItsLabel, Decodes, RefersAlike, LeadsSomewhere, defined_in, footnotes_in};
 
 /// Each document of the grammar is built of what may stand where it is, beginning with blocks.
 pub fn grammatical_documents_are_built()
     ensures { (bytes : List ℕ) (names : List (List ℕ × List ℕ)) (forest : Forest)
         → IsGrammatical bytes names forest → IsBuilt bytes Blocks forest }
+{}
+
+/// In a document of the grammar each underline stands behind the text of its heading, with nothing printed between, and
+/// nothing stands in it.
+pub fn underlines_stand_behind_headings()
+    ensures { (bytes : List ℕ) (names : List (List ℕ × List ℕ)) (forest : Forest)
+        → IsGrammatical bytes names forest → IsUnderlined false forest }
 {}
 
 /// In a document of the grammar each text and each label that the meaning reads is there, and each reference stands for a

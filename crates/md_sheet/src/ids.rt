@@ -1,6 +1,7 @@
 //! The ids of footnotes and of their calls, and texts that options give.
 
-ghost use Rattle.std.specs.Prelude.{◌≡◌, ◌++◌, IfOk, OnOk, string_bytes, option_map};
+ghost use Rattle.std.specs.Prelude.{◌≡◌, ◌∷◌, ◌++◌, IfOk, OnOk, string_bytes, option_map};
+ghost use Rattle.std.specs.Fmt.{decimal};
 ghost use Rattle.md_meaning.specs.Footnotes as notes;
 
 use md_meaning::CompileOptions;
@@ -40,7 +41,23 @@ fn id_of(
     Ok(id)
 }
 
-/// The id of the footnote with an identifier.
+/// `fn-` or `fnref-` behind the prefix, and the number.
+fn numbered_id_of(
+    alloc: Global,
+    options: &CompileOptions,
+    kind: &str,
+    number: usize,
+) -> Result<String, AllocError>
+    ensures { IfOk result (λ id. string_bytes id ≡ notes.numbered_id_of options.now kind.now number) }
+{
+    let mut id = escaped_option(alloc, &options.gfm_footnote_clobber_prefix, "user-content-")?;
+    id.push_str(kind)?;
+    id.push_str(number.to_string(alloc)?.as_str())?;
+    Ok(id)
+}
+
+/// The id of the footnote with an identifier and a number: it has the number where ids go by number, else the
+/// identifier.
 ///
 /// # Errors
 ///
@@ -49,10 +66,23 @@ pub fn footnote_id(
     alloc: Global,
     options: &CompileOptions,
     identifier: &str,
+    number: usize,
 ) -> Result<String, AllocError>
-    ensures { IfOk result (λ id. string_bytes id ≡ notes.footnote_id options.now identifier.now) }
+    ensures { IfOk result (λ id. string_bytes id ≡ notes.footnote_id options.now identifier.now number) }
 {
-    id_of(alloc, options, "fn-", identifier)
+    if options.gfm_footnote_number_ids {
+        numbered_id_of(alloc, options, "fn-", number)
+    } else {
+        id_of(alloc, options, "fn-", identifier)
+    }
+}
+
+/// Adds `-` and the occurrence.
+fn push_occurrence(alloc: Global, text: &mut String, occurrence: usize) -> Result<(), AllocError>
+    ensures { OnOk result (string_bytes text.new ≡ string_bytes text.old ++ (45 ∷ decimal occurrence)) }
+{
+    text.push_str("-")?;
+    text.push_str(occurrence.to_string(alloc)?.as_str())
 }
 
 /// Adds `-` and the occurrence, from the second one on.
@@ -62,11 +92,11 @@ fn push_suffix(alloc: Global, text: &mut String, occurrence: usize) -> Result<()
     if occurrence == 1 {
         return Ok(());
     }
-    text.push_str("-")?;
-    text.push_str(occurrence.to_string(alloc)?.as_str())
+    push_occurrence(alloc, text, occurrence)
 }
 
-/// The id of one of the calls of the footnote with an identifier, by its occurrence from 1.
+/// The id of one of the calls of the footnote with an identifier and a number, by its occurrence from 1: where ids go by
+/// number it has the number in place of the identifier, and the occurrence also where that is 1.
 ///
 /// # Errors
 ///
@@ -75,11 +105,18 @@ pub fn call_id(
     alloc: Global,
     options: &CompileOptions,
     identifier: &str,
+    number: usize,
     occurrence: usize,
 ) -> Result<String, AllocError>
-    ensures { IfOk result (λ id. string_bytes id ≡ notes.call_id options.now identifier.now occurrence) }
+    ensures { IfOk result (λ id. string_bytes id ≡ notes.call_id options.now identifier.now number occurrence) }
 {
-    let mut id = id_of(alloc, options, "fnref-", identifier)?;
-    push_suffix(alloc, &mut id, occurrence)?;
-    Ok(id)
+    if options.gfm_footnote_number_ids {
+        let mut id = numbered_id_of(alloc, options, "fnref-", number)?;
+        push_occurrence(alloc, &mut id, occurrence)?;
+        Ok(id)
+    } else {
+        let mut id = id_of(alloc, options, "fnref-", identifier)?;
+        push_suffix(alloc, &mut id, occurrence)?;
+        Ok(id)
+    }
 }

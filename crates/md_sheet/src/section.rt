@@ -1,6 +1,6 @@
 //! The section of footnotes at a document's end.
 
-ghost use Rattle.std.specs.Prelude.{◌≡◌, ◌∷◌, [], codes, OnOk};
+ghost use Rattle.std.specs.Prelude.{◌≡◌, ◌∷◌, [], ◌++◌, codes, OnOk};
 ghost use Rattle.md_meaning.specs.Piece.{lay, Text, Needed, Forced};
 ghost use Rattle.md_meaning.specs.Footnotes as notes;
 
@@ -13,39 +13,23 @@ use crate::ways_back::backreferences;
 use md_meaning::CompileOptions;
 use std::alloc::{AllocError, Global};
 
-/// Lays the beginning of a footnote, up to its text.
-fn item_start(
-    alloc: Global,
-    sheet: &mut Sheet,
-    options: &CompileOptions,
-    ending: &str,
-    identifier: &str,
-) -> Result<(), AllocError>
-    ensures { OnOk result (sheet.new ≡ lay ending.now sheet.old (notes.item_opening options.now identifier.now)) }
+/// Lays the beginning of a footnote with an id, up to its text.
+fn item_start(sheet: &mut Sheet, ending: &str, id: &str) -> Result<(), AllocError>
+    ensures { OnOk result (sheet.new ≡ lay ending.now sheet.old (notes.item_opening id.now)) }
 {
-    let id = footnote_id(alloc, options, identifier)?;
     sheet.put(ending)?;
     sheet.put("<li id=\"")?;
-    sheet.put(id.as_str())?;
+    sheet.put(id)?;
     sheet.put("\">")?;
     sheet.put(ending)
 }
 
-/// Lays a footnote with so many calls.
-fn item(
-    alloc: Global,
-    sheet: &mut Sheet,
-    options: &CompileOptions,
-    ending: &str,
-    text: &str,
-    identifier: &str,
-    count: usize,
-) -> Result<(), AllocError>
-    ensures { OnOk result (sheet.new ≡ lay ending.now sheet.old (notes.item_pieces options.now text.now identifier.now count)) }
+/// Lays a footnote with an id, its text and the ways back.
+fn item(sheet: &mut Sheet, ending: &str, id: &str, text: &str, back: &str) -> Result<(), AllocError>
+    ensures { OnOk result (sheet.new ≡ lay ending.now sheet.old (notes.item_opening id.now ++ (notes.body_pieces text.now back.now ++ notes.item_closing))) }
 {
-    let back = backreferences(alloc, options, identifier, count)?;
-    item_start(alloc, sheet, options, ending, identifier)?;
-    lay_body(sheet, ending, text, back.as_str())?;
+    item_start(sheet, ending, id)?;
+    lay_body(sheet, ending, text, back)?;
     item_end(sheet, ending)
 }
 
@@ -57,7 +41,7 @@ fn item_end(sheet: &mut Sheet, ending: &str) -> Result<(), AllocError>
     sheet.put("</li>")
 }
 
-/// Lays the footnotes that are called, in the order of their first calls.
+/// Lays the footnotes that are called, in the order of their first calls, numbered from 1.
 fn items(
     alloc: Global,
     sheet: &mut Sheet,
@@ -66,13 +50,15 @@ fn items(
     calls: &Calls,
     footnotes: &Footnotes,
 ) -> Result<(), AllocError>
-    ensures { OnOk result (sheet.new ≡ lay ending.now sheet.old (notes.items_pieces options.now footnotes.now calls.now)) }
+    ensures { OnOk result (sheet.new ≡ lay ending.now sheet.old (notes.items_pieces options.now footnotes.now 1 calls.now)) }
 {
     let mut index = 0;
     while let Some((identifier, count)) = calls.at(index) {
         let text = footnotes.text_of(identifier);
-        item(alloc, sheet, options, ending, text, identifier, count)?;
         index += 1;
+        let id = footnote_id(alloc, options, identifier, index)?;
+        let back = backreferences(alloc, options, identifier, index, count)?;
+        item(sheet, ending, id.as_str(), text, back.as_str())?;
     }
     Ok(())
 }

@@ -25,11 +25,12 @@ fn push_href(
     text: &mut String,
     options: &CompileOptions,
     identifier: &str,
+    number: usize,
     occurrence: usize,
 ) -> Result<(), AllocError>
-    ensures { OnOk result (string_bytes text.new ≡ string_bytes text.old ++ (codes "<a href=\"#" ++ (notes.call_id options.now identifier.now occurrence ++ codes "\" data-footnote-backref=\"\" aria-label=\""))) }
+    ensures { OnOk result (string_bytes text.new ≡ string_bytes text.old ++ (codes "<a href=\"#" ++ (notes.call_id options.now identifier.now number occurrence ++ codes "\" data-footnote-backref=\"\" aria-label=\""))) }
 {
-    let id = call_id(alloc, options, identifier, occurrence)?;
+    let id = call_id(alloc, options, identifier, number, occurrence)?;
     text.push_str("<a href=\"#")?;
     text.push_str(id.as_str())?;
     text.push_str("\" data-footnote-backref=\"\" aria-label=\"")
@@ -59,11 +60,12 @@ fn push_backreference(
     text: &mut String,
     options: &CompileOptions,
     identifier: &str,
+    number: usize,
     occurrence: usize,
 ) -> Result<(), AllocError>
-    ensures { OnOk result (string_bytes text.new ≡ string_bytes text.old ++ notes.backreference options.now identifier.now occurrence) }
+    ensures { OnOk result (string_bytes text.new ≡ string_bytes text.old ++ notes.backreference options.now identifier.now number occurrence) }
 {
-    push_href(alloc, text, options, identifier, occurrence)?;
+    push_href(alloc, text, options, identifier, number, occurrence)?;
     push_label(alloc, text, options)?;
     push_arrow(alloc, text, occurrence)
 }
@@ -79,7 +81,7 @@ fn push_space(text: &mut String, done: usize) -> Result<(), AllocError>
     }
 }
 
-/// The ways back to so many calls, with single spaces between.
+/// The ways back from the footnote with an identifier and a number to so many calls, with single spaces between.
 ///
 /// # Errors
 ///
@@ -88,16 +90,17 @@ pub fn backreferences(
     alloc: Global,
     options: &CompileOptions,
     identifier: &str,
+    number: usize,
     count: usize,
 ) -> Result<String, AllocError>
-    ensures { IfOk result (λ text. string_bytes text ≡ notes.backreferences options.now identifier.now count) }
+    ensures { IfOk result (λ text. string_bytes text ≡ notes.backreferences options.now identifier.now number count) }
 {
     let mut text = String::new(alloc);
     let mut done = 0;
     while done < count {
         push_space(&mut text, done)?;
         done += 1;
-        push_backreference(alloc, &mut text, options, identifier, done)?;
+        push_backreference(alloc, &mut text, options, identifier, number, done)?;
     }
     Ok(text)
 }

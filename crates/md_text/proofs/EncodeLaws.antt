@@ -1,5 +1,5 @@
 -- What is escaped is clean, and reads back.
-use Rattle.std.proofs.Common.{◌≡◌, ◌≢◌, ℕ, Bool, true, false, ◌&&◌, cond, eqb, List, [], ◌∷◌, ◌++◌, refl, sym, ap, ◌∙◌, ne_eqb}
+use Rattle.std.proofs.Common.{◌≡◌, ◌≢◌, ℕ, Bool, true, false, ◌&&◌, cond, eqb, List, [], ◌∷◌, ◌++◌, refl, sym, ap, ◌∙◌, append_assoc, ne_eqb}
 use Rattle.md_text.specs.Encode.{encoded, encoded_byte}
 use Rattle.md_text.specs.References.{is_escaped, is_escaped_byte, read_back, read_back_after, referenced, reference_tail}
 use Rattle.md_text.proofs.EncodeLemmas.{by_special, encoded_byte-plain}
@@ -49,3 +49,12 @@ pub read_back-encoded : (text : List ℕ) → read_back (encoded true text) ≡ 
 read_back-encoded [] = refl
 read_back-encoded (b ∷ rest) = read_back_first b (encoded true rest)
     ∙ ap (λ x. encoded_byte false b ++ x) (read_back-encoded rest)
+
+-- an encoded text is read back before what follows it
+pub read_back-before : (text rest : List ℕ) → read_back (encoded true text ++ rest) ≡ encoded false text ++ read_back rest
+read_back-before [] rest = refl
+read_back-before (b ∷ text) rest =
+    ap read_back (append_assoc (encoded_byte true b) (encoded true text) rest)
+    ∙ read_back_first b (encoded true text ++ rest)
+    ∙ ap (λ x. encoded_byte false b ++ x) (read_back-before text rest)
+    ∙ sym (append_assoc (encoded_byte false b) (encoded false text) (read_back rest))

@@ -12,14 +12,14 @@ filled-append [] y h = cc
 filled-append (b ∷ x) y h = refl
 
 -- a text before a forest, in one with a text that the forest begins with
-abbrev text_before : List ℕ → Forest → Forest
+abbrev pub text_before : List ℕ → Forest → Forest
 text_before bytes Empty = Text bytes Empty
 text_before bytes (Text more rest) = Text (bytes ++ more) rest
 text_before bytes (Void name attributes rest) = Text bytes (Void name attributes rest)
 text_before bytes (Element name attributes children rest) = Text bytes (Element name attributes children rest)
 
 -- one forest after another
-abbrev joined : Forest → Forest → Forest
+abbrev pub joined : Forest → Forest → Forest
 joined Empty g = g
 joined (Text bytes rest) g = text_before bytes (joined rest g)
 joined (Void name attributes rest) g = Void name attributes (joined rest g)
@@ -109,7 +109,7 @@ round p name attributes inside h a within =
     ∙ opening-before name attributes (inside ++ closing_tag name))) (element p name attributes inside h a within)
 
 -- a forest before what has a reading
-after_forest : (p : Attribute → Bool) (f g : Forest) → is_forest f ≡ true → all_attributes p f ≡ true →
+pub after_forest : (p : Attribute → Bool) (f g : Forest) → is_forest f ≡ true → all_attributes p f ≡ true →
     is_forest g ≡ true → all_attributes p g ≡ true
     → (is_forest (joined f g) ≡ true) × (written (joined f g) ≡ written f ++ written g)
     × (all_attributes p (joined f g) ≡ true)

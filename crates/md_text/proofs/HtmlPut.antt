@@ -6,7 +6,7 @@ use Rattle.std.proofs.lemmas.Bool.{and_parts, and_from, or_cases, cases_Bool}
 use Rattle.std.proofs.lemmas.List.Folds.{list_all-append}
 use Rattle.md_text.specs.References.{is_escaped}
 use Rattle.md_text.specs.Laws.{is_line_ends}
-use Rattle.md_text.specs.Html.{Attribute, Forest, Empty, Text, Void, Element, is_forest, is_tag, begins_with_text, elements, void_tags, written, written_attributes, opening_tag, closing_tag, HasReadingWith, all_attributes}
+use Rattle.md_text.specs.Html.{Attribute, Forest, Empty, Text, Void, Element, is_forest, is_tag, begins_with_text, elements, void_tags, written, written_attributes, opening_tag, closing_tag, IsReading, HasReadingWith, all_attributes}
 use Rattle.md_text.proofs.HtmlNames.{is_name, is_name_byte, no_angle, no_quote, are_tidy, element-tidy, void-tidy, escaped-angle}
 use Rattle.md_text.proofs.HtmlSplit.{name-not}
 use Rattle.md_text.proofs.HtmlJoin.{text, void, round, join, opening-before}
@@ -125,57 +125,60 @@ nil_not : (before : List ℕ) (m : List ℕ) → [] ≡ before ++ (60 ∷ m) →
 nil_not [] m e = cc
 nil_not (b ∷ before) m e = cc
 
-pub put : (p : Attribute → Bool) (x : List ℕ) → HasReadingWith p x → (f : Forest) (before after : List ℕ) →
-    is_forest f ≡ true → all_attributes p f ≡ true → list_all no_angle after ≡ true
-    → written f ≡ before ++ end_before after → HasReadingWith p (before ++ (x ++ end_before after))
-put p x hx Empty before after hf pf angles e = absurd (nil_not before (47 ∷ 112 ∷ 62 ∷ after) e)
-put p x hx (Text bytes rest) before after hf pf angles e =
+-- what is made of a forest where a text is inserted behind the children of one of its elements
+pub record IsMade (x : List ℕ) (made : Forest → List ℕ → Type 0) : Type 0 where
+  pub texts : (bytes : List ℕ) (rest : Forest) (y : List ℕ) → is_escaped bytes ≡ true → made rest y →
+      made (Text bytes rest) (bytes ++ y)
+  pub voids : (name : List ℕ) (attributes : List Attribute) (rest : Forest) (y : List ℕ) →
+      is_tag void_tags name attributes ≡ true → made rest y
+      → made (Void name attributes rest) (written (Void name attributes Empty) ++ y)
+  pub rests : (name : List ℕ) (attributes : List Attribute) (children rest : Forest) (y : List ℕ) →
+      is_tag elements name attributes ≡ true → is_forest children ≡ true → made rest y
+      → made (Element name attributes children rest)
+      ((opening_tag name attributes ++ written children ++ closing_tag name) ++ y)
+  pub insides : (name : List ℕ) (attributes : List Attribute) (children rest : Forest) →
+      is_tag elements name attributes ≡ true → is_forest children ≡ true → is_forest rest ≡ true
+      → made (Element name attributes children rest)
+      ((opening_tag name attributes ++ (written children ++ x) ++ closing_tag name) ++ written rest)
+
+pub put : (x : List ℕ) (made : Forest → List ℕ → Type 0) → IsMade x made → (f : Forest) (before after : List ℕ) →
+    is_forest f ≡ true → list_all no_angle after ≡ true
+    → written f ≡ before ++ end_before after → made f (before ++ (x ++ end_before after))
+put x made is Empty before after hf angles e = absurd (nil_not before (47 ∷ 112 ∷ 62 ∷ after) e)
+put x made is (Text bytes rest) before after hf angles e =
     let a = and_parts (is_nonempty bytes && is_escaped bytes && not (begins_with_text rest)) (is_forest rest) hf in
     let escaped = (and_parts (is_nonempty bytes) (is_escaped bytes)
     (and_parts (is_nonempty bytes && is_escaped bytes) (not (begins_with_text rest)) a.0).0).1 in
     elim (meet bytes (written rest) before (end_before after) e) [
-      | inl on ↦ (let later = put p x hx rest on.0 after a.1 pf angles on.2 in
-          subst (HasReadingWith p) (sym (append_assoc bytes on.0 (x ++ end_before after))
+      | inl on ↦ (let later = put x made is rest on.0 after a.1 angles on.2 in
+          subst (made (Text bytes rest)) (sym (append_assoc bytes on.0 (x ++ end_before after))
           ∙ ap (λ b. b ++ (x ++ end_before after)) (sym on.1))
-          (join p bytes (on.0 ++ (x ++ end_before after)) (text p bytes escaped) later))
+          (is.texts bytes rest (on.0 ++ (x ++ end_before after)) escaped later))
       | inr in_text ↦ absurd (no_angle_inside before in_text.1.0
           (subst (λ t. list_all no_angle t ≡ true) (in_text.1.1
           ∙ ap (λ d. before ++ (d ∷ in_text.1.0)) (sym
           (first_of in_text.0 after in_text.1.0 (written rest) in_text.1.2))) (escaped-angle bytes escaped)))
     ]
-put p x hx (Void name attributes rest) before after hf pf angles e =
+put x made is (Void name attributes rest) before after hf angles e =
     let a = and_parts (is_tag void_tags name attributes) (is_forest rest) hf in
-    let b = and_parts (list_all p attributes) (all_attributes p rest) pf in
     let tidy = void-tidy name attributes a.0 in
     let tag = written (Void name attributes Empty) in
     elim (meet tag (written rest) before (end_before after) (sym (void-before name attributes rest) ∙ e)) [
-      | inl on ↦ (let later = put p x hx rest on.0 after a.1 b.1 angles on.2 in
-          subst (HasReadingWith p) (sym (append_assoc tag on.0 (x ++ end_before after))
+      | inl on ↦ (let later = put x made is rest on.0 after a.1 angles on.2 in
+          subst (made (Void name attributes rest)) (sym (append_assoc tag on.0 (x ++ end_before after))
           ∙ ap (λ b. b ++ (x ++ end_before after)) (sym on.1))
-          (join p tag (on.0 ++ (x ++ end_before after)) (void p name attributes a.0 b.0) later))
+          (is.voids name attributes rest (on.0 ++ (x ++ end_before after)) a.0 later))
       | inr in_tag ↦ absurd (not_in_tag name (written_attributes attributes
           ++ (32 ∷ 47 ∷ 62 ∷ [])) before after (written rest) in_tag.0 in_tag.1.0 tidy.0
           (tag-angle name attributes (32 ∷ 47 ∷ 62 ∷ []) tidy refl) in_tag.1.1 in_tag.1.2)
     ]
-put p x hx (Element name attributes children rest) before after hf pf angles e =
+put x made is (Element name attributes children rest) before after hf angles e =
     let a = and_parts (is_tag elements name attributes && is_forest children) (is_forest rest) hf in
     let b = and_parts (is_tag elements name attributes) (is_forest children) a.0 in
-    let c = and_parts (list_all p attributes && all_attributes p children) (all_attributes p rest) pf in
-    let d = and_parts (list_all p attributes) (all_attributes p children) c.0 in
     let tidy = element-tidy name attributes b.0 in
     let open_tag = opening_tag name attributes in
     let close_tag = closing_tag name in
     let z = end_before after in
-    let inside : HasReadingWith p (written children) = record {
-      forest = children;
-      reading = record { in_grammar = b.1; written_so = refl };
-      passes = d.1;
-    } in
-    let following : HasReadingWith p (written rest) = record {
-      forest = rest;
-      reading = record { in_grammar = a.1; written_so = refl };
-      passes = c.1;
-    } in
     elim (meet open_tag (written children ++ (close_tag ++ written rest)) before z
     (sym (element-before name attributes children rest) ∙ e)) [
       | inr in_tag ↦ absurd (not_in_tag name (written_attributes attributes
@@ -186,14 +189,14 @@ put p x hx (Element name attributes children rest) before after hf pf angles e =
             (subst (λ t. list_all no_angle t ≡ true) (later_of in_children.0 after in_children.1.0 (close_tag
             ++ written rest) in_children.1.2) angles))
         | inl past_children ↦ elim (meet close_tag (written rest) past_children.0 z past_children.2) [
-          | inl past_close ↦ (let later = put p x hx rest past_close.0 after a.1 c.1 angles past_close.2 in
-              let all = join p (open_tag ++ written children ++ close_tag) (past_close.0
-              ++ (x ++ z)) (round p name attributes (written children) b.0 d.0 inside) later in
+          | inl past_close ↦ (let later = put x made is rest past_close.0 after a.1 angles past_close.2 in
+              let all = is.rests name attributes children rest (past_close.0 ++ (x ++ z)) b.0 b.1 later in
               let place : before ≡ open_tag ++ written children ++ close_tag ++ past_close.0 =
               past_open.1 ∙ ap (λ m. open_tag ++ m) (past_children.1 ∙ ap (λ m. written children ++ m) past_close.1)
               ∙ sym (pieces-4 open_tag (written children) close_tag past_close.0) in
-              subst (HasReadingWith p) (sym (append_assoc (open_tag ++ written children ++ close_tag) past_close.0 (x
-              ++ z)) ∙ ap (λ b. b ++ (x ++ z)) (sym place)) all)
+              subst (made (Element name attributes children rest))
+              (sym (append_assoc (open_tag ++ written children ++ close_tag) past_close.0 (x ++ z))
+              ∙ ap (λ b. b ++ (x ++ z)) (sym place)) all)
           | inr at_close ↦ (let empty = first_angle (47 ∷ (name ++ (62 ∷ []))) past_children.0 at_close.1.0
               (tag-close-angle name tidy.0)
               (at_close.1.1 ∙ ap (λ d. past_children.0 ++ (d ∷ at_close.1.0))
@@ -202,10 +205,8 @@ put p x hx (Element name attributes children rest) before after hf pf angles e =
               let place : before ≡ open_tag ++ written children = past_open.1
               ∙ ap (λ m. open_tag ++ m) (past_children.1 ∙ ap (λ m. written children ++ m) empty
               ∙ append-nil (written children)) in
-              let all = join p (open_tag ++ (written children ++ x)
-              ++ close_tag) (written rest) (round p name attributes (written children
-              ++ x) b.0 d.0 (join p (written children) x inside hx)) following in
-              subst (HasReadingWith p)
+              let all = is.insides name attributes children rest b.0 b.1 a.1 in
+              subst (made (Element name attributes children rest))
               (append_assoc (open_tag ++ (written children ++ x)) close_tag (written rest)
               ∙ ap (λ y. (open_tag ++ (written children ++ x)) ++ y) ends
               ∙ append_assoc open_tag (written children ++ x) z
@@ -232,11 +233,49 @@ line_ends-angle (b ∷ endings) h =
       | inr is ↦ subst (λ b. no_angle b ≡ true) (sym (eqb-true b 10 is)) refl
     ]
 
+-- what is made of a paragraph's text and line endings
+pub made-before : (made : Forest → List ℕ → Type 0) (before endings inserted : List ℕ) → is_line_ends endings ≡ true →
+    IsMade inserted made → (f : Forest) → IsReading (before ++ codes "</p>" ++ endings) f
+    → made f (before ++ inserted ++ codes "</p>" ++ endings)
+made-before made before endings inserted h is f reading =
+    subst (made f) (sym (append_assoc (before ++ inserted) (codes "</p>") endings
+    ∙ append_assoc before inserted (end_before endings)))
+    (put inserted made is f before endings reading.in_grammar (line_ends-angle endings h)
+    (reading.written_so ∙ append_assoc before (codes "</p>") endings))
+
+-- readings in which each attribute passes a test
+reading-made : (p : Attribute → Bool) (x : List ℕ) → HasReadingWith p x →
+    IsMade x (λ f y. all_attributes p f ≡ true → HasReadingWith p y)
+reading-made p x hx = record {
+  texts = λ bytes rest y escaped later passes. join p bytes y (text p bytes escaped) (later passes);
+  voids = λ name attributes rest y tag later passes.
+      (let parts = and_parts (list_all p attributes) (all_attributes p rest) passes in
+      join p (written (Void name attributes Empty)) y (void p name attributes tag parts.0) (later parts.1));
+  rests = λ name attributes children rest y tag forest later passes.
+      (let parts = and_parts (list_all p attributes && all_attributes p children) (all_attributes p rest) passes in
+      let own = and_parts (list_all p attributes) (all_attributes p children) parts.0 in
+      join p (opening_tag name attributes ++ written children ++ closing_tag name) y
+      (round p name attributes (written children) tag own.0 (as_written p children forest own.1)) (later parts.1));
+  insides = λ name attributes children rest tag forest rests passes.
+      (let parts = and_parts (list_all p attributes && all_attributes p children) (all_attributes p rest) passes in
+      let own = and_parts (list_all p attributes) (all_attributes p children) parts.0 in
+      join p (opening_tag name attributes ++ (written children ++ x) ++ closing_tag name) (written rest)
+      (round p name attributes (written children ++ x) tag own.0
+      (join p (written children) x (as_written p children forest own.1) hx))
+      (as_written p rest rests parts.1));
+}
+  where
+    as_written : (p : Attribute → Bool) (f : Forest) → is_forest f ≡ true → all_attributes p f ≡ true →
+        HasReadingWith p (written f)
+    as_written p f h passes = record {
+      forest = f;
+      reading = record { in_grammar = h; written_so = refl };
+      passes = passes;
+    }
+
 pub paragraph_takes : (p : Attribute → Bool) (before endings inserted : List ℕ) → is_line_ends endings ≡ true →
     HasReadingWith p (before ++ codes "</p>" ++ endings) → HasReadingWith p inserted
     → HasReadingWith p (before ++ inserted ++ codes "</p>" ++ endings)
 paragraph_takes p before endings inserted h hv hx =
-    subst (HasReadingWith p) (sym (append_assoc (before ++ inserted) (codes "</p>") endings
-    ∙ append_assoc before inserted (end_before endings)))
-    (put p inserted hx hv.forest before endings hv.reading.in_grammar hv.passes (line_ends-angle endings h)
-    (hv.reading.written_so ∙ append_assoc before (codes "</p>") endings))
+    made-before (λ f y. all_attributes p f ≡ true → HasReadingWith p y) before endings inserted h
+    (reading-made p inserted hx) hv.forest hv.reading hv.passes

@@ -14,5 +14,6 @@ pub mod HtmlNames
 pub mod HtmlSplit
 pub mod HtmlReading
 pub mod HtmlJoin
+pub mod HtmlIds
 pub mod HtmlPut
 pub mod HtmlRead

@@ -6,4 +6,5 @@ pub mod Filter
 pub mod References
 pub mod Html
 pub mod Safe
+pub mod Ids
 pub mod Laws

@@ -10,19 +10,19 @@ use Rattle.md_meaning.specs.Calls.{Called, distinct, count_of, tally, number_amo
 use Rattle.md_meaning.specs.Meaning.Footnotes.{place_among}
 
 -- an identifier is among some
-abbrev is_in : List ℕ → List (List ℕ) → Bool
+abbrev pub is_in : List ℕ → List (List ℕ) → Bool
 is_in identifier others = list_any (λ other. bytes_eq other identifier) others
 
 abbrev others_than : List ℕ → List (List ℕ) → List (List ℕ)
 others_than x ys = filter (λ other. not (bytes_eq other x)) ys
 
-same : (xs ys : List ℕ) → bytes_eq xs ys ≡ true → xs ≡ ys
+pub same : (xs ys : List ℕ) → bytes_eq xs ys ≡ true → xs ≡ ys
 same xs ys h = (bytes_eq-Decides xs ys).0 h
 
-itself : (xs : List ℕ) → bytes_eq xs xs ≡ true
+pub itself : (xs : List ℕ) → bytes_eq xs xs ≡ true
 itself xs = (bytes_eq-Decides xs xs).1 refl
 
-bytes_eq-sym : (xs ys : List ℕ) → bytes_eq xs ys ≡ bytes_eq ys xs
+pub bytes_eq-sym : (xs ys : List ℕ) → bytes_eq xs ys ≡ bytes_eq ys xs
 bytes_eq-sym xs ys = one_answer (bytes_eq xs ys) (bytes_eq ys xs) (bytes_eq-Decides xs ys) (
   (λ h. sym (same ys xs h)),
   (λ e. (bytes_eq-Decides ys xs).1 (sym e)),
@@ -90,7 +90,7 @@ number-same xs later x =
     ∙ ap (λ ws. suc (length ws)) (sym (upto-distinct xs later x))
     ∙ sym (placed-upto (distinct (xs ++ x ∷ later)) x)
 
-or_parts : (a b : Bool) → a || b ≡ false → (a ≡ false) × (b ≡ false)
+pub or_parts : (a b : Bool) → a || b ≡ false → (a ≡ false) × (b ≡ false)
 or_parts true b h = absurd (true≢false h)
 or_parts false b h = (refl, h)
 
@@ -103,7 +103,7 @@ others_stay x z (y ∷ ys) h =
       | false ↦ λ e. ap (λ b. bytes_eq y z || b) (others_stay x z ys h)
     ] refl
 
-is_in-distinct : (xs : List (List ℕ)) (z : List ℕ) → is_in z (distinct xs) ≡ is_in z xs
+pub is_in-distinct : (xs : List (List ℕ)) (z : List ℕ) → is_in z (distinct xs) ≡ is_in z xs
 is_in-distinct [] z = refl
 is_in-distinct (x ∷ xs) z =
     elim (bytes_eq x z) as (λ b. bytes_eq x z ≡ b → b || is_in z (others_than x (distinct xs)) ≡ b || is_in z xs) [
@@ -142,3 +142,62 @@ count-same xs x =
       | true ↦ λ e. refl
       | false ↦ λ e. sym (count-missing xs x e)
     ] refl
+
+-- identifiers whose places among some go on from a number
+abbrev pub Numbered : List (List ℕ) → ℕ → List (List ℕ) → Type 0
+Numbered xs number [] = Unit {0}
+Numbered xs number (y ∷ ys) = (place_among xs y ≡ number) × Numbered xs (suc number) ys
+
+-- no two are the same
+abbrev pub Apart : List (List ℕ) → Type 0
+Apart [] = Unit {0}
+Apart (x ∷ xs) = (is_in x xs ≡ false) × Apart xs
+
+-- behind one more, places are one further
+numbered-behind : (x : List ℕ) (xs : List (List ℕ)) (number : ℕ) (ys : List (List ℕ)) → is_in x ys ≡ false →
+    Numbered xs number ys → Numbered (x ∷ xs) (suc number) ys
+numbered-behind x xs number [] h are = tt
+numbered-behind x xs number (y ∷ ys) h are =
+    let parts = or_parts (bytes_eq y x) (is_in x ys) h in (
+      ap (λ b. if b then 1 else suc (place_among xs y)) (bytes_eq-sym x y ∙ parts.0) ∙ ap suc are.0,
+      numbered-behind x xs (suc number) ys parts.1 are.1,
+    )
+
+apart-numbered : (xs : List (List ℕ)) → Apart xs → Numbered xs 1 xs
+apart-numbered [] apart = tt
+apart-numbered (x ∷ xs) apart = (
+  ap (λ b. if b then 1 else suc (place_among xs x)) (itself x),
+  numbered-behind x xs 1 xs apart.0 (apart-numbered xs apart.1),
+)
+
+-- what is left out isn't there, and the others stay apart
+left_out : (x : List ℕ) (ys : List (List ℕ)) → is_in x (others_than x ys) ≡ false
+left_out x [] = refl
+left_out x (y ∷ ys) =
+    elim (bytes_eq y x) as (λ b. bytes_eq y x ≡ b → is_in x (cond (not b) (y ∷ others_than x ys) (others_than x ys))
+    ≡ false) [
+      | true ↦ λ e. left_out x ys
+      | false ↦ λ e. ap (λ b. b || is_in x (others_than x ys)) e ∙ left_out x ys
+    ] refl
+
+others-apart : (x : List ℕ) (ys : List (List ℕ)) → Apart ys → Apart (others_than x ys)
+others-apart x [] apart = tt
+others-apart x (y ∷ ys) apart =
+    elim (bytes_eq y x) as (λ b. bytes_eq y x ≡ b → Apart (cond (not b) (y ∷ others_than x ys) (others_than x ys))) [
+      | true ↦ λ e. others-apart x ys apart.1
+      | false ↦ λ e. (
+        others_stay x y ys (bytes_eq-sym x y ∙ e) ∙ apart.0,
+        others-apart x ys apart.1,
+      )
+    ] refl
+
+pub distinct-apart : (calls : List (List ℕ)) → Apart (distinct calls)
+distinct-apart [] = tt
+distinct-apart (call ∷ calls) = (
+  left_out call (distinct calls),
+  others-apart call (distinct calls) (distinct-apart calls),
+)
+
+-- the distinct identifiers are numbered from 1 in their order
+pub distinct-numbered : (calls : List (List ℕ)) → Numbered (distinct calls) 1 (distinct calls)
+distinct-numbered calls = apart-numbered (distinct calls) (distinct-apart calls)

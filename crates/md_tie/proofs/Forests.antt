@@ -34,7 +34,8 @@ use Rattle.md_meaning.specs.Meaning.Means.{means}
 use Rattle.md_meaning.specs.Meaning.Nodes.{Meant, meant, found_at}
 use Rattle.md_tie.proofs.Sides.{source_of, stood, is_leaf, sides}
 use Rattle.md_tie.proofs.Captured.{captured}
-use Rattle.md_tie.proofs.Shapes.{leaf-silent, quiet, quiet_name, QuietInside, underlined, waits_behind, underlined-split, waits-append, matches-underlined}
+use Rattle.md_shape.proofs.Underlines.{underlined, waits_behind, underlined-split, waits-append, matches-underlined}
+use Rattle.md_tie.proofs.Shapes.{leaf-silent, quiet, quiet_name, QuietInside}
 use Rattle.md_tie.proofs.Silence.{through, silent-printed, silent-meant, Untargeted, quiet-found}
 use Rattle.md_tie.proofs.Marks.{next-same}
 use Rattle.md_tie.proofs.Nodes.{node_printed, Agree, OnPage, on_page, captured_node, streamed_node, through_node, agree_both}

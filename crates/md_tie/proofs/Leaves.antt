@@ -182,12 +182,13 @@ unended-taken (byte ∷ bytes) =
       | false ↦ ap (λ ps. byte ∷ ps) (unended-taken bytes)
     ]
 
-pub back-same : (options : CompileOptions) (identifier : List ℕ) (count : ℕ) →
-    old_notes.backreferences options identifier count ≡ notes.backreferences options identifier count
-back-same options identifier zero = refl
-back-same options identifier (suc count) =
-    ap (λ back. back ++ ((if count == 0 then [] else 32 ∷ []) ++ notes.backreference options identifier (suc count)))
-    (back-same options identifier count)
+pub back-same : (options : CompileOptions) (identifier : List ℕ) (number count : ℕ) →
+    old_notes.backreferences options identifier number count ≡ notes.backreferences options identifier number count
+back-same options identifier number zero = refl
+back-same options identifier number (suc count) =
+    ap (λ back. back ++ ((if count == 0 then [] else 32 ∷ [])
+    ++ notes.backreference options identifier number (suc count)))
+    (back-same options identifier number count)
 
 pub align-same : (kind : AlignKind) → old_tables.align_attribute kind ≡ align_attribute kind
 align-same align.None = refl

@@ -21,7 +21,7 @@ use Rattle.md_meaning.specs.Meaning.Nodes.{found_at}
 use Rattle.md_tie.proofs.Reading.{read, noted_after, read-append, noted-append, laid-notes, captured-text}
 use Rattle.md_tie.proofs.Sides.{opening_at, closing_at, is_leaf, is_underline, Sides}
 use Rattle.md_tie.proofs.Captured.{Captured, captured, After}
-use Rattle.md_tie.proofs.Shapes.{underlined, waits_behind}
+use Rattle.md_shape.proofs.Underlines.{underlined, waits_behind}
 use Rattle.md_tie.proofs.Silence.{Passes, through, found-through}
 
 lie : {A : Type 0} → false ≡ true → A

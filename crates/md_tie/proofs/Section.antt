@@ -1,5 +1,5 @@
 -- The section of footnotes, as the machine prints it and as it is meant.
-use Rattle.std.proofs.Common.{◌≡◌, ℕ, ◌-◌, suc, Bool, true, false, not, List, [], ◌∷◌, ◌++◌, length, take, drop, map, refl, ap, sym, ◌∙◌, bytes_eq, arith, append_assoc}
+use Rattle.std.proofs.Common.{◌≡◌, ℕ, ◌-◌, suc, Bool, true, false, not, List, [], ◌∷◌, ◌++◌, length, take, drop, map, refl, ap, sym, ◌∙◌, subst, bytes_eq, arith, append_assoc}
 use Rattle.std.specs.Prelude.{if◌then◌else◌, codes, ◌==◌}
 use Rattle.std.specs.List.{flat_map}
 use Rattle.std.proofs.lemmas.Bool.{ne_eqb}
@@ -10,8 +10,9 @@ use Rattle.md_meaning.specs.Footnotes.{Footnote}
 use Rattle.md_meaning.specs.Footnotes as old
 use Rattle.md_meaning.specs.Meaning.Layout.{Piece, Text, Needed, Forced, on_own_line, when}
 use Rattle.md_meaning.specs.Meaning.At.{Given}
-use Rattle.md_meaning.specs.Meaning.Footnotes.{unended_length, body, footnote_id, backreferences, item, section_start, section}
+use Rattle.md_meaning.specs.Meaning.Footnotes.{unended_length, body, place_among, footnote_id, backreferences, item, section_start, section}
 use Rattle.md_tie.proofs.Reading.{read}
+use Rattle.md_tie.proofs.Calls.{Numbered, distinct-numbered}
 use Rattle.md_tie.proofs.Leaves.{unended-same, unended-taken, back-same}
 
 -- a footnote's text and the ways back, before what follows
@@ -41,35 +42,40 @@ body-read text back tail pieces notes h =
 item-read : (given : Given) (footnotes : List Footnote) (identifier : List ℕ) (tail : List Printed)
     (pieces : List Piece) (notes : Notes) → read notes tail ≡ pieces →
     read notes (old.item_pieces given.options (old.footnote_text footnotes identifier) identifier
-    (count_of given.calls identifier) ++ tail) ≡ item given footnotes identifier ++ pieces
+    (place_among (distinct given.calls) identifier) (count_of given.calls identifier) ++ tail)
+    ≡ item given footnotes identifier ++ pieces
 item-read given footnotes identifier tail pieces notes h =
     let text : List ℕ = old.footnote_text footnotes identifier in
+    let number : ℕ = place_among (distinct given.calls) identifier in
     let begin : List Piece → List Piece = λ ps. Forced ∷ Text (codes "<li id=\"")
-    ∷ Text (footnote_id given.options identifier) ∷ Text (codes "\">") ∷ Forced ∷ ps in
-    let back : List ℕ = old.backreferences given.options identifier (count_of given.calls identifier) in
+    ∷ Text (footnote_id given.options identifier number) ∷ Text (codes "\">") ∷ Forced ∷ ps in
+    let back : List ℕ = old.backreferences given.options identifier number (count_of given.calls identifier) in
     let ends : List Printed = Wanted ∷ Said (codes "</li>") ∷ [] in
     ap (λ ps. begin (read notes ps)) (append_assoc (old.body_pieces text back) ends tail)
     ∙ ap begin (body-read text back (ends ++ tail) (Needed ∷ Text (codes "</li>")
     ∷ pieces) notes (ap (λ ps. Needed ∷ Text (codes "</li>") ∷ ps) h))
     ∙ ap (λ b. begin (body text b ++ (Needed ∷ Text (codes "</li>") ∷ pieces)))
-    (back-same given.options identifier (count_of given.calls identifier))
-    ∙ ap begin (sym (append_assoc (body text (backreferences given.options identifier
+    (back-same given.options identifier number (count_of given.calls identifier))
+    ∙ ap begin (sym (append_assoc (body text (backreferences given.options identifier number
     (count_of given.calls identifier))) (on_own_line (codes "</li>")) pieces))
 
-items-read : (given : Given) (footnotes : List Footnote) (identifiers : List (List ℕ)) (tail : List Printed)
-    (pieces : List Piece) (notes : Notes) → read notes tail ≡ pieces →
-    read notes (old.items_pieces given.options footnotes
+-- footnotes that are numbered on from a number by their places among all
+items-read : (given : Given) (footnotes : List Footnote) (number : ℕ) (identifiers : List (List ℕ))
+    (tail : List Printed) (pieces : List Piece) (notes : Notes) →
+    Numbered (distinct given.calls) number identifiers → read notes tail ≡ pieces →
+    read notes (old.items_pieces given.options footnotes number
     (map (λ i. record { identifier = i; count = count_of given.calls i }) identifiers) ++ tail)
     ≡ flat_map (item given footnotes) identifiers ++ pieces
-items-read given footnotes [] tail pieces notes h = h
-items-read given footnotes (identifier ∷ identifiers) tail pieces notes h =
+items-read given footnotes number [] tail pieces notes are h = h
+items-read given footnotes number (identifier ∷ identifiers) tail pieces notes are h =
     let later : List Called = map (λ i. record { identifier = i; count = count_of given.calls i }) identifiers in
-    ap (λ ps. read notes ps) (append_assoc (old.item_pieces given.options
-    (old.footnote_text footnotes identifier) identifier (count_of given.calls identifier))
-    (old.items_pieces given.options footnotes later) tail)
-    ∙ item-read given footnotes identifier (old.items_pieces given.options footnotes later
-    ++ tail) (flat_map (item given footnotes) identifiers
-    ++ pieces) notes (items-read given footnotes identifiers tail pieces notes h)
+    let own : ℕ → List Printed = λ n. old.item_pieces given.options
+    (old.footnote_text footnotes identifier) identifier n (count_of given.calls identifier) in
+    let others : List Printed = old.items_pieces given.options footnotes (suc number) later in
+    ap (λ ps. read notes ps) (append_assoc (own number) others tail)
+    ∙ ap (λ n. read notes (own n ++ (others ++ tail))) (sym are.0)
+    ∙ item-read given footnotes identifier (others ++ tail) (flat_map (item given footnotes) identifiers
+    ++ pieces) notes (items-read given footnotes (suc number) identifiers tail pieces notes are.1 h)
     ∙ sym (append_assoc (item given footnotes identifier) (flat_map (item given footnotes) identifiers) pieces)
 
 pub section-read : (given : Given) (footnotes : List Footnote) (notes : Notes) →
@@ -94,7 +100,8 @@ section-read given footnotes notes = here given.calls refl
         let whole : List (List ℕ) → List Piece = λ cs. section_start given.options
         ++ (flat_map (item given footnotes) (distinct cs) ++ ended) in
         ap (λ cs. read notes (old.section_pieces given.options footnotes (told (distinct cs)))) (sym e)
-        ∙ ap (λ ps. section_start given.options ++ ps) (items-read given footnotes
-        (distinct full) ends ended notes refl)
+        ∙ ap (λ ps. section_start given.options ++ ps) (items-read given footnotes 1
+        (distinct full) ends ended notes
+        (subst (λ cs. Numbered (distinct given.calls) 1 (distinct cs)) (sym e) (distinct-numbered given.calls)) refl)
         ∙ ap (λ b. when (not b) (whole full)) (sym (ne_eqb (suc (length calls)) 0 (λ z. omega (arith, z))))
         ∙ ap (λ cs. when (not (length cs == 0)) (whole cs)) e

@@ -1,5 +1,5 @@
 -- What the grammar says of spines: where underlines stand, and which names have nothing to note or to print.
-use Rattle.std.proofs.Common.{◌≡◌, inl, inr, ℕ, zero, suc, Bool, true, false, ◌&&◌, List, [], ◌∷◌, ◌++◌, refl, sym, subst, ◌∙◌, Option, Some, None}
+use Rattle.std.proofs.Common.{◌≡◌, inl, inr, ℕ, zero, suc, Bool, true, false, List, [], ◌∷◌, ◌++◌, refl, sym, subst, ◌∙◌, Option, Some, None}
 use Rattle.std.specs.Prelude.{replicate}
 use Rattle.std.specs.List.{list_all}
 use Rattle.std.proofs.lemmas.Bool.{true≢false, and_parts, and_from}
@@ -12,15 +12,13 @@ use Rattle.md_pattern.specs.declared.kinds.Symbol.TheVariants.{ReferenceMarker, 
 use Rattle.md_pattern.specs.declared.kinds.Role.{Role}
 use Rattle.md_pattern.specs.declared.kinds.Role.TheVariants as role
 use Rattle.md_pattern.specs.declared.kinds.Reading.{Reading}
-use Rattle.md_pattern.specs.declared.kinds.Item.{Item}
-use Rattle.md_pattern.specs.declared.kinds.Class.{Class}
 use Rattle.md_pattern.specs.declared.kinds.Standing.{Standing}
 use Rattle.md_pattern.specs.declared.kinds.Standing.TheVariants.{Through, Space, Solid, Mdx}
 use Rattle.md_pattern.specs.Standing.{standing_of}
-use Rattle.md_pattern.specs.Pattern.{Fits, pattern_of, members, takes}
+use Rattle.md_pattern.specs.Pattern.{pattern_of}
 use Rattle.md_pattern.specs.Spine.{IsTail, IsGrouped, Matches}
 use Rattle.md_pattern.specs.Shape.{role_for, prefix_in}
-use Rattle.md_shape.proofs.Admitted.{taken}
+use Rattle.md_shape.proofs.Underlines.{letters, fits-all}
 use Rattle.md_shape.proofs.Symbols.{roles_for}
 use Rattle.md_shape.proofs.Spots.{role_listed}
 use Rattle.md_meaning.specs.Printed.{is_captured}
@@ -28,102 +26,6 @@ use Rattle.md_tie.proofs.Sides.{is_leaf}
 
 lie : {A : Type 0} → false ≡ true → A
 lie h = absurd (true≢false (sym h))
-
--- a heading waits for its underline, behind a symbol
-abbrev next_waits : Bool → Symbol → Bool
-next_waits waits LineEnding = waits
-next_waits waits SetextText = true
-next_waits waits _ = false
-
--- an underline stands only where a heading waits for it
-abbrev may_follow : Bool → Symbol → Bool
-may_follow waits SetextUnderline = waits
-may_follow waits _ = true
-
-abbrev pub underlined : Bool → List Symbol → Bool
-underlined waits [] = true
-underlined waits (s ∷ symbols) = may_follow waits s && underlined (next_waits waits s) symbols
-
-abbrev pub waits_behind : Bool → List Symbol → Bool
-waits_behind waits [] = waits
-waits_behind waits (s ∷ symbols) = waits_behind (next_waits waits s) symbols
-
-pub underlined-split : (waits : Bool) (xs ys : List Symbol) → underlined waits (xs ++ ys) ≡ true →
-    (underlined waits xs ≡ true) × (underlined (waits_behind waits xs) ys ≡ true)
-underlined-split waits [] ys h = (refl, h)
-underlined-split waits (x ∷ xs) ys h =
-    let parts = and_parts (may_follow waits x) (underlined (next_waits waits x) (xs ++ ys)) h in
-    let later = underlined-split (next_waits waits x) xs ys parts.1 in
-    (and_from (may_follow waits x) (underlined (next_waits waits x) xs) parts.0 later.0, later.1)
-
-pub waits-append : (waits : Bool) (xs ys : List Symbol) →
-    waits_behind waits (xs ++ ys) ≡ waits_behind (waits_behind waits xs) ys
-waits-append waits [] ys = refl
-waits-append waits (x ∷ xs) ys = waits-append (next_waits waits x) xs ys
-
-endings-underlined : (endings : ℕ) (others : List Symbol) → underlined false others ≡ true →
-    underlined true ((replicate endings LineEnding ++ SetextUnderline ∷ []) ++ others) ≡ true
-endings-underlined zero others h = h
-endings-underlined (suc endings) others h = endings-underlined endings others h
-
-no_underline : Symbol → Bool
-no_underline SetextUnderline = false
-no_underline _ = true
-
-tail-underlined : (first : Symbol) (tail others : List Symbol) → IsTail first tail → no_underline first ≡ true →
-    ((waits : Bool) → underlined waits others ≡ true) → (waits : Bool) →
-    underlined waits (first ∷ tail ++ others) ≡ true
-unfolding no_underline
-tail-underlined ReferenceMarker tail others is may h waits = elim is [
-  | inl e ↦ subst (λ t. underlined false (t ++ others) ≡ true) (sym e) (h false)
-  | inr (inl e) ↦ subst (λ t. underlined false (t ++ others) ≡ true) (sym e) (h false)
-  | inr (inr e) ↦ subst (λ t. underlined false (t ++ others) ≡ true) (sym e) (h false)
-]
-tail-underlined SetextText tail others is may h waits = subst (λ t. underlined true (t ++ others)
-    ≡ true) (sym is.1) (endings-underlined is.0 others (h false))
-tail-underlined SetextUnderline tail others is may h waits = lie may
-tail-underlined LineEnding tail others is may h waits = subst (λ t. underlined waits (t ++ others)
-    ≡ true) (sym is) (h waits)
-tail-underlined first tail others is may h waits = subst (λ t. underlined false (t ++ others) ≡ true) (sym is) (h false)
-
-grouped-underlined : (firsts spine : List Symbol) → IsGrouped firsts spine → list_all no_underline firsts ≡ true →
-    (waits : Bool) → underlined waits spine ≡ true
-grouped-underlined [] spine g h waits = subst (λ s. underlined waits s ≡ true) (sym g) refl
-grouped-underlined (first ∷ firsts) spine g h waits =
-    let parts = and_parts (no_underline first) (list_all no_underline firsts) h in
-    subst (λ s. underlined waits s ≡ true) (sym g.2)
-    (tail-underlined first g.0 g.1 g.3 parts.0 (grouped-underlined firsts g.1 g.4 parts.1) waits)
-
--- what holds of all letters of a pattern holds of what fits it
-own-all : (test : Symbol → Bool) (class : Class) (own : List Symbol) → list_all (takes class) own ≡ true →
-    list_all test (members class) ≡ true → list_all test own ≡ true
-own-all test class [] took h = refl
-own-all test class (s ∷ own) took h =
-    let parts = and_parts (takes class s) (list_all (takes class) own) took in
-    and_from (test s) (list_all test own) (taken test (members class) s parts.0 h) (own-all test class own parts.1 h)
-
-abbrev letters : (Symbol → Bool) → List Item → Bool
-letters test items = list_all (λ item. list_all test (members item.class)) items
-
-fits-all : (test : Symbol → Bool) (items : List Item) (firsts : List Symbol) → Fits items firsts →
-    letters test items ≡ true → list_all test firsts ≡ true
-fits-all test [] firsts fit h = subst (λ s. list_all test s ≡ true) (sym fit) refl
-fits-all test (item ∷ items) firsts fit h =
-    let parts = and_parts (list_all test (members item.class)) (letters test items) h in
-    subst (λ s. list_all test s ≡ true) (sym fit.2)
-    (list_all-append test fit.0 fit.1 ∙ and_from (list_all test fit.0) (list_all test fit.1)
-    (own-all test item.class fit.0 fit.3 parts.0) (fits-all test items fit.1 fit.5 parts.1))
-
-role-no_underline : (r : Role) → letters no_underline (pattern_of r) ≡ true
-unfolding no_underline
-role-no_underline role.Flow = refl
-role-no_underline _ = refl
-
--- on each spine of the grammar underlines stand behind their headings
-pub matches-underlined : (r : Role) (spine : List Symbol) → Matches r spine → (waits : Bool) →
-    underlined waits spine ≡ true
-matches-underlined r spine m waits = grouped-underlined m.0 spine m.1
-    (fits-all no_underline (pattern_of r) m.0 m.2 (role-no_underline r)) waits
 
 -- what holds of all letters of a role's pattern, and of what follows them in groups, holds of the spine
 grouped-all : (test : Symbol → Bool) → ((first : Symbol) (tail : List Symbol) → test first ≡ true →

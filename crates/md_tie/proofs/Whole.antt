@@ -27,7 +27,7 @@ use Rattle.md_tie.proofs.Reading.{read, noted_after, read-append, captured-text}
 use Rattle.md_tie.proofs.Sides.{source_of}
 use Rattle.md_tie.proofs.Captured.{calls-same}
 use Rattle.md_tie.proofs.Section.{section-read}
-use Rattle.md_tie.proofs.Shapes.{matches-underlined}
+use Rattle.md_shape.proofs.Underlines.{matches-underlined}
 use Rattle.md_tie.proofs.Forests.{Tied, tied}
 
 pub printed-is-meant : (options : CompileOptions) (names : List (List ℕ × List ℕ)) (bytes : List ℕ)

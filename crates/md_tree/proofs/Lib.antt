@@ -10,6 +10,8 @@ pub mod Greedy
 pub mod Identifiers
 pub mod Indexed
 pub mod Kept
+pub mod Leaves
+pub mod LeafRuns
 pub mod Groups
 pub mod Listing
 pub mod Paths

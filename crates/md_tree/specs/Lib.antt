@@ -3,6 +3,7 @@ pub mod Grammar
 pub mod Machine
 pub mod Mentions
 pub mod Names
+pub mod Reader
 pub mod Reads
 pub mod Refusal
 pub mod Resolve

@@ -1,5 +1,5 @@
 -- How a walk over events stands, and why it stops.
-use Rattle.std.specs.Prelude.{◌≡◌, ℕ, false, Option, Some, None, List, [], ◌∷◌, map, option_map, reverse, slice_get, IsTrue}
+use Rattle.std.specs.Prelude.{◌≡◌, ◌⊎◌, ℕ, suc, false, Option, Some, None, List, [], ◌∷◌, map, option_map, reverse, slice_get, IsTrue}
 use Rattle.md_base.specs.declared.event.Point.{Point}
 use Rattle.md_base.specs.declared.event.Position.{Position}
 use Rattle.md_base.specs.declared.event.Name.{Name}
@@ -13,6 +13,7 @@ use Rattle.md_tree.specs.declared.rule.CompileError.{CompileError}
 use Rattle.md_tree.specs.declared.rule.CompileError.TheVariants as error
 use Rattle.md_tree.specs.declared.mention.Target.{Target}
 use Rattle.md_tree.specs.declared.mention.Target.TheVariants.{Missing, Resource, Label}
+use Rattle.md_tree.specs.declared.state.State.{State}
 use Rattle.md_tree.specs.declared.state.Aim.{Aim}
 use Rattle.md_tree.specs.declared.state.Aim.TheVariants as aim
 use Rattle.md_tree.specs.declared.state.Open.{Open as KeptOpen}
@@ -21,7 +22,7 @@ use Rattle.md_tree.specs.declared.state.Entry.{Entry as KeptEntry}
 use Rattle.md_tree.specs.declared.walk.Walk.{Walk}
 use Rattle.md_pattern.specs.Standing.{standing_of}
 use Rattle.md_tree.specs.Rules.{place, broken_rule}
-use Rattle.md_tree.specs.Machine.{Reads, Outer, Open, Entry, Course, Enters, Exits, is_complete}
+use Rattle.md_tree.specs.Machine.{Reads, Outer, Open, Entry, Course, entered, Enters, Exits, is_complete}
 
 -- the point of the event at an index
 abbrev pub point_of : Option Event → Point
@@ -80,6 +81,21 @@ course_of events count walk = record {
   mentions = walk.mentions.items;
 }
 
+-- the same inside a node whose spine stands so
+abbrev pub inside_of : List Event → ℕ → State → Aim → Walk → Course
+inside_of events count state target walk =
+    record (course_of events count walk) { state = state; target = target_seen events target }
+
+-- the children of a node that stands so begin here
+abbrev pub IsEntry : Name → List Event → Course → KeptEntry → Type 0
+IsEntry name events course entry =
+    entered (standing_of name) course.state course.target ≡ Some (entry_seen events entry)
+
+-- a node without children, which is entered and exited
+abbrev pub Passes : Reads → Name → Point → Point → Course → Course → Type 0
+Passes holds name start end from to = (between : Course) × Enters name start from between
+    × Exits holds between.open_nodes name end between to
+
 -- any node
 abbrev pub Anything : Reads
 Anything reading around before start end target = Unit {0}
@@ -128,6 +144,13 @@ abbrev pub IsStop : List ℕ → List (List ℕ × List ℕ) → ℕ → Kind �
 IsStop bytes names index kind name point course error.Memory = Unit {0}
 IsStop bytes names index kind name point course (error.Event named broken) =
     (named ≡ index) × StopsBy bytes names kind broken name point course
+
+-- the same of a node without children: its entry stops the walk, or its exit does
+abbrev pub IsStopAtLeaf : List ℕ → List (List ℕ × List ℕ) → ℕ → Name → Point → Point → Course → CompileError → Type 0
+IsStopAtLeaf bytes names index name start end course stopped =
+    IsStop bytes names index Enter name start course stopped
+    ⊎ ((between : Course) × Enters name start course between
+    × IsStop bytes names (suc index) Exit name end between stopped)
 
 -- such a node may not end, or it breaks a rule
 abbrev pub StopsInside : List ℕ → List (List ℕ × List ℕ) → Rule → Outer → Position → Course → Type 0

@@ -9,13 +9,14 @@ ghost use Rattle.md_infer.specs.Facts.{facts_at, tables_at, definitions_at};
 
 use crate::checked::Checked;
 use crate::judge::Source;
+use crate::reader::Reader;
 use crate::resolve::resolve;
 use crate::rule::{CompileError, Rule};
 use crate::steps::can_end;
 use crate::texts::Texts;
 use crate::walk::Walk;
 use md_base::Event;
-use md_infer::{Facts, Pass, ending_behind};
+use md_infer::Facts;
 use std::alloc::Global;
 
 /// Checks that events are the flattening of a document of the grammar over the document's bytes
@@ -95,17 +96,17 @@ fn read_events(alloc: Global, source: Source) -> Result<Read, CompileError>
     ensures visits { IfOk result (λ read. read.found.visits ≡ length source.entry.events.now) }
     ensures refused { IfErr result (IsRefusal (handed source.entry.events.now source.entry.bytes.now source.entry.names.now)) }
 {
-    let mut walk = Walk::new(alloc);
-    let mut pass = Pass::new(alloc);
-    let mut first_ending = None;
+    let mut reader = Reader::new(alloc, source);
     let mut visits = 0;
-    // Each turn visits an event.
-    for (index, event) in source.events.iter().enumerate() {
-        visits += 1;
-        walk.step(alloc, source, index, event)?;
-        pass.find(alloc, event)?;
-        first_ending = ending_behind(first_ending, index, event);
+    // Each turn visits an event, or an entry and its own exit.
+    while let Some(event) = source.events.get(visits) {
+        visits += reader.advance(alloc, source, visits, *event)?;
     }
+    let Reader {
+        walk,
+        pass,
+        first_ending,
+    } = reader;
     let found = pass.into_facts(first_ending, visits);
     Ok(Read { walk, found })
 }

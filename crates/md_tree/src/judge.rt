@@ -18,6 +18,7 @@ use md_text::LineEnding;
 use std::alloc::{AllocError, Global};
 
 /// The text of a node, where its place fits the bytes and is one.
+#[inline(always)]
 pub fn text_at<'a>(bytes: &'a [u8], position: &Position) -> Option<&'a str>
     ensures { option_copied result ≡ text_between bytes.now position.now.start position.now.end }
 {
@@ -233,6 +234,7 @@ pub struct Source<'t, 'a> {
 
 /// The rule that a node breaks, by what is read of it, the role around it, the symbol before it,
 /// its place and its target.
+#[inline(always)]
 pub fn broken(
     alloc: Global,
     source: Source,
@@ -277,6 +279,7 @@ pub fn broken(
 }
 
 /// The text of a node that is entered and exited at two indices.
+#[inline(always)]
 fn text_of<'a>(source: Source<'_, 'a>, entry: usize, exit: usize) -> Option<&'a str>
     ensures { option_copied result ≡ text_between source.entry.bytes.now (point_at source.entry.events.now entry) (point_at source.entry.events.now exit) }
 {

@@ -7,6 +7,7 @@ mod infer;
 mod judge;
 pub mod laws;
 mod mention;
+mod reader;
 mod resolve;
 mod rule;
 mod state;

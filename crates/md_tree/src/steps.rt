@@ -58,6 +58,7 @@ fn next_position(times: Times, position: usize) -> usize
 
 /// The item from which on the next symbol is taken, where this symbol is taken by the first item
 /// from here on that takes it, and each before that may be left out.
+#[inline(always)]
 fn sought(items: &[Item], from: usize, symbol: Symbol) -> Option<usize>
     ensures { result ≡ seek from (drop from items.now) symbol }
 {
@@ -74,6 +75,7 @@ fn sought(items: &[Item], from: usize, symbol: Symbol) -> Option<usize>
 }
 
 /// The state after a symbol.
+#[inline(always)]
 fn advanced(state: State, symbol: Symbol) -> Option<State>
     ensures { result ≡ advance state symbol }
 {
@@ -134,6 +136,7 @@ fn can_hold(role: Role) -> bool
 }
 
 /// Where the children of a node begin, if it may stand here.
+#[inline(always)]
 pub fn entry(standing: Standing, state: State, target: Aim) -> Option<Entry>
     ensures { (events : List Event) → option_map (λ entry. entry_seen events entry) result ≡ entered standing state (target_seen events target) }
 {

@@ -5,7 +5,7 @@ ghost use Rattle.md_tree.specs.Walk.{target_seen};
 use crate::judge::{Source, broken, mention, place_at, target_left};
 use crate::mention::{Mention, Mentioned};
 use crate::rule::{CompileError, Rule};
-use crate::state::{Aim, Open, Outer, State};
+use crate::state::{Aim, Entry, Open, Outer, State};
 use crate::steps::{can_end, entry, start};
 use md_base::{Event, Kind, Name, is_same_name};
 use md_pattern::{Reading, Role, Standing, standing};
@@ -25,12 +25,12 @@ pub struct Walk {
 }
 
 impl Walk {
-    ghost use Rattle.std.specs.Prelude.{◌≡◌, List, suc, [], Some, IfErr, OnOk};
+    ghost use Rattle.std.specs.Prelude.{◌≡◌, ◌<◌, ◌+◌, List, suc, [], Some, length, IfOk, IfErr, OnOk};
     ghost use Rattle.md_base.specs.Reference.{name_table};
     ghost use Rattle.md_base.specs.declared.event.Event.{Event};
     ghost use Rattle.md_base.specs.declared.event.Kind.TheVariants as kind;
     ghost use Rattle.md_tree.specs.Machine.{Steps, Enters, Exits, ExitsWhere, beginning};
-    ghost use Rattle.md_tree.specs.Walk.{point_at, place_at, outer_seen, opens_seen, course_of, Unbroken, IsStop, IsStopInside};
+    ghost use Rattle.md_tree.specs.Walk.{point_at, place_at, outer_seen, opens_seen, course_of, inside_of, IsEntry, Passes, Unbroken, IsStop, IsStopAtLeaf, IsStopInside};
 
     /// Before any event.
     pub fn new(alloc: Global) -> Walk
@@ -64,12 +64,13 @@ impl Walk {
         }
     }
 
-    /// Enters a node.
-    fn enter(&mut self, source: Source, index: usize, name: Name) -> Result<(), CompileError>
-        ensures ok { OnOk result
-            (Enters name (point_at source.entry.events.now index) (course_of source.entry.events.now index self.old) (course_of source.entry.events.now (suc index) self.new)) }
+    /// Where the children of a node begin that is entered here.
+    #[inline(always)]
+    fn begin(&self, source: Source, index: usize, name: Name) -> Result<Entry, CompileError>
+        ensures ok { IfOk result
+            (λ entry. IsEntry name source.entry.events.now (course_of source.entry.events.now index self.now) entry) }
         ensures refused { IfErr result
-            (IsStop source.entry.bytes.now (name_table source.entry.names.now) index kind.Enter name (point_at source.entry.events.now index) (course_of source.entry.events.now index self.old)) }
+            (IsStop source.entry.bytes.now (name_table source.entry.names.now) index kind.Enter name (point_at source.entry.events.now index) (course_of source.entry.events.now index self.now)) }
     {
         let standing = standing(name);
         if matches!(standing, Standing::Mdx) {
@@ -84,6 +85,17 @@ impl Walk {
                 rule: Rule::Order,
             });
         };
+        Ok(entry)
+    }
+
+    /// Enters a node.
+    fn enter(&mut self, source: Source, index: usize, name: Name) -> Result<(), CompileError>
+        ensures ok { OnOk result
+            (Enters name (point_at source.entry.events.now index) (course_of source.entry.events.now index self.old) (course_of source.entry.events.now (suc index) self.new)) }
+        ensures refused { IfErr result
+            (IsStop source.entry.bytes.now (name_table source.entry.names.now) index kind.Enter name (point_at source.entry.events.now index) (course_of source.entry.events.now index self.old)) }
+    {
+        let entry = self.begin(source, index, name)?;
         self.open_nodes.push(Open {
             name,
             entry: index,
@@ -92,6 +104,39 @@ impl Walk {
         self.state = entry.state;
         self.target = entry.target;
         Ok(())
+    }
+
+    /// Enters a node at this index, and leaves it at the next one.
+    pub fn leaf(
+        &mut self,
+        alloc: Global,
+        source: Source,
+        index: usize,
+        name: Name,
+    ) -> Result<(), CompileError>
+        requires { index + 1 < length source.events.now }
+        ensures ok { OnOk result
+            (Passes (Unbroken source.entry.bytes.now (name_table source.entry.names.now)) name (point_at source.entry.events.now index) (point_at source.entry.events.now (suc index)) (course_of source.entry.events.now index self.old) (course_of source.entry.events.now (suc (suc index)) self.new)) }
+        ensures refused { IfErr result
+            (IsStopAtLeaf source.entry.bytes.now (name_table source.entry.names.now) index name (point_at source.entry.events.now index) (point_at source.entry.events.now (suc index)) (course_of source.entry.events.now index self.old)) }
+    {
+        let inner = self.begin(source, index, name)?;
+        match inner.outer {
+            None => {
+                self.state = inner.state;
+                self.target = inner.target;
+                Ok(())
+            }
+            Some(outer) => self.leave(
+                alloc,
+                source,
+                index + 1,
+                index,
+                outer,
+                inner.state,
+                inner.target,
+            ),
+        }
     }
 
     /// Leaves the innermost open node.
@@ -121,11 +166,20 @@ impl Walk {
         }
         match open_node.outer {
             None => Ok(()),
-            Some(outer) => self.leave(alloc, source, index, open_node.entry, outer),
+            Some(outer) => self.leave(
+                alloc,
+                source,
+                index,
+                open_node.entry,
+                outer,
+                self.state,
+                self.target,
+            ),
         }
     }
 
-    /// Leaves a node that has a spine of its own, and was entered at an index.
+    /// Leaves a node that was entered at an index, and has a spine of its own, which was read so far.
+    #[inline(always)]
     fn leave(
         &mut self,
         alloc: Global,
@@ -133,19 +187,21 @@ impl Walk {
         index: usize,
         entry: usize,
         outer: Outer,
+        state: State,
+        target: Aim,
     ) -> Result<(), CompileError>
         ensures ok { OnOk result
-            (ExitsWhere (Unbroken source.entry.bytes.now (name_table source.entry.names.now)) (Some (outer_seen source.entry.events.now outer)) (point_at source.entry.events.now entry) (point_at source.entry.events.now index) (opens_seen source.entry.events.now self.old.open_nodes.items) (course_of source.entry.events.now index self.old) (course_of source.entry.events.now (suc index) self.new)) }
+            (ExitsWhere (Unbroken source.entry.bytes.now (name_table source.entry.names.now)) (Some (outer_seen source.entry.events.now outer)) (point_at source.entry.events.now entry) (point_at source.entry.events.now index) (opens_seen source.entry.events.now self.old.open_nodes.items) (inside_of source.entry.events.now index state target self.old) (course_of source.entry.events.now (suc index) self.new)) }
         ensures refused { IfErr result
-            (IsStopInside source.entry.bytes.now (name_table source.entry.names.now) index (outer_seen source.entry.events.now outer) (place_at source.entry.events.now entry index) (course_of source.entry.events.now index self.old)) }
+            (IsStopInside source.entry.bytes.now (name_table source.entry.names.now) index (outer_seen source.entry.events.now outer) (place_at source.entry.events.now entry index) (inside_of source.entry.events.now index state target self.old)) }
     {
-        if !can_end(self.state) {
+        if !can_end(state) {
             return Err(CompileError::Event {
                 index,
                 rule: Rule::Order,
             });
         }
-        if let Some(rule) = broken(alloc, source, &outer, entry, index, self.target)? {
+        if let Some(rule) = broken(alloc, source, &outer, entry, index, target)? {
             return Err(CompileError::Event { index, rule });
         }
         keep(
@@ -153,9 +209,9 @@ impl Walk {
             source.events,
             index,
             outer.reading,
-            self.target,
+            target,
         )?;
-        self.target = target_left(outer.reading, outer.target, self.target, entry, index);
+        self.target = target_left(outer.reading, outer.target, target, entry, index);
         self.state = outer.state;
         Ok(())
     }

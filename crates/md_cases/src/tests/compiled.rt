@@ -90,6 +90,7 @@ fn leaves_all_unset(rt: &impl Abort, options: &CompileOptions, tagfilter: bool) 
     assert!(rt; !options.allow_dangerous_protocol);
     assert!(rt; !options.gfm_task_list_item_checkable);
     assert_eq!(rt; options.gfm_tagfilter, tagfilter);
+    assert!(rt; !options.gfm_footnote_number_ids);
     assert_eq!(rt; options.default_line_ending, LineEnding::LineFeed);
     assert!(rt; options.gfm_footnote_back_label.is_none());
     assert!(rt; options.gfm_footnote_clobber_prefix.is_none());

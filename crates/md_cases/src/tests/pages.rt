@@ -113,6 +113,7 @@ fn options_are_looked_at_first(rt: HostRuntime) -> Result<(), Fail> {
 fn other_options_are_safe(rt: HostRuntime) -> Result<(), Fail> {
     let mut options = CompileOptions::gfm();
     options.gfm_task_list_item_checkable = true;
+    options.gfm_footnote_number_ids = true;
     options.gfm_footnote_clobber_prefix = Some(String::from_str(rt.alloc(), "<")?);
     options.gfm_footnote_back_label = Some(String::from_str(rt.alloc(), "\"")?);
     options.gfm_footnote_label = Some(String::from_str(rt.alloc(), "<b>")?);

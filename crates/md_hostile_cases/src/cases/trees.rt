@@ -21,6 +21,7 @@ fn options(alloc: Global, seed: u64, is_safe: bool) -> Result<CompileOptions, Al
     let mut options = CompileOptions {
         gfm_task_list_item_checkable: random.once_in(2),
         gfm_tagfilter: random.once_in(2),
+        gfm_footnote_number_ids: random.once_in(2),
         default_line_ending: ending(random.below(3)),
         gfm_footnote_back_label: text(alloc, &mut random)?,
         gfm_footnote_clobber_prefix: text(alloc, &mut random)?,

@@ -24,14 +24,21 @@ id_prefix options = option_or (option_map string_bytes options.gfm_footnote_clob
 abbrev pub section_tag : CompileOptions → List ℕ
 section_tag options = option_or (option_map string_bytes options.gfm_footnote_label_tag_name) (codes "h2")
 
--- the id of a footnote: the prefix, `fn-` and the identifier as a URL
-abbrev pub footnote_id : CompileOptions → List ℕ → List ℕ
-footnote_id options identifier = id_prefix options ++ (codes "fn-" ++ sanitized identifier)
+-- the id of the footnote with an identifier and a number: the prefix, `fn-`, and where ids go by number that, else the
+-- identifier as a URL
+abbrev pub footnote_id : CompileOptions → List ℕ → ℕ → List ℕ
+footnote_id options identifier number =
+    if options.gfm_footnote_number_ids
+    then id_prefix options ++ (codes "fn-" ++ decimal number)
+    else id_prefix options ++ (codes "fn-" ++ sanitized identifier)
 
--- the id of one of its calls: `fnref-` in that place, and from the second call on `-` and which it is
-abbrev pub call_id : CompileOptions → List ℕ → ℕ → List ℕ
-call_id options identifier occurrence =
-    (id_prefix options ++ (codes "fnref-" ++ sanitized identifier))
+-- the id of one of its calls: `fnref-` in that place, then `-` and which it is; where ids go by identifier that comes
+-- from the second call on
+abbrev pub call_id : CompileOptions → List ℕ → ℕ → ℕ → List ℕ
+call_id options identifier number occurrence =
+    if options.gfm_footnote_number_ids
+    then (id_prefix options ++ (codes "fnref-" ++ decimal number)) ++ (codes "-" ++ decimal occurrence)
+    else (id_prefix options ++ (codes "fnref-" ++ sanitized identifier))
     ++ (if occurrence == 1 then [] else codes "-" ++ decimal occurrence)
 
 -- the place of an identifier among some, from 1
@@ -42,8 +49,8 @@ place_among (other ∷ others) identifier = if bytes_eq other identifier then 1 
 -- a call with its number and which of the calls of its footnote it is
 abbrev pub call_of : CompileOptions → List ℕ → ℕ → ℕ → List Piece
 call_of options identifier number occurrence =
-    Text (codes "<sup><a href=\"#") ∷ Text (footnote_id options identifier)
-    ∷ Text (codes "\" id=\"") ∷ Text (call_id options identifier occurrence)
+    Text (codes "<sup><a href=\"#") ∷ Text (footnote_id options identifier number)
+    ∷ Text (codes "\" id=\"") ∷ Text (call_id options identifier number occurrence)
     ∷ Text (codes "\" data-footnote-ref=\"\" aria-describedby=\"footnote-label\">") ∷ Text (decimal number)
     ∷ Text (codes "</a></sup>") ∷ []
 
@@ -56,20 +63,21 @@ call given at =
     (call_of given.options identifier (place_among (distinct given.calls) identifier)
     (suc (count_of (at.before.calls ++ calls_of given.bytes at.children) identifier)))
 
--- the way back to a call; the arrow is U+21A9
-abbrev pub backreference : CompileOptions → List ℕ → ℕ → List ℕ
-backreference options identifier occurrence = codes "<a href=\"#" ++ (call_id options identifier occurrence
+-- the way back from a footnote to one of its calls; the arrow is U+21A9
+abbrev pub backreference : CompileOptions → List ℕ → ℕ → ℕ → List ℕ
+backreference options identifier number occurrence =
+    codes "<a href=\"#" ++ (call_id options identifier number occurrence
     ++ (codes "\" data-footnote-backref=\"\" aria-label=\""
     ++ (option_or (option_map string_bytes options.gfm_footnote_back_label) (codes "Back to content")
     ++ (codes "\" class=\"data-footnote-backref\">" ++ ((226 ∷ 134 ∷ 169 ∷ [])
     ++ ((if occurrence == 1 then [] else codes "<sup>" ++ (decimal occurrence ++ codes "</sup>")) ++ codes "</a>"))))))
 
 -- the ways back to so many calls, with single spaces between
-abbrev pub backreferences : CompileOptions → List ℕ → ℕ → List ℕ
-backreferences options identifier zero = []
-backreferences options identifier (suc count) =
-    backreferences options identifier count
-    ++ ((if count == 0 then [] else codes " ") ++ backreference options identifier (suc count))
+abbrev pub backreferences : CompileOptions → List ℕ → ℕ → ℕ → List ℕ
+backreferences options identifier number zero = []
+backreferences options identifier number (suc count) =
+    backreferences options identifier number count
+    ++ ((if count == 0 then [] else codes " ") ++ backreference options identifier number (suc count))
 
 -- how many bytes are left of a text without the CR and LF at its end
 abbrev pub unended_length : List ℕ → ℕ
@@ -90,11 +98,14 @@ abbrev pub text_with : List Footnote → List ℕ → List ℕ
 text_with footnotes identifier =
     option_map_or (λ footnote. footnote.text) (find (λ footnote. bytes_eq footnote.identifier identifier) footnotes) []
 
--- a footnote in the section
+-- a footnote in the section; its number is that of its calls
 abbrev pub item : Given → List Footnote → List ℕ → List Piece
 item given footnotes identifier =
-    Forced ∷ Text (codes "<li id=\"") ∷ Text (footnote_id given.options identifier) ∷ Text (codes "\">") ∷ Forced
-    ∷ (body (text_with footnotes identifier) (backreferences given.options identifier (count_of given.calls identifier))
+    let number = place_among (distinct given.calls) identifier in
+    Forced ∷ Text (codes "<li id=\"") ∷ Text (footnote_id given.options identifier number)
+    ∷ Text (codes "\">") ∷ Forced
+    ∷ (body (text_with footnotes identifier)
+    (backreferences given.options identifier number (count_of given.calls identifier))
     ++ on_own_line (codes "</li>"))
 
 -- the section's heading, and the list's tag

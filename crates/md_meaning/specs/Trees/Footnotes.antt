@@ -272,3 +272,39 @@ footnote_that_ends_in_html_bytes = codes "[^b][^b]:<p>c</p>"
 abbrev pub footnote_that_ends_in_html_text : List ℕ
 footnote_that_ends_in_html_text =
     codes "<p><sup><a href=\"#user-content-fn-b\" id=\"user-content-fnref-b\" data-footnote-ref=\"\" aria-describedby=\"footnote-label\">1</a></sup></p>" ++ (10 ∷ []) ++ codes "<section data-footnotes=\"\" class=\"footnotes\"><h2 id=\"footnote-label\" class=\"sr-only\">Footnotes</h2>" ++ (10 ∷ []) ++ codes "<ol>" ++ (10 ∷ []) ++ codes "<li id=\"user-content-fn-b\">" ++ (10 ∷ []) ++ codes "<p>c <a href=\"#user-content-fnref-b\" data-footnote-backref=\"\" aria-label=\"Back to content\" class=\"data-footnote-backref\">" ++ (226 ∷ []) ++ (134 ∷ []) ++ (169 ∷ []) ++ codes "</a></p>" ++ (10 ∷ []) ++ codes "</li>" ++ (10 ∷ []) ++ codes "</ol>" ++ (10 ∷ []) ++ codes "</section>" ++ (10 ∷ [])
+
+-- ids by number: the options
+abbrev pub ids_by_number : CompileOptions
+ids_by_number = record default_options { gfm_footnote_number_ids = true }
+
+-- a footnote with its ids by number: its text
+abbrev pub footnote_by_number_text : List ℕ
+footnote_by_number_text =
+    codes "<p>a<sup><a href=\"#user-content-fn-1\" id=\"user-content-fnref-1-1\" data-footnote-ref=\"\" aria-describedby=\"footnote-label\">1</a></sup></p>" ++ (10 ∷ []) ++ codes "<section data-footnotes=\"\" class=\"footnotes\"><h2 id=\"footnote-label\" class=\"sr-only\">Footnotes</h2>" ++ (10 ∷ []) ++ codes "<ol>" ++ (10 ∷ []) ++ codes "<li id=\"user-content-fn-1\">" ++ (10 ∷ []) ++ codes "<p>c <a href=\"#user-content-fnref-1-1\" data-footnote-backref=\"\" aria-label=\"Back to content\" class=\"data-footnote-backref\">" ++ (226 ∷ []) ++ (134 ∷ []) ++ (169 ∷ []) ++ codes "</a></p>" ++ (10 ∷ []) ++ codes "</li>" ++ (10 ∷ []) ++ codes "</ol>" ++ (10 ∷ []) ++ codes "</section>" ++ (10 ∷ [])
+
+-- a second call whose identifier's id is that of another footnote's first call: the tree, its bytes, its text, and its
+-- text with ids by number, where no two ids are equal
+abbrev pub identifiers_that_meet : Forest
+identifiers_that_meet =
+    Node Paragraph (at 0) (at 14) (Node GfmFootnoteCall (at 0) (at 4)
+    (Node Label (at 0) (at 4) (Node LabelText (at 2) (at 3) (Empty) (Empty)) (Empty))
+    (Node GfmFootnoteCall (at 4) (at 8) (Node Label (at 4) (at 8) (Node LabelText (at 6) (at 7) (Empty) (Empty))
+    (Empty)) (Node GfmFootnoteCall (at 8) (at 14)
+    (Node Label (at 8) (at 14) (Node LabelText (at 10) (at 13) (Empty) (Empty)) (Empty)) (Empty))))
+    (Node GfmFootnoteDefinition (at 14) (at 20)
+    (Node GfmFootnoteDefinitionPrefix (at 14) (at 19) (Node GfmFootnoteDefinitionLabelString (at 16) (at 17) (Empty)
+    (Empty)) (Node Paragraph (at 19) (at 20) (Node Data (at 19) (at 20) (Empty) (Empty)) (Empty)))
+    (Node GfmFootnoteDefinition (at 20) (at 28) (Node GfmFootnoteDefinitionPrefix (at 20) (at 27)
+    (Node GfmFootnoteDefinitionLabelString (at 22) (at 25) (Empty) (Empty))
+    (Node Paragraph (at 27) (at 28) (Node Data (at 27) (at 28) (Empty) (Empty)) (Empty))) (Empty)))
+
+abbrev pub identifiers_that_meet_bytes : List ℕ
+identifiers_that_meet_bytes = codes "[^a][^a][^a-2][^a]:x[^a-2]:y"
+
+abbrev pub identifiers_that_meet_text : List ℕ
+identifiers_that_meet_text =
+    codes "<p><sup><a href=\"#user-content-fn-a\" id=\"user-content-fnref-a\" data-footnote-ref=\"\" aria-describedby=\"footnote-label\">1</a></sup><sup><a href=\"#user-content-fn-a\" id=\"user-content-fnref-a-2\" data-footnote-ref=\"\" aria-describedby=\"footnote-label\">1</a></sup><sup><a href=\"#user-content-fn-a-2\" id=\"user-content-fnref-a-2\" data-footnote-ref=\"\" aria-describedby=\"footnote-label\">2</a></sup></p>" ++ (10 ∷ []) ++ codes "<section data-footnotes=\"\" class=\"footnotes\"><h2 id=\"footnote-label\" class=\"sr-only\">Footnotes</h2>" ++ (10 ∷ []) ++ codes "<ol>" ++ (10 ∷ []) ++ codes "<li id=\"user-content-fn-a\">" ++ (10 ∷ []) ++ codes "<p>x <a href=\"#user-content-fnref-a\" data-footnote-backref=\"\" aria-label=\"Back to content\" class=\"data-footnote-backref\">" ++ (226 ∷ []) ++ (134 ∷ []) ++ (169 ∷ []) ++ codes "</a> <a href=\"#user-content-fnref-a-2\" data-footnote-backref=\"\" aria-label=\"Back to content\" class=\"data-footnote-backref\">" ++ (226 ∷ []) ++ (134 ∷ []) ++ (169 ∷ []) ++ codes "<sup>2</sup></a></p>" ++ (10 ∷ []) ++ codes "</li>" ++ (10 ∷ []) ++ codes "<li id=\"user-content-fn-a-2\">" ++ (10 ∷ []) ++ codes "<p>y <a href=\"#user-content-fnref-a-2\" data-footnote-backref=\"\" aria-label=\"Back to content\" class=\"data-footnote-backref\">" ++ (226 ∷ []) ++ (134 ∷ []) ++ (169 ∷ []) ++ codes "</a></p>" ++ (10 ∷ []) ++ codes "</li>" ++ (10 ∷ []) ++ codes "</ol>" ++ (10 ∷ []) ++ codes "</section>" ++ (10 ∷ [])
+
+abbrev pub identifiers_that_meet_by_number_text : List ℕ
+identifiers_that_meet_by_number_text =
+    codes "<p><sup><a href=\"#user-content-fn-1\" id=\"user-content-fnref-1-1\" data-footnote-ref=\"\" aria-describedby=\"footnote-label\">1</a></sup><sup><a href=\"#user-content-fn-1\" id=\"user-content-fnref-1-2\" data-footnote-ref=\"\" aria-describedby=\"footnote-label\">1</a></sup><sup><a href=\"#user-content-fn-2\" id=\"user-content-fnref-2-1\" data-footnote-ref=\"\" aria-describedby=\"footnote-label\">2</a></sup></p>" ++ (10 ∷ []) ++ codes "<section data-footnotes=\"\" class=\"footnotes\"><h2 id=\"footnote-label\" class=\"sr-only\">Footnotes</h2>" ++ (10 ∷ []) ++ codes "<ol>" ++ (10 ∷ []) ++ codes "<li id=\"user-content-fn-1\">" ++ (10 ∷ []) ++ codes "<p>x <a href=\"#user-content-fnref-1-1\" data-footnote-backref=\"\" aria-label=\"Back to content\" class=\"data-footnote-backref\">" ++ (226 ∷ []) ++ (134 ∷ []) ++ (169 ∷ []) ++ codes "</a> <a href=\"#user-content-fnref-1-2\" data-footnote-backref=\"\" aria-label=\"Back to content\" class=\"data-footnote-backref\">" ++ (226 ∷ []) ++ (134 ∷ []) ++ (169 ∷ []) ++ codes "<sup>2</sup></a></p>" ++ (10 ∷ []) ++ codes "</li>" ++ (10 ∷ []) ++ codes "<li id=\"user-content-fn-2\">" ++ (10 ∷ []) ++ codes "<p>y <a href=\"#user-content-fnref-2-1\" data-footnote-backref=\"\" aria-label=\"Back to content\" class=\"data-footnote-backref\">" ++ (226 ∷ []) ++ (134 ∷ []) ++ (169 ∷ []) ++ codes "</a></p>" ++ (10 ∷ []) ++ codes "</li>" ++ (10 ∷ []) ++ codes "</ol>" ++ (10 ∷ []) ++ codes "</section>" ++ (10 ∷ [])

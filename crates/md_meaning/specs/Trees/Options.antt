@@ -42,21 +42,28 @@ each_name =
 abbrev pub each_name_bytes : List ℕ
 each_name_bytes = codes "[a](x:b)![a](x:c)<x:d>&<xmp>[ ][^e]<title>[^e]:f"
 
--- its text by what options change: the addresses of the link, the autolink and the image, the HTML in the text and the
--- one by itself, what a task says, the line ending
-abbrev pub each_name_text : (link autolink image span block task ending : List ℕ) → List ℕ
-each_name_text link autolink image span block task ending =
+-- its text by what options change: the ids of the footnote and its call, the addresses of the link, the autolink and the
+-- image, the HTML in the text and the one by itself, what a task says, the line ending
+abbrev pub each_name_text_by : (footnote call link autolink image span block task ending : List ℕ) → List ℕ
+each_name_text_by footnote call link autolink image span block task ending =
     codes "<p><a href=\"" ++ link ++ codes "\">a</a><img src=\"" ++ image ++ codes "\" alt=\"a\" />"
     ++ codes "<a href=\"" ++ autolink ++ codes "\">x:d</a>&amp;" ++ span
     ++ codes "<input type=\"checkbox\" " ++ task ++ codes "/>"
-    ++ codes "<sup><a href=\"#user-content-fn-e\" id=\"user-content-fnref-e\" data-footnote-ref=\"\" "
+    ++ codes "<sup><a href=\"#user-content-fn-" ++ footnote ++ codes "\" id=\"user-content-fnref-" ++ call
+    ++ codes "\" data-footnote-ref=\"\" "
     ++ codes "aria-describedby=\"footnote-label\">1</a></sup></p>" ++ ending ++ block ++ ending
     ++ codes "<section data-footnotes=\"\" class=\"footnotes\">"
     ++ codes "<h2 id=\"footnote-label\" class=\"sr-only\">Footnotes</h2>" ++ ending
-    ++ codes "<ol>" ++ ending ++ codes "<li id=\"user-content-fn-e\">" ++ ending
-    ++ codes "<p>f <a href=\"#user-content-fnref-e\" data-footnote-backref=\"\" aria-label=\"Back to content\" "
+    ++ codes "<ol>" ++ ending ++ codes "<li id=\"user-content-fn-" ++ footnote ++ codes "\">" ++ ending
+    ++ codes "<p>f <a href=\"#user-content-fnref-" ++ call
+    ++ codes "\" data-footnote-backref=\"\" aria-label=\"Back to content\" "
     ++ codes "class=\"data-footnote-backref\">" ++ (226 ∷ 134 ∷ 169 ∷ []) ++ codes "</a></p>" ++ ending
     ++ codes "</li>" ++ ending ++ codes "</ol>" ++ ending ++ codes "</section>" ++ ending
+
+-- the same where ids go by identifier
+abbrev pub each_name_text : (link autolink image span block task ending : List ℕ) → List ℕ
+each_name_text link autolink image span block task ending =
+    each_name_text_by (codes "e") (codes "e") link autolink image span block task ending
 
 -- what a task says that can't be checked, and the three line endings
 abbrev pub disabled : List ℕ
@@ -142,3 +149,11 @@ both_ends_of_line = record default_options { default_line_ending = CarriageRetur
 
 abbrev pub both_ends_of_line_text : List ℕ
 both_ends_of_line_text = each_name_text [] [] [] (codes "&lt;xmp&gt;") (codes "&lt;title&gt;") disabled crlf
+
+-- footnotes' ids go by number
+abbrev pub ids_by_number : CompileOptions
+ids_by_number = record default_options { gfm_footnote_number_ids = true }
+
+abbrev pub ids_by_number_text : List ℕ
+ids_by_number_text =
+    each_name_text_by (codes "1") (codes "1-1") [] [] [] (codes "&lt;xmp&gt;") (codes "&lt;title&gt;") disabled lf

@@ -3,6 +3,7 @@
 ghost use Rattle.std.specs.Prelude.{◌≡◌, ◌∷◌, [], ◌++◌, codes};
 ghost use Rattle.md_text.specs.Filter.{disarmed_names};
 ghost use Rattle.md_text.specs.Html.{HasReading, HasReadingWith};
+ghost use Rattle.md_text.specs.Ids.{HasDistinctIds};
 ghost use Rattle.md_text.specs.Url.{link_protocols, image_protocols};
 ghost use Rattle.md_text.specs.Safe.{is_safe_link, is_safe_image};
 
@@ -189,4 +190,15 @@ pub fn lists_are_as_written()
     ensures disarmed { disarmed_names
         ≡ codes "iframe" ∷ codes "noembed" ∷ codes "noframes" ∷ codes "plaintext" ∷ codes "script"
         ∷ codes "style" ∷ codes "textarea" ∷ codes "title" ∷ codes "xmp" ∷ [] }
+{}
+
+/// Equal ids are told, whatever stands between them, and ids that differ aren't taken for equal.
+pub fn equal_ids_are_told()
+    ensures differ { HasDistinctIds (codes "<li id=\"a\"></li><li id=\"b\"></li>") }
+    ensures other_attribute { HasDistinctIds (codes "<a title=\"a\"></a><a title=\"a\"></a>") }
+    ensures equal { ¬ HasDistinctIds (codes "<li id=\"a\"></li><li id=\"b\"></li><li id=\"a\"></li>") }
+    ensures nested { ¬ HasDistinctIds (codes "<li id=\"a\"><a id=\"a\"></a></li>") }
+    ensures behind_others { ¬ HasDistinctIds (codes "<a href=\"#x\" id=\"a\"></a><a href=\"#y\" id=\"a\"></a>") }
+    ensures headings { ¬ HasDistinctIds (codes "<h2 id=\"a\"></h2><li id=\"a\"></li>") }
+    ensures referenced { ¬ HasDistinctIds (codes "<li id=\"&amp;a\"></li>&lt;<li id=\"&amp;a\"></li>") }
 {}

@@ -14,41 +14,39 @@ use Rattle.md_html.proofs.Leaves.{run-leaf}
 use Rattle.md_html.proofs.compiler.advance.Goals as goal
 
 pub step-requires : goal.step-requires
-step-requires c = drop-first c.args.checked.now.events c.args.index c.args.event.now c.args.later.now c.requires
+step-requires c =
+    drop-first c.args.checked.now.events c.args.visit.index c.args.visit.event.now c.args.visit.later.now c.requires
 
 pub returns-then-is_leaf-clause-runs : goal.returns-then-is_leaf-clause-runs
 returns-then-is_leaf-clause-runs c document flat =
     let given = given_of c.args.source.now in
-    let event : Event = c.args.event.now in
+    let event : Event = c.args.visit.event.now in
     let exit : Event = c.in-Some.exit.now in
     let beyond : List Event = c.in-Some.beyond.now in
     let nodes : List (Option Forest) = children_of document in
     let before : State = c.args.printer.now in
     let behind : State = c.leaf.new.printer in
-    ap (λ es. machine.run given (drop 1 es) (drop (c.args.index + 2) nodes) behind) c.in-Some.ensures.cases.0
-    ∙ run-leaf given document c.args.checked.now.events c.args.index event exit beyond before behind flat
+    ap (λ es. machine.run given (drop 1 es) (drop (c.args.visit.index + 2) nodes) behind) c.in-Some.ensures.cases.0
+    ∙ run-leaf given document c.args.checked.now.events c.args.visit.index event exit beyond before behind flat
     (ap (λ es. event ∷ es) (sym c.in-Some.ensures.cases.0) ∙ c.requires) c.if-is_leaf.ensures
     (λ (ahead : Ahead) (loose : Bool) (columns : List AlignKind).
     c.in_ok-leaf.ensures ahead loose columns
     ∙ ap (λ b. machine.exited given b false event.name exit.point
     (machine.entered given ahead loose columns false event.name event.point before)) (c.is_empty-is_last.ensures
     ∙ is_nil-length beyond))
-    ∙ ap (λ es. machine.run given (event ∷ es) (drop c.args.index nodes) before) (sym c.in-Some.ensures.cases.0)
+    ∙ ap (λ es. machine.run given (event ∷ es) (drop c.args.visit.index nodes) before) (sym c.in-Some.ensures.cases.0)
 
 pub returns-clause-runs : goal.returns-clause-runs
 returns-clause-runs c document flat =
     let given = given_of c.args.source.now in
     let events : List Event = c.args.checked.now.events in
-    let index = c.args.index in
-    let event : Event = c.args.event.now in
-    let later : List Event = c.args.later.now in
+    let index = c.args.visit.index in
+    let event : Event = c.args.visit.event.now in
+    let later : List Event = c.args.visit.later.now in
     let before : State = c.args.printer.now in
     let nodes : List (Option Forest) = children_of document in
     let told : Option Forest = get_or nodes index None in
     let there : slice_get nodes index ≡ Some told = told-at document events index event flat
     (drop-first events index event later c.requires) in
     ap (λ s. machine.run given later (drop (index + 1) nodes) s) (c.in_ok-step.ensures told (document, flat, there))
-    ∙ ap (λ b. machine.run given later (drop (index + 1) nodes)
-    (machine.stepped given event.kind event.name event.point told b before)) (c.is_empty.ensures
-    ∙ is_nil-length later)
     ∙ ap (λ cs. machine.run given (event ∷ later) cs before) (sym (drop-found nodes index told there))

@@ -1,11 +1,13 @@
 -- The run over the events, with the document's definitions, is the meaning of each document that they flatten.
-use Rattle.std.proofs.Common.{◌≡◌, List, [], ℕ, ap, sym, ◌∙◌, subst, string_bytes, length, ◌≤◌, arith}
+use Rattle.std.proofs.Common.{◌≡◌, List, [], ℕ, false, length, ◌<◌, ◌^◌, ap, sym, ◌∙◌, subst, string_bytes, arith}
 use Rattle.md_text.specs.Html.{any_attribute, HasOneReadingWith}
 use Rattle.md_text.specs.Safe.{is_safe_link, is_safe_image}
 use Rattle.md_shape.specs.Built.{IsBuilt, Blocks}
 use Rattle.md_shape.proofs.Grammatical.{grammatical-built}
-use Rattle.md_safe.specs.Options.{KeepsGrammar, KeepsLinks, KeepsImages}
-use Rattle.md_safe.proofs.Whole.{one-reading, safe-links, safe-images}
+use Rattle.md_shape.specs.Underlined.{IsUnderlined}
+use Rattle.md_shape.proofs.Underlines.{grammatical-underlined}
+use Rattle.md_text.specs.Ids.{HasDistinctIds}
+use Rattle.md_safe.proofs.Whole.{one-reading, safe-links, safe-images, distinct-ids}
 use Rattle.md_base.specs.Reference.{name_table}
 use Rattle.md_base.specs.Tree.{Forest, flatten}
 use Rattle.md_meaning.specs.Given.{Given, Defined}
@@ -14,7 +16,7 @@ use Rattle.md_printer.specs.Machine.{finished}
 use Rattle.md_pattern.specs.Shape.{IsShaped}
 use Rattle.md_html.specs.OwnDefinitions.{own_definitions}
 use Rattle.md_html.proofs.OwnEvents.{document-definitions}
-use Rattle.md_meaning.specs.Meaning.{meaning, ending_at}
+use Rattle.md_meaning.specs.Meaning.{ending_at}
 use Rattle.md_meaning.specs.Whole.{printed_meaning}
 use Rattle.md_tie.proofs.Whole.{printed-is-meant}
 use Rattle.md_tree.specs.Grammar.{IsGrammatical}
@@ -42,6 +44,9 @@ returns c =
     in
     let built : IsBuilt checked.bytes Blocks read.0 = grammatical-built checked.bytes checked.names read.0
     read.1.grammatical in
+    let underlined : IsUnderlined false read.0 = grammatical-underlined checked.bytes checked.names read.0
+    read.1.grammatical in
+    let few : length (flatten read.0) < 2 ^ 64 = omega (ap length read.1.flattened, c.visits.ensures, arith) in
     let printed : (document : Forest) → flatten document ≡ checked.events →
     string_bytes c.in_ok-text.text ≡ printed_meaning options checked.names checked.bytes document = λ document flat.
     c.in_ok-text.ensures
@@ -73,5 +78,15 @@ returns c =
           (safe-links checked.bytes checked.names options read.0 built keeps);
       safe_images = λ keeps. subst (λ t. HasOneReadingWith is_safe_image t) (sym (printed read.0 read.1.flattened))
           (safe-images checked.bytes checked.names options read.0 built keeps);
-      most = omega (arith, own, c.in_ok-ran.ensures.visits, c.saturating_add-visits.ensures);
+      distinct_ids = λ keeps. subst HasDistinctIds (sym (printed read.0 read.1.flattened))
+          (distinct-ids checked.bytes checked.names options read.0 built underlined keeps few);
+      least = omega (arith, c.visits.ensures, c.saturating_add-visits.ensures, c.saturating_add-visits-2.ensures);
+      most = omega (
+        arith,
+        own,
+        c.in_ok-ran.ensures.visits,
+        c.visits.ensures,
+        c.saturating_add-visits.ensures,
+        c.saturating_add-visits-2.ensures,
+      );
     }

@@ -30,12 +30,12 @@ returns c =
     (machine.leaving_table b (machine.releasing true start)))) in
     let whole : machine.leaving name c.close_and_log.new.printer ≡ machine.exited given last true name end start =
     ap (λ s. machine.leaving name s) c.in_ok-close_and_log.ensures
-    ∙ ap (λ exit. after exit (machine.ahead_by c.place-place.result) c.release-inner.result c.release-inner.new.self)
+    ∙ ap (λ exit. after exit (machine.ahead_by c.place-place.result) c.release-page.result c.release-page.new.self)
     c.exit-exit.ensures
-    ∙ ap (λ ahead. after (exit_in last end start) ahead c.release-inner.result c.release-inner.new.self)
+    ∙ ap (λ ahead. after (exit_in last end start) ahead c.release-page.result c.release-page.new.self)
     c.place-place.ensures
-    ∙ ap (λ inner. after (exit_in last end start) start.frame.ahead inner c.release-inner.new.self)
-    c.release-inner.ensures.page
-    ∙ ap (λ s. after (exit_in last end start) start.frame.ahead start.page s) c.release-inner.ensures.state
+    ∙ ap (λ inner. after (exit_in last end start) start.frame.ahead inner c.release-page.new.self)
+    c.release-page.ensures.page
+    ∙ ap (λ s. after (exit_in last end start) start.frame.ahead start.page s) c.release-page.ensures.state
     ∙ sym (ap (λ b. tabled b) (no_table name c.requires)) in
     subst (λ s. OnOk c.leave.result (c.leave.new.self ≡ s)) whole c.leave.ensures

@@ -26,12 +26,12 @@ returns c =
     (first_or [] before.tables) before.frame.ahead before.frame.passed blank name) before) in
     on_answer (λ _. c.pass.new.self ≡ machine.passing_leaf name c.close.new.printer)
     (λ _. (ahead : Ahead) (loose : Bool) (columns : List AlignKind) →
-    c.pass.new.self ≡ machine.exited given c.args.is_last false name c.args.end
-    (machine.entered given ahead loose columns false name c.args.start before))
+    c.pass.new.self ≡ machine.exited given c.args.is_last false name c.args.place.end
+    (machine.entered given ahead loose columns false name c.args.place.start before))
     (λ _ passed ahead loose columns.
     passed
     ∙ ap (λ s. machine.passing_leaf name s) c.in_ok-close.ensures
     ∙ ap after c.leaf-exit.ensures
-    ∙ leaf-steps given ahead before.frame.ahead before.frame.passed loose columns c.args.is_last name c.args.start
-    c.args.end before c.requires)
+    ∙ leaf-steps given ahead before.frame.ahead before.frame.passed loose columns c.args.is_last name c.args.place.start
+    c.args.place.end before c.requires)
     c.pass.result c.pass.ensures

@@ -1,12 +1,11 @@
-use Rattle.std.proofs.Common.{◌≡◌, ◌<◌, ℕ, ◌-◌, List, [], ◌∷◌, length, drop, ap, sym, ◌∙◌, arith, subst, Option, Some, get_or}
+use Rattle.std.proofs.Common.{◌≡◌, ◌<◌, ℕ, ◌-◌, [], ◌∷◌, length, drop, ap, sym, ◌∙◌, arith, subst, Some, get_or}
 use Rattle.std.specs.Prelude.{slice_get}
-use Rattle.md_base.specs.Tree.{Forest, flatten}
 use Rattle.md_pattern.specs.Shape.{IsShaped}
 use Rattle.md_tree.specs.Entered.{children_of}
 use Rattle.md_infer.specs.Partners.{partners_of}
 use Rattle.md_tree.proofs.Indexed.{flatten_one}
 use Rattle.md_base.specs.declared.event.Name.TheVariants.{GfmTable}
-use Rattle.md_meaning.specs.Given.{Given, Defined}
+use Rattle.md_meaning.specs.Given.{Given}
 use Rattle.md_printer.specs.Machine as machine
 use Rattle.md_printer.specs.Machine.{State}
 use Rattle.md_printer.specs.Sources.{given_of}

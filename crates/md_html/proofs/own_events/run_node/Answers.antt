@@ -1,4 +1,4 @@
-use Rattle.std.proofs.Common.{◌≡◌, ◌<◌, ℕ, ◌+◌, List, ◌∷◌, ◌++◌, length, drop, get_or, ap, sym, ◌∙◌, arith, Option, Some, None}
+use Rattle.std.proofs.Common.{◌≡◌, ◌+◌, List, ◌∷◌, ◌++◌, length, drop, get_or, ap, sym, ◌∙◌, arith, Option, Some, None}
 use Rattle.std.specs.Prelude.{slice_get}
 use Rattle.std.proofs.lemmas.Option.{slice_get_within}
 use Rattle.md_base.specs.declared.event.Event.{Event}
@@ -8,7 +8,7 @@ use Rattle.md_printer.specs.Sources.{given_of}
 use Rattle.md_printer.specs.Machine as machine
 use Rattle.md_sheet.proofs.Lists.{drop-found}
 use Rattle.md_html.specs.OwnDefinitions.{events_at}
-use Rattle.md_html.proofs.Walks.{is_nil-length, drop-first, drop-later, told-at}
+use Rattle.md_html.proofs.Walks.{drop-first, drop-later, told-at}
 use Rattle.md_html.proofs.OwnNodes.{events-part, partner-at}
 use Rattle.md_html.proofs.own_events.run_node.Goals as goal
 
@@ -66,9 +66,6 @@ loop-event-preserved c =
           let there : slice_get nodes index ≡ Some told = told-at document events index event flat got in
           ap (λ s. machine.run given later (drop (index + 1) nodes) s)
           (c.in_ok-step.ensures told (document, flat, there))
-          ∙ ap (λ b. machine.run given later (drop (index + 1) nodes)
-          (machine.stepped given event.kind event.name event.point told b printer)) (c.is_empty-is_last.ensures
-          ∙ is_nil-length later)
           ∙ ap (λ cs. machine.run given (event ∷ later) cs printer) (sym (drop-found nodes index told there))
           ∙ ap (λ es. machine.run given es (drop index nodes) printer) (sym c.in-Some.ensures.cases.0)
           ∙ c.loop-event.invariant.1 document flat,

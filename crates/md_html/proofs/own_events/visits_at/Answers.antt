@@ -1,5 +1,4 @@
-use Rattle.std.proofs.Common.{◌≡◌, length, ap, ◌∙◌}
-use Rattle.std.specs.Prelude.{slice_get}
+use Rattle.std.proofs.Common.{length, ap, ◌∙◌}
 use Rattle.md_html.specs.OwnDefinitions.{events_at}
 use Rattle.md_html.proofs.OwnNodes.{partner-at}
 use Rattle.md_html.proofs.own_events.visits_at.Goals as goal

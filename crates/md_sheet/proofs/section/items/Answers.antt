@@ -2,25 +2,39 @@ use Rattle.std.proofs.Common.{◌+◌, List}
 use Rattle.md_meaning.specs.Piece.{lay}
 use Rattle.md_meaning.specs.Footnotes as notes
 use Rattle.md_sheet.proofs.section.items.Goals as goal
-use Rattle.std.proofs.Common.{ap, sym, ◌∙◌, arith, drop}
+use Rattle.std.proofs.Common.{ℕ, suc, ◌≡◌, ◌++◌, ap, sym, ◌∙◌, arith, drop}
 use Rattle.md_meaning.specs.Piece.{Piece}
 use Rattle.md_meaning.specs.Calls.{Called}
 use Rattle.md_sheet.proofs.Lists.{drop-found, drop-missing, lay-append}
+
+next : (n : ℕ) → n + 1 ≡ suc n
+next n = omega arith
 
 pub loop-identifier-preserved : goal.loop-identifier-preserved
 loop-identifier-preserved c =
     let options = c.args.options.now in
     let footnotes = c.args.footnotes.now in
     let ending = c.args.ending.now in
+    let sheet = c.loop-identifier.sheet in
+    let number : ℕ = c.loop-identifier.index + 1 in
     let called : Called = record { identifier = c.in-Some.identifier.now; count = c.in-Some.count } in
-    let own : List Piece = notes.item_pieces options (notes.footnote_text footnotes called.identifier)
-    called.identifier called.count in
-    let later : List Called = drop (c.loop-identifier.index + 1) c.args.calls.now in (
-      ap (λ sheet. lay ending sheet (notes.items_pieces options footnotes later))
-          (c.in_ok-item.ensures ∙ ap (λ text. lay ending c.loop-identifier.sheet
-          (notes.item_pieces options text called.identifier called.count)) c.text_of-text.ensures)
-          ∙ sym (lay-append ending c.loop-identifier.sheet own (notes.items_pieces options footnotes later))
-          ∙ ap (λ calls. lay ending c.loop-identifier.sheet (notes.items_pieces options footnotes calls))
+    let text : List ℕ = notes.footnote_text footnotes called.identifier in
+    let own : List Piece = notes.item_pieces options text called.identifier number called.count in
+    let later : List Called = drop number c.args.calls.now in
+    let laid : List ℕ → List ℕ → List ℕ → List Piece = λ id text back.
+    notes.item_opening id ++ (notes.body_pieces text back ++ notes.item_closing) in
+    let rest : ℕ → List Piece = λ n. notes.items_pieces options footnotes n later in (
+      ap (λ s. lay ending s (rest (number + 1)))
+          (c.in_ok-item.ensures
+          ∙ ap (λ id. lay ending sheet (laid id c.text_of-text.result.now c.as_str-in-Some.result.now))
+          (c.as_str.ensures.value ∙ c.in_ok-id.ensures)
+          ∙ ap (λ back. lay ending sheet (laid (notes.footnote_id options called.identifier number)
+          c.text_of-text.result.now back)) (c.as_str-in-Some.ensures.value ∙ c.in_ok-back.ensures)
+          ∙ ap (λ text. lay ending sheet (notes.item_pieces options text called.identifier number called.count))
+          c.text_of-text.ensures)
+          ∙ ap (λ n. lay ending (lay ending sheet own) (rest n)) (next number)
+          ∙ sym (lay-append ending sheet own (rest (suc number)))
+          ∙ ap (λ calls. lay ending sheet (notes.items_pieces options footnotes number calls))
           (sym (drop-found c.args.calls.now c.loop-identifier.index called (sym c.in-Some.ensures.call)))
           ∙ c.loop-identifier.invariant.0,
       omega (arith, c.in-Some.ensures.within),
@@ -29,6 +43,6 @@ loop-identifier-preserved c =
 pub returns : goal.returns
 returns c =
     ap (λ calls. lay c.args.ending.now c.loop-identifier.sheet
-    (notes.items_pieces c.args.options.now c.args.footnotes.now calls))
+    (notes.items_pieces c.args.options.now c.args.footnotes.now (c.loop-identifier.index + 1) calls))
     (sym (drop-missing c.args.calls.now c.loop-identifier.index (sym c.in_default.ensures.call)))
     ∙ c.loop-identifier.invariant.0

@@ -1,12 +1,12 @@
-use Rattle.std.proofs.Common.{◌≡◌, ◌-◌, ◌≤◌, length, drop}
+use Rattle.std.proofs.Common.{◌≡◌, ◌+◌, ◌-◌, ◌≤◌, length, drop}
 use Rattle.md_meaning.specs.Piece.{lay}
 use Rattle.md_meaning.specs.Footnotes as notes
 use Rattle.md_sheet.proofs.section.items.Given as goal
 
 abbrev pub invariant-loop-identifier : goal.invariant-loop-identifier
 invariant-loop-identifier l =
-    (lay l.ending l.sheet (notes.items_pieces l.options l.footnotes (drop l.index l.calls))
-    ≡ lay l.ending l.fn.sheet (notes.items_pieces l.options l.footnotes l.calls))
+    (lay l.ending l.sheet (notes.items_pieces l.options l.footnotes (l.index + 1) (drop l.index l.calls))
+    ≡ lay l.ending l.fn.sheet (notes.items_pieces l.options l.footnotes 1 l.calls))
     × (l.index ≤ length l.calls)
 
 abbrev pub decreases-loop-identifier : goal.decreases-loop-identifier

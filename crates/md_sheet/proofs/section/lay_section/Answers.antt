@@ -12,7 +12,7 @@ use Rattle.md_sheet.proofs.Lists.{lay-append}
 -- where there is a call the section has its three parts
 parts : (options : CompileOptions) (footnotes : List notes.Footnote) (calls : List Called) →
     (length calls == 0) ≡ false →
-    notes.section_opening options ++ (notes.items_pieces options footnotes calls ++ notes.section_closing)
+    notes.section_opening options ++ (notes.items_pieces options footnotes 1 calls ++ notes.section_closing)
     ≡ notes.section_pieces options footnotes calls
 parts options footnotes [] h = absurd (true≢false h)
 parts options footnotes (called ∷ others) h = refl
@@ -25,7 +25,7 @@ returns c =
     let ending = c.args.ending.now in
     let start : Page = c.args.sheet.now in
     let opening : List Piece = notes.section_opening options in
-    let items : List Piece = notes.items_pieces options footnotes calls in
+    let items : List Piece = notes.items_pieces options footnotes 1 calls in
     let P : Page → Type 0 = λ s. OnOk c.section_end.result (c.section_end.new.sheet ≡ s) in
     subst P
     (ap (λ s. lay ending s notes.section_closing) (c.in_ok-items.ensures

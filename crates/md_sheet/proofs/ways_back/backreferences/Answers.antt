@@ -4,13 +4,13 @@ use Rattle.md_sheet.proofs.ways_back.backreferences.Goals as goal
 use Rattle.std.proofs.Common.{ap, sym, ◌∙◌, append_assoc, arith}
 use Rattle.md_meaning.specs.declared.options.CompileOptions.{CompileOptions}
 
-one_more : (options : CompileOptions) (identifier : List ℕ) (n : ℕ) →
-    notes.backreferences options identifier n ++ ((if n == 0 then [] else 32 ∷ [])
-    ++ notes.backreference options identifier (n + 1)) ≡ notes.backreferences options identifier (n + 1)
-one_more options identifier n =
-    ap (λ m. notes.backreferences options identifier n ++ ((if n == 0 then [] else 32 ∷ [])
-    ++ notes.backreference options identifier m)) (next n)
-    ∙ ap (λ m. notes.backreferences options identifier m) (sym (next n))
+one_more : (options : CompileOptions) (identifier : List ℕ) (number n : ℕ) →
+    notes.backreferences options identifier number n ++ ((if n == 0 then [] else 32 ∷ [])
+    ++ notes.backreference options identifier number (n + 1)) ≡ notes.backreferences options identifier number (n + 1)
+one_more options identifier number n =
+    ap (λ m. notes.backreferences options identifier number n ++ ((if n == 0 then [] else 32 ∷ [])
+    ++ notes.backreference options identifier number m)) (next n)
+    ∙ ap (λ m. notes.backreferences options identifier number m) (sym (next n))
   where
     next : (m : ℕ) → m + 1 ≡ suc m
     next m = omega arith
@@ -19,13 +19,14 @@ pub loop-done-preserved : goal.loop-done-preserved
 loop-done-preserved c =
     let options = c.args.options.now in
     let identifier = c.args.identifier.now in
+    let number = c.args.number in
     let done = c.loop-done.done in (
       c.in_ok-push_backreference.ensures
-          ∙ ap (λ t. t ++ notes.backreference options identifier (done + 1)) c.in_ok-push_space.ensures
+          ∙ ap (λ t. t ++ notes.backreference options identifier number (done + 1)) c.in_ok-push_space.ensures
           ∙ append_assoc (string_bytes c.loop-done.text) (if done == 0 then [] else 32
-          ∷ []) (notes.backreference options identifier (done + 1))
-          ∙ ap (λ t. t ++ ((if done == 0 then [] else 32 ∷ []) ++ notes.backreference options identifier (done + 1)))
+          ∷ []) (notes.backreference options identifier number (done + 1))
+          ∙ ap (λ t. t ++ ((if done == 0 then [] else 32 ∷ []) ++ notes.backreference options identifier number (done + 1)))
           c.loop-done.invariant.0
-          ∙ one_more options identifier done,
+          ∙ one_more options identifier number done,
       search rules,
     )

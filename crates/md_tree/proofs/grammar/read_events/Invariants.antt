@@ -1,15 +1,12 @@
-use Rattle.std.proofs.Common.{◌≡◌, take}
+use Rattle.std.proofs.Common.{◌≤◌, ◌-◌, length}
 use Rattle.md_base.specs.Reference.{name_table}
-use Rattle.md_tree.specs.Machine.{Runs, beginning}
-use Rattle.md_tree.specs.Walk.{course_of, Unbroken}
-use Rattle.md_infer.specs.Ending.{first_index}
-use Rattle.md_infer.specs.Facts.{passed_over, nothing_passed}
+use Rattle.md_tree.specs.Reader.{HasRead}
 use Rattle.md_tree.proofs.grammar.read_events.Given as goal
 
-abbrev pub invariant-loop-index : goal.invariant-loop-index
-invariant-loop-index l =
-    Runs (Unbroken l.source.bytes.now (name_table l.source.names.now)) (take l.index l.source.events.now) beginning
-    (course_of l.source.events.now l.index l.walk)
-    × (l.pass ≡ passed_over (take l.index l.source.events.now) nothing_passed)
-    × (l.first_ending ≡ first_index (take l.index l.source.events.now))
-    × (l.visits ≡ l.index)
+abbrev pub invariant-loop-event : goal.invariant-loop-event
+invariant-loop-event l =
+    HasRead l.source.bytes.now (name_table l.source.names.now) l.source.events.now l.visits l.reader
+    × (l.visits ≤ length l.source.events.now)
+
+abbrev pub decreases-loop-event : goal.decreases-loop-event
+decreases-loop-event l = length l.source.events.now - l.visits

@@ -1,6 +1,6 @@
 use Rattle.std.proofs.Common.{refl, sym, ◌∙◌}
 use Rattle.md_base.specs.Reference.{name_table}
-use Rattle.md_tree.specs.Walk.{point_at, outer_seen, course_of}
+use Rattle.md_tree.specs.Walk.{point_at, outer_seen, inside_of}
 use Rattle.md_tree.proofs.Breaks.{StopsInside-broken}
 use Rattle.md_tree.proofs.walk.Walk.leave.Goals as goal
 
@@ -10,6 +10,6 @@ returns-in-Some-clause-refused c =
       refl,
       StopsInside-broken c.args.source.bytes.now (name_table c.args.source.names.now) c.in-Some.rule
           (outer_seen events c.args.outer) (point_at events c.args.entry) (point_at events c.args.index)
-          (course_of events c.args.index c.args.self.now) (sym c.can_end.ensures
+          (inside_of events c.args.index c.args.state c.args.target c.args.self.now) (sym c.can_end.ensures
           ∙ c.if-not-can_end.false) (sym c.in_ok-rule.ensures ∙ c.in-Some.is),
     )

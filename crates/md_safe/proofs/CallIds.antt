@@ -1,0 +1,24 @@
+-- The ids of footnote calls, in their order.
+use Rattle.std.proofs.Common.{◌≡◌, ℕ, suc, List, [], ◌∷◌, ◌++◌, sym, ap, ◌∙◌, append_assoc, append-nil}
+use Rattle.md_text.specs.References.{read_back}
+use Rattle.md_meaning.specs.declared.options.CompileOptions.{CompileOptions}
+use Rattle.md_meaning.specs.Calls.{tally, number_among, count_among}
+use Rattle.md_meaning.specs.Footnotes.{call_id}
+
+-- the id of a call behind others, its references read back
+abbrev pub id_behind : CompileOptions → List (List ℕ) → List ℕ → List ℕ
+id_behind options before identifier = read_back (call_id options identifier (number_among (tally before) identifier)
+    (suc (count_among (tally before) identifier)))
+
+-- the ids of some calls behind others
+abbrev pub ids_behind : CompileOptions → List (List ℕ) → List (List ℕ) → List (List ℕ)
+ids_behind options before [] = []
+ids_behind options before (identifier ∷ calls) =
+    id_behind options before identifier ∷ ids_behind options (before ++ (identifier ∷ [])) calls
+
+pub ids-append : (options : CompileOptions) (before xs ys : List (List ℕ)) →
+    ids_behind options before (xs ++ ys) ≡ ids_behind options before xs ++ ids_behind options (before ++ xs) ys
+ids-append options before [] ys = ap (λ b. ids_behind options b ys) (sym (append-nil before))
+ids-append options before (x ∷ xs) ys =
+    ap (λ ids. id_behind options before x ∷ ids) (ids-append options (before ++ (x ∷ [])) xs ys
+    ∙ ap (λ b. ids_behind options (before ++ (x ∷ [])) xs ++ ids_behind options b ys) (append_assoc before (x ∷ []) xs))

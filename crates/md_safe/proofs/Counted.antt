@@ -1,0 +1,154 @@
+-- How often an id stands in what is printed: what is claimed of texts, of pages and of footnotes.
+use Rattle.std.proofs.Common.{◌≡◌, ℕ, ◌+◌, ◌≤◌, Bool, true, false, not, ◌&&◌, List, [], ◌∷◌, ◌++◌, refl, sym, ap, ◌∙◌, subst, arith, append_assoc, codes}
+use Rattle.std.specs.Prelude.{bytes_eq}
+use Rattle.std.proofs.lemmas.Bool.{and_parts, true≢false}
+use Rattle.md_text.specs.References.{read_back}
+use Rattle.md_text.specs.Html.{Attribute, is_tag, elements}
+use Rattle.md_text.proofs.HtmlJoin.{nothing, text}
+use Rattle.md_text.proofs.HtmlWriting.{attributes_before, written_attributes-before}
+use Rattle.md_text.specs.Ids.{ids_in}
+use Rattle.md_text.proofs.HtmlIds.{occurs, is_without, none-attributes, Counts, counts-plain, counts-more, counts-join, counts-element, counts-takes}
+use Rattle.md_meaning.specs.declared.options.CompileOptions.{CompileOptions}
+use Rattle.md_meaning.specs.Piece.{Piece, Page, lay}
+use Rattle.md_meaning.specs.Footnotes.{Footnote}
+use Rattle.md_safe.proofs.Claim.{Claim}
+use Rattle.md_safe.proofs.Texts.{Escaped}
+use Rattle.md_safe.proofs.Laid.{AreGood, Grows, lay-append}
+use Rattle.md_safe.proofs.Tags.{IsTest, attribute}
+use Rattle.md_safe.proofs.Media.{a_call, call_text, call-regrouped}
+
+-- an id stands in a text at most so often
+abbrev pub counting : (w : List ℕ) (n : ℕ) (noted : List ℕ → Type 0) → noted [] → Claim
+counting w n noted unnoted = record {
+  holds = Counts w n;
+  noted = noted;
+  unnoted = unnoted;
+  test = is_without w;
+  plain = λ x h. counts-more w 0 n x (omega arith) (counts-plain w x h);
+  before = λ x y h g. counts-more w (0 + n) n (x ++ y) (omega arith) (counts-join w 0 n x y (counts-plain w x h) g);
+  behind = λ x y h g. counts-more w (n + 0) n (x ++ y) (omega arith) (counts-join w n 0 x y h (counts-plain w y g));
+  within = λ name attributes inside h a within.
+      counts-more w (0 + n) n _ (omega arith) (counts-element w n 0 name attributes inside h
+      (omega (none-attributes w attributes a, arith)) within);
+  takes = counts-takes w n;
+}
+
+-- the test on attributes of such a claim
+pub without-test : (w : List ℕ) (options : CompileOptions) → options.allow_dangerous_html ≡ false →
+    IsTest (is_without w) options
+without-test w options html = record {
+  other = λ name value h. by name value (and_parts (not (bytes_eq name (codes "src"))) (not (bytes_eq name (codes "id")))
+      (and_parts (not (bytes_eq name (codes "href"))) (not (bytes_eq name (codes "src"))
+      && not (bytes_eq name (codes "id"))) h).1).1;
+  link = λ destination. refl;
+  anchor = λ rest. refl;
+  image = λ destination. refl;
+  html = html;
+}
+  where
+    by : (name value : List ℕ) → not (bytes_eq name (codes "id")) ≡ true →
+        not (bytes_eq name (codes "id") && bytes_eq (read_back value) w) ≡ true
+    by name value h = of (bytes_eq name (codes "id")) h
+      where
+        of : (id : Bool) → not id ≡ true → not (id && bytes_eq (read_back value) w) ≡ true
+        of true e = absurd (true≢false (sym e))
+        of false e = refl
+
+-- a heading that waits for its underline has an id at most so often
+abbrev pub Waiting : List ℕ → Bool → ℕ → List ℕ → Type 0
+Waiting w true n x = Counts w n x
+Waiting w false n x = Unit {0}
+
+pub waiting-none : (w : List ℕ) (waits : Bool) (n : ℕ) → Waiting w waits n []
+waiting-none w true n = counts-more w 0 n [] (omega arith) (counts-plain w [] (nothing (is_without w)))
+waiting-none w false n = tt
+
+-- pieces add a text of which something holds, where something holds of the heading before them, and after them
+abbrev pub Steps : List ℕ → (pre post holds : List ℕ → Type 0) → List Piece → Type 0
+Steps ending pre post holds pieces = (page : Page) → AreGood pre page.notes →
+    Grows post holds page (lay ending page pieces)
+
+pub steps-append : (ending : List ℕ) (pre mid post f g h : List ℕ → Type 0) (xs ys : List Piece) →
+    ((x y : List ℕ) → f x → g y → h (x ++ y)) → Steps ending pre mid f xs → Steps ending mid post g ys →
+    Steps ending pre post h (xs ++ ys)
+steps-append ending pre mid post f g h xs ys both a b page good =
+    let r = a page good in
+    let s = b (lay ending page xs) r.good in
+    subst (Grows post h page) (sym (lay-append ending page xs ys))
+    (record {
+      added = r.added ++ s.added;
+      behind = s.behind ∙ ap (λ t. t ++ s.added) r.behind ∙ append_assoc page.text r.added s.added;
+      it_holds = both r.added s.added r.it_holds s.it_holds;
+      good = s.good;
+    })
+
+-- less is asked before, and less claimed after
+pub steps-weaker : (ending : List ℕ) (pre pre' post post' f g : List ℕ → Type 0) (pieces : List Piece) →
+    ((x : List ℕ) → pre' x → pre x) → ((x : List ℕ) → post x → post' x) → ((x : List ℕ) → f x → g x) →
+    Steps ending pre post f pieces → Steps ending pre' post' g pieces
+steps-weaker ending pre pre' post post' f g pieces asked claimed weaker a page good =
+    let r = a page (record { heading = asked page.notes.heading good.heading; title = good.title; resource = good.resource }) in
+    record {
+      added = r.added;
+      behind = r.behind;
+      it_holds = weaker r.added r.it_holds;
+      good = record {
+        heading = claimed (lay ending page pieces).notes.heading r.good.heading;
+        title = r.good.title;
+        resource = r.good.resource;
+      };
+    }
+
+-- an id stands in the texts of some footnotes at most so often
+abbrev pub TextsCount : List ℕ → ℕ → List Footnote → Type 0
+TextsCount w n [] = Unit {0}
+TextsCount w n (footnote ∷ others) =
+    (m : ℕ) × (k : ℕ) × (m + k ≤ n) × Counts w m footnote.text × TextsCount w k others
+
+pub texts-append : (w : List ℕ) (n m : ℕ) (xs ys : List Footnote) → TextsCount w n xs → TextsCount w m ys →
+    TextsCount w (n + m) (xs ++ ys)
+texts-append w n m [] ys a b = texts-more w m (n + m) ys (omega arith) b
+  where
+    texts-more : (w : List ℕ) (n m : ℕ) (xs : List Footnote) → n ≤ m → TextsCount w n xs → TextsCount w m xs
+    texts-more w n m [] more h = tt
+    texts-more w n m (x ∷ xs) more h = (h.0, h.1, omega (h.2, more, arith), h.3, h.4)
+texts-append w n m (x ∷ xs) ys a b =
+    (a.0, a.1 + m, omega (a.2, arith), a.3, texts-append w a.1 m xs ys a.4 b)
+
+-- an element, attribute by attribute
+counted-element : (w : List ℕ) (n m : ℕ) (name : List ℕ) (attributes : List Attribute) (inside : List ℕ) →
+    is_tag elements name attributes ≡ true → occurs w (ids_in attributes) ≤ m → Counts w n inside
+    → Counts w (m + n) (60 ∷ (name ++ attributes_before attributes (62 ∷ (inside ++ (60 ∷ 47 ∷ (name ++ (62 ∷ [])))))))
+counted-element w n m name attributes inside h few within =
+    subst (λ x. Counts w (m + n) (60 ∷ (name ++ x))) (written_attributes-before attributes (62
+    ∷ (inside ++ (60 ∷ 47 ∷ (name ++ (62 ∷ [])))))) (counts-element w n m name attributes inside h few within)
+
+-- a call has its own id
+pub counts-call : (w v id n : List ℕ) → Escaped v → Escaped id → Escaped n →
+    Counts w (occurs w (read_back id ∷ [])) (call_text v id n)
+counts-call w v id n h g k =
+    let hit : ℕ = occurs w (read_back id ∷ []) in
+    let attributes : List Attribute = attribute (codes "href") (35 ∷ v) ∷ attribute (codes "id") id
+    ∷ attribute (codes "data-footnote-ref") [] ∷ attribute (codes "aria-describedby") (codes "footnote-label") ∷ [] in
+    let link : List ℕ = codes "<a href=\"#" ++ (v ++ (codes "\" id=\"" ++ (id
+    ++ (codes "\" data-footnote-ref=\"\" aria-describedby=\"footnote-label\">" ++ (n ++ codes "</a>"))))) in
+    let own : occurs w (ids_in attributes) ≤ hit = omega arith in
+    let inner : Counts w (hit + 0) link =
+    counted-element w 0 hit (codes "a") attributes n (a_call v id h g) own
+    (counts-plain w n (text (is_without w) n k)) in
+    let outer : Counts w (0 + (hit + 0)) (codes "<sup>" ++ (link ++ codes "</sup>")) =
+    counted-element w (hit + 0) 0 (codes "sup") [] link refl (omega arith) inner in
+    counts-more w (0 + (hit + 0)) hit (call_text v id n) (omega arith)
+    (subst (Counts w (0 + (hit + 0))) (call-regrouped v id n) outer)
+
+-- the heading of the section has its id
+pub counts-heading : (w label : List ℕ) → Escaped label → Counts w (occurs w (codes "footnote-label" ∷ []))
+    (codes "<h2 id=\"footnote-label\" class=\"sr-only\">" ++ (label ++ codes "</h2>"))
+counts-heading w label h =
+    let hit : ℕ = occurs w (codes "footnote-label" ∷ []) in
+    let attributes : List Attribute = attribute (codes "id") (codes "footnote-label")
+    ∷ attribute (codes "class") (codes "sr-only") ∷ [] in
+    let own : occurs w (ids_in attributes) ≤ hit = omega arith in
+    counts-more w (hit + 0) hit (codes "<h2 id=\"footnote-label\" class=\"sr-only\">" ++ (label ++ codes "</h2>"))
+    (omega arith)
+    (counted-element w 0 hit (codes "h2") attributes label refl own (counts-plain w label (text (is_without w) label h)))

@@ -1,0 +1,518 @@
+-- No two ids by number are equal: the heading's, those of footnotes and those of their calls.
+use Rattle.std.proofs.Common.{◌≡◌, ◌⊎◌, ℕ, ◌+◌, ◌≤◌, ◌<◌, ◌^◌, ◌==◌, ◌/◌, ◌%◌, zero, suc, Bool, true, false, not, ◌||◌, cond, List, [], ◌∷◌, ◌++◌, length, refl, sym, ap, ◌∙◌, subst, inl, inr, arith, append_assoc, codes, bytes_eq}
+use Rattle.std.specs.Prelude.{Option, Some, None, option_map, string_bytes, filter, map}
+use Rattle.std.specs.Option.{option_map_or}
+use Rattle.std.specs.List.{list_all}
+use Rattle.std.specs.Fmt.{decimal, digits, digits_onto, digit_glyph}
+use Rattle.std.proofs.lemmas.Bool.{true≢false, and_parts, and_from, cond_both, agree_below_at}
+use Rattle.std.proofs.lemmas.Fmt.{decimal_injective}
+use Rattle.std.proofs.lemmas.List.{append_cancel_left, length-append}
+use Rattle.std.proofs.lemmas.List.Folds.{list_all-append}
+use Rattle.md_text.specs.Encode.{encoded}
+use Rattle.md_text.specs.References.{read_back}
+use Rattle.md_text.proofs.EncodeLaws.{read_back-before, read_back-other}
+use Rattle.md_text.proofs.HtmlSplit.{split}
+use Rattle.md_text.proofs.HtmlIds.{occurs}
+use Rattle.md_meaning.specs.declared.options.CompileOptions.{CompileOptions}
+use Rattle.md_meaning.specs.Calls.{Called, distinct, count_of, tally, number_among, count_among}
+use Rattle.md_meaning.specs.Footnotes.{prefix_of, id_of, numbered_id_of, occurrence_suffix, footnote_id, call_id}
+use Rattle.md_meaning.specs.Meaning.Footnotes.{place_among}
+use Rattle.md_shape.specs.Built.{is_digit}
+use Rattle.md_tie.proofs.Calls.{is_in, same, itself, is_in-distinct, number-same, number-placed, count-same}
+use Rattle.md_safe.proofs.Texts.{digit-plain}
+use Rattle.md_safe.proofs.CallIds.{id_behind, ids_behind}
+
+lie : {A : Type 0} → false ≡ true → A
+lie h = absurd (true≢false (sym h))
+
+-- ---- what decimal writes
+
+glyph-digit : (d : ℕ) → d < 10 → is_digit (digit_glyph false d) ≡ true
+glyph-digit d l = agree_below_at (λ d. is_digit (digit_glyph false d)) (λ d. true) 10 d refl l
+
+onto-digits : (k n : ℕ) (acc : List ℕ) → list_all is_digit acc ≡ true →
+    list_all is_digit (digits_onto k 10 false n acc) ≡ true
+onto-digits zero n acc h = h
+onto-digits (suc k) n acc h =
+    let l : n % 10 < 10 = omega arith in
+    let first : list_all is_digit (digit_glyph false (n % 10) ∷ acc) ≡ true =
+    and_from (is_digit (digit_glyph false (n % 10))) (list_all is_digit acc) (glyph-digit (n % 10) l) h in
+    cond_both (n / 10 == 0) (digit_glyph false (n % 10) ∷ acc)
+    (digits_onto k 10 false (n / 10) (digit_glyph false (n % 10) ∷ acc)) (λ x. list_all is_digit x ≡ true)
+    (λ _. first) (λ _. onto-digits k (n / 10) (digit_glyph false (n % 10) ∷ acc) first)
+
+pub decimal-digits : (n : ℕ) → list_all is_digit (decimal n) ≡ true
+unfolding digits
+decimal-digits n = onto-digits 64 n [] refl
+
+-- the last byte of a text, or 0
+abbrev last_byte : List ℕ → ℕ
+last_byte [] = 0
+last_byte (b ∷ []) = b
+last_byte (b ∷ c ∷ bytes) = last_byte (c ∷ bytes)
+
+abbrev EndsInDigit : List ℕ → Type 0
+EndsInDigit x = is_digit (last_byte x) ≡ true
+
+onto-ends : (k n c : ℕ) (acc : List ℕ) → EndsInDigit (c ∷ acc) → EndsInDigit (digits_onto k 10 false n (c ∷ acc))
+onto-ends zero n c acc h = h
+onto-ends (suc k) n c acc h =
+    cond_both (n / 10 == 0) (digit_glyph false (n % 10) ∷ c ∷ acc)
+    (digits_onto k 10 false (n / 10) (digit_glyph false (n % 10) ∷ c ∷ acc)) EndsInDigit
+    (λ _. h) (λ _. onto-ends k (n / 10) (digit_glyph false (n % 10)) (c ∷ acc) h)
+
+onto-first : (k n : ℕ) → EndsInDigit (digits_onto (suc k) 10 false n [])
+onto-first k n =
+    let l : n % 10 < 10 = omega arith in
+    cond_both (n / 10 == 0) (digit_glyph false (n % 10) ∷ [])
+    (digits_onto k 10 false (n / 10) (digit_glyph false (n % 10) ∷ [])) EndsInDigit
+    (λ _. glyph-digit (n % 10) l) (λ _. onto-ends k (n / 10) (digit_glyph false (n % 10)) [] (glyph-digit (n % 10) l))
+
+decimal-ends : (n : ℕ) → EndsInDigit (decimal n)
+unfolding digits
+decimal-ends n = onto-first 63 n
+
+last-append : (x y : List ℕ) → EndsInDigit y → EndsInDigit (x ++ y)
+last-append [] y h = h
+last-append (b ∷ []) [] h = lie h
+last-append (b ∷ []) (c ∷ y) h = h
+last-append (b ∷ c ∷ x) y h = last-append (c ∷ x) y h
+
+-- ---- what is read back
+
+abbrev no_and : ℕ → Bool
+no_and b = not (b == 38)
+
+digit-no_and : (b : ℕ) → is_digit b ≡ true → no_and b ≡ true
+digit-no_and b h =
+    (and_parts (not ((b == 0) || (b == 60) || (b == 62) || (b == 34))) (not (b == 38)) (digit-plain b h)).1
+
+digits-no_and : (x : List ℕ) → list_all is_digit x ≡ true → list_all no_and x ≡ true
+digits-no_and [] h = refl
+digits-no_and (b ∷ x) h =
+    let parts = and_parts (is_digit b) (list_all is_digit x) h in
+    and_from (no_and b) (list_all no_and x) (digit-no_and b parts.0) (digits-no_and x parts.1)
+
+-- a text without `&` is read back as it is
+plain-back : (x : List ℕ) → list_all no_and x ≡ true → read_back x ≡ x
+plain-back [] h = refl
+plain-back (b ∷ x) h =
+    let parts = and_parts (not (b == 38)) (list_all no_and x) h in
+    read_back-other b x (λ e. lie (subst (λ b. not (b == 38) ≡ true) e parts.0))
+    ∙ ap (λ y. b ∷ y) (plain-back x parts.1)
+
+no_and-append : (x y : List ℕ) → list_all no_and x ≡ true → list_all no_and y ≡ true → list_all no_and (x ++ y) ≡ true
+no_and-append x y h g = list_all-append no_and x y ∙ and_from (list_all no_and x) (list_all no_and y) h g
+
+-- the prefix, read back
+abbrev back_prefix : CompileOptions → List ℕ
+back_prefix options = option_map_or (encoded false) (option_map string_bytes options.gfm_footnote_clobber_prefix)
+    (codes "user-content-")
+
+prefix-back : (options : CompileOptions) (x : List ℕ) → read_back (prefix_of options ++ x)
+    ≡ back_prefix options ++ read_back x
+prefix-back options x = by (option_map string_bytes options.gfm_footnote_clobber_prefix)
+  where
+    by : (given : Option (List ℕ)) → read_back (option_map_or (encoded true) given (codes "user-content-") ++ x)
+        ≡ option_map_or (encoded false) given (codes "user-content-") ++ read_back x
+    by None = refl
+    by (Some text) = read_back-before text x
+
+-- ---- ids by number
+
+-- what stands behind the prefix in the id of a footnote, and in that of a call
+abbrev note_tail : ℕ → List ℕ
+note_tail number = codes "fn-" ++ decimal number
+
+abbrev call_tail : ℕ → ℕ → List ℕ
+call_tail number occurrence = codes "fnref-" ++ (decimal number ++ (45 ∷ decimal occurrence))
+
+note-back : (options : CompileOptions) → options.gfm_footnote_number_ids ≡ true → (identifier : List ℕ) (number : ℕ) →
+    read_back (footnote_id options identifier number) ≡ back_prefix options ++ note_tail number
+note-back options on identifier number =
+    ap (λ b. read_back (cond b (numbered_id_of options (codes "fn-") number) (id_of options (codes "fn-") identifier))) on
+    ∙ prefix-back options (note_tail number)
+    ∙ ap (λ x. back_prefix options ++ x) (plain-back (note_tail number) (digits-no_and (decimal number)
+    (decimal-digits number)))
+
+call-back : (options : CompileOptions) → options.gfm_footnote_number_ids ≡ true → (identifier : List ℕ)
+    (number occurrence : ℕ) → read_back (call_id options identifier number occurrence)
+    ≡ back_prefix options ++ call_tail number occurrence
+call-back options on identifier number occurrence =
+    ap (λ b. read_back (cond b (numbered_id_of options (codes "fnref-") number ++ (45 ∷ decimal occurrence))
+    (id_of options (codes "fnref-") identifier ++ occurrence_suffix occurrence))) on
+    ∙ ap read_back (append_assoc (prefix_of options) (codes "fnref-" ++ decimal number) (45 ∷ decimal occurrence))
+    ∙ prefix-back options (call_tail number occurrence)
+    ∙ ap (λ x. back_prefix options ++ x) (plain-back (call_tail number occurrence)
+    (no_and-append (decimal number) (45 ∷ decimal occurrence) (digits-no_and (decimal number) (decimal-digits number))
+    (digits-no_and (decimal occurrence) (decimal-digits occurrence))))
+
+-- numbers are told by their ids
+same-note : (options : CompileOptions) (n m : ℕ) → n < 2 ^ 64 → m < 2 ^ 64 →
+    back_prefix options ++ note_tail n ≡ back_prefix options ++ note_tail m → n ≡ m
+same-note options n m hn hm e =
+    let tails : note_tail n ≡ note_tail m = append_cancel_left (back_prefix options) (note_tail n) (note_tail m) e in
+    decimal_injective n m hn hm (cc tails)
+
+same-call : (options : CompileOptions) (n m k l : ℕ) → n < 2 ^ 64 → m < 2 ^ 64 → k < 2 ^ 64 → l < 2 ^ 64 →
+    back_prefix options ++ call_tail n k ≡ back_prefix options ++ call_tail m l → (n ≡ m) × (k ≡ l)
+same-call options n m k l hn hm hk hl e =
+    let tails : call_tail n k ≡ call_tail m l = append_cancel_left (back_prefix options) (call_tail n k) (call_tail m l)
+    e in
+    let numbers : decimal n ++ (45 ∷ decimal k) ≡ decimal m ++ (45 ∷ decimal l) = cc tails in
+    let parts = split is_digit (decimal n) (decimal m) (45 ∷ decimal k) (45 ∷ decimal l) (decimal-digits n)
+    (decimal-digits m) refl refl numbers in
+    let last : decimal k ≡ decimal l = cc (parts.1) in
+    (decimal_injective n m hn hm parts.0, decimal_injective k l hk hl last)
+
+-- a footnote's id is no call's, and neither is that of the heading
+note-no_call : (options : CompileOptions) (n m k : ℕ) → back_prefix options ++ note_tail n
+    ≡ back_prefix options ++ call_tail m k → ⊥
+note-no_call options n m k e =
+    let tails : note_tail n ≡ call_tail m k = append_cancel_left (back_prefix options) (note_tail n) (call_tail m k) e in
+    cc tails
+
+label-no_digit : (x : List ℕ) → codes "footnote-label" ≡ x → EndsInDigit x → ⊥
+label-no_digit x e ends = lie (subst EndsInDigit (sym e) ends)
+
+note-ends : (options : CompileOptions) (n : ℕ) → EndsInDigit (back_prefix options ++ note_tail n)
+note-ends options n = last-append (back_prefix options) (note_tail n) (last-append (codes "fn-") (decimal n)
+    (decimal-ends n))
+
+call-ends : (options : CompileOptions) (n k : ℕ) → EndsInDigit (back_prefix options ++ call_tail n k)
+call-ends options n k =
+    last-append (back_prefix options) (call_tail n k)
+    (last-append (codes "fnref-") (decimal n ++ (45 ∷ decimal k)) (last-append (decimal n) (45 ∷ decimal k)
+    (last-append (45 ∷ []) (decimal k) (decimal-ends k))))
+
+-- ---- the numbers of calls
+
+place-first : (xs : List (List ℕ)) (x : List ℕ) → 1 ≤ place_among xs x
+place-first [] x = omega arith
+place-first (y ∷ ys) x = by (bytes_eq y x)
+  where
+    by : (is : Bool) → 1 ≤ cond is 1 (suc (place_among ys x))
+    by true = omega arith
+    by false = omega arith
+
+-- places tell identifiers
+same-place : (xs : List (List ℕ)) (x y : List ℕ) → is_in x xs ≡ true → place_among xs x ≡ place_among xs y → x ≡ y
+same-place [] x y h e = lie h
+same-place (z ∷ zs) x y h e = by (bytes_eq z x) refl (bytes_eq z y) refl h e (same-place zs x y)
+  where
+    by : (a : Bool) → bytes_eq z x ≡ a → (b : Bool) → bytes_eq z y ≡ b → (a || is_in x zs) ≡ true
+        → cond a 1 (suc (place_among zs x)) ≡ cond b 1 (suc (place_among zs y))
+        → (is_in x zs ≡ true → place_among zs x ≡ place_among zs y → x ≡ y) → x ≡ y
+    by true f true g h e later = sym (same z x f) ∙ same z y g
+    by true f false g h e later = absurd (omega (e, place-first zs y, arith))
+    by false f true g h e later = absurd (omega (e, place-first zs x, arith))
+    by false f false g h e later = later h (omega (e, arith))
+
+is_in-middle : (xs ys : List (List ℕ)) (x : List ℕ) → is_in x (xs ++ x ∷ ys) ≡ true
+is_in-middle [] ys x = ap (λ b. b || is_in x ys) (itself x)
+is_in-middle (z ∷ zs) ys x = by (bytes_eq z x) (is_in-middle zs ys x)
+  where
+    by : (is : Bool) → is_in x (zs ++ x ∷ ys) ≡ true → (is || is_in x (zs ++ x ∷ ys)) ≡ true
+    by true h = refl
+    by false h = h
+
+count-append : (xs ys : List (List ℕ)) (x : List ℕ) → count_of (xs ++ ys) x ≡ count_of xs x + count_of ys x
+count-append [] ys x = omega arith
+count-append (z ∷ zs) ys x = by (bytes_eq z x) (count-append zs ys x)
+  where
+    by : (is : Bool) → count_of (zs ++ ys) x ≡ count_of zs x + count_of ys x →
+        (cond is 1 0) + count_of (zs ++ ys) x ≡ (cond is 1 0) + count_of zs x + count_of ys x
+    by true e = omega (e, arith)
+    by false e = omega (e, arith)
+
+count-middle : (xs ys : List (List ℕ)) (x : List ℕ) → suc (count_of xs x) ≤ count_of (xs ++ x ∷ ys) x
+count-middle xs ys x = by (bytes_eq x x) (itself x) (count-append xs (x ∷ ys) x)
+  where
+    by : (is : Bool) → is ≡ true → count_of (xs ++ x ∷ ys) x ≡ count_of xs x + ((cond is 1 0) + count_of ys x) →
+        suc (count_of xs x) ≤ count_of (xs ++ x ∷ ys) x
+    by true h e = omega (e, arith)
+    by false h e = lie h
+
+-- two calls have another number, or another occurrence
+calls-differ : (before mid : List (List ℕ)) (x y : List ℕ) →
+    number_among (tally before) x ≡ number_among (tally (before ++ x ∷ mid)) y →
+    suc (count_among (tally before) x) ≡ suc (count_among (tally (before ++ x ∷ mid)) y) → ⊥
+calls-differ before mid x y numbers occurrences =
+    let all : List (List ℕ) = before ++ x ∷ (mid ++ y ∷ []) in
+    let places : place_among (distinct all) x ≡ place_among (distinct all) y =
+    sym (number-same before (mid ++ y ∷ []) x) ∙ numbers ∙ number-same (before ++ x ∷ mid) [] y
+    ∙ ap (λ calls. place_among (distinct calls) y) (append_assoc before (x ∷ mid) (y ∷ [])) in
+    let one : x ≡ y = same-place (distinct all) x y (is_in-distinct all x ∙ is_in-middle before (mid ++ y ∷ []) x)
+    places in
+    let counted : count_of before x ≡ count_of (before ++ x ∷ mid) x =
+    sym (count-same before x) ∙ omega (occurrences, arith) ∙ count-same (before ++ x ∷ mid) y
+    ∙ ap (λ z. count_of (before ++ x ∷ mid) z) (sym one) in
+    omega (counted, count-middle before mid x, arith)
+
+-- numbers and occurrences are no greater than the calls are many, and one
+place-last : (xs : List (List ℕ)) (x : List ℕ) → place_among xs x ≤ suc (length xs)
+place-last [] x = omega arith
+place-last (y ∷ ys) x = by (bytes_eq y x) (place-last ys x)
+  where
+    by : (is : Bool) → place_among ys x ≤ suc (length ys) → cond is 1 (suc (place_among ys x)) ≤ suc (suc (length ys))
+    by true h = omega arith
+    by false h = omega (h, arith)
+
+count-last : (xs : List (List ℕ)) (x : List ℕ) → count_of xs x ≤ length xs
+count-last [] x = omega arith
+count-last (y ∷ ys) x = by (bytes_eq y x) (count-last ys x)
+  where
+    by : (is : Bool) → count_of ys x ≤ length ys → (cond is 1 0) + count_of ys x ≤ suc (length ys)
+    by true h = omega (h, arith)
+    by false h = omega (h, arith)
+
+filter-fewer : (p : List ℕ → Bool) (xs : List (List ℕ)) → length (filter p xs) ≤ length xs
+filter-fewer p [] = omega arith
+filter-fewer p (x ∷ xs) = by (p x) (filter-fewer p xs)
+  where
+    by : (is : Bool) → length (filter p xs) ≤ length xs → length (cond is (x ∷ filter p xs) (filter p xs)) ≤ suc (length xs)
+    by true h = omega (h, arith)
+    by false h = omega (h, arith)
+
+pub distinct-fewer : (calls : List (List ℕ)) → length (distinct calls) ≤ length calls
+distinct-fewer [] = omega arith
+distinct-fewer (call ∷ calls) =
+    omega (filter-fewer (λ other. not (bytes_eq other call)) (distinct calls), distinct-fewer calls, arith)
+
+number-bound : (before : List (List ℕ)) (x : List ℕ) → number_among (tally before) x ≤ suc (length before)
+number-bound before x =
+    omega (
+      number-placed (count_of before) (distinct before) x,
+      place-last (distinct before) x,
+      distinct-fewer before,
+      arith,
+    )
+
+occurrence-bound : (before : List (List ℕ)) (x : List ℕ) → suc (count_among (tally before) x) ≤ suc (length before)
+occurrence-bound before x = omega (count-same before x, count-last before x, arith)
+
+-- a later call has another id
+ids-differ : (options : CompileOptions) → options.gfm_footnote_number_ids ≡ true → (before mid : List (List ℕ))
+    (x y : List ℕ) → length (before ++ x ∷ mid) + 1 < 2 ^ 64 →
+    id_behind options (before ++ x ∷ mid) y ≡ id_behind options before x → ⊥
+ids-differ options on before mid x y small e =
+    let n : ℕ = number_among (tally before) x in
+    let k : ℕ = suc (count_among (tally before) x) in
+    let m : ℕ = number_among (tally (before ++ x ∷ mid)) y in
+    let l : ℕ = suc (count_among (tally (before ++ x ∷ mid)) y) in
+    let fewer : length before ≤ length (before ++ x ∷ mid) = omega (length-append before (x ∷ mid), arith) in
+    let tails : back_prefix options ++ call_tail n k ≡ back_prefix options ++ call_tail m l =
+    sym (call-back options on x n k) ∙ sym e ∙ call-back options on y m l in
+    let parts = same-call options n m k l (omega (number-bound before x, fewer, small, arith))
+    (omega (number-bound (before ++ x ∷ mid) y, small, arith))
+    (omega (occurrence-bound before x, fewer, small, arith))
+    (omega (occurrence-bound (before ++ x ∷ mid) y, small, arith)) tails in
+    calls-differ before mid x y parts.0 parts.1
+
+-- ---- how often an id is among those of a document
+
+-- no later call has the id of an earlier one
+none-later : (options : CompileOptions) → options.gfm_footnote_number_ids ≡ true → (before mid : List (List ℕ))
+    (x : List ℕ) (calls : List (List ℕ)) → length (before ++ x ∷ mid) + length calls + 1 < 2 ^ 64 →
+    occurs (id_behind options before x) (ids_behind options (before ++ x ∷ mid) calls) ≡ 0
+none-later options on before mid x [] small = refl
+none-later options on before mid x (y ∷ calls) small =
+    by (bytes_eq (id_behind options (before ++ x ∷ mid) y) (id_behind options before x)) refl
+    (subst (λ b. occurs (id_behind options before x) (ids_behind options b calls) ≡ 0)
+    (sym (append_assoc before (x ∷ mid) (y ∷ [])))
+    (none-later options on before (mid ++ y ∷ []) x calls
+    (omega (
+      ap length (append_assoc before (x ∷ mid) (y ∷ [])),
+      length-append (before ++ x ∷ mid) (y ∷ []),
+      small,
+      arith,
+    ))))
+  where
+    by : (is : Bool) → bytes_eq (id_behind options (before ++ x ∷ mid) y) (id_behind options before x) ≡ is →
+        occurs (id_behind options before x) (ids_behind options ((before ++ x ∷ mid) ++ y ∷ []) calls) ≡ 0 →
+        cond is (suc (occurs (id_behind options before x) (ids_behind options ((before ++ x ∷ mid) ++ y ∷ []) calls)))
+        (occurs (id_behind options before x) (ids_behind options ((before ++ x ∷ mid) ++ y ∷ []) calls)) ≡ 0
+    by true e later = absurd (ids-differ options on before mid x y (omega (small, arith))
+        (same (id_behind options (before ++ x ∷ mid) y) (id_behind options before x) e))
+    by false e later = later
+
+-- each id is that of one call at most
+calls-once : (options : CompileOptions) → options.gfm_footnote_number_ids ≡ true → (w : List ℕ)
+    (before calls : List (List ℕ)) → length before + length calls + 1 < 2 ^ 64 →
+    occurs w (ids_behind options before calls) ≤ 1
+calls-once options on w before [] small = omega arith
+calls-once options on w before (x ∷ calls) small =
+    by (bytes_eq (id_behind options before x) w) refl
+    (calls-once options on w (before ++ x ∷ []) calls (omega (length-append before (x ∷ []), small, arith)))
+  where
+    by : (is : Bool) → bytes_eq (id_behind options before x) w ≡ is →
+        occurs w (ids_behind options (before ++ x ∷ []) calls) ≤ 1
+        → cond is (suc (occurs w (ids_behind options (before ++ x ∷ []) calls)))
+        (occurs w (ids_behind options (before ++ x ∷ []) calls)) ≤ 1
+    by true e later =
+        omega (
+          ap (λ w. occurs w (ids_behind options (before ++ x ∷ []) calls))
+              (sym (same (id_behind options before x) w e)),
+          none-later options on before [] x calls (omega (length-append before (x ∷ []), small, arith)),
+          arith,
+        )
+    by false e later = later
+
+-- the ids of footnotes, numbered on
+abbrev pub note_ids : CompileOptions → ℕ → List Called → List (List ℕ)
+note_ids options number [] = []
+note_ids options number (called ∷ others) =
+    read_back (footnote_id options called.identifier number) ∷ note_ids options (suc number) others
+
+none-behind : (options : CompileOptions) → options.gfm_footnote_number_ids ≡ true → (identifier : List ℕ)
+    (number more : ℕ) (called : List Called) → number + more + length called + 1 < 2 ^ 64 →
+    occurs (read_back (footnote_id options identifier number)) (note_ids options (suc (number + more)) called) ≡ 0
+none-behind options on identifier number more [] small = refl
+none-behind options on identifier number more (called ∷ others) small =
+    by (bytes_eq (read_back (footnote_id options called.identifier (suc (number + more))))
+    (read_back (footnote_id options identifier number))) refl
+    (subst (λ k. occurs (read_back (footnote_id options identifier number)) (note_ids options (suc k) others) ≡ 0)
+    (omega arith)
+    (none-behind options on identifier number (suc more) others (omega (small, arith))))
+  where
+    by : (is : Bool) → bytes_eq (read_back (footnote_id options called.identifier (suc (number + more))))
+        (read_back (footnote_id options identifier number)) ≡ is
+        → occurs (read_back (footnote_id options identifier number)) (note_ids options (suc (suc (number + more))) others)
+        ≡ 0
+        → cond is (suc (occurs (read_back (footnote_id options identifier number))
+        (note_ids options (suc (suc (number + more))) others)))
+        (occurs (read_back (footnote_id options identifier number)) (note_ids options (suc (suc (number + more))) others))
+        ≡ 0
+    by true e later =
+        let tails : back_prefix options ++ note_tail (suc (number + more)) ≡ back_prefix options ++ note_tail number =
+        sym (note-back options on called.identifier (suc (number + more)))
+        ∙ same (read_back (footnote_id options called.identifier (suc (number + more))))
+        (read_back (footnote_id options identifier number)) e
+        ∙ note-back options on identifier number in
+        absurd (omega (
+          same-note options (suc (number + more)) number (omega (small, arith)) (omega (small, arith)) tails,
+          arith,
+        ))
+    by false e later = later
+
+none-next : (options : CompileOptions) → options.gfm_footnote_number_ids ≡ true → (identifier : List ℕ) (number : ℕ)
+    (called : List Called) → number + length called + 1 < 2 ^ 64 →
+    occurs (read_back (footnote_id options identifier number)) (note_ids options (suc number) called) ≡ 0
+none-next options on identifier number called small =
+    let same : number + 0 ≡ number = omega arith in
+    subst (λ k. occurs (read_back (footnote_id options identifier number)) (note_ids options (suc k) called) ≡ 0) same
+    (none-behind options on identifier number 0 called (omega (small, arith)))
+
+-- each id is that of one footnote at most
+notes-once : (options : CompileOptions) → options.gfm_footnote_number_ids ≡ true → (w : List ℕ) (number : ℕ)
+    (called : List Called) → number + length called + 1 < 2 ^ 64 → occurs w (note_ids options number called) ≤ 1
+notes-once options on w number [] small = omega arith
+notes-once options on w number (called ∷ others) small =
+    by (bytes_eq (read_back (footnote_id options called.identifier number)) w) refl
+    (notes-once options on w (suc number) others (omega (small, arith)))
+  where
+    by : (is : Bool) → bytes_eq (read_back (footnote_id options called.identifier number)) w ≡ is →
+        occurs w (note_ids options (suc number) others) ≤ 1
+        → cond is (suc (occurs w (note_ids options (suc number) others))) (occurs w (note_ids options (suc number) others))
+        ≤ 1
+    by true e later =
+        omega (
+          ap (λ w. occurs w (note_ids options (suc number) others))
+              (sym (same (read_back (footnote_id options called.identifier number)) w e)),
+          none-next options on called.identifier number others (omega (small, arith)),
+          arith,
+        )
+    by false e later = later
+
+-- of each of some ids something holds
+abbrev Each : (List ℕ → Type 0) → List (List ℕ) → Type 0
+Each holds [] = Unit {0}
+Each holds (x ∷ xs) = holds x × Each holds xs
+
+-- an id that is among some is as all of them are
+among-each : (holds : List ℕ → Type 0) (w : List ℕ) (xs : List (List ℕ)) → Each holds xs →
+    (occurs w xs ≡ 0) ⊎ holds w
+among-each holds w [] all = inl refl
+among-each holds w (x ∷ xs) all = by (bytes_eq x w) refl (among-each holds w xs all.1)
+  where
+    by : (is : Bool) → bytes_eq x w ≡ is → (occurs w xs ≡ 0) ⊎ holds w
+        → (cond is (suc (occurs w xs)) (occurs w xs) ≡ 0) ⊎ holds w
+    by true e later = inr (subst holds (same x w e) all.0)
+    by false e later = later
+
+abbrev IsNote : CompileOptions → List ℕ → Type 0
+IsNote options w = (n : ℕ) × (w ≡ back_prefix options ++ note_tail n)
+
+abbrev IsCall : CompileOptions → List ℕ → Type 0
+IsCall options w = (n : ℕ) × (k : ℕ) × (w ≡ back_prefix options ++ call_tail n k)
+
+each-note : (options : CompileOptions) → options.gfm_footnote_number_ids ≡ true → (number : ℕ) (called : List Called) →
+    Each (IsNote options) (note_ids options number called)
+each-note options on number [] = tt
+each-note options on number (called ∷ others) = (
+  (number, note-back options on called.identifier number),
+  each-note options on (suc number) others,
+)
+
+each-call : (options : CompileOptions) → options.gfm_footnote_number_ids ≡ true → (before calls : List (List ℕ)) →
+    Each (IsCall options) (ids_behind options before calls)
+each-call options on before [] = tt
+each-call options on before (x ∷ calls) = (
+  (
+    number_among (tally before) x,
+    suc (count_among (tally before) x),
+    call-back options on x (number_among (tally before) x) (suc (count_among (tally before) x)),
+  ),
+  each-call options on (before ++ x ∷ []) calls,
+)
+
+-- the id of the heading
+abbrev pub label_id : List (List ℕ)
+label_id = codes "footnote-label" ∷ []
+
+label-alone : (options : CompileOptions) (w : List ℕ) → EndsInDigit w → occurs w label_id ≡ 0
+label-alone options w ends = by (bytes_eq (codes "footnote-label") w) refl
+  where
+    by : (is : Bool) → bytes_eq (codes "footnote-label") w ≡ is → cond is (suc 0) 0 ≡ 0
+    by true e = absurd (label-no_digit w (same (codes "footnote-label") w e) ends)
+    by false e = refl
+
+tally-length : (calls : List (List ℕ)) → length (tally calls) ≡ length (distinct calls)
+tally-length calls = by (count_of calls) (distinct calls)
+  where
+    by : (f : List ℕ → ℕ) (xs : List (List ℕ)) → length (map {B = Called} (λ i. record {
+      identifier = i;
+      count = f i;
+    }) xs) ≡ length xs
+    by f [] = refl
+    by f (x ∷ xs) = ap suc (by f xs)
+
+-- each id is that of the heading, of one footnote or of one call, and of no two
+pub document-once : (options : CompileOptions) → options.gfm_footnote_number_ids ≡ true → (w : List ℕ)
+    (calls : List (List ℕ)) → length calls + 2 < 2 ^ 64 →
+    occurs w label_id + occurs w (note_ids options 1 (tally calls)) + occurs w (ids_behind options [] calls) ≤ 1
+document-once options on w calls small =
+    let few : length (tally calls) ≤ length calls = omega (tally-length calls, distinct-fewer calls, arith) in
+    let notes = notes-once options on w 1 (tally calls) (omega (few, small, arith)) in
+    let called = calls-once options on w [] calls (omega (small, arith)) in
+    by notes called (among-each (IsNote options) w (note_ids options 1 (tally calls))
+    (each-note options on 1 (tally calls)))
+    (among-each (IsCall options) w (ids_behind options [] calls) (each-call options on [] calls))
+  where
+    heading : occurs w label_id ≤ 1
+    heading = of (bytes_eq (codes "footnote-label") w)
+      where
+        of : (is : Bool) → cond is (suc 0) 0 ≤ 1
+        of true = omega arith
+        of false = omega arith
+
+    by : occurs w (note_ids options 1 (tally calls)) ≤ 1 → occurs w (ids_behind options [] calls) ≤ 1
+        → (occurs w (note_ids options 1 (tally calls)) ≡ 0) ⊎ IsNote options w
+        → (occurs w (ids_behind options [] calls) ≡ 0) ⊎ IsCall options w
+        → occurs w label_id + occurs w (note_ids options 1 (tally calls)) + occurs w (ids_behind options [] calls) ≤ 1
+    by notes called (inl n) (inl c) = omega (heading, n, c, arith)
+    by notes called (inl n) (inr c) =
+        omega (label-alone options w (subst EndsInDigit (sym c.2) (call-ends options c.0 c.1)), n, called, arith)
+    by notes called (inr n) (inl c) =
+        omega (label-alone options w (subst EndsInDigit (sym n.1) (note-ends options n.0)), notes, c, arith)
+    by notes called (inr n) (inr c) = absurd (note-no_call options n.0 c.0 c.1 (sym n.1 ∙ c.2))

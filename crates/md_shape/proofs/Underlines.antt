@@ -1,0 +1,226 @@
+-- Where underlines stand on the spines of the grammar, and in its documents.
+use Rattle.std.proofs.Common.{◌≡◌, inl, inr, ℕ, zero, suc, Bool, true, false, ◌&&◌, cond, List, [], ◌∷◌, ◌++◌, refl, sym, ap, subst, ◌∙◌, Option, None}
+use Rattle.std.specs.Prelude.{replicate}
+use Rattle.std.specs.List.{list_all}
+use Rattle.std.proofs.lemmas.Bool.{true≢false, and_parts, and_from}
+use Rattle.std.proofs.lemmas.List.Folds.{list_all-append}
+use Rattle.md_base.specs.declared.event.Name.{Name}
+use Rattle.md_base.specs.declared.event.Name.TheVariants.{HeadingSetextUnderlineSequence, BlockQuotePrefix, SpaceOrTab, Other, MdxEsm, MdxFlowExpression, MdxTextExpression, MdxJsxFlowTag, MdxJsxTextTag}
+use Rattle.md_base.specs.Tree.{Forest, Empty, Node}
+use Rattle.md_base.specs.NameTests.{is_transparent}
+use Rattle.md_base.specs.Children.{spine_names}
+use Rattle.md_pattern.specs.declared.kinds.Symbol.{Symbol}
+use Rattle.md_pattern.specs.declared.kinds.Symbol.TheVariants.{ReferenceMarker, SetextText, SetextUnderline, LineEnding}
+use Rattle.md_pattern.specs.declared.kinds.Role.{Role}
+use Rattle.md_pattern.specs.declared.kinds.Role.TheVariants as role
+use Rattle.md_pattern.specs.declared.kinds.Item.{Item}
+use Rattle.md_pattern.specs.declared.kinds.Class.{Class}
+use Rattle.md_pattern.specs.Standing.{standing_of}
+use Rattle.md_pattern.specs.Pattern.{Fits, pattern_of, members, takes}
+use Rattle.md_pattern.specs.Spine.{spine, shown, IsTail, IsGrouped, Matches}
+use Rattle.md_pattern.specs.Shape.{AreShaped, IsStanding, inner_role}
+use Rattle.md_tree.specs.Grammar.{IsGrammatical}
+use Rattle.md_shape.specs.Underlined.{is_underline, waits_past, waits_after, IsUnderlined}
+use Rattle.md_shape.proofs.Admitted.{taken}
+
+lie : {A : Type 0} → false ≡ true → A
+lie h = absurd (true≢false (sym h))
+
+-- a heading waits for its underline, behind a symbol
+abbrev pub next_waits : Bool → Symbol → Bool
+next_waits waits LineEnding = waits
+next_waits waits SetextText = true
+next_waits waits _ = false
+
+-- an underline stands only where a heading waits for it
+abbrev pub may_follow : Bool → Symbol → Bool
+may_follow waits SetextUnderline = waits
+may_follow waits _ = true
+
+abbrev pub underlined : Bool → List Symbol → Bool
+underlined waits [] = true
+underlined waits (s ∷ symbols) = may_follow waits s && underlined (next_waits waits s) symbols
+
+abbrev pub waits_behind : Bool → List Symbol → Bool
+waits_behind waits [] = waits
+waits_behind waits (s ∷ symbols) = waits_behind (next_waits waits s) symbols
+
+pub underlined-split : (waits : Bool) (xs ys : List Symbol) → underlined waits (xs ++ ys) ≡ true →
+    (underlined waits xs ≡ true) × (underlined (waits_behind waits xs) ys ≡ true)
+underlined-split waits [] ys h = (refl, h)
+underlined-split waits (x ∷ xs) ys h =
+    let parts = and_parts (may_follow waits x) (underlined (next_waits waits x) (xs ++ ys)) h in
+    let later = underlined-split (next_waits waits x) xs ys parts.1 in
+    (and_from (may_follow waits x) (underlined (next_waits waits x) xs) parts.0 later.0, later.1)
+
+pub waits-append : (waits : Bool) (xs ys : List Symbol) →
+    waits_behind waits (xs ++ ys) ≡ waits_behind (waits_behind waits xs) ys
+waits-append waits [] ys = refl
+waits-append waits (x ∷ xs) ys = waits-append (next_waits waits x) xs ys
+
+endings-underlined : (endings : ℕ) (others : List Symbol) → underlined false others ≡ true →
+    underlined true ((replicate endings LineEnding ++ SetextUnderline ∷ []) ++ others) ≡ true
+endings-underlined zero others h = h
+endings-underlined (suc endings) others h = endings-underlined endings others h
+
+no_underline : Symbol → Bool
+no_underline SetextUnderline = false
+no_underline _ = true
+
+tail-underlined : (first : Symbol) (tail others : List Symbol) → IsTail first tail → no_underline first ≡ true →
+    ((waits : Bool) → underlined waits others ≡ true) → (waits : Bool) →
+    underlined waits (first ∷ tail ++ others) ≡ true
+unfolding no_underline
+tail-underlined ReferenceMarker tail others is may h waits = elim is [
+  | inl e ↦ subst (λ t. underlined false (t ++ others) ≡ true) (sym e) (h false)
+  | inr (inl e) ↦ subst (λ t. underlined false (t ++ others) ≡ true) (sym e) (h false)
+  | inr (inr e) ↦ subst (λ t. underlined false (t ++ others) ≡ true) (sym e) (h false)
+]
+tail-underlined SetextText tail others is may h waits = subst (λ t. underlined true (t ++ others)
+    ≡ true) (sym is.1) (endings-underlined is.0 others (h false))
+tail-underlined SetextUnderline tail others is may h waits = lie may
+tail-underlined LineEnding tail others is may h waits = subst (λ t. underlined waits (t ++ others)
+    ≡ true) (sym is) (h waits)
+tail-underlined first tail others is may h waits = subst (λ t. underlined false (t ++ others) ≡ true) (sym is) (h false)
+
+grouped-underlined : (firsts spine : List Symbol) → IsGrouped firsts spine → list_all no_underline firsts ≡ true →
+    (waits : Bool) → underlined waits spine ≡ true
+grouped-underlined [] spine g h waits = subst (λ s. underlined waits s ≡ true) (sym g) refl
+grouped-underlined (first ∷ firsts) spine g h waits =
+    let parts = and_parts (no_underline first) (list_all no_underline firsts) h in
+    subst (λ s. underlined waits s ≡ true) (sym g.2)
+    (tail-underlined first g.0 g.1 g.3 parts.0 (grouped-underlined firsts g.1 g.4 parts.1) waits)
+
+-- what holds of all letters of a pattern holds of what fits it
+own-all : (test : Symbol → Bool) (class : Class) (own : List Symbol) → list_all (takes class) own ≡ true →
+    list_all test (members class) ≡ true → list_all test own ≡ true
+own-all test class [] took h = refl
+own-all test class (s ∷ own) took h =
+    let parts = and_parts (takes class s) (list_all (takes class) own) took in
+    and_from (test s) (list_all test own) (taken test (members class) s parts.0 h) (own-all test class own parts.1 h)
+
+abbrev pub letters : (Symbol → Bool) → List Item → Bool
+letters test items = list_all (λ item. list_all test (members item.class)) items
+
+pub fits-all : (test : Symbol → Bool) (items : List Item) (firsts : List Symbol) → Fits items firsts →
+    letters test items ≡ true → list_all test firsts ≡ true
+fits-all test [] firsts fit h = subst (λ s. list_all test s ≡ true) (sym fit) refl
+fits-all test (item ∷ items) firsts fit h =
+    let parts = and_parts (list_all test (members item.class)) (letters test items) h in
+    subst (λ s. list_all test s ≡ true) (sym fit.2)
+    (list_all-append test fit.0 fit.1 ∙ and_from (list_all test fit.0) (list_all test fit.1)
+    (own-all test item.class fit.0 fit.3 parts.0) (fits-all test items fit.1 fit.5 parts.1))
+
+role-no_underline : (r : Role) → letters no_underline (pattern_of r) ≡ true
+unfolding no_underline
+role-no_underline role.Flow = refl
+role-no_underline _ = refl
+
+-- on each spine of the grammar underlines stand behind their headings
+pub matches-underlined : (r : Role) (spine : List Symbol) → Matches r spine → (waits : Bool) →
+    underlined waits spine ≡ true
+matches-underlined r spine m waits = grouped-underlined m.0 spine m.1
+    (fits-all no_underline (pattern_of r) m.0 m.2 (role-no_underline r)) waits
+
+-- a heading waits behind a node as behind what it shows
+node-waits : (name : Name) (children : Forest) (around : Role) (before : Option Symbol) (waits : Bool) →
+    IsStanding (standing_of name) around before children → waits_after waits children ≡ waits_behind waits (spine children)
+    → cond (is_transparent name) (waits_after waits children) (waits_past waits name)
+    ≡ waits_behind waits (shown (standing_of name) (spine children))
+node-waits (Other number) children around before waits is same = same
+node-waits BlockQuotePrefix children around before waits is same = same
+node-waits SpaceOrTab children around before waits is same = ap (λ f. waits_after waits f) is
+node-waits MdxEsm children around before waits is same = absurd is
+node-waits MdxFlowExpression children around before waits is same = absurd is
+node-waits MdxTextExpression children around before waits is same = absurd is
+node-waits MdxJsxFlowTag children around before waits is same = absurd is
+node-waits MdxJsxTextTag children around before waits is same = absurd is
+node-waits _ children around before waits is same = refl
+
+-- and behind some nodes as behind their spine
+same-waits : (forest : Forest) (around : Role) (before : Option Symbol) (waits : Bool) → AreShaped forest around before →
+    waits_after waits forest ≡ waits_behind waits (spine forest)
+same-waits Empty around before waits all = refl
+same-waits (Node name start end children rest) around before waits all =
+    let here = node-waits name children around before waits all.0.1 (same-waits children _ _ waits all.1) in
+    ap (λ b. waits_after b rest) here
+    ∙ same-waits rest _ _ (waits_behind waits (shown (standing_of name) (spine children))) all.2
+    ∙ sym (waits-append waits (shown (standing_of name) (spine children)) (spine rest))
+
+both_none : {A : Type 0} (xs ys : List A) → xs ++ ys ≡ [] → (xs ≡ []) × (ys ≡ [])
+both_none [] ys h = (refl, h)
+both_none (x ∷ xs) ys h = absurd (cc h)
+
+-- on an empty spine there are no names
+own_names : (name : Name) (children : Forest) (around : Role) (before : Option Symbol) →
+    IsStanding (standing_of name) around before children → (spine children ≡ [] → spine_names children ≡ []) →
+    shown (standing_of name) (spine children) ≡ [] → cond (is_transparent name) (spine_names children) (name ∷ []) ≡ []
+own_names (Other number) children around before is below h = below h
+own_names BlockQuotePrefix children around before is below h = below h
+own_names SpaceOrTab children around before is below h = ap spine_names is
+own_names MdxEsm children around before is below h = absurd is
+own_names MdxFlowExpression children around before is below h = absurd is
+own_names MdxTextExpression children around before is below h = absurd is
+own_names MdxJsxFlowTag children around before is below h = absurd is
+own_names MdxJsxTextTag children around before is below h = absurd is
+own_names _ children around before is below h = absurd (cc h)
+
+no-names : (forest : Forest) (around : Role) (before : Option Symbol) → AreShaped forest around before →
+    spine forest ≡ [] → spine_names forest ≡ []
+no-names Empty around before all h = refl
+no-names (Node name start end children rest) around before all h =
+    let parts = both_none (shown (standing_of name) (spine children)) (spine rest) h in
+    let own = own_names name children around before all.0.1 (no-names children _ _ all.1) parts.0 in
+    ap (λ names. names ++ spine_names rest) own ∙ no-names rest _ _ all.2 parts.1
+
+-- nothing stands in an underline
+empty-spine : (spine : List Symbol) → Matches role.Empty spine → spine ≡ []
+empty-spine spine m = by m.0 m.2 m.1
+  where
+    by : (firsts : List Symbol) → Fits (pattern_of role.Empty) firsts → IsGrouped firsts spine → spine ≡ []
+    by [] fit is = is
+    by (first ∷ firsts) fit is = absurd (cc fit)
+
+awaited : (name : Name) (children : Forest) (around inner : Role) (before first : Option Symbol) (waits : Bool) →
+    IsStanding (standing_of name) around before children → AreShaped children inner first →
+    underlined waits (shown (standing_of name) (spine children)) ≡ true → is_underline name ≡ true
+    → (waits ≡ true) × (spine_names children ≡ [])
+awaited HeadingSetextUnderlineSequence children around inner before first waits is all h underline =
+    ((and_parts waits true h).0, no-names children inner first all (empty-spine (spine children) is))
+awaited _ children around inner before first waits is all h underline = lie underline
+
+-- the spine below a node
+below-underlined : (name : Name) (children : Forest) (around : Role) (before : Option Symbol) (waits : Bool) →
+    IsStanding (standing_of name) around before children →
+    underlined waits (shown (standing_of name) (spine children)) ≡ true →
+    underlined (cond (is_transparent name) waits false) (spine children) ≡ true
+below-underlined (Other number) children around before waits is h = h
+below-underlined BlockQuotePrefix children around before waits is h = h
+below-underlined SpaceOrTab children around before waits is h = subst (λ f. underlined waits (spine f) ≡ true) (sym is) refl
+below-underlined MdxEsm children around before waits is h = absurd is
+below-underlined MdxFlowExpression children around before waits is h = absurd is
+below-underlined MdxTextExpression children around before waits is h = absurd is
+below-underlined MdxJsxFlowTag children around before waits is h = absurd is
+below-underlined MdxJsxTextTag children around before waits is h = absurd is
+below-underlined other children around before waits is h =
+    matches-underlined (inner_role (standing_of other) around before) (spine children) is false
+
+-- nodes whose spine has its underlines where headings wait have them so at any depth
+nodes-underlined : (forest : Forest) (around : Role) (before : Option Symbol) (waits : Bool) →
+    AreShaped forest around before → underlined waits (spine forest) ≡ true → IsUnderlined waits forest
+nodes-underlined Empty around before waits all h = tt
+nodes-underlined (Node name start end children rest) around before waits all h =
+    let parts = underlined-split waits (shown (standing_of name) (spine children)) (spine rest) h in
+    let here = node-waits name children around before waits all.0.1 (same-waits children _ _ waits all.1) in (
+      awaited name children around _ before _ waits all.0.1 all.1 parts.0,
+      nodes-underlined children _ _ (cond (is_transparent name) waits false) all.1
+          (below-underlined name children around before waits all.0.1 parts.0),
+      nodes-underlined rest _ _ (cond (is_transparent name) (waits_after waits children) (waits_past waits name)) all.2
+          (subst (λ b. underlined b (spine rest) ≡ true) (sym here) parts.1),
+    )
+
+pub grammatical-underlined : (bytes : List ℕ) (names : List (List ℕ × List ℕ)) (forest : Forest) →
+    IsGrammatical bytes names forest → IsUnderlined false forest
+grammatical-underlined bytes names forest grammatical =
+    nodes-underlined forest role.Flow None false grammatical.shape.0
+    (matches-underlined role.Flow (spine forest) grammatical.shape.1 false)

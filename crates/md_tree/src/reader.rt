@@ -1,0 +1,143 @@
+//! Reads events, each by the walk and by the pass that finds what is read or inferred.
+
+ghost use Rattle.std.specs.Prelude.{◌≡◌, ◌<◌, ◌≤◌, ◌+◌, true, suc, Some, slice_get, length, IfOk, OnOk, IfErr, IfSome};
+ghost use Rattle.md_base.specs.Reference.{name_table};
+ghost use Rattle.md_base.specs.declared.event.Kind.TheVariants as kind;
+ghost use Rattle.md_infer.specs.Ending.{ending_behind};
+ghost use Rattle.md_tree.specs.Grammar.{handed};
+ghost use Rattle.md_tree.specs.Refusal.{IsRefusal};
+ghost use Rattle.md_tree.specs.Reader.{IsLeaf, HasRead};
+
+use crate::judge::Source;
+use crate::rule::CompileError;
+use crate::walk::Walk;
+use md_base::{Event, Kind, is_same_name};
+use md_infer::{Pass, ending_behind};
+use std::alloc::Global;
+
+/// What is known of the events that have been read.
+#[derive(Drop)]
+pub struct Reader {
+    pub walk: Walk,
+    pub pass: Pass,
+    /// The exit of the first line ending.
+    pub first_ending: Option<usize>,
+}
+
+impl Reader {
+    /// Before any event.
+    pub fn new(alloc: Global, source: Source) -> Reader
+        ensures { HasRead source.entry.bytes.now (name_table source.entry.names.now) source.entry.events.now 0 result }
+    {
+        Reader {
+            walk: Walk::new(alloc),
+            pass: Pass::new(alloc),
+            first_ending: None,
+        }
+    }
+
+    /// Reads the event at an index, and the next one with it where both enter and exit a node without children; answers
+    /// how many it read.
+    #[inline(always)]
+    pub fn advance(
+        &mut self,
+        alloc: Global,
+        source: Source,
+        index: usize,
+        event: Event,
+    ) -> Result<usize, CompileError>
+        requires here { slice_get source.events.now index ≡ Some event }
+        requires before { HasRead source.bytes.now (name_table source.names.now) source.events.now index self.old }
+        ensures read { IfOk result
+            (λ count. HasRead source.entry.bytes.now (name_table source.entry.names.now) source.entry.events.now (index + count) self.new) }
+        ensures counted { IfOk result (λ count. (0 < count) × (index + count ≤ length source.entry.events.now)) }
+        ensures refused { IfErr result (IsRefusal (handed source.entry.events.now source.entry.bytes.now source.entry.names.now)) }
+    {
+        match own_exit(source.events, index, &event) {
+            Some(exit) => {
+                self.read_leaf(alloc, source, index, event, exit)?;
+                Ok(2)
+            }
+            None => {
+                self.read(alloc, source, index, event)?;
+                Ok(1)
+            }
+        }
+    }
+
+    /// Reads the event at an index.
+    fn read(
+        &mut self,
+        alloc: Global,
+        source: Source,
+        index: usize,
+        event: Event,
+    ) -> Result<(), CompileError>
+        requires here { slice_get source.events.now index ≡ Some event }
+        requires before { HasRead source.bytes.now (name_table source.names.now) source.events.now index self.old }
+        ensures read { OnOk result
+            (HasRead source.entry.bytes.now (name_table source.entry.names.now) source.entry.events.now (suc index) self.new) }
+        ensures refused { IfErr result (IsRefusal (handed source.entry.events.now source.entry.bytes.now source.entry.names.now)) }
+    {
+        self.walk.step(alloc, source, index, &event)?;
+        self.pass.find(alloc, &event)?;
+        note_ending(&mut self.first_ending, index, &event);
+        Ok(())
+    }
+
+    /// Reads the two events of a node without children, of which the first has this index.
+    fn read_leaf(
+        &mut self,
+        alloc: Global,
+        source: Source,
+        index: usize,
+        event: Event,
+        exit: &Event,
+    ) -> Result<(), CompileError>
+        requires here { slice_get source.events.now index ≡ Some event }
+        requires behind { slice_get source.events.now (suc index) ≡ Some exit.now }
+        requires leaf { IsLeaf event exit.now }
+        requires before { HasRead source.bytes.now (name_table source.names.now) source.events.now index self.old }
+        ensures read { OnOk result
+            (HasRead source.entry.bytes.now (name_table source.entry.names.now) source.entry.events.now (suc (suc index)) self.new) }
+        ensures refused { IfErr result (IsRefusal (handed source.entry.events.now source.entry.bytes.now source.entry.names.now)) }
+    {
+        self.walk.leaf(alloc, source, index, event.name)?;
+        self.pass.leaf(alloc, event.name)?;
+        note_ending(&mut self.first_ending, index + 1, exit);
+        Ok(())
+    }
+}
+
+/// Notes the first line ending, if it is this event.
+fn note_ending(first: &mut Option<usize>, index: usize, event: &Event)
+    ensures { first.new ≡ ending_behind first.old index event.now }
+{
+    if first.is_none() {
+        *first = ending_behind(*first, index, event);
+    }
+}
+
+/// The event behind the one at an index, where both enter and exit a node without children.
+fn own_exit<'a>(events: &'a [Event], index: usize, event: &Event) -> Option<&'a Event>
+    requires { index < length events.now }
+    ensures behind { IfSome result (λ exit. slice_get events.entry.now (suc index) ≡ Some exit.now) }
+    ensures leaf { IfSome result (λ exit. IsLeaf event.entry.now exit.now) }
+{
+    if matches!(event.kind, Kind::Exit) {
+        return None;
+    }
+    let exit = events.get(index + 1)?;
+    if is_exit_of(exit, event) {
+        Some(exit)
+    } else {
+        None
+    }
+}
+
+/// Whether an event exits a node of the name that another event has.
+fn is_exit_of(exit: &Event, event: &Event) -> bool
+    ensures { result ≡ true → (exit.now.kind ≡ kind.Exit) × (event.now.name ≡ exit.now.name) }
+{
+    matches!(exit.kind, Kind::Exit) && is_same_name(event.name, exit.name)
+}
