@@ -211,7 +211,7 @@ static inline size_t bivdrazo_first_size(size_t events_length, size_t bytes_leng
     return 8 * events_length + 2 * bytes_length + 64;
 }
 
-/* Makes the buffer of a text as long as `answer` tells, and one byte more; under want of memory the answer says so.
+/* Makes the buffer of a text as long as `answer` tells, and one byte more; where it is out of memory the answer says so.
  */
 static inline void bivdrazo_grow(bivdrazo_answer *answer, uint8_t **text) {
     uint8_t *grown = answer->length < (size_t)PTRDIFF_MAX ? (uint8_t *)realloc(*text, answer->length + 1) : NULL;

@@ -196,7 +196,7 @@ static void test_memory(void) {
     CHECK(answer.status == BIVDRAZO_OK && answer.index == 0 && refused > 10);
 }
 
-/* The wrappers answer want of memory too, and keep nothing. */
+/* The wrappers answer out of memory too, and keep nothing. */
 static void test_memory_of_wrappers(void) {
     bivdrazo_event events[4];
     bivdrazo_answer answer = {BIVDRAZO_MEMORY, 0, 0, 0};

@@ -16,7 +16,7 @@ static const char USAGE[] =
     "  --help         this text\n"
     "\n"
     "Ends with status 0 where the HTML was written, 1 where the library refused the events or a title (one\n"
-    "that isn't UTF-8), 3 for want of memory, 4 where reading or writing failed, and 64 for other arguments.\n";
+    "that isn't UTF-8), 3 for out of memory, 4 where reading or writing failed, and 64 for other arguments.\n";
 
 /* The statuses that the program ends with. */
 enum status {

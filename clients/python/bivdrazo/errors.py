@@ -1,4 +1,4 @@
-"""Why a call has no text. Want of memory is Python's own MemoryError."""
+"""Why a call has no text. Out of memory is Python's own MemoryError."""
 
 from __future__ import annotations
 

@@ -1,4 +1,4 @@
-//! What is known of a node before it is printed, by what stands round it and before it.
+//! What is known of a node before it is printed, by what stands around it and before it.
 #![tactic(auto)]
 
 pub mod names;

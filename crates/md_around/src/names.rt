@@ -18,7 +18,7 @@ pub fn is_paragraph(name: Name) -> bool
     matches!(name, Name::Paragraph)
 }
 
-/// A node behind which a line ending is dropped.
+/// A node after which a line ending is dropped.
 pub fn is_definition(name: Name) -> bool
     ensures { result ≡ tests.is_definition name }
 {

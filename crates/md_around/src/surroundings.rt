@@ -1,4 +1,4 @@
-//! What a node knows of the nodes round it and before it.
+//! What a node knows of the nodes around it and before it.
 
 ghost use Rattle.std.specs.Prelude.{◌≡◌, ◌+◌, IfOk, OnOk, ◌||◌, ◌&&◌, if◌then◌else◌, Some};
 ghost use Rattle.md_meaning.specs.declared.facts.Container.TheVariants.{TightList, Another};
@@ -81,7 +81,7 @@ pub fn inside(
     }
 }
 
-/// Whether the last mark is a setting one behind the exit of a node, which stands behind a spine.
+/// Whether the last mark is a setting one after the exit of a node, which stands after a spine.
 pub fn slurps_behind(around: Surroundings, spine: Spine, name: Name, slurping: bool) -> bool
     ensures { result ≡ machine.slurps_behind (spec.own_marks around spine name) slurping }
 {
@@ -115,7 +115,7 @@ pub const NO_SPINE: Spine = Spine {
     last: None,
 };
 
-/// How many cells there are behind one more name; more than memory can hold are refused.
+/// How many cells there are after one more name; more than memory can hold are refused.
 fn cells_behind(name: Name, cells: usize) -> Result<usize, AllocError>
     ensures { IfOk result (λ sum. sum ≡ cells + (if is_cell name then 1 else 0)) }
 {
@@ -139,7 +139,7 @@ fn add_name(spine: &mut Spine, name: Name) -> Result<(), AllocError>
     Ok(())
 }
 
-/// The last child that an item's end looks at, behind one more.
+/// The last child that an item's end looks at, after one more.
 fn contributing_behind(name: Name, before: Option<Name>) -> Option<Name>
     ensures { result ≡ (if contributes name then Some name else before) }
 {
@@ -168,7 +168,7 @@ pub fn pass(passed: &mut Passed, name: Name, inner: Spine) -> Result<(), AllocEr
     }
 }
 
-/// The spine that a node's children begin behind.
+/// The spine that a node's children begin after.
 pub fn spine_inside(name: Name, spine: Spine) -> Spine
     ensures { result ≡ (if is_transparent name then spine else machine.no_spine) }
 {

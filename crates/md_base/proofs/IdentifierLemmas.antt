@@ -1,4 +1,5 @@
--- White space collapsed in one pass: before the first word, inside a word, and behind one.
+-- White space collapsed in one pass: before the first word, inside a word, and behind one. The loop of
+-- `collapse_white_space` goes by these steps.
 use Rattle.std.proofs.Common.{◌≡◌, ℕ, zero, suc, ◌<◌, ◌≤◌, Bool, true, false, not, eqb, cond, List, [], ◌∷◌, ◌++◌, length, get_or, refl, sym, ap, ◌∙◌, arith, inl, inr, encode_utf8}
 use Rattle.std.specs.Prelude.{filter}
 use Rattle.std.specs.List.{slice_split, onto_first, join_with_byte}

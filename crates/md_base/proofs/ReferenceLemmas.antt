@@ -1,4 +1,5 @@
--- Digits read as a number.
+-- Digits read as a number: what std's reader of numbers answers is what the rules of references say, and what the
+-- check asks of a list's number.
 use Rattle.std.proofs.Common.{◌≡◌, ℕ, ◌<◌, ◌^◌, Bool, not, eqb, nat_lt, cond, ◌&&◌, ◌≢◌, inl, inr, subst, List, [], ◌∷◌, length, get_or, Option, Some, None, Result, Ok, Err, Decides, refl, sym, ap, ◌∙◌, arith}
 use Rattle.std.specs.Prelude.{OkIff}
 use Rattle.std.specs.Char.{digit_value}

@@ -1,4 +1,5 @@
--- Spaces round a text leave it a text, and make no text of other bytes.
+-- Spaces around a text leave it a text, and make no text of other bytes: a slice with cut tabs is a text where its
+-- bytes are.
 use Rattle.std.proofs.Common.{◌≡◌, ℕ, zero, suc, ◌<◌, Bool, true, cond, Option, Some, None, inl, inr, List, [], ◌∷◌, ◌++◌, length, get_or, replicate, IsUtf8, IsAscii, Decides, refl, sym, ap, ◌∙◌, arith, subst, lit<}
 use Rattle.std.specs.Str.{is_utf8}
 use Rattle.std.proofs.lemmas.List.{append_assoc, append-nil, length-append, get_or_at, take_at}

@@ -1,6 +1,6 @@
 ghost use Rattle.std.specs.Prelude.{◌≡◌, ◌+◌, ◌^◌, ◌<◌, ◌++◌, true, SomeIff, min, replicate, length, nat_le, ◌&&◌, is_some, option_copied, option_map, string_bytes, slice_range, IfSome, IfOk, OnOk};
 ghost use Rattle.md_base.specs.Place as spec;
-ghost use Rattle.md_base.specs.Place.{fits, bytes_between, spaces_before, spaces_after, text_when};
+ghost use Rattle.md_base.specs.Place.{fits, bytes_between, spaces_before, spaces_after, text_when, text_between};
 
 use crate::event::{Point, Position};
 use std::alloc::{AllocError, Global};
@@ -21,6 +21,7 @@ pub struct Slice<'a> {
 
 impl<'a> Slice<'a> {
     /// The slice between the points of a position; `None` where these don't fit the bytes.
+    #[inline(always)]
     pub fn from_position(bytes: &'a [u8], position: &Position) -> Option<Slice<'a>>
         ensures fits { is_some result ≡ fits bytes.now position.now.start position.now.end }
         ensures bytes { IfSome result
@@ -29,33 +30,40 @@ impl<'a> Slice<'a> {
         ensures after { IfSome result (λ slice. slice.after ≡ spaces_after position.now.end) }
     {
         let Position { start, end } = *position;
-        if start.vs > TAB_SIZE || end.vs > TAB_SIZE {
-            return None;
-        }
-        let between = Slice::from_indices(bytes, byte_index(start)?, byte_index(end)?)?;
         Some(Slice {
-            bytes: between.bytes,
+            bytes: bytes_at(bytes, start, end)?,
             before: if start.vs > 0 { TAB_SIZE - start.vs } else { 0 },
             after: end.vs.saturating_sub(1),
         })
     }
 
     /// The slice between two indices; `None` unless they are in order and within the bytes.
+    #[inline(always)]
     pub fn from_indices(bytes: &'a [u8], start: usize, end: usize) -> Option<Slice<'a>>
         ensures fits { is_some result ≡ (nat_le start end && nat_le end (length bytes.now)) }
         ensures bytes { IfSome result (λ slice. slice.bytes.now ≡ slice_range bytes.now start end) }
         ensures before { IfSome result (λ slice. slice.before ≡ 0) }
         ensures after { IfSome result (λ slice. slice.after ≡ 0) }
     {
-        if start <= end && end <= bytes.len() {
-            Some(Slice {
-                bytes: &bytes[start..end],
-                before: 0,
-                after: 0,
-            })
-        } else {
-            None
-        }
+        Some(Slice {
+            bytes: bytes_within(bytes, start, end)?,
+            before: 0,
+            after: 0,
+        })
+    }
+
+    /// The text of the bytes between the points of a position, without the spaces at its ends; `None` where the points
+    /// don't fit the bytes, or these aren't UTF-8.
+    #[inline(always)]
+    pub fn text_at(bytes: &'a [u8], position: &Position) -> Option<&'a str>
+        ensures { option_copied result ≡ text_between bytes.now position.now.start position.now.end }
+    {
+        let between = Slice {
+            bytes: bytes_at(bytes, position.start, position.end)?,
+            before: 0,
+            after: 0,
+        };
+        between.as_str()
     }
 
     /// How many bytes and spaces there are, or the greatest `usize` where there are more.
@@ -69,6 +77,7 @@ impl<'a> Slice<'a> {
     }
 
     /// The bytes as a text; `None` where they aren't UTF-8.
+    #[inline(always)]
     pub fn as_str(&self) -> Option<&'a str>
         ensures { option_copied result ≡ text_when true self.now.bytes.now }
     {
@@ -91,7 +100,36 @@ impl<'a> Slice<'a> {
     }
 }
 
-/// The index of the byte that a point stands before, behind a tab that is cut there.
+/// The bytes between two points; `None` where these don't fit the bytes.
+#[inline(always)]
+fn bytes_at(bytes: &[u8], start: Point, end: Point) -> Option<&[u8]>
+    ensures fits { is_some result ≡ fits bytes.now start end }
+    ensures bytes { IfSome result (λ between. between.now ≡ bytes_between bytes.now start end) }
+{
+    // Few points stand in a tab.
+    if start.vs == 0 && end.vs == 0 {
+        return bytes_within(bytes, start.index, end.index);
+    }
+    if start.vs > TAB_SIZE || end.vs > TAB_SIZE {
+        return None;
+    }
+    bytes_within(bytes, byte_index(start)?, byte_index(end)?)
+}
+
+/// The bytes between two indices; `None` unless they are in order and within the bytes.
+#[inline(always)]
+fn bytes_within(bytes: &[u8], start: usize, end: usize) -> Option<&[u8]>
+    ensures fits { is_some result ≡ (nat_le start end && nat_le end (length bytes.now)) }
+    ensures bytes { IfSome result (λ between. between.now ≡ slice_range bytes.now start end) }
+{
+    if start <= end && end <= bytes.len() {
+        Some(&bytes[start..end])
+    } else {
+        None
+    }
+}
+
+/// The index of the byte that a point stands before, after a tab that is cut there.
 fn byte_index(point: Point) -> Option<usize>
     ensures { SomeIff result (spec.byte_index point < 2 ^ 64) (spec.byte_index point) }
 {

@@ -1,12 +1,17 @@
 //! What a script answers, by `run` and by the calls that it makes.
 
+use crate::parts::{QUESTION, answer_questions};
 use crate::reading::{REFERENCE_NAMES, read};
 use md_html::{check, compile, compile_checked, compile_counted};
 use md_script::{RunError, run};
 use std::alloc::{AllocError, Global};
 
-/// What is said of a script: its text or why it has none, and a line for each call that answers otherwise.
+/// What is said of a script: its text or why it has none, and a line for each call that answers otherwise; of one that
+/// begins with questions, what is answered to them.
 pub(crate) fn answer(alloc: Global, script: &[u8]) -> Result<String, AllocError> {
+    if script.starts_with(QUESTION.as_bytes()) {
+        return answer_questions(alloc, script);
+    }
     let answer = run(alloc, script);
     let mut said = said_of(alloc, &answer)?;
     if let Err(RunError::Line(_)) = answer {

@@ -5,9 +5,8 @@
 #![tactic(auto)]
 
 mod answers;
+mod parts;
 mod reading;
-#[cfg(test)]
-mod tests;
 
 use answers::answer;
 use md_script::{ServeError, read_input};

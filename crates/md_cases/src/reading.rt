@@ -135,7 +135,8 @@ fn set_flag(options: &mut CompileOptions, name: &str) -> bool {
     true
 }
 
-fn name_of(text: &str) -> Option<Name> {
+/// The name of a spelling.
+pub(crate) fn name_of(text: &str) -> Option<Name> {
     if let Some(number) = text.strip_prefix("Other") {
         return Some(Name::Other(number.parse().ok()?));
     }

@@ -9,6 +9,7 @@ mod growing;
 mod html;
 mod places;
 mod random;
+mod scale;
 mod trees;
 
 use md_html::{CompileError, CompileOptions, Event, Kind, Name, Point, compile, compile_counted};

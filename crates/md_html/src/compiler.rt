@@ -1,6 +1,6 @@
 //! Events to HTML.
 
-ghost use Rattle.std.specs.Prelude.{◌≡◌, ◌∷◌, ◌+◌, ◌≤◌, drop, Bool, [], OnOk, IfOk, IfErr, List, string_bytes, length, ◌*◌, unwrap_or, option_copied, slice_get, Option, Some, true, false};
+ghost use Rattle.std.specs.Prelude.{◌≡◌, ◌∷◌, ◌+◌, ◌≤◌, ◌<◌, ◌^◌, drop, Bool, [], OnOk, IfOk, IfErr, List, string_bytes, length, ◌*◌, unwrap_or, option_copied, slice_get, Option, Some, true, false};
 ghost use Rattle.md_base.specs.Reference.{name_table};
 ghost use Rattle.md_base.specs.Tree.{Forest, flatten};
 ghost use Rattle.md_tree.specs.Grammar.{IsChecked, handed};
@@ -45,7 +45,7 @@ use std::alloc::{AllocError, Global};
 pub struct Counted {
     /// The text.
     pub text: String,
-    /// How often an event was visited: each at least once, and at most three times.
+    /// How often an event was visited: each at least twice, and at most three times.
     pub visits: usize,
 }
 
@@ -105,7 +105,7 @@ pub fn compile_counted(
     ensures safe_links { IfOk result (λ counted. KeepsLinks options.now → HasOneReadingWith is_safe_link (string_bytes counted.text)) }
     ensures safe_images { IfOk result (λ counted. KeepsImages options.now → HasOneReadingWith is_safe_image (string_bytes counted.text)) }
     ensures distinct_ids { IfOk result (λ counted. KeepsIds options.now → HasDistinctIds (string_bytes counted.text)) }
-    ensures least { IfOk result (λ counted. length events.now ≤ counted.visits) }
+    ensures least { IfOk result (λ counted. 2 * length events.now ≤ counted.visits) }
     ensures most { IfOk result (λ counted. counted.visits ≤ 3 * length events.now) }
 
     ensures outside { IfErr result (IsOutside (handed events.now bytes.now names.now)) }
@@ -152,7 +152,7 @@ fn count_checked(
     ensures safe_links { IfOk result (λ counted. KeepsLinks options.now → HasOneReadingWith is_safe_link (string_bytes counted.text)) }
     ensures safe_images { IfOk result (λ counted. KeepsImages options.now → HasOneReadingWith is_safe_image (string_bytes counted.text)) }
     ensures distinct_ids { IfOk result (λ counted. KeepsIds options.now → HasDistinctIds (string_bytes counted.text)) }
-    ensures least { IfOk result (λ counted. length checked.now.events ≤ counted.visits) }
+    ensures least { IfOk result (λ counted. 2 * length checked.now.events ≤ counted.visits) }
     ensures most { IfOk result (λ counted. counted.visits ≤ 3 * length checked.now.events) }
 {
     let none = Definitions::new(alloc);
@@ -455,7 +455,8 @@ struct Ran {
 fn run(source: &Source, checked: &Checked) -> Result<Ran, AllocError>
     ensures printed { IfOk result (λ ran. (document : Forest) → flatten document ≡ checked.now.events
         → ran.printer ≡ machine.run (given_of source.now) checked.now.events (children_of document) machine.beginning) }
-    ensures visits { IfOk result (λ ran. ran.visits ≤ length checked.now.events) }
+    ensures visits { IfOk result (λ ran. ran.visits ≡ length checked.now.events) }
+    ensures fits { OnOk result (length checked.now.events < 2 ^ 63) }
 {
     let mut printer = Printer::new(source.alloc);
     let mut rest = checked.events();

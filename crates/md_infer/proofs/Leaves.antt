@@ -40,7 +40,9 @@ fact_of-alone name exit table around =
 abbrev pub behind_leaf : Name → Passed → Passed
 behind_leaf name pass = record {
   facts = (pass.facts ++ fact_of name (length pass.facts + 1)
-      (length (Collected.tables (columns_entered name pass.columns))) 0 (sought_inside name (OpenNode.sought pass.here)) nothing_told ∷ []) ++ partner_alone (length pass.facts) ∷ [];
+      (length (Collected.tables (columns_entered name pass.columns))) 0
+      (sought_inside name (OpenNode.sought pass.here)) nothing_told ∷ [])
+      ++ partner_alone (length pass.facts) ∷ [];
   columns = columns_exited name nothing_told (OpenNode.collects pass.here) (columns_entered name pass.columns);
   definitions = definitions_with name (length pass.facts) pass.definitions;
   here = followed name (opened (length pass.facts) name pass.here) pass.here;

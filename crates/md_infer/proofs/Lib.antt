@@ -1,4 +1,5 @@
 pub mod Telling
+pub mod Opens
 pub mod Passing
 pub mod FirstIndex
 pub mod Leaves

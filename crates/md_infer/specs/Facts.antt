@@ -1,6 +1,6 @@
 -- The pass over the events from the first to the last, which finds what is read or inferred of each node. Only
 -- contracts of private functions speak of it.
-use Rattle.std.specs.Prelude.{ℕ, suc, false, not, ◌&&◌, if◌then◌else◌, List, [], ◌∷◌, ◌++◌, length, set}
+use Rattle.std.specs.Prelude.{ℕ, suc, false, not, ◌&&◌, if◌then◌else◌, List, [], ◌∷◌, ◌++◌, length, reverse, set}
 use Rattle.md_base.specs.declared.event.AlignKind.{AlignKind}
 use Rattle.md_base.specs.declared.event.Name.{Name}
 use Rattle.md_base.specs.declared.event.Name.TheVariants.{Paragraph}
@@ -103,6 +103,15 @@ next_round (open_node ∷ others) = open_node
 abbrev pub others_round : List OpenNode → List OpenNode
 others_round [] = []
 others_round (open_node ∷ others) = others
+
+-- the open nodes with the document around them, the innermost first, by a list that has it last
+abbrev pub opens : List OpenNode → OpenNode → List OpenNode
+opens open_nodes document = reverse open_nodes ++ document ∷ []
+
+-- where nothing is left, the document
+abbrev pub grounded : List OpenNode → List OpenNode
+grounded [] = nowhere ∷ []
+grounded (open_node ∷ others) = open_node ∷ others
 
 -- the entry of a node
 abbrev pub passed_entry : Name → Passed → Passed

@@ -1,14 +1,16 @@
 //! The pass over the events from the first to the last, which finds what is read or inferred of each node.
 
 ghost use Rattle.std.specs.Prelude.{◌≡◌, OnOk, map, set, not, ◌&&◌};
-ghost use Rattle.md_base.specs.NameTests.{is_transparent};
+ghost use Rattle.md_base.specs.NameTests.{is_transparent, contributes};
 ghost use Rattle.md_infer.specs.Facts as spec;
 ghost use Rattle.md_infer.specs.Ending.{ends_line, ending_behind};
+ghost use Rattle.md_infer.specs.Columns.{columns_exited};
+ghost use Rattle.md_infer.specs.Told.{nothing_told};
 
 use crate::columns::{Columns, collects_in};
 use crate::names::{is_item, is_link_definition, is_table, is_transparent};
 use crate::seeking::{Sought, is_idle, search_of, seen};
-use crate::told::{Looseness, NOT_LOOSE, NOTHING_TOLD, Told, told_looseness, told_with};
+use crate::told::{Looseness, NOT_LOOSE, NOTHING_TOLD, Told, tell, told_looseness};
 use md_base::{AlignKind, Event, Kind, Name};
 use std::alloc::{AllocError, Global};
 use std::marker::Model;
@@ -63,17 +65,6 @@ fn sought_inside(name: Name, around: Sought) -> Sought
     }
 }
 
-/// The search behind a node, after that in it.
-fn sought_behind(name: Name, entry: usize, own: Sought, around: Sought) -> Sought
-    ensures { result ≡ spec.sought_behind name entry own around }
-{
-    if is_transparent(name) {
-        own
-    } else {
-        seen(around, name, entry, own.place)
-    }
-}
-
 /// A node that has been entered at an index, in one that is open.
 fn opened(entry: usize, name: Name, around: &OpenNode) -> OpenNode
     ensures { result ≡ spec.opened entry name around.now }
@@ -87,32 +78,50 @@ fn opened(entry: usize, name: Name, around: &OpenNode) -> OpenNode
     }
 }
 
-/// The last contributing child, after one more child.
+/// Whether a child contributes to an item.
 #[inline(always)]
-fn contributing_behind(name: Name, entry: usize, before: usize) -> usize
-    ensures { result ≡ spec.contributing_behind name entry before }
+fn contributes(name: Name) -> bool
+    ensures { result ≡ contributes name }
 {
-    match name {
+    !matches!(
+        name,
         Name::BlankLineEnding
-        | Name::BlockQuotePrefix
-        | Name::LineEnding
-        | Name::SpaceOrTab
-        | Name::Definition
-        | Name::GfmFootnoteDefinition => before,
-        _ => entry,
+            | Name::BlockQuotePrefix
+            | Name::LineEnding
+            | Name::SpaceOrTab
+            | Name::Definition
+            | Name::GfmFootnoteDefinition
+    )
+}
+
+/// Notes a child that exits: as the last contributing one of the node round it, or among the definitions.
+#[inline(always)]
+fn note_child(
+    contributing: &mut usize,
+    definitions: &mut Vec<usize>,
+    name: Name,
+    entry: usize,
+) -> Result<(), AllocError>
+    ensures contributing { OnOk result (contributing.new ≡ spec.contributing_behind name entry contributing.old) }
+    ensures definitions { OnOk result (definitions.new.items ≡ spec.definitions_with name entry definitions.old.items) }
+{
+    if contributes(name) {
+        *contributing = entry;
+        Ok(())
+    } else {
+        define(definitions, name, entry)
     }
 }
 
-/// An open node behind one of its children.
-fn followed(name: Name, own: &OpenNode, around: &OpenNode) -> OpenNode
-    ensures { result ≡ spec.followed name own.now around.now }
+/// Goes on with a search behind a child, after that in it.
+#[inline(always)]
+fn search_behind(sought: &mut Sought, name: Name, entry: usize, own: Sought)
+    ensures { sought.new ≡ spec.sought_behind name entry own sought.old }
 {
-    OpenNode {
-        entry: around.entry,
-        contributing: contributing_behind(name, own.entry, around.contributing),
-        collects: around.collects,
-        sought: sought_behind(name, own.entry, own.sought, around.sought),
-        told: told_with(name, own.told, around.told),
+    if is_transparent(name) {
+        *sought = own;
+    } else if !is_idle(*sought) {
+        *sought = seen(*sought, name, entry, own.place);
     }
 }
 
@@ -172,22 +181,12 @@ fn fact_alone(name: Name, exit: usize, table: usize) -> Fact
     }
 }
 
-/// Goes on with an open node behind a child without children of its own.
-#[inline(always)]
-fn follow_leaf(here: &mut OpenNode, name: Name, entry: usize)
-    ensures { here.new ≡ spec.followed name (spec.opened entry name here.old) here.old }
-{
-    here.contributing = contributing_behind(name, entry, here.contributing);
-    search_leaf(&mut here.sought, name, entry);
-    here.told = told_with(name, NOTHING_TOLD, here.told);
-}
-
 /// Goes on with a search behind a node without children.
 #[inline(always)]
 fn search_leaf(sought: &mut Sought, name: Name, entry: usize)
     ensures { sought.new ≡ spec.sought_behind name entry (spec.sought_inside name sought.old) sought.old }
 {
-    if is_transparent(name) || is_idle(*sought) {
+    if is_idle(*sought) || is_transparent(name) {
         return;
     }
     *sought = seen(*sought, name, entry, 0);
@@ -208,21 +207,27 @@ pub struct Facts {
 #[derive(Drop)]
 pub struct Pass {
     facts: Vec<Fact>,
-    columns: Columns,
-    /// The entries of the definitions that have ended.
-    definitions: Vec<usize>,
-    /// The innermost open node, and those round it, the next one last.
-    here: OpenNode,
-    round: Vec<OpenNode>,
+    ended: Ended,
+    /// The document itself, around all open nodes.
+    document: OpenNode,
+    /// The open nodes, the innermost last.
+    open: Vec<OpenNode>,
+}
+
+/// What the nodes leave that have ended.
+#[derive(Drop)]
+pub struct Ended {
+    pub columns: Columns,
+    /// The entries of the definitions.
+    pub definitions: Vec<usize>,
 }
 
 impl Model for Pass {
-    ghost use Rattle.std.specs.Prelude.{reverse};
-    ghost use Rattle.md_infer.specs.Facts.{Passed};
+    ghost use Rattle.md_infer.specs.Facts.{Passed, opens, next_round, others_round};
 
     ghost Value = { Passed };
 
-    ghost view = { λ p. record { facts = p.facts.items; columns = p.columns; definitions = p.definitions.items; here = p.here; round = reverse p.round.items } };
+    ghost view = { λ p. record { facts = p.facts.items; columns = p.ended.columns; definitions = p.ended.definitions.items; here = next_round (opens p.open.items p.document); round = others_round (opens p.open.items p.document) } };
 }
 
 impl Pass {
@@ -232,10 +237,12 @@ impl Pass {
     {
         Pass {
             facts: Vec::new(alloc),
-            columns: Columns::new(alloc),
-            definitions: Vec::new(alloc),
-            here: nowhere(),
-            round: Vec::new(alloc),
+            ended: Ended {
+                columns: Columns::new(alloc),
+                definitions: Vec::new(alloc),
+            },
+            document: nowhere(),
+            open: Vec::new(alloc),
         }
     }
 
@@ -254,15 +261,14 @@ impl Pass {
         ensures { OnOk result (self.new ≡ spec.passed_exit name (spec.passed_entry name self.old)) }
     {
         let entry = self.facts.len();
-        self.columns.enter(name)?;
-        let fact = fact_alone(name, entry + 1, self.columns.count());
+        self.ended.columns.enter(name)?;
+        let fact = fact_alone(name, entry + 1, self.ended.columns.count());
         self.facts.push(fact)?;
         self.facts.push(partner_alone(entry))?;
-        self.columns
-            .exit(alloc, name, NOTHING_TOLD, self.here.collects)?;
-        define(&mut self.definitions, name, entry)?;
-        follow_leaf(&mut self.here, name, entry);
-        Ok(())
+        match self.open.last_mut() {
+            Some(here) => follow_leaf(alloc, here, &mut self.ended, name, entry),
+            None => follow_leaf(alloc, &mut self.document, &mut self.ended, name, entry),
+        }
     }
 
     /// The entry of a node.
@@ -271,9 +277,9 @@ impl Pass {
     {
         let entry = self.facts.len();
         self.facts.push(partner_alone(0))?;
-        self.columns.enter(name)?;
-        self.round.push(self.here)?;
-        self.here = opened(entry, name, &self.here);
+        self.ended.columns.enter(name)?;
+        let inside = opened(entry, name, innermost(&self.open, &self.document));
+        self.open.push(inside)?;
         Ok(())
     }
 
@@ -281,15 +287,14 @@ impl Pass {
     fn exit(&mut self, alloc: Global, name: Name) -> Result<(), AllocError>
         ensures { OnOk result (self.new ≡ spec.passed_exit name self.old) }
     {
-        let own = self.here;
-        let around = self.round.pop().unwrap_or(nowhere());
-        let fact = fact_of(name, self.facts.len(), self.columns.count(), &own);
+        let own = leave_innermost(&mut self.open, &mut self.document);
+        let fact = fact_of(name, self.facts.len(), self.ended.columns.count(), &own);
         put(&mut self.facts, own.entry, fact);
         self.facts.push(partner_alone(own.entry))?;
-        self.columns.exit(alloc, name, own.told, around.collects)?;
-        define(&mut self.definitions, name, own.entry)?;
-        self.here = followed(name, &own, &around);
-        Ok(())
+        match self.open.last_mut() {
+            Some(here) => follow(alloc, here, &mut self.ended, name, &own),
+            None => follow(alloc, &mut self.document, &mut self.ended, name, &own),
+        }
     }
 
     /// What is found at each event.
@@ -302,11 +307,14 @@ impl Pass {
     {
         let Pass {
             facts,
+            ended,
+            document: _,
+            open: _,
+        } = self;
+        let Ended {
             columns,
             definitions,
-            here: _,
-            round: _,
-        } = self;
+        } = ended;
         Facts {
             facts,
             tables: columns.into_tables(),
@@ -315,6 +323,80 @@ impl Pass {
             visits,
         }
     }
+}
+
+/// The innermost open node, or the document.
+#[inline(always)]
+fn innermost<'a>(open: &'a [OpenNode], document: &'a OpenNode) -> &'a OpenNode
+    ensures { result.now ≡ spec.next_round (spec.opens open.entry.now document.entry.now) }
+{
+    match open.last() {
+        Some(here) => here,
+        None => document,
+    }
+}
+
+/// Takes out the innermost open node; where none is left, the document begins anew.
+#[inline(always)]
+fn leave_innermost(open: &mut Vec<OpenNode>, document: &mut OpenNode) -> OpenNode
+    ensures own { result ≡ spec.next_round (spec.opens open.old.items document.old) }
+    ensures left { spec.opens open.new.items document.new ≡ spec.grounded (spec.others_round (spec.opens open.old.items document.old)) }
+{
+    match open.pop() {
+        Some(own) => own,
+        None => {
+            let own = *document;
+            *document = nowhere();
+            own
+        }
+    }
+}
+
+/// Goes on with an open node after a child.
+#[inline(always)]
+fn follow(
+    alloc: Global,
+    here: &mut OpenNode,
+    ended: &mut Ended,
+    name: Name,
+    own: &OpenNode,
+) -> Result<(), AllocError>
+    ensures here { OnOk result (here.new ≡ spec.followed name own.now here.old) }
+    ensures columns { OnOk result (ended.new.columns ≡ columns_exited name own.now.told here.old.collects ended.old.columns) }
+    ensures definitions { OnOk result (ended.new.definitions.items ≡ spec.definitions_with name own.now.entry ended.old.definitions.items) }
+{
+    ended.columns.exit(alloc, name, own.told, here.collects)?;
+    note_child(
+        &mut here.contributing,
+        &mut ended.definitions,
+        name,
+        own.entry,
+    )?;
+    search_behind(&mut here.sought, name, own.entry, own.sought);
+    tell(&mut here.told, name, own.told);
+    Ok(())
+}
+
+/// The same after a child without children of its own.
+#[inline(always)]
+fn follow_leaf(
+    alloc: Global,
+    here: &mut OpenNode,
+    ended: &mut Ended,
+    name: Name,
+    entry: usize,
+) -> Result<(), AllocError>
+    ensures here { OnOk result (here.new ≡ spec.followed name (spec.opened entry name here.old) here.old) }
+    ensures columns { OnOk result (ended.new.columns ≡ columns_exited name nothing_told here.old.collects ended.old.columns) }
+    ensures definitions { OnOk result (ended.new.definitions.items ≡ spec.definitions_with name entry ended.old.definitions.items) }
+{
+    ended
+        .columns
+        .exit(alloc, name, NOTHING_TOLD, here.collects)?;
+    note_child(&mut here.contributing, &mut ended.definitions, name, entry)?;
+    search_leaf(&mut here.sought, name, entry);
+    tell(&mut here.told, name, NOTHING_TOLD);
+    Ok(())
 }
 
 /// The exit of the first line ending, blank or not, behind one more event.

@@ -132,55 +132,30 @@ fn is_nothing(last: Last) -> bool
     matches!(last, Last::Nothing)
 }
 
-/// What children tell with one more, of which its own children tell something.
+/// Adds a child, of which its own children tell something, to what children tell.
 #[inline(always)]
-pub fn told_with(name: Name, own: Told, before: Told) -> Told
-    ensures { result ≡ spec.told_with name own before }
+pub fn tell(told: &mut Told, name: Name, own: Told)
+    ensures { told.new ≡ spec.told_with name own told.old }
 {
     match name {
         Name::BlankLineEnding => {
-            let parted = parts(before.last);
-            let loosened = loosens(before.last);
-            Told {
-                last: Last::Plain,
-                without_items: before.without_items || parted,
-                of_item: before.of_item || loosened,
-                ..before
-            }
+            told.without_items = told.without_items || parts(told.last);
+            told.of_item = told.of_item || loosens(told.last);
+            told.last = Last::Plain;
         }
-        Name::ListItem => Told {
-            last: item_as(own.last),
-            has_loose_item: before.has_loose_item || own.of_item,
-            ..before
-        },
+        Name::ListItem => {
+            told.last = item_as(own.last);
+            told.has_loose_item = told.has_loose_item || own.of_item;
+        }
         Name::GfmTableDelimiterMarker => {
-            let first = is_nothing(before.last);
-            Told {
-                last: Last::Marker,
-                begins_with_marker: before.begins_with_marker || first,
-                ..before
-            }
+            told.begins_with_marker = told.begins_with_marker || is_nothing(told.last);
+            told.last = Last::Marker;
         }
-        Name::SpaceOrTab => Told {
-            last: spaced(before.last),
-            ..before
-        },
-        Name::ListItemPrefix => Told {
-            last: Last::Prefix,
-            ..before
-        },
-        Name::BlockQuotePrefix => Told {
-            last: Last::QuotePrefix,
-            ..before
-        },
-        Name::BlockQuote => Told {
-            last: quote_as(own.last),
-            ..before
-        },
-        _ => Told {
-            last: Last::Plain,
-            ..before
-        },
+        Name::SpaceOrTab => told.last = spaced(told.last),
+        Name::ListItemPrefix => told.last = Last::Prefix,
+        Name::BlockQuotePrefix => told.last = Last::QuotePrefix,
+        Name::BlockQuote => told.last = quote_as(own.last),
+        _ => told.last = Last::Plain,
     }
 }
 

@@ -1,8 +1,8 @@
-//! What is known of a node by what stands round it, before it and in it.
+//! What is known of a node by what stands around it, before it and in it.
 
 use md_base::{Name, Position};
 
-/// The innermost block quote, list or footnote definition round a node.
+/// The innermost block quote, list or footnote definition around a node.
 #[derive(Clone, Copy)]
 pub enum Container {
     /// There is none.
@@ -13,24 +13,24 @@ pub enum Container {
     Another,
 }
 
-/// What a node knows of the nodes round it.
+/// What a node knows of the nodes around it.
 #[derive(Clone, Copy)]
 pub struct Surroundings {
     /// The innermost container.
     pub container: Container,
-    /// There is no node round it.
+    /// There is no node around it.
     pub is_outermost: bool,
-    /// An image is round it.
+    /// An image is around it.
     pub in_image: bool,
-    /// A link is round it.
+    /// A link is around it.
     pub in_link: bool,
-    /// A table is round it.
+    /// A table is around it.
     pub in_table: bool,
-    /// A table's head is round it.
+    /// A table's head is around it.
     pub in_head: bool,
-    /// Code or math in a text is round it.
+    /// Code or math in a text is around it.
     pub in_code: bool,
-    /// A definition is round it.
+    /// A definition is around it.
     pub in_definition: bool,
     /// Special characters are escaped.
     pub is_escaping: bool,

@@ -85,7 +85,7 @@ pub fn meaning_of_backslash_before_a_pipe()
     ensures { Means spans.backslash_before_a_pipe_bytes spans.backslash_before_a_pipe spans.backslash_before_a_pipe_text }
 {}
 
-/// The meaning of two endings behind a definition.
+/// The meaning of two endings after a definition.
 pub fn meaning_of_two_endings_behind_a_definition()
     ensures { Means endings.two_endings_behind_a_definition_bytes endings.two_endings_behind_a_definition endings.two_endings_behind_a_definition_text }
 {}
@@ -190,7 +190,7 @@ pub fn meaning_of_footnote_that_ends_in_a_quote()
     ensures { Means footnotes.footnote_that_ends_in_a_quote_bytes footnotes.footnote_that_ends_in_a_quote footnotes.footnote_that_ends_in_a_quote_text }
 {}
 
-/// The meaning of a footnote with CR and LF behind its last paragraph.
+/// The meaning of a footnote with CR and LF after its last paragraph.
 pub fn meaning_of_footnote_that_ends_in_line_endings()
     ensures { Means footnotes.footnote_that_ends_in_line_endings_bytes footnotes.footnote_that_ends_in_line_endings footnotes.footnote_that_ends_in_line_endings_text }
 {}
@@ -200,7 +200,7 @@ pub fn meaning_of_empty_footnote()
     ensures { Means footnotes.empty_footnote_bytes footnotes.empty_footnote footnotes.empty_footnote_text }
 {}
 
-/// The meaning of two line endings behind a footnote definition, of which the first is dropped.
+/// The meaning of two line endings after a footnote definition, of which the first is dropped.
 pub fn meaning_of_endings_behind_a_footnote_definition()
     ensures { Means endings.endings_behind_a_footnote_definition_bytes endings.endings_behind_a_footnote_definition endings.endings_behind_a_footnote_definition_text }
 {}
@@ -275,7 +275,7 @@ pub fn meaning_of_math()
     ensures { Means spans.math_bytes spans.math spans.math_text }
 {}
 
-/// The meaning of a thematic break behind frontmatter, whose line ending is slurped.
+/// The meaning of a thematic break after frontmatter, whose line ending is slurped.
 pub fn meaning_of_break_behind_frontmatter()
     ensures { Means endings.break_behind_frontmatter_bytes endings.break_behind_frontmatter endings.break_behind_frontmatter_text }
 {}
@@ -320,7 +320,7 @@ pub fn meaning_of_number_references()
     ensures { Means spans.number_references_bytes spans.number_references spans.number_references_text }
 {}
 
-/// The meaning of setext heading behind two endings.
+/// The meaning of setext heading after two endings.
 pub fn meaning_of_setext_heading_behind_two_endings()
     ensures { Means blocks.setext_heading_behind_two_endings_bytes blocks.setext_heading_behind_two_endings blocks.setext_heading_behind_two_endings_text }
 {}
@@ -345,47 +345,47 @@ pub fn meaning_of_code_in_an_item()
     ensures { Means lists.code_in_an_item_bytes lists.code_in_an_item lists.code_in_an_item_text }
 {}
 
-/// The meaning of a line ending behind frontmatter and a blank line, which clears.
+/// The meaning of a line ending after frontmatter and a blank line, which clears.
 pub fn meaning_of_ending_behind_a_blank_line()
     ensures { Means endings.ending_behind_a_blank_line_bytes endings.ending_behind_a_blank_line endings.ending_behind_a_blank_line_text }
 {}
 
-/// The meaning of a line ending behind frontmatter and a block quote, which clears.
+/// The meaning of a line ending after frontmatter and a block quote, which clears.
 pub fn meaning_of_ending_behind_a_quote()
     ensures { Means endings.ending_behind_a_quote_bytes endings.ending_behind_a_quote endings.ending_behind_a_quote_text }
 {}
 
-/// The meaning of a line ending behind frontmatter and indented code, which clears.
+/// The meaning of a line ending after frontmatter and indented code, which clears.
 pub fn meaning_of_ending_behind_indented_code()
     ensures { Means endings.ending_behind_indented_code_bytes endings.ending_behind_indented_code endings.ending_behind_indented_code_text }
 {}
 
-/// The meaning of a line ending behind fenced code, which clears what its fence sets.
+/// The meaning of a line ending after fenced code, which clears what its fence sets.
 pub fn meaning_of_ending_behind_fenced_code()
     ensures { Means endings.ending_behind_fenced_code_bytes endings.ending_behind_fenced_code endings.ending_behind_fenced_code_text }
 {}
 
-/// The meaning of a line ending behind math, which clears what its fence sets.
+/// The meaning of a line ending after math, which clears what its fence sets.
 pub fn meaning_of_ending_behind_math()
     ensures { Means endings.ending_behind_math_bytes endings.ending_behind_math endings.ending_behind_math_text }
 {}
 
-/// The meaning of a line ending behind a tight list, whose item clears what its paragraph sets.
+/// The meaning of a line ending after a tight list, whose item clears what its paragraph sets.
 pub fn meaning_of_ending_behind_a_tight_list()
     ensures { Means endings.ending_behind_a_tight_list_bytes endings.ending_behind_a_tight_list endings.ending_behind_a_tight_list_text }
 {}
 
-/// The meaning of a line ending behind frontmatter and code with a line ending, which is no mark.
+/// The meaning of a line ending after frontmatter and code with a line ending, which is no mark.
 pub fn meaning_of_ending_behind_code_with_an_ending()
     ensures { Means endings.ending_behind_code_with_an_ending_bytes endings.ending_behind_code_with_an_ending endings.ending_behind_code_with_an_ending_text }
 {}
 
-/// The meaning of a line ending behind frontmatter and a definition with a line ending, which is no mark.
+/// The meaning of a line ending after frontmatter and a definition with a line ending, which is no mark.
 pub fn meaning_of_ending_behind_a_definition_with_an_ending()
     ensures { Means endings.ending_behind_a_definition_with_an_ending_bytes endings.ending_behind_a_definition_with_an_ending endings.ending_behind_a_definition_with_an_ending_text }
 {}
 
-/// The meaning of a title with a line ending behind frontmatter, which is not slurped in a definition.
+/// The meaning of a title with a line ending after frontmatter, which is not slurped in a definition.
 pub fn meaning_of_title_on_two_lines()
     ensures { Means endings.title_on_two_lines_bytes endings.title_on_two_lines endings.title_on_two_lines_text }
 {}
@@ -420,7 +420,7 @@ pub fn meaning_of_fence_in_another_name()
     ensures { Means blocks.fence_in_another_name_bytes blocks.fence_in_another_name blocks.fence_in_another_name_text }
 {}
 
-/// The meaning of a line ending behind a transparent node that holds a definition.
+/// The meaning of a line ending after a transparent node that holds a definition.
 pub fn meaning_of_definition_in_another_name()
     ensures { Means endings.definition_in_another_name_bytes endings.definition_in_another_name endings.definition_in_another_name_text }
 {}

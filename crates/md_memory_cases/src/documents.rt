@@ -13,12 +13,18 @@ use std::io;
 
 /// Makes each call over each document.
 pub fn ask_each<R: Print + AllocGlobal>(rt: &R, log: &mut Log) -> io::Result<()> {
-    for row in &ROWS {
+    ask_rows(rt, log, &ROWS)?;
+    ask(rt, log, &NAMED, &NAMES)
+}
+
+/// Makes each call over each of these documents.
+fn ask_rows<R: Print + AllocGlobal>(rt: &R, log: &mut Log, rows: &[Row]) -> io::Result<()> {
+    for row in rows {
         let is_right = runs(rt.alloc(), log, row);
         log.tell(rt, is_right, "run", row.name)?;
         ask(rt, log, row, &[])?;
     }
-    ask(rt, log, &NAMED, &NAMES)
+    Ok(())
 }
 
 /// Makes the calls over events.
@@ -49,7 +55,17 @@ pub fn check_each<R: Print + AllocGlobal>(
     log: &mut Log,
     asks_methods: bool,
 ) -> io::Result<()> {
-    for row in &ROWS {
+    check_rows(rt, log, &ROWS, asks_methods)
+}
+
+/// The same for these documents.
+fn check_rows<R: Print + AllocGlobal>(
+    rt: &R,
+    log: &mut Log,
+    rows: &[Row],
+    asks_methods: bool,
+) -> io::Result<()> {
+    for row in rows {
         let checked = checked_of(rt.alloc(), log, row, &[]);
         let safe = again!(
             log,

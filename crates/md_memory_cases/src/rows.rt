@@ -64,7 +64,7 @@ macro_rules! row {
 }
 
 /// The documents without names of their own.
-pub const ROWS: [Row; 17] = [
+pub static ROWS: [Row; 17] = [
     row! {
         "a chunk that is cut within a tab", "\ta\t", Wanted::Text("<pre><code>  a\t  \n</code></pre>");
         + CodeIndented 0; + CodeFlowChunk 0 . 2; - CodeFlowChunk 2 . 3; - CodeIndented 3;
@@ -171,10 +171,10 @@ pub const ROWS: [Row; 17] = [
 ];
 
 /// The names of the last document.
-pub const NAMES: [(&str, &str); 1] = [("x", "<")];
+pub static NAMES: [(&str, &str); 1] = [("x", "<")];
 
 /// A document that reads one of these names; no script tells of it.
-pub const NAMED: Row = row! {
+pub static NAMED: Row = row! {
     "a reference with a name", "&x;", Wanted::Text("&lt;");
     + CharacterReferenceMarker 0; - CharacterReferenceMarker 1; + CharacterReferenceValue 1;
     - CharacterReferenceValue 2;

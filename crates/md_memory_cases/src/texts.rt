@@ -27,7 +27,7 @@ enum Tool {
 /// A call by its name, what it is asked, and what it answers where there is memory.
 type Case = (&'static str, Tool, &'static str, Option<&'static str>);
 
-const CASES: [Case; 17] = [
+static CASES: [Case; 17] = [
     ("encode", Tool::Encode(true), "I <3 🦀", Some("I &lt;3 🦀")),
     (
         "encode",
@@ -104,7 +104,12 @@ const CASES: [Case; 17] = [
 
 /// Makes each call.
 pub fn ask_each<R: Print + AllocGlobal>(rt: &R, log: &mut Log) -> io::Result<()> {
-    for (call, tool, text, wanted) in &CASES {
+    ask_cases(rt, log, &CASES)
+}
+
+/// Makes each of these calls.
+fn ask_cases<R: Print + AllocGlobal>(rt: &R, log: &mut Log, cases: &[Case]) -> io::Result<()> {
+    for (call, tool, text, wanted) in cases {
         let is_right = match again!(log, Err(AllocError), answer(rt.alloc(), tool, text)) {
             Ok(answer) => answer.as_ref().map(|text| text.as_str()) == *wanted,
             Err(AllocError) => false,

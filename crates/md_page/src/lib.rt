@@ -1,4 +1,4 @@
-//! A whole page round a text of the HTML grammar that is safe.
+//! A whole page around a text of the HTML grammar that is safe.
 #![tactic(auto)]
 
 ghost use Rattle.std.specs.Prelude.{◌≡◌, IfOk, string_bytes};

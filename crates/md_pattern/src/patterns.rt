@@ -1,37 +1,41 @@
 ghost use Rattle.std.specs.Prelude.{◌≡◌};
 ghost use Rattle.md_pattern.specs.Pattern.{pattern_of, takes};
+ghost use Rattle.md_pattern.specs.declared.kinds.Class.TheVariants.{String};
 
 use crate::kinds::{Class, Item, Role, Symbol, Times};
 
 /// Whether a symbol is in a class.
+#[inline(always)]
 pub fn takes(class: Class, symbol: Symbol) -> bool
     ensures { result ≡ takes class symbol }
 {
     match class {
-        Class::String => [Symbol::Text, Symbol::ReferenceMarker, Symbol::LineEnding].contains(
-            &symbol,
-        ),
-        Class::Phrasing => [
-            Symbol::Span,
-            Symbol::Text,
-            Symbol::ReferenceMarker,
-            Symbol::LineEnding,
-        ]
-        .contains(&symbol),
-        Class::Flow => [
-            Symbol::Block,
-            Symbol::SetextText,
-            Symbol::BlankLineEnding,
-            Symbol::Span,
-            Symbol::Text,
-            Symbol::ReferenceMarker,
-            Symbol::LineEnding,
-        ]
-        .contains(&symbol),
-        Class::Only(one) => [one].contains(&symbol),
-        Class::Either(one, other) => [one, other].contains(&symbol),
-        Class::OrLine(one) => [one, Symbol::LineEnding, Symbol::BlankLineEnding].contains(&symbol),
+        Class::String => is_in_string(symbol),
+        Class::Phrasing => is_in_string(symbol) || matches!(symbol, Symbol::Span),
+        Class::Flow => {
+            is_in_string(symbol)
+                || matches!(
+                    symbol,
+                    Symbol::Block | Symbol::SetextText | Symbol::BlankLineEnding | Symbol::Span
+                )
+        }
+        Class::Only(one) => one == symbol,
+        Class::Either(one, other) => one == symbol || other == symbol,
+        Class::OrLine(one) => {
+            one == symbol || matches!(symbol, Symbol::LineEnding | Symbol::BlankLineEnding)
+        }
     }
+}
+
+/// Whether a symbol is what a text is made of.
+#[inline(always)]
+fn is_in_string(symbol: Symbol) -> bool
+    ensures { result ≡ takes String symbol }
+{
+    matches!(
+        symbol,
+        Symbol::Text | Symbol::ReferenceMarker | Symbol::LineEnding
+    )
 }
 
 /// The pattern of a role.

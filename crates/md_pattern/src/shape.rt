@@ -1,4 +1,6 @@
-ghost use Rattle.std.specs.Prelude.{◌≡◌};
+ghost use Rattle.std.specs.Prelude.{◌≡◌, false, Option};
+ghost use Rattle.md_pattern.specs.declared.kinds.Role.{Role};
+ghost use Rattle.md_pattern.specs.declared.kinds.Symbol.{Symbol};
 ghost use Rattle.md_pattern.specs.Shape.{role_for, item_in, prefix_in, code_fence_after, math_fence_after, label_in};
 
 use crate::kinds::{Role, Symbol};
@@ -56,7 +58,31 @@ fn math_fence_role(before: Option<Symbol>) -> Role
 }
 
 /// The role that a name with this usual one has in a node of a role, after a symbol on its spine.
+#[inline(always)]
 pub fn role_of(around: Role, before: Option<Symbol>, usual: Role) -> Role
+    ensures { result ≡ role_for around before usual }
+{
+    if goes_by_place(usual) {
+        role_at(around, before, usual)
+    } else {
+        usual
+    }
+}
+
+/// Whether a name with this usual role has another one in some places.
+#[inline(always)]
+fn goes_by_place(usual: Role) -> bool
+    ensures { result ≡ false → (around : Role) (before : Option Symbol) → role_for around before usual ≡ usual }
+{
+    matches!(
+        usual,
+        Role::Item | Role::Prefix | Role::CodeFence | Role::MathFence | Role::Label
+    )
+}
+
+/// The role of such a name.
+#[inline(never)]
+fn role_at(around: Role, before: Option<Symbol>, usual: Role) -> Role
     ensures { result ≡ role_for around before usual }
 {
     match usual {

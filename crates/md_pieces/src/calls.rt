@@ -12,7 +12,7 @@ use md_meaning::CompileOptions;
 use md_printer::facts::Exit;
 use md_printer::printer::Printer;
 use md_printer::source::{Source, identifier_at};
-use md_sheet::{call_id, footnote_id};
+use md_sheet::{NumberedFootnote, call_id, footnote_id};
 use std::alloc::{AllocError, Global};
 
 /// Prints a call with its number and its occurrence.
@@ -20,16 +20,15 @@ fn tags(
     alloc: Global,
     printer: &mut Printer,
     options: &CompileOptions,
-    identifier: &str,
-    number: usize,
+    footnote: &NumberedFootnote,
     occurrence: usize,
 ) -> Result<(), AllocError>
-    ensures { OnOk result (printer.new ≡ printing [] (footnotes.call_tags options.now identifier.now number occurrence) printer.old) }
+    ensures { OnOk result (printer.new ≡ printing [] (footnotes.call_tags options.now footnote.now.identifier.now footnote.now.number occurrence) printer.old) }
 {
-    let footnote = footnote_id(alloc, options, identifier, number)?;
-    let id = call_id(alloc, options, identifier, number, occurrence)?;
-    let number = number.to_string(alloc)?;
-    put_tags(printer, footnote.as_str(), id.as_str(), number.as_str())
+    let target = footnote_id(alloc, options, footnote)?;
+    let id = call_id(alloc, options, footnote, occurrence)?;
+    let number = footnote.number.to_string(alloc)?;
+    put_tags(printer, target.as_str(), id.as_str(), number.as_str())
 }
 
 /// Prints the tags of a call round its number.
@@ -48,7 +47,6 @@ fn put_tags(printer: &mut Printer, footnote: &str, id: &str, number: &str) -> Re
 
 /// Prints a call, numbered behind those that were seen: nothing in an image.
 pub fn call(
-    alloc: Global,
     printer: &mut Printer,
     source: &Source,
     exit: &Exit,
@@ -59,16 +57,12 @@ pub fn call(
     if exit.around.in_image {
         return Ok(());
     }
-    let identifier = identifier_at(alloc, source.bytes, place)?;
-    let number = printer.number(identifier.as_str());
+    let identifier = identifier_at(source.alloc, source.bytes, place)?;
+    let footnote = NumberedFootnote {
+        identifier: identifier.as_str(),
+        number: printer.number(identifier.as_str()),
+    };
     let before = printer.count_of(identifier.as_str());
     let occurrence = before.checked_add(1).ok_or(AllocError)?;
-    tags(
-        alloc,
-        printer,
-        source.options,
-        identifier.as_str(),
-        number,
-        occurrence,
-    )
+    tags(source.alloc, printer, source.options, &footnote, occurrence)
 }

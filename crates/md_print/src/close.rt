@@ -227,7 +227,7 @@ pub fn close_captured(
         }
         Name::Link => link(printer, source, exit, inner),
         Name::Image => image(printer, source, exit, inner),
-        Name::GfmFootnoteCall => call(source.alloc, printer, source, exit, inner.place),
+        Name::GfmFootnoteCall => call(printer, source, exit, inner.place),
         Name::GfmTableCell => close_cell(source.alloc, printer, source.ending, exit, &inner.page),
         _ => Ok(()),
     }

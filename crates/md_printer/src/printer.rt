@@ -14,7 +14,7 @@ use crate::facts::{Exit, Frame, Told};
 use md_around::surroundings::{NO_SPINE, inside, pass, slurps_behind, spine_inside};
 use md_base::{AlignKind, Name, Point, Position};
 use md_meaning::{CompileOptions, Container, Passed, Spine, Surroundings};
-use md_sheet::{Calls, Defined, Footnotes, Rope, Sheet, Target, lay_section};
+use md_sheet::{Calls, Defined, Footnotes, Rope, Settings, Sheet, Target, lay_section};
 use std::alloc::{AllocError, Global};
 use std::marker::Model;
 
@@ -368,7 +368,12 @@ impl Printer {
             frames: _,
             tables: _,
         } = self;
-        lay_section(alloc, &mut sheet, options, ending, &calls, &footnotes)?;
+        let settings = Settings {
+            alloc,
+            options,
+            ending,
+        };
+        lay_section(&settings, &mut sheet, &calls, &footnotes)?;
         sheet.into_text(alloc)
     }
 

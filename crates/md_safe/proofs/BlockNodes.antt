@@ -1,7 +1,8 @@
--- The nodes of blocks print texts with readings.
+-- The nodes of blocks print texts with readings, whatever is claimed of texts besides: a case for each name.
 use Rattle.std.proofs.Common.{◌≡◌, ℕ, ◌≤◌, Bool, true, false, not, ◌||◌, cond, List, [], ◌∷◌, ◌++◌, refl, sym, ◌∙◌, subst, inl, inr, arith, drop, append_assoc, codes}
 use Rattle.std.specs.Prelude.{slice_get}
 use Rattle.std.proofs.lemmas.Bool.{or_cases, or_left, or_right}
+use Rattle.md_base.proofs.Lies.{lie}
 use Rattle.md_base.specs.declared.event.Name.{Name}
 use Rattle.md_base.specs.declared.event.Name.TheVariants.{LineEnding, BlankLineEnding, BlockQuote, ListOrdered, ListUnordered, ListItem, ListItemPrefix, ListItemValue, ListItemMarker, GfmFootnoteDefinition, GfmFootnoteDefinitionPrefix, GfmFootnoteDefinitionLabelString, Definition, DefinitionLabelString, DefinitionDestinationString, DefinitionTitleString, CodeIndented, CodeFenced, CodeFencedFenceMeta, CodeFlowChunk, MathFlow, MathFlowFenceMeta, MathFlowChunk, HtmlFlow, HtmlFlowData, HeadingAtx, HeadingAtxSequence, HeadingAtxText, HeadingSetextText, HeadingSetextUnderlineSequence, GfmTable, GfmTableHead, GfmTableBody, GfmTableRow, GfmTableCell, GfmTableDelimiterRow, GfmTableDelimiterCellValue, GfmTableDelimiterMarker, Paragraph, ThematicBreak, Frontmatter, MdxEsm, MdxFlowExpression, MdxTextExpression, MdxJsxFlowTag, MdxJsxTextTag}
 use Rattle.md_base.specs.declared.event.AlignKind.{AlignKind}
@@ -26,7 +27,6 @@ use Rattle.md_safe.proofs.Laid.{adds-append, adds-weaker, adds-text, adds-nothin
 use Rattle.md_safe.proofs.Tags.{Bracket, IsFramed, void-read, adds-flat, adds-pair, adds-framed, adds-nil, adds-before, adds-behind, adds-escaped, framed-text, framed-needed, framed-forced}
 use Rattle.md_safe.proofs.Media.{adds-cell_in, adds-empty_cells}
 use Rattle.md_safe.proofs.Elements.{bracket-plain, bracket-code, bracket-heading, adds-setext, ordered-opening, adds-raw, code_tag, math_tag}
-use Rattle.md_safe.proofs.Contents.{lie}
 use Rattle.md_safe.proofs.Spot.{IsWhole, Setting, Spot, node_pieces, IsFitAt, Prints, Inside, narrow-wide, wide-reading, prints-alone, prints-both, prints-own}
 use Rattle.md_safe.proofs.StringNodes.{string-node}
 use Rattle.md_safe.proofs.SpanNodes.{page_of, page-holds, span-node, media-node, autolink-node, html-escaped}
@@ -206,7 +206,8 @@ flow-node s t HeadingSetextText e is fit whole inner a =
     adds-note s.p s.given.ending (Reads s) (Heading (page_of s inner).text) (holds-none s)
     ((whole refl).notes (page_of s inner).text (page-holds s (Reads s) inner a))
 flow-node s t HeadingSetextUnderlineSequence e is fit whole inner a =
-    adds-append s.p s.given.ending (Reads s) (Reads s) (Reads s) inner (setext_pieces s.given t.start) (whole refl).both a
+    adds-append s.p s.given.ending (Reads s) (Reads s) (Reads s) inner (setext_pieces s.given t.start) (whole refl).both
+    a
     (adds-setext s.p s.given.ending (whole refl).recalls s.ending (setext_rank s.given.bytes t.start)
     (setext-fits s.given.bytes (is_dash_at s.given.bytes t.start.index)))
 flow-node s t CodeIndented e is fit whole inner a =
@@ -226,7 +227,7 @@ flow-node s t HtmlFlow e is fit whole inner a =
 flow-node s t HtmlFlowData e is fit whole inner a =
     prints-both s (Reads s) (HasReadingWith s.p.test) s.p.behind inner (html_pieces s.given t.around t.start t.end) a
     (adds-escaped s.p s.given.ending (html_pieces s.given t.around t.start t.end) (html-escaped s t e))
-flow-node s t _ e is fit whole inner a = absurd (lie is)
+flow-node s t _ e is fit whole inner a = lie is
 
 hidden-node : (s : Setting) (t : Spot) (name : Name) → t.around.is_escaping ≡ true → is_hidden name ≡ true →
     (inner : List Piece) → Inside s t Blocks name inner → Prints s (Reads s) (node_pieces s t name inner)
@@ -243,7 +244,7 @@ hidden-node s t DefinitionTitleString e is inner a =
 hidden-node s t GfmFootnoteDefinition e is inner a = adds-nothing s.p s.given.ending (Reads s) (holds-none s)
 hidden-node s t GfmFootnoteDefinitionLabelString e is inner a = adds-nothing s.p s.given.ending (Reads s) (holds-none s)
 hidden-node s t GfmTableDelimiterRow e is inner a = adds-nothing s.p s.given.ending (Reads s) (holds-none s)
-hidden-node s t _ e is inner a = absurd (lie is)
+hidden-node s t _ e is inner a = lie is
 
 -- a row
 row-node : (s : Setting) (in_head : Bool) (kinds : List AlignKind) (inner : List Piece) → Prints s (Reads s) inner
@@ -271,7 +272,7 @@ table-node s t GfmTableRow is inner a = row-node s t.around.in_head (drop t.pass
 table-node s t GfmTableCell is inner a =
     adds-cell_in s.p s.given.ending s.ending s.given.options s.test t.around.in_head
     (slice_get t.left.columns t.left.spine.cells) (page_of s inner).text (page-holds s (Reads s) inner a)
-table-node s t _ is inner a = absurd (lie is)
+table-node s t _ is inner a = lie is
 
 silent-node : (s : Setting) (t : Spot) (name : Name) → is_silent name ≡ true → (inner : List Piece) →
     Inside s t Blocks name inner → Prints s (Reads s) (node_pieces s t name inner)
@@ -288,7 +289,7 @@ silent-node s t MdxFlowExpression is inner a = prints-alone s (Reads s) inner a
 silent-node s t MdxTextExpression is inner a = prints-alone s (Reads s) inner a
 silent-node s t MdxJsxFlowTag is inner a = prints-alone s (Reads s) inner a
 silent-node s t MdxJsxTextTag is inner a = prints-alone s (Reads s) inner a
-silent-node s t _ is inner a = absurd (lie is)
+silent-node s t _ is inner a = lie is
 
 -- each name is of one of the tables
 covered : (name : Name) → (is_transparent name || (is_part name
@@ -303,9 +304,9 @@ pub block-node : (s : Setting) (t : Spot) (name : Name) → t.around.is_escaping
     (inner : List Piece) → Inside s t Blocks name inner → Prints s (Reads s) (node_pieces s t name inner)
 block-node s t name e solid whole fit asked inner a =
     elim (or_cases (is_transparent name) _ (covered name)) [
-      | inl is ↦ absurd (lie (sym solid ∙ is))
+      | inl is ↦ lie (sym solid ∙ is)
       | inr c ↦ elim (or_cases (is_part name) _ c) [
-        | inl is ↦ absurd (lie (sym whole ∙ is))
+        | inl is ↦ lie (sym whole ∙ is)
         | inr c ↦ elim (or_cases (is_string name) _ c) [
           | inl is ↦ string-node s t Blocks name (narrow-wide s.p t.around.is_escaping t.around.in_image (Reads s) e
               (wide-reading s.p t.around.in_image)) is fit inner a
@@ -317,7 +318,9 @@ block-node s t name e solid whole fit asked inner a =
               | inr c ↦ elim (or_cases (is_autolink name) _ c) [
                 | inl is ↦ autolink-node s t Blocks name (wide-reading s.p t.around.in_image) is inner a
                 | inr c ↦ elim (or_cases (is_flow name) _ c) [
-                  | inl is ↦ flow-node s t name e is fit (λ setext. asked (or_left (is_setext name) (is_call name) setext)) inner a
+                  | inl is ↦
+                      flow-node s t name e is fit (λ setext. asked (or_left (is_setext name) (is_call name) setext))
+                      inner a
                   | inr c ↦ elim (or_cases (is_hidden name) _ c) [
                     | inl is ↦ hidden-node s t name e is inner a
                     | inr c ↦ elim (or_cases (is_tabular name) _ c) [

@@ -1,4 +1,4 @@
--- The ids of footnote calls, in their order.
+-- The ids of footnote calls, in their order: those behind some calls, and those of calls one after another.
 use Rattle.std.proofs.Common.{◌≡◌, ℕ, suc, List, [], ◌∷◌, ◌++◌, sym, ap, ◌∙◌, append_assoc, append-nil}
 use Rattle.md_text.specs.References.{read_back}
 use Rattle.md_meaning.specs.declared.options.CompileOptions.{CompileOptions}

@@ -1,7 +1,9 @@
--- What holds of the text of each content, and what stands in a node and behind it.
+-- What holds of the text of each content, and what stands in a node and behind it: what the induction claims of each
+-- spine.
 use Rattle.std.proofs.Common.{◌≡◌, ℕ, Bool, true, false, not, ◌||◌, cond, List, [], ◌∷◌, ◌++◌, refl, sym, ap, ◌∙◌, subst, inl, append_assoc, append-nil}
 use Rattle.std.specs.List.{list_any}
 use Rattle.std.proofs.lemmas.Bool.{cond_both, or_left, or_right}
+use Rattle.md_base.proofs.Lies.{lie}
 use Rattle.md_base.specs.declared.event.Name.{Name}
 use Rattle.md_base.specs.declared.event.Name.TheVariants.{LineEnding, BlankLineEnding, HtmlFlow, HtmlText, Image, CodeText, MathText, DefinitionLabelString, DefinitionDestinationString, DefinitionTitleString, GfmFootnoteDefinitionLabelString, ResourceDestinationString, ResourceTitleString, ReferenceString, CodeFenced, CodeFencedFence, CodeFencedFenceInfo, CodeFencedFenceMeta, CodeFlowChunk, MathFlow, MathFlowFence, MathFlowFenceMeta, MathFlowChunk, GfmTaskListItemCheck, GfmTaskListItemValueChecked}
 use Rattle.md_base.specs.declared.event.Point.{Point}
@@ -17,9 +19,6 @@ use Rattle.md_shape.specs.Built.{Content, Blocks, Spans, Strings, FirstFence, Fi
 use Rattle.md_safe.proofs.Texts.{Escaped}
 use Rattle.md_safe.proofs.Claim.{Claim}
 use Rattle.md_safe.proofs.Elements.{IsRaw, IsInCode, IsDone, bare-in_code, code_tag, math_tag}
-
-pub lie : false ≡ true → ⊥
-lie e = cc
 
 -- what holds of a text that stands as some content
 abbrev pub Holds : Claim → Bool → Bool → Content → List ℕ → Type 0
@@ -60,8 +59,8 @@ pub holds-nothing : (p : Claim) (escaping in_image : Bool) (content : Content) �
 holds-nothing p escaping in_image Blocks h = p.plain [] (nothing p.test)
 holds-nothing p escaping in_image Spans h = refl
 holds-nothing p escaping in_image Strings h = λ _. refl
-holds-nothing p escaping in_image FirstFence h = absurd (lie (sym h))
-holds-nothing p escaping in_image FirstMathFence h = absurd (lie (sym h))
+holds-nothing p escaping in_image FirstFence h = lie (sym h)
+holds-nothing p escaping in_image FirstMathFence h = lie (sym h)
 holds-nothing p escaping in_image Chunks h = refl
 holds-nothing p escaping in_image InfoAndMeta h = bare-in_code p
 holds-nothing p escaping in_image MetaAlone h = refl
@@ -134,11 +133,11 @@ any-append (x ∷ xs) ys = ap (λ b. fence_name x || b) (any-append xs ys)
 
 code_fence : (name : Name) → is_code_fence name ≡ true → fence_name name ≡ true
 code_fence CodeFencedFence h = refl
-code_fence _ h = absurd (lie h)
+code_fence _ h = lie h
 
 math_fence : (name : Name) → is_math_fence name ≡ true → fence_name name ≡ true
 math_fence MathFlowFence h = refl
-math_fence _ h = absurd (lie h)
+math_fence _ h = lie h
 
 last_fence : (names : List Name) (name : Name) → fence_name name ≡ true →
     list_any fence_name (names ++ (name ∷ [])) ≡ true
@@ -164,7 +163,7 @@ follows-past Nothing name names h f = tt
 
 -- one of two tests holds, and it isn't the first
 pub second : (a b : Bool) → a ≡ false → (a || b) ≡ true → b ≡ true
-second true b e h = absurd (lie (sym e))
+second true b e h = lie (sym e)
 second false b e h = h
 
 -- the part of the children of a node that is looked through
@@ -223,14 +222,14 @@ pub suits-wide : (escaping in_image : Bool) (content : Content) →
     (may_stand content Image || may_stand content CodeFenced) ≡ true → Suits escaping in_image content → escaping ≡ true
 suits-wide escaping in_image Blocks s h = h
 suits-wide escaping in_image Spans s h = h.0
-suits-wide escaping in_image Strings s h = absurd (lie s)
+suits-wide escaping in_image Strings s h = lie s
 suits-wide escaping in_image FirstFence s h = h
-suits-wide escaping in_image FirstMathFence s h = absurd (lie s)
-suits-wide escaping in_image Chunks s h = absurd (lie s)
+suits-wide escaping in_image FirstMathFence s h = lie s
+suits-wide escaping in_image Chunks s h = lie s
 suits-wide escaping in_image InfoAndMeta s h = h
-suits-wide escaping in_image MetaAlone s h = absurd (lie s)
-suits-wide escaping in_image Done s h = absurd (lie s)
-suits-wide escaping in_image Nothing s h = absurd (lie s)
+suits-wide escaping in_image MetaAlone s h = lie s
+suits-wide escaping in_image Done s h = lie s
+suits-wide escaping in_image Nothing s h = lie s
 
 suits-code_fence : (escaping in_image : Bool) (content : Content) → Suits escaping in_image content →
     Suits escaping in_image (content_of CodeFencedFence content)
@@ -293,7 +292,7 @@ plain-follows Spans name plain s = tt
 plain-follows Strings name plain s = tt
 plain-follows FirstFence name plain s = refl
 plain-follows FirstMathFence name plain s = refl
-plain-follows Chunks name plain s = absurd (lie (sym plain ∙ s))
+plain-follows Chunks name plain s = lie (sym plain ∙ s)
 plain-follows InfoAndMeta name plain s = tt
 plain-follows MetaAlone name plain s = tt
 plain-follows Done name plain s = tt
@@ -340,9 +339,9 @@ plain-later : (content : Content) (name : Name) → (is_code_fence name || is_ma
 plain-later Blocks name plain s = refl
 plain-later Spans name plain s = refl
 plain-later Strings name plain s = refl
-plain-later FirstFence name plain s = absurd (lie (sym plain ∙ or_left (is_code_fence name) (is_math_fence name) s))
-plain-later FirstMathFence name plain s = absurd (lie (sym plain
-    ∙ or_right (is_code_fence name) (is_math_fence name) s))
+plain-later FirstFence name plain s = lie (sym plain ∙ or_left (is_code_fence name) (is_math_fence name) s)
+plain-later FirstMathFence name plain s = lie (sym plain
+    ∙ or_right (is_code_fence name) (is_math_fence name) s)
 plain-later Chunks name plain s = refl
 plain-later InfoAndMeta name plain s = refl
 plain-later MetaAlone name plain s = refl
@@ -363,8 +362,8 @@ later-after content forest h = after IsLater later-past content forest h
 -- behind a fence no first one is to come
 later-fenced : (content : Content) (names : List Name) → Follows content names → list_any fence_name names ≡ true →
     IsLater content
-later-fenced FirstFence names f h = absurd (lie (sym f ∙ h))
-later-fenced FirstMathFence names f h = absurd (lie (sym f ∙ h))
+later-fenced FirstFence names f h = lie (sym f ∙ h)
+later-fenced FirstMathFence names f h = lie (sym f ∙ h)
 later-fenced Blocks names f h = refl
 later-fenced Spans names f h = refl
 later-fenced Strings names f h = refl
@@ -423,37 +422,37 @@ abbrev pub is_blocks : Content → Bool
 is_blocks content = elim content [ Blocks ↦ true | _ ↦ false ]
 
 fence-blocks : (content : Content) → is_blocks (content_of CodeFencedFence content) ≡ true → is_blocks content ≡ true
-fence-blocks FirstFence h = absurd (lie h)
-fence-blocks _ h = absurd (lie h)
+fence-blocks FirstFence h = lie h
+fence-blocks _ h = lie h
 
 math_fence-blocks : (content : Content) → is_blocks (content_of MathFlowFence content) ≡ true →
     is_blocks content ≡ true
-math_fence-blocks FirstMathFence h = absurd (lie h)
-math_fence-blocks _ h = absurd (lie h)
+math_fence-blocks FirstMathFence h = lie h
+math_fence-blocks _ h = lie h
 
 -- blocks stand in blocks alone
 of-blocks : (name : Name) (content : Content) → is_blocks (content_of name content) ≡ true → is_blocks content ≡ true
-of-blocks CodeText content h = absurd (lie h)
-of-blocks MathText content h = absurd (lie h)
-of-blocks DefinitionLabelString content h = absurd (lie h)
-of-blocks DefinitionDestinationString content h = absurd (lie h)
-of-blocks DefinitionTitleString content h = absurd (lie h)
-of-blocks GfmFootnoteDefinitionLabelString content h = absurd (lie h)
-of-blocks ResourceDestinationString content h = absurd (lie h)
-of-blocks ResourceTitleString content h = absurd (lie h)
-of-blocks ReferenceString content h = absurd (lie h)
-of-blocks CodeFencedFenceInfo content h = absurd (lie h)
-of-blocks CodeFencedFenceMeta content h = absurd (lie h)
-of-blocks MathFlowFenceMeta content h = absurd (lie h)
-of-blocks LineEnding content h = absurd (lie h)
-of-blocks BlankLineEnding content h = absurd (lie h)
-of-blocks CodeFlowChunk content h = absurd (lie h)
-of-blocks MathFlowChunk content h = absurd (lie h)
-of-blocks GfmTaskListItemValueChecked content h = absurd (lie h)
-of-blocks Image content h = absurd (lie h)
-of-blocks GfmTaskListItemCheck content h = absurd (lie h)
-of-blocks CodeFenced content h = absurd (lie h)
-of-blocks MathFlow content h = absurd (lie h)
+of-blocks CodeText content h = lie h
+of-blocks MathText content h = lie h
+of-blocks DefinitionLabelString content h = lie h
+of-blocks DefinitionDestinationString content h = lie h
+of-blocks DefinitionTitleString content h = lie h
+of-blocks GfmFootnoteDefinitionLabelString content h = lie h
+of-blocks ResourceDestinationString content h = lie h
+of-blocks ResourceTitleString content h = lie h
+of-blocks ReferenceString content h = lie h
+of-blocks CodeFencedFenceInfo content h = lie h
+of-blocks CodeFencedFenceMeta content h = lie h
+of-blocks MathFlowFenceMeta content h = lie h
+of-blocks LineEnding content h = lie h
+of-blocks BlankLineEnding content h = lie h
+of-blocks CodeFlowChunk content h = lie h
+of-blocks MathFlowChunk content h = lie h
+of-blocks GfmTaskListItemValueChecked content h = lie h
+of-blocks Image content h = lie h
+of-blocks GfmTaskListItemCheck content h = lie h
+of-blocks CodeFenced content h = lie h
+of-blocks MathFlow content h = lie h
 of-blocks CodeFencedFence content h = fence-blocks content h
 of-blocks MathFlowFence content h = math_fence-blocks content h
 of-blocks _ content h = h
@@ -469,8 +468,8 @@ past-blocks : (content : Content) (name : Name) → is_blocks (content_past cont
 past-blocks Blocks name h = refl
 past-blocks Spans name h = h
 past-blocks Strings name h = h
-past-blocks FirstFence name h = absurd (lie h)
-past-blocks FirstMathFence name h = absurd (lie h)
+past-blocks FirstFence name h = lie h
+past-blocks FirstMathFence name h = lie h
 past-blocks Chunks name h = h
 past-blocks InfoAndMeta name h = cond_both (is_info name) MetaAlone Nothing
     (λ c. is_blocks c ≡ true → false ≡ true) (λ _ h. h) (λ _ h. h) h

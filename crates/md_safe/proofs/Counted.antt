@@ -1,4 +1,5 @@
--- How often an id stands in what is printed: what is claimed of texts, of pages and of footnotes.
+-- How often an id stands in what is printed: what is claimed of texts, of pages and of footnotes, where the claim
+-- changes from piece to piece.
 use Rattle.std.proofs.Common.{◌≡◌, ℕ, ◌+◌, ◌≤◌, Bool, true, false, not, ◌&&◌, List, [], ◌∷◌, ◌++◌, refl, sym, ap, ◌∙◌, subst, arith, append_assoc, codes}
 use Rattle.std.specs.Prelude.{bytes_eq}
 use Rattle.std.proofs.lemmas.Bool.{and_parts, true≢false}
@@ -13,7 +14,8 @@ use Rattle.md_meaning.specs.Piece.{Piece, Page, lay}
 use Rattle.md_meaning.specs.Footnotes.{Footnote}
 use Rattle.md_safe.proofs.Claim.{Claim}
 use Rattle.md_safe.proofs.Texts.{Escaped}
-use Rattle.md_safe.proofs.Laid.{AreGood, Grows, lay-append}
+use Rattle.md_meaning.proofs.Lays.{lay-append}
+use Rattle.md_safe.proofs.Laid.{AreGood, Grows}
 use Rattle.md_safe.proofs.Tags.{IsTest, attribute}
 use Rattle.md_safe.proofs.Media.{a_call, call_text, call-regrouped}
 
@@ -37,7 +39,8 @@ counting w n noted unnoted = record {
 pub without-test : (w : List ℕ) (options : CompileOptions) → options.allow_dangerous_html ≡ false →
     IsTest (is_without w) options
 without-test w options html = record {
-  other = λ name value h. by name value (and_parts (not (bytes_eq name (codes "src"))) (not (bytes_eq name (codes "id")))
+  other = λ name value h. by name value
+      (and_parts (not (bytes_eq name (codes "src"))) (not (bytes_eq name (codes "id")))
       (and_parts (not (bytes_eq name (codes "href"))) (not (bytes_eq name (codes "src"))
       && not (bytes_eq name (codes "id"))) h).1).1;
   link = λ destination. refl;
@@ -87,7 +90,11 @@ pub steps-weaker : (ending : List ℕ) (pre pre' post post' f g : List ℕ → T
     ((x : List ℕ) → pre' x → pre x) → ((x : List ℕ) → post x → post' x) → ((x : List ℕ) → f x → g x) →
     Steps ending pre post f pieces → Steps ending pre' post' g pieces
 steps-weaker ending pre pre' post post' f g pieces asked claimed weaker a page good =
-    let r = a page (record { heading = asked page.notes.heading good.heading; title = good.title; resource = good.resource }) in
+    let r = a page (record {
+      heading = asked page.notes.heading good.heading;
+      title = good.title;
+      resource = good.resource;
+    }) in
     record {
       added = r.added;
       behind = r.behind;
@@ -151,4 +158,5 @@ counts-heading w label h =
     let own : occurs w (ids_in attributes) ≤ hit = omega arith in
     counts-more w (hit + 0) hit (codes "<h2 id=\"footnote-label\" class=\"sr-only\">" ++ (label ++ codes "</h2>"))
     (omega arith)
-    (counted-element w 0 hit (codes "h2") attributes label refl own (counts-plain w label (text (is_without w) label h)))
+    (counted-element w 0 hit (codes "h2") attributes label refl own
+    (counts-plain w label (text (is_without w) label h)))

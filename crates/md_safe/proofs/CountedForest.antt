@@ -1,4 +1,5 @@
--- How often an id stands in what some nodes print: at most so often as calls in them have it.
+-- How often an id stands in what some nodes print: at most so often as calls in them have it. The induction is over
+-- blocks alone and adds what each node costs; of spans that of `Forests.antt` is enough.
 use Rattle.std.proofs.Common.{◌≡◌, ℕ, ◌+◌, Bool, true, false, cond, List, [], ◌∷◌, ◌++◌, refl, sym, ap, ◌∙◌, subst, arith, append_assoc, append-nil}
 use Rattle.std.proofs.lemmas.Bool.{cond_both}
 use Rattle.md_base.specs.declared.event.Name.{Name}
@@ -13,12 +14,13 @@ use Rattle.md_meaning.specs.Footnotes.{Footnote}
 use Rattle.md_meaning.specs.Printed.{printed, footnotes_of}
 use Rattle.md_shape.specs.Built.{Blocks, content_of, content_inside, content_behind, content_past, content_after, is_part, may_stand, IsBuilt}
 use Rattle.md_shape.specs.Underlined.{waits_past, waits_after, IsUnderlined}
-use Rattle.md_safe.proofs.Contents.{is_blocks, Suits, lie, second, after}
+use Rattle.md_safe.proofs.Contents.{is_blocks, Suits, second, after}
 use Rattle.md_safe.proofs.Forests.{children-suit}
 use Rattle.md_safe.proofs.CallIds.{ids_behind, ids-append}
 use Rattle.md_safe.proofs.Counted.{Waiting, steps-append, TextsCount, texts-append}
 use Rattle.md_meaning.specs.Surroundings.{inside}
-use Rattle.md_safe.proofs.CountedNodes.{counts-none, is_blocks-same, Document, due, Spent, NodeSpent, Place, pieces_at, inner_notes, footnote_at, noted_at, cost_at, BelowBlocks, through-spent, solid-spent}
+use Rattle.md_safe.proofs.CountedNodes.{counts-none, is_blocks-same, Document, due, Spent, NodeSpent, Place, pieces_at, inner_notes, footnote_at, noted_at, cost_at, BelowBlocks, through-spent, solid-spent, place_of}
+use Rattle.md_safe.proofs.Nodes.{not_part}
 
 -- where some nodes may stand: among blocks that are escaped, with each underline where a heading waits for it
 pub record Fits (d : Document) (around : Surroundings) (waits : Bool) (forest : Forest) : Type 0 where
@@ -57,10 +59,6 @@ fits-behind d name start end children rest around waits f = record {
   underlined = f.underlined.2;
 }
 
-not_part : (part : Bool) → cond part false true ≡ true → part ≡ false
-not_part true h = absurd (lie h)
-not_part false h = refl
-
 -- one node
 node-spent : (d : Document) (w : List ℕ) (t : Place) (name : Name) (waits : Bool) (m : ℕ) →
     Fits d t.around waits (Node name t.start t.end t.children t.rest) →
@@ -73,7 +71,8 @@ node-spent d w t name waits m f = by (is_transparent name) refl
         BelowBlocks d w t name (cond through waits false) (cond through m 0)
         → NodeSpent d w waits m (cond through (waits_after waits t.children) (waits_past waits name))
         (cost_at d w t name) (pieces_at d t name) (noted_at d t name)
-    by true e b = through-spent d w t name waits m e (b (ap (λ b. is_blocks (cond b Blocks (content_of name Blocks))) e))
+    by true e b =
+        through-spent d w t name waits m e (b (ap (λ b. is_blocks (cond b Blocks (content_of name Blocks))) e))
     by false e b =
         solid-spent d w t name waits m (record {
           solid = e;
@@ -113,14 +112,7 @@ spent d w Empty around before waits m f = record {
   few = omega arith;
 }
 spent d w (Node name start end children rest) around before waits m f =
-    let t : Place = record {
-      around = around;
-      before = before;
-      start = start;
-      end = end;
-      children = children;
-      rest = rest;
-    } in
+    let t : Place = place_of around before start end children rest in
     let waits' : Bool = cond (is_transparent name) (waits_after waits children) (waits_past waits name) in
     let next : Before = before_next d.given around name start end children before in
     let one : NodeSpent d w waits m waits' (cost_at d w t name) (pieces_at d t name) (noted_at d t name) =

@@ -1,6 +1,8 @@
--- How often an id stands in what a node prints, by what it costs: the calls in it that have this id.
+-- How often an id stands in what a node prints, by what it costs: the calls in it that have this id. One step of the
+-- induction of `CountedForest.antt`.
 use Rattle.std.proofs.Common.{◌≡◌, ℕ, suc, ◌+◌, ◌≤◌, Bool, true, false, not, ◌&&◌, ◌||◌, cond, List, [], ◌∷◌, ◌++◌, refl, sym, ap, ◌∙◌, subst, arith, append-nil}
-use Rattle.std.proofs.lemmas.Bool.{true≢false, or_parts, cond_both}
+use Rattle.std.proofs.lemmas.Bool.{or_parts, cond_both}
+use Rattle.md_base.proofs.Lies.{lie}
 use Rattle.md_base.specs.declared.event.Name.{Name}
 use Rattle.md_base.specs.declared.event.Name.TheVariants.{Other, BlockQuotePrefix, SpaceOrTab, LineEnding, HeadingSetextText, HeadingSetextUnderlineSequence, GfmFootnoteDefinition, GfmFootnoteCall}
 use Rattle.md_base.specs.declared.event.Point.{Point}
@@ -13,7 +15,7 @@ use Rattle.md_text.proofs.HtmlIds.{occurs, occurs-append, is_without, Counts, co
 use Rattle.md_safe.proofs.Counted.{counts-call}
 use Rattle.md_meaning.specs.declared.facts.Surroundings.{Surroundings}
 use Rattle.md_meaning.specs.Surroundings.{inside}
-use Rattle.md_meaning.specs.Piece.{Piece, Page, blank, lay}
+use Rattle.md_meaning.specs.Piece.{Piece, blank, lay}
 use Rattle.md_meaning.specs.Given.{Given}
 use Rattle.md_meaning.specs.Places.{Before, before_children, before_next, identifier_at, ahead_of, calls_of}
 use Rattle.std.specs.Fmt.{decimal}
@@ -35,9 +37,7 @@ use Rattle.md_safe.proofs.BlockNodes.{is_setext, setext-fits, block-node}
 use Rattle.md_safe.proofs.Forests.{spot_of, children-print}
 use Rattle.md_safe.proofs.CallIds.{ids_behind, ids-append}
 use Rattle.md_safe.proofs.Counted.{counting, without-test, Waiting, waiting-none, Steps, steps-weaker, TextsCount, texts-append}
-
-lie : {A : Type 0} → false ≡ true → A
-lie h = absurd (true≢false (sym h))
+use Rattle.md_shape.proofs.Underlines.{both_none}
 
 -- a document whose HTML is escaped
 pub record Document : Type 0 where
@@ -91,6 +91,16 @@ pub record Place : Type 0 where
   pub children : Forest
   pub rest : Forest
 
+abbrev pub place_of : Surroundings → Before → Point → Point → Forest → Forest → Place
+place_of around before start end children rest = record {
+  around = around;
+  before = before;
+  start = start;
+  end = end;
+  children = children;
+  rest = rest;
+}
+
 abbrev pub spot_at : Document → Place → Name → Spot
 spot_at d t name = spot_of d.given t.around t.before t.start t.end name t.children t.rest
 
@@ -104,7 +114,8 @@ abbrev pub pieces_at : Document → Place → Name → List Piece
 pieces_at d t name = node_pieces (counted_in d [] 0 (λ _. Unit {0}) tt) (spot_at d t name) name (inner_at d t name)
 
 abbrev pub inner_notes : Document → Place → Name → List Footnote
-inner_notes d t name = footnotes_of d.given (inner_around d t name) (before_children name t.children t.before) t.children
+inner_notes d t name =
+    footnotes_of d.given (inner_around d t name) (before_children name t.children t.before) t.children
 
 abbrev pub footnote_at : Document → Place → Name → Footnote
 footnote_at d t name = record {
@@ -126,7 +137,8 @@ cost_at d w t name = due d w t.before (Node name t.start t.end t.children Empty)
 
 -- the children, where blocks stand in the node
 abbrev pub Below : Document → List ℕ → Place → Name → Bool → ℕ → Type 0
-Below d w t name waits m = Spent d w (inner_around d t name) (before_children name t.children t.before) waits m t.children
+Below d w t name waits m =
+    Spent d w (inner_around d t name) (before_children name t.children t.before) waits m t.children
 
 -- what a node costs is what its children do, and it itself where it is a call
 pub cost-parts : (d : Document) (w : List ℕ) (t : Place) (name : Name) →
@@ -201,6 +213,21 @@ is_blocks-same _ h = lie h
 abbrev is_plain : Name → Bool
 is_plain name = not (is_setext name || is_call name) && not (is_footnote_definition name)
 
+-- what stands in a node, with no claim about a heading
+printed_inside : (d : Document) (w : List ℕ) (t : Place) (name : Name) (b : Below d w t name false 0) →
+    Prints (counted_in d w b.body (λ _. Unit {0}) tt) (Counts w b.body) (inner_at d t name)
+printed_inside d w t name b =
+    steps-weaker d.given.ending (λ _. Unit {0}) (λ _. Unit {0}) (Waiting w (waits_after false t.children) b.left)
+    (λ _. Unit {0}) (Counts w b.body) (Counts w b.body) (inner_at d t name) (λ x h. h) (λ x h. tt) (λ x h. h)
+    b.prints
+
+-- and laid out by itself
+laid_inside : (d : Document) (w : List ℕ) (t : Place) (name : Name) (b : Below d w t name false 0) →
+    Counts w b.body (lay d.given.ending blank (inner_at d t name)).text
+laid_inside d w t name b =
+    let s : Setting = counted_in d w b.body (λ _. Unit {0}) tt in
+    (adds-blank s.p d.given.ending (Counts w b.body) (inner_at d t name) (printed_inside d w t name b)).0
+
 -- a node in which blocks stand
 around-blocks : (d : Document) (w : List ℕ) (t : Place) (name : Name) (waits : Bool) (m : ℕ) → Stands d t name →
     (is_setext name || is_call name) ≡ false → is_footnote_definition name ≡ false →
@@ -211,8 +238,7 @@ around-blocks d w t name waits m stands other none blocks b =
     let inner : Inside s (spot_at d t name) Blocks name (inner_at d t name) =
     subst (λ c. Prints s (Holds s.p (inner_around d t name).is_escaping (inner_around d t name).in_image c)
     (inner_at d t name)) (sym (is_blocks-same (content_of name Blocks) blocks))
-    (steps-weaker d.given.ending (λ _. Unit {0}) (λ _. Unit {0}) (Waiting w (waits_after false t.children) b.left)
-    (λ _. Unit {0}) (Counts w b.body) (Counts w b.body) (inner_at d t name) (λ x h. h) (λ x h. tt) (λ x h. h) b.prints) in
+    (printed_inside d w t name b) in
     let printed_so : Prints s (Counts w b.body) (pieces_at d t name) =
     block-node s (spot_at d t name) name stands.escaping stands.solid stands.whole stands.fit
     (λ asked. lie (sym other ∙ asked)) (inner_at d t name) inner in
@@ -296,8 +322,9 @@ around-others d w t name waits m stands other none blocks =
       prints = steps-weaker d.given.ending (Waiting w waits m) (Waiting w waits m) (Waiting w waits m)
           (Waiting w (waits_past waits name) m) (Counts w 0) (Counts w 0) (pieces_at d t name) (λ x h. h)
           (keeps_wait w m name (or_parts (is_setext name) (is_call name) other).0 waits) (λ x h. h) printed_so;
-      texts = subst (TextsCount w 0) (sym (noted-inside d t name none ∙ no_footnotes d (content_of name Blocks) t.children
-          (inner_around d t name) (before_children name t.children t.before) blocks
+      texts = subst (TextsCount w 0) (sym (noted-inside d t name none
+          ∙ no_footnotes d (content_of name Blocks) t.children (inner_around d t name)
+          (before_children name t.children t.before) blocks
           (subst (λ b. IsBuilt d.given.bytes (cond b Blocks (content_of name Blocks)) t.children) stands.solid
           stands.built.2))) tt;
       few = omega arith;
@@ -309,13 +336,6 @@ setext_text : (d : Document) (w : List ℕ) (t : Place) (waits : Bool) (m : ℕ)
     NodeSpent d w waits m true (cost_at d w t HeadingSetextText) (pieces_at d t HeadingSetextText)
     (noted_at d t HeadingSetextText)
 setext_text d w t waits m b =
-    let s : Setting = counted_in d w b.body (λ _. Unit {0}) tt in
-    let page : Page = lay d.given.ending blank (inner_at d t HeadingSetextText) in
-    let heading : Counts w b.body page.text =
-    (adds-blank s.p d.given.ending (Counts w b.body) (inner_at d t HeadingSetextText)
-    (steps-weaker d.given.ending (λ _. Unit {0}) (λ _. Unit {0}) (Waiting w (waits_after false t.children) b.left)
-    (λ _. Unit {0}) (Counts w b.body) (Counts w b.body) (inner_at d t HeadingSetextText) (λ x h. h) (λ x h. tt)
-    (λ x h. h) b.prints)).0 in
     record {
       body = 0;
       left = b.body;
@@ -324,7 +344,7 @@ setext_text d w t waits m b =
         added = [];
         behind = sym (append-nil before.text);
         it_holds = counts-none w;
-        good = record { heading = heading; title = good.title; resource = good.resource };
+        good = record { heading = laid_inside d w t HeadingSetextText b; title = good.title; resource = good.resource };
       };
       texts = subst (TextsCount w b.notes) (sym (noted-inside d t HeadingSetextText refl)) b.texts;
       few = omega (b.few, cost-least d w t HeadingSetextText, arith);
@@ -336,13 +356,6 @@ footnote : (d : Document) (w : List ℕ) (t : Place) (waits : Bool) (m : ℕ) �
     NodeSpent d w waits m false (cost_at d w t GfmFootnoteDefinition) (pieces_at d t GfmFootnoteDefinition)
     (noted_at d t GfmFootnoteDefinition)
 footnote d w t waits m b =
-    let s : Setting = counted_in d w b.body (λ _. Unit {0}) tt in
-    let page : Page = lay d.given.ending blank (inner_at d t GfmFootnoteDefinition) in
-    let body : Counts w b.body page.text =
-    (adds-blank s.p d.given.ending (Counts w b.body) (inner_at d t GfmFootnoteDefinition)
-    (steps-weaker d.given.ending (λ _. Unit {0}) (λ _. Unit {0}) (Waiting w (waits_after false t.children) b.left)
-    (λ _. Unit {0}) (Counts w b.body) (Counts w b.body) (inner_at d t GfmFootnoteDefinition) (λ x h. h) (λ x h. tt)
-    (λ x h. h) b.prints)).0 in
     record {
       body = 0;
       left = 0;
@@ -354,7 +367,8 @@ footnote d w t waits m b =
         good = record { heading = tt; title = good.title; resource = good.resource };
       };
       texts = texts-append w b.notes b.body (inner_notes d t GfmFootnoteDefinition)
-          (footnote_at d t GfmFootnoteDefinition ∷ []) b.texts (b.body, 0, omega arith, body, tt);
+          (footnote_at d t GfmFootnoteDefinition ∷ []) b.texts
+          (b.body, 0, omega arith, laid_inside d w t GfmFootnoteDefinition b, tt);
       few = omega (b.few, cost-least d w t GfmFootnoteDefinition, arith);
     }
 
@@ -364,10 +378,6 @@ through_pieces d t (Other number) is = refl
 through_pieces d t BlockQuotePrefix is = refl
 through_pieces d t SpaceOrTab is = refl
 through_pieces d t _ is = lie is
-
-both_none : {A : Type 0} (xs ys : List A) → xs ++ ys ≡ [] → (xs ≡ []) × (ys ≡ [])
-both_none [] ys h = (refl, h)
-both_none (x ∷ xs) ys h = absurd (cc h)
 
 seen_through : (name : Name) (names : List Name) → cond (is_transparent name) names (name ∷ []) ≡ [] →
     (is_transparent name ≡ true) × (names ≡ [])
@@ -384,14 +394,7 @@ nothing_printed d Empty around before h = refl
 nothing_printed d (Node name start end children rest) around before h =
     let parts = both_none (cond (is_transparent name) (spine_names children) (name ∷ [])) (spine_names rest) h in
     let seen = seen_through name (spine_names children) parts.0 in
-    let t : Place = record {
-      around = around;
-      before = before;
-      start = start;
-      end = end;
-      children = children;
-      rest = rest;
-    } in
+    let t : Place = place_of around before start end children rest in
     let behind : List Piece =
     printed d.given around (before_next d.given around name start end children before) rest in
     ap (λ ps. ps ++ behind) (through_pieces d t name seen.0
@@ -408,7 +411,8 @@ underline d w t m none b =
     let s : Setting = counted_in d w m (Counts w m) (waiting-none w true m) in
     let rank : ℕ = setext_rank d.given.bytes t.start in
     let own : Prints s (Counts w m) (setext_pieces d.given t.start) =
-    adds-setext s.p d.given.ending (λ x h. h) d.ending rank (setext-fits d.given.bytes (is_dash_at d.given.bytes t.start.index)) in
+    adds-setext s.p d.given.ending (λ x h. h) d.ending rank
+    (setext-fits d.given.bytes (is_dash_at d.given.bytes t.start.index)) in
     let empty : inner_at d t HeadingSetextUnderlineSequence ≡ [] =
     nothing_printed d t.children (inner_around d t HeadingSetextUnderlineSequence)
     (before_children HeadingSetextUnderlineSequence t.children t.before) none in

@@ -1,8 +1,8 @@
--- How often an id stands in the section of footnotes, and in a document.
+-- How often an id stands in the section of footnotes, and in a document: at most once.
 use Rattle.std.proofs.Common.{◌≡◌, ℕ, suc, ◌+◌, ◌≤◌, ◌<◌, ◌^◌, Bool, true, false, cond, List, [], ◌∷◌, ◌++◌, length, map, refl, sym, ap, ◌∙◌, subst, arith, append_assoc, codes, bytes_eq}
 use Rattle.std.specs.Prelude.{Some, find}
 use Rattle.std.specs.Option.{option_map_or}
-use Rattle.std.proofs.lemmas.Bool.{true≢false}
+use Rattle.std.proofs.lemmas.Bool.{or_parts}
 use Rattle.md_base.specs.Tree.{Forest}
 use Rattle.md_text.specs.References.{read_back}
 use Rattle.md_text.specs.Html.{opening_tag, closing_tag}
@@ -15,7 +15,7 @@ use Rattle.md_meaning.specs.Footnotes.{Footnote, footnote_id, heading_label_of, 
 use Rattle.md_meaning.specs.Printed.{printed, footnotes_of}
 use Rattle.md_shape.specs.Built.{Blocks, IsBuilt}
 use Rattle.md_shape.specs.Underlined.{waits_after, IsUnderlined}
-use Rattle.md_tie.proofs.Calls.{is_in, Apart, same, or_parts, distinct-apart, bytes_eq-sym}
+use Rattle.md_meaning.proofs.Identifiers.{is_in, Apart, same, distinct-apart, bytes_eq-sym}
 use Rattle.md_safe.specs.Options.{KeepsGrammar}
 use Rattle.md_safe.proofs.Texts.{Escaped}
 use Rattle.md_safe.proofs.Claim.{Claim}
@@ -28,9 +28,6 @@ use Rattle.md_safe.proofs.Counted.{counting, counts-heading, Waiting, Steps, ste
 use Rattle.md_safe.proofs.CountedNodes.{Document, counted_in, counts-none, Spent}
 use Rattle.md_safe.proofs.CountedForest.{spent}
 use Rattle.md_safe.proofs.Distinct.{note_ids, label_id, document-once}
-
-lie : {A : Type 0} → false ≡ true → A
-lie h = absurd (true≢false (sym h))
 
 -- the texts of the footnotes with some identifiers
 abbrev TextsFor : List ℕ → ℕ → List Footnote → List (List ℕ) → Type 0

@@ -1,13 +1,14 @@
--- No two ids by number are equal: the heading's, those of footnotes and those of their calls.
+-- No two ids by number are equal: the heading's, those of footnotes and those of their calls. So each is counted once.
 use Rattle.std.proofs.Common.{◌≡◌, ◌⊎◌, ℕ, ◌+◌, ◌≤◌, ◌<◌, ◌^◌, ◌==◌, ◌/◌, ◌%◌, zero, suc, Bool, true, false, not, ◌||◌, cond, List, [], ◌∷◌, ◌++◌, length, refl, sym, ap, ◌∙◌, subst, inl, inr, arith, append_assoc, codes, bytes_eq}
 use Rattle.std.specs.Prelude.{Option, Some, None, option_map, string_bytes, filter, map}
 use Rattle.std.specs.Option.{option_map_or}
 use Rattle.std.specs.List.{list_all}
 use Rattle.std.specs.Fmt.{decimal, digits, digits_onto, digit_glyph}
-use Rattle.std.proofs.lemmas.Bool.{true≢false, and_parts, and_from, cond_both, agree_below_at}
+use Rattle.std.proofs.lemmas.Bool.{and_parts, and_from, cond_both, agree_below_at}
 use Rattle.std.proofs.lemmas.Fmt.{decimal_injective}
 use Rattle.std.proofs.lemmas.List.{append_cancel_left, length-append}
 use Rattle.std.proofs.lemmas.List.Folds.{list_all-append}
+use Rattle.md_base.proofs.Lies.{lie}
 use Rattle.md_text.specs.Encode.{encoded}
 use Rattle.md_text.specs.References.{read_back}
 use Rattle.md_text.proofs.EncodeLaws.{read_back-before, read_back-other}
@@ -18,12 +19,11 @@ use Rattle.md_meaning.specs.Calls.{Called, distinct, count_of, tally, number_amo
 use Rattle.md_meaning.specs.Footnotes.{prefix_of, id_of, numbered_id_of, occurrence_suffix, footnote_id, call_id}
 use Rattle.md_meaning.specs.Meaning.Footnotes.{place_among}
 use Rattle.md_shape.specs.Built.{is_digit}
-use Rattle.md_tie.proofs.Calls.{is_in, same, itself, is_in-distinct, number-same, number-placed, count-same}
+use Rattle.md_meaning.proofs.Identifiers.{is_in, same, itself, is_in-distinct}
+use Rattle.md_tie.proofs.Calls.{number-same, number-placed, count-same}
 use Rattle.md_safe.proofs.Texts.{digit-plain}
 use Rattle.md_safe.proofs.CallIds.{id_behind, ids_behind}
-
-lie : {A : Type 0} → false ≡ true → A
-lie h = absurd (true≢false (sym h))
+use Rattle.md_text.proofs.ProtocolLemmas.{no_and}
 
 -- ---- what decimal writes
 
@@ -80,9 +80,6 @@ last-append (b ∷ c ∷ x) y h = last-append (c ∷ x) y h
 
 -- ---- what is read back
 
-abbrev no_and : ℕ → Bool
-no_and b = not (b == 38)
-
 digit-no_and : (b : ℕ) → is_digit b ≡ true → no_and b ≡ true
 digit-no_and b h =
     (and_parts (not ((b == 0) || (b == 60) || (b == 62) || (b == 34))) (not (b == 38)) (digit-plain b h)).1
@@ -130,7 +127,8 @@ call_tail number occurrence = codes "fnref-" ++ (decimal number ++ (45 ∷ decim
 note-back : (options : CompileOptions) → options.gfm_footnote_number_ids ≡ true → (identifier : List ℕ) (number : ℕ) →
     read_back (footnote_id options identifier number) ≡ back_prefix options ++ note_tail number
 note-back options on identifier number =
-    ap (λ b. read_back (cond b (numbered_id_of options (codes "fn-") number) (id_of options (codes "fn-") identifier))) on
+    ap (λ b. read_back (cond b (numbered_id_of options (codes "fn-") number) (id_of options (codes "fn-") identifier)))
+    on
     ∙ prefix-back options (note_tail number)
     ∙ ap (λ x. back_prefix options ++ x) (plain-back (note_tail number) (digits-no_and (decimal number)
     (decimal-digits number)))
@@ -169,7 +167,8 @@ same-call options n m k l hn hm hk hl e =
 note-no_call : (options : CompileOptions) (n m k : ℕ) → back_prefix options ++ note_tail n
     ≡ back_prefix options ++ call_tail m k → ⊥
 note-no_call options n m k e =
-    let tails : note_tail n ≡ call_tail m k = append_cancel_left (back_prefix options) (note_tail n) (call_tail m k) e in
+    let tails : note_tail n ≡ call_tail m k =
+    append_cancel_left (back_prefix options) (note_tail n) (call_tail m k) e in
     cc tails
 
 label-no_digit : (x : List ℕ) → codes "footnote-label" ≡ x → EndsInDigit x → ⊥
@@ -270,7 +269,8 @@ filter-fewer : (p : List ℕ → Bool) (xs : List (List ℕ)) → length (filter
 filter-fewer p [] = omega arith
 filter-fewer p (x ∷ xs) = by (p x) (filter-fewer p xs)
   where
-    by : (is : Bool) → length (filter p xs) ≤ length xs → length (cond is (x ∷ filter p xs) (filter p xs)) ≤ suc (length xs)
+    by : (is : Bool) → length (filter p xs) ≤ length xs →
+        length (cond is (x ∷ filter p xs) (filter p xs)) ≤ suc (length xs)
     by true h = omega (h, arith)
     by false h = omega (h, arith)
 
@@ -377,12 +377,13 @@ none-behind options on identifier number more (called ∷ others) small =
   where
     by : (is : Bool) → bytes_eq (read_back (footnote_id options called.identifier (suc (number + more))))
         (read_back (footnote_id options identifier number)) ≡ is
-        → occurs (read_back (footnote_id options identifier number)) (note_ids options (suc (suc (number + more))) others)
-        ≡ 0
-        → cond is (suc (occurs (read_back (footnote_id options identifier number))
+        → occurs (read_back (footnote_id options identifier number))
+        (note_ids options (suc (suc (number + more))) others) ≡ 0
+        → cond is
+        (suc (occurs (read_back (footnote_id options identifier number))
         (note_ids options (suc (suc (number + more))) others)))
-        (occurs (read_back (footnote_id options identifier number)) (note_ids options (suc (suc (number + more))) others))
-        ≡ 0
+        (occurs (read_back (footnote_id options identifier number))
+        (note_ids options (suc (suc (number + more))) others)) ≡ 0
     by true e later =
         let tails : back_prefix options ++ note_tail (suc (number + more)) ≡ back_prefix options ++ note_tail number =
         sym (note-back options on called.identifier (suc (number + more)))
@@ -413,8 +414,8 @@ notes-once options on w number (called ∷ others) small =
   where
     by : (is : Bool) → bytes_eq (read_back (footnote_id options called.identifier number)) w ≡ is →
         occurs w (note_ids options (suc number) others) ≤ 1
-        → cond is (suc (occurs w (note_ids options (suc number) others))) (occurs w (note_ids options (suc number) others))
-        ≤ 1
+        → cond is (suc (occurs w (note_ids options (suc number) others)))
+        (occurs w (note_ids options (suc number) others)) ≤ 1
     by true e later =
         omega (
           ap (λ w. occurs w (note_ids options (suc number) others))

@@ -1,4 +1,4 @@
--- The tags of blocks, of code, of tasks and of lists round what they hold.
+-- The tags of blocks, of code, of tasks and of lists around what they hold: each keeps the claim.
 use Rattle.std.proofs.Common.{◌≡◌, ◌≢◌, ◌⊎◌, ℕ, ◌≤◌, ◌<◌, ◌==◌, Bool, true, false, not, cond, List, [], ◌∷◌, ◌++◌, refl, sym, ap, ◌∙◌, subst, inl, inr, arith, append_assoc, append-nil, codes, ne_eqb}
 use Rattle.std.specs.Prelude.{Option, Some, None, bytes_eq}
 use Rattle.std.specs.Option.{option_map_or}
@@ -38,13 +38,15 @@ bracket-heading p rank h =
     ∙ not_from_false (rank == 0) (ne_eqb rank 0 some))
 
 -- the heading that was noted
-pub adds-setext : (p : Claim) (ending : List ℕ) → ((x : List ℕ) → p.noted x → p.holds x) → Escaped ending → (rank : ℕ) → (1 ≤ rank) × (rank ≤ 6) →
+pub adds-setext : (p : Claim) (ending : List ℕ) → ((x : List ℕ) → p.noted x → p.holds x) → Escaped ending →
+    (rank : ℕ) → (1 ≤ rank) × (rank ≤ 6) →
     Adds p ending p.holds (Needed ∷ Text (heading_opening rank) ∷ Recalled ∷ Text (heading_closing rank)
     ∷ [])
 adds-setext p ending recalls h rank fits =
     adds-pair p ending (heading_opening rank) (heading_closing rank) (Needed ∷ Text (heading_opening rank)
     ∷ []) (Recalled ∷ []) (Text (heading_closing rank) ∷ [])
-    (bracket-heading p rank fits) (framed-needed p ending (heading_opening rank) h) (adds-weaker p ending p.noted p.holds (Recalled ∷ []) recalls (adds-recalled p ending))
+    (bracket-heading p rank fits) (framed-needed p ending (heading_opening rank) h)
+    (adds-weaker p ending p.noted p.holds (Recalled ∷ []) recalls (adds-recalled p ending))
     (framed-text p ending (heading_closing rank))
 
 -- some texts behind pieces that add an escaped one
@@ -168,7 +170,8 @@ task-read p options test checkable x done =
     on true = void-read p (codes "input") (attribute (codes "type") (codes "checkbox")
         ∷ attribute (codes "checked") [] ∷ []) refl (rw (kind, checked) refl)
     on false = void-read p (codes "input") (attribute (codes "type") (codes "checkbox")
-        ∷ attribute (codes "disabled") [] ∷ attribute (codes "checked") [] ∷ []) refl (rw (kind, disabled, checked) refl)
+        ∷ attribute (codes "disabled") [] ∷ attribute (codes "checked") [] ∷ []) refl
+        (rw (kind, disabled, checked) refl)
 
 -- a task outside images
 pub adds-task : (p : Claim) (ending : List ℕ) (options : CompileOptions) → IsTest p.test options →

@@ -1,6 +1,8 @@
--- What the nodes of a document print, define and note.
+-- What the nodes of a document print, define and note: the induction over nodes of any content, for any claim that is
+-- kept where two texts meet.
 use Rattle.std.proofs.Common.{◌≡◌, ℕ, Bool, true, false, ◌&&◌, ◌||◌, cond, List, [], ◌∷◌, ◌++◌, refl, sym, ap, subst, append_assoc}
 use Rattle.std.proofs.lemmas.Bool.{cond_both}
+use Rattle.md_base.proofs.Lies.{lie}
 use Rattle.md_base.specs.declared.event.Name.{Name}
 use Rattle.md_base.specs.declared.event.Name.TheVariants.{Other, BlockQuotePrefix, SpaceOrTab, Definition, GfmFootnoteDefinition}
 use Rattle.md_base.specs.declared.event.Point.{Point}
@@ -10,7 +12,7 @@ use Rattle.md_base.specs.Children.{is_empty}
 use Rattle.md_infer.specs.Looseness.{is_loose}
 use Rattle.md_meaning.specs.declared.options.CompileOptions.{CompileOptions}
 use Rattle.md_meaning.specs.declared.facts.Surroundings.{Surroundings}
-use Rattle.md_meaning.specs.Piece.{Piece, blank, lay}
+use Rattle.md_meaning.specs.Piece.{Piece, blank, lay, Page}
 use Rattle.md_meaning.specs.Given.{Given, Defined}
 use Rattle.md_meaning.specs.Places.{Before, before_children, before_next, left_of, passed_over, ahead_of, identifier_at}
 use Rattle.md_meaning.specs.Surroundings.{inside, spine_inside}
@@ -18,7 +20,7 @@ use Rattle.md_meaning.specs.Footnotes.{Footnote}
 use Rattle.md_meaning.specs.Printed.{printed, definitions_of, footnotes_of}
 use Rattle.md_shape.specs.Built.{Content, Blocks, Spans, Strings, FirstFence, FirstMathFence, Chunks, InfoAndMeta, MetaAlone, Done, Nothing, may_stand, content_of, content_inside, content_behind, content_after, IsBuilt}
 use Rattle.md_safe.proofs.Laid.{IsEscapedTitle, adds-blank}
-use Rattle.md_safe.proofs.Contents.{is_blocks, inside-blocks, asked-behind, Holds, Suits, Follows, lie, second, suits-inside, suits-behind, follows-inside, follows-behind}
+use Rattle.md_safe.proofs.Contents.{is_blocks, inside-blocks, asked-behind, Holds, Suits, Follows, second, suits-inside, suits-behind, follows-inside, follows-behind}
 use Rattle.md_safe.proofs.Spot.{IsWhole, Setting, Spot, AreTitles, node_pieces, Prints, Inside}
 use Rattle.md_safe.proofs.Nodes.{any-node, inside-alone}
 
@@ -29,7 +31,7 @@ through-suits : (options : CompileOptions) (loose : Bool) (around : Surroundings
 through-suits options loose around content (Other number) is h = h
 through-suits options loose around content BlockQuotePrefix is h = h
 through-suits options loose around content SpaceOrTab is h = h
-through-suits options loose around content _ is h = absurd (lie is)
+through-suits options loose around content _ is h = lie is
 
 pub children-suit : (options : CompileOptions) → options.allow_dangerous_html ≡ false →
     (loose : Bool) (around : Surroundings) (content : Content) (name : Name) →
@@ -99,7 +101,8 @@ pub children-print : (s : Setting) (name : Name) (start end : Point) (children r
     (before : Before) (content : Content) → is_transparent name ≡ false →
     IsBuilt s.given.bytes content (Node name start end children rest)
     → Suits around.is_escaping around.in_image content → Follows content before.spine
-    → (is_blocks (content_of name content) ≡ true → IsWhole s.p) → Inside s (spot_of s.given around before start end name children rest) content name
+    → (is_blocks (content_of name content) ≡ true → IsWhole s.p)
+    → Inside s (spot_of s.given around before start end name children rest) content name
     (printed s.given (inside s.given.options (is_loose children) name around)
     (before_children name children before) children)
 children-print s name start end children rest around before content solid built suits f whole =
@@ -118,10 +121,6 @@ children-print s name start end children rest around before content solid built 
     (subst (λ n. Follows (content_of name content) n) (sym (ap (λ b. cond b before.spine []) solid))
     (follows-inside content name may)) whole pieces g)
 
-titles-append : (xs ys : List Defined) → AreTitles xs → AreTitles ys → AreTitles (xs ++ ys)
-titles-append [] ys a b = b
-titles-append (x ∷ xs) ys a b = (a.0, titles-append xs ys a.1 b)
-
 -- the title of a definition that is one of the nodes
 defined-here : (s : Setting) (name : Name) (start end : Point) (children rest : Forest) (around : Surroundings)
     (before : Before) (content : Content) → IsBuilt s.given.bytes content (Node name start end children rest)
@@ -135,60 +134,47 @@ defined-here s Definition start end children rest around before content built su
     (before_children Definition children before) children in
     (adds-blank s.p s.given.ending (Holds s.p around.is_escaping around.in_image content) inner
     (children-print s Definition start end children rest around before content refl built suits f whole)).1.title
-defined-here s _ start end children rest around before content built suits f whole is = absurd (lie is)
-
--- the titles of all definitions are escaped
-pub definitions-titles : (s : Setting) (forest : Forest) (around : Surroundings) (before : Before) (content : Content)
-    → IsBuilt s.given.bytes content forest → Suits around.is_escaping around.in_image content →
-    Follows content before.spine → (is_blocks content ≡ true → IsWhole s.p)
-    → AreTitles (definitions_of s.given around before forest)
-definitions-titles s Empty around before content built suits f whole = tt
-definitions-titles s (Node name start end children rest) around before content built suits f whole =
-    let around' : Surroundings = inside s.given.options (is_loose children) name around in
-    let inner : List Piece = printed s.given around' (before_children name children before) children in
-    let own : Defined = record {
-      identifier = identifier_at s.given.bytes (ahead_of children).defined;
-      target = (lay s.given.ending blank inner).notes.target;
-    } in
-    titles-append (definitions_of s.given around' (before_children name children before) children)
-    (cond (is_link_definition name) (own ∷ []) [] ++ definitions_of s.given around
-    (before_next s.given around name start end children before) rest)
-    (definitions-titles s children around' (before_children name children before) (content_inside content name) built.2
-    (children-suit s.given.options s.test.html (is_loose children) around content name built.0 suits)
-    (children-follow content name before.spine built.0 f) (λ h. whole (inside-blocks content name h)))
-    (titles-append (cond (is_link_definition name) (own ∷ []) [])
-    (definitions_of s.given around (before_next s.given around name start end children before) rest)
-    (cond_both (is_link_definition name) (own ∷ []) [] AreTitles
-    (λ is. (defined-here s name start end children rest around before content built suits f whole is, tt)) (λ _. tt))
-    (definitions-titles s rest around (before_next s.given around name start end children before)
-    (content_behind content name children) built.3
-    (suits-behind around.is_escaping around.in_image content name children suits)
-    (follows-behind s.given.bytes content name before.spine children built.0 built.2 f)
-    (asked-behind (IsWhole s.p) content name children whole)))
+defined-here s _ start end children rest around before content built suits f whole is = lie is
 
 -- the texts of some footnotes have readings
 abbrev pub AreRead : Setting → List Footnote → Type 0
 AreRead s [] = Unit {0}
 AreRead s (footnote ∷ others) = s.p.holds footnote.text × AreRead s others
 
-read-append : (s : Setting) (xs ys : List Footnote) → AreRead s xs → AreRead s ys → AreRead s (xs ++ ys)
-read-append s [] ys a b = b
-read-append s (x ∷ xs) ys a b = (a.0, read-append s xs ys a.1 b)
+-- what is gathered of some nodes: definitions whose titles are escaped, and footnotes whose texts have readings
+pub record Gathered (s : Setting) (definitions : List Defined) (footnotes : List Footnote) : Type 0 where
+  pub titles : AreTitles definitions
+  pub texts : AreRead s footnotes
+
+gathered-append : (s : Setting) (xs ys : List Defined) (us vs : List Footnote) → Gathered s xs us →
+    Gathered s ys vs → Gathered s (xs ++ ys) (us ++ vs)
+gathered-append s xs ys us vs a b = record {
+  titles = titles xs a.titles;
+  texts = texts us a.texts;
+}
+  where
+    titles : (xs : List Defined) → AreTitles xs → AreTitles (xs ++ ys)
+    titles [] h = b.titles
+    titles (x ∷ xs) h = (h.0, titles xs h.1)
+
+    texts : (us : List Footnote) → AreRead s us → AreRead s (us ++ vs)
+    texts [] h = b.texts
+    texts (u ∷ us) h = (h.0, texts us h.1)
 
 -- a footnote stands among blocks
 noted-text : (s : Setting) (content : Content) (escaping in_image : Bool) →
     may_stand content GfmFootnoteDefinition ≡ true → (x : List ℕ) → Holds s.p escaping in_image content x →
     s.p.holds x
 noted-text s Blocks escaping in_image stands x h = h
-noted-text s Spans escaping in_image stands x h = absurd (lie stands)
-noted-text s Strings escaping in_image stands x h = absurd (lie stands)
-noted-text s FirstFence escaping in_image stands x h = absurd (lie stands)
-noted-text s FirstMathFence escaping in_image stands x h = absurd (lie stands)
-noted-text s Chunks escaping in_image stands x h = absurd (lie stands)
-noted-text s InfoAndMeta escaping in_image stands x h = absurd (lie stands)
-noted-text s MetaAlone escaping in_image stands x h = absurd (lie stands)
-noted-text s Done escaping in_image stands x h = absurd (lie stands)
-noted-text s Nothing escaping in_image stands x h = absurd (lie stands)
+noted-text s Spans escaping in_image stands x h = lie stands
+noted-text s Strings escaping in_image stands x h = lie stands
+noted-text s FirstFence escaping in_image stands x h = lie stands
+noted-text s FirstMathFence escaping in_image stands x h = lie stands
+noted-text s Chunks escaping in_image stands x h = lie stands
+noted-text s InfoAndMeta escaping in_image stands x h = lie stands
+noted-text s MetaAlone escaping in_image stands x h = lie stands
+noted-text s Done escaping in_image stands x h = lie stands
+noted-text s Nothing escaping in_image stands x h = lie stands
 
 noted-here : (s : Setting) (name : Name) (start end : Point) (children rest : Forest) (around : Surroundings)
     (before : Before) (content : Content) → IsBuilt s.given.bytes content (Node name start end children rest)
@@ -202,33 +188,46 @@ noted-here s GfmFootnoteDefinition start end children rest around before content
     noted-text s content around.is_escaping around.in_image built.0 (lay s.given.ending blank inner).text
     (adds-blank s.p s.given.ending (Holds s.p around.is_escaping around.in_image content) inner
     (children-print s GfmFootnoteDefinition start end children rest around before content refl built suits f whole)).0
-noted-here s _ start end children rest around before content built suits f whole is = absurd (lie is)
+noted-here s _ start end children rest around before content built suits f whole is = lie is
 
--- the texts of all footnotes have readings
-pub footnotes-read : (s : Setting) (forest : Forest) (around : Surroundings) (before : Before) (content : Content) →
+-- what all nodes define and note
+pub gathered : (s : Setting) (forest : Forest) (around : Surroundings) (before : Before) (content : Content) →
     IsBuilt s.given.bytes content forest → Suits around.is_escaping around.in_image content →
     Follows content before.spine → (is_blocks content ≡ true → IsWhole s.p)
-    → AreRead s (footnotes_of s.given around before forest)
-footnotes-read s Empty around before content built suits f whole = tt
-footnotes-read s (Node name start end children rest) around before content built suits f whole =
+    → Gathered s (definitions_of s.given around before forest) (footnotes_of s.given around before forest)
+gathered s Empty around before content built suits f whole = record { titles = tt; texts = tt }
+gathered s (Node name start end children rest) around before content built suits f whole =
     let around' : Surroundings = inside s.given.options (is_loose children) name around in
-    let inner : List Piece = printed s.given around' (before_children name children before) children in
-    let own : Footnote = record {
-      identifier = identifier_at s.given.bytes (ahead_of children).footnote;
-      text = (lay s.given.ending blank inner).text;
+    let within : Before = before_children name children before in
+    let next : Before = before_next s.given around name start end children before in
+    let page : Page = lay s.given.ending blank (printed s.given around' within children) in
+    let defined : Defined = record {
+      identifier = identifier_at s.given.bytes (ahead_of children).defined;
+      target = page.notes.target;
     } in
-    read-append s (footnotes_of s.given around' (before_children name children before) children)
-    (cond (is_footnote_definition name) (own ∷ []) [] ++ footnotes_of s.given around
-    (before_next s.given around name start end children before) rest)
-    (footnotes-read s children around' (before_children name children before) (content_inside content name) built.2
+    let noted : Footnote = record {
+      identifier = identifier_at s.given.bytes (ahead_of children).footnote;
+      text = page.text;
+    } in
+    let definitions : List Defined = cond (is_link_definition name) (defined ∷ []) [] in
+    let footnotes : List Footnote = cond (is_footnote_definition name) (noted ∷ []) [] in
+    let own : Gathered s definitions footnotes = record {
+      titles = cond_both (is_link_definition name) (defined ∷ []) [] AreTitles
+          (λ is. (defined-here s name start end children rest around before content built suits f whole is, tt))
+          (λ _. tt);
+      texts = cond_both (is_footnote_definition name) (noted ∷ []) [] (AreRead s)
+          (λ is. (noted-here s name start end children rest around before content built suits f whole is, tt))
+          (λ _. tt);
+    } in
+    gathered-append s (definitions_of s.given around' within children)
+    (definitions ++ definitions_of s.given around next rest) (footnotes_of s.given around' within children)
+    (footnotes ++ footnotes_of s.given around next rest)
+    (gathered s children around' within (content_inside content name) built.2
     (children-suit s.given.options s.test.html (is_loose children) around content name built.0 suits)
     (children-follow content name before.spine built.0 f) (λ h. whole (inside-blocks content name h)))
-    (read-append s (cond (is_footnote_definition name) (own ∷ []) [])
-    (footnotes_of s.given around (before_next s.given around name start end children before) rest)
-    (cond_both (is_footnote_definition name) (own ∷ []) [] (AreRead s)
-    (λ is. (noted-here s name start end children rest around before content built suits f whole is, tt)) (λ _. tt))
-    (footnotes-read s rest around (before_next s.given around name start end children before)
-    (content_behind content name children) built.3
+    (gathered-append s definitions (definitions_of s.given around next rest) footnotes
+    (footnotes_of s.given around next rest) own
+    (gathered s rest around next (content_behind content name children) built.3
     (suits-behind around.is_escaping around.in_image content name children suits)
     (follows-behind s.given.bytes content name before.spine children built.0 built.2 f)
     (asked-behind (IsWhole s.p) content name children whole)))

@@ -1,9 +1,10 @@
--- What a list of pieces adds to a page.
+-- What a list of pieces adds to a page: the claim on texts carried over to what is laid out.
 use Rattle.std.proofs.Common.{◌≡◌, ℕ, Bool, true, false, cond, List, [], ◌∷◌, ◌++◌, refl, sym, ap, ◌∙◌, subst, append_assoc, append-nil}
 use Rattle.std.specs.Prelude.{Option, Some, None}
-use Rattle.md_meaning.specs.Piece.{Piece, Text, Needed, Forced, Noted, Recalled, Note, Heading, Destination, Title, Resource, Target, Notes, Page, no_notes, blank, with_note, is_line_start, lay_piece, lay}
+use Rattle.md_meaning.specs.Piece.{Piece, Text, Needed, Forced, Noted, Recalled, Note, Heading, Destination, Title, Resource, Target, Notes, Page, no_notes, blank, with_note, is_line_start, lay}
 use Rattle.md_safe.proofs.Texts.{Escaped}
 use Rattle.md_safe.proofs.Claim.{Claim}
+use Rattle.md_meaning.proofs.Lays.{lay-append}
 
 -- a title is escaped, where there is one
 abbrev pub IsEscapedTitle : Option (List ℕ) → Type 0
@@ -32,11 +33,6 @@ pub record Grows (noted : List ℕ → Type 0) (holds : List ℕ → Type 0) (be
 abbrev pub Adds : Claim → List ℕ → (List ℕ → Type 0) → List Piece → Type 0
 Adds p ending holds pieces = (page : Page) → AreGood p.noted page.notes →
     Grows p.noted holds page (lay ending page pieces)
-
-pub lay-append : (ending : List ℕ) (page : Page) (xs ys : List Piece) →
-    lay ending page (xs ++ ys) ≡ lay ending (lay ending page xs) ys
-lay-append ending page [] ys = refl
-lay-append ending page (x ∷ xs) ys = lay-append ending (lay_piece ending page x) xs ys
 
 -- something else holds as well
 pub adds-weaker : (p : Claim) (ending : List ℕ) (f g : List ℕ → Type 0) (pieces : List Piece) →
@@ -77,7 +73,8 @@ adds-forced p ending h page good = record { added = ending; behind = refl; it_ho
 pub adds-needed : (p : Claim) (ending : List ℕ) → Escaped ending → Adds p ending Escaped (Needed ∷ [])
 adds-needed p ending h page good = by (is_line_start page.text)
   where
-    by : (starts : Bool) → Grows p.noted Escaped page (record page { text = cond starts page.text (page.text ++ ending) })
+    by : (starts : Bool) →
+        Grows p.noted Escaped page (record page { text = cond starts page.text (page.text ++ ending) })
     by true = record { added = []; behind = sym (append-nil page.text); it_holds = refl; good = good }
     by false = record { added = ending; behind = refl; it_holds = h; good = good }
 

@@ -1,4 +1,4 @@
--- Links, images, calls and cells as they are printed have readings.
+-- Links, images, calls and cells as they are printed have readings, and their addresses pass the test.
 use Rattle.std.specs.List.{list_all}
 use Rattle.std.proofs.Common.{◌≡◌, ℕ, ◌==◌, zero, suc, Bool, true, false, ◌&&◌, ◌||◌, cond, List, [], ◌∷◌, ◌++◌, refl, subst, append_assoc, codes}
 use Rattle.std.specs.Prelude.{Option, Some, None, option_map, string_bytes}
@@ -75,15 +75,16 @@ adds-link p ending options test target label h r = by target.title h
         adds-flat p ending p.holds (link_start options target.destination ++ link_end label) refl
         (element-read p (codes "a") (attribute (codes "href") (href_of options target.destination) ∷ []) label
         (a_href (href_of options target.destination) (href-escaped options target.destination))
-        (pass_one p.test (attribute (codes "href") (href_of options target.destination)) (test.link target.destination)) r)
+        (pass_one p.test (attribute (codes "href") (href_of options target.destination))
+        (test.link target.destination)) r)
     by (Some title) h =
         adds-flat p ending p.holds (link_start options target.destination
         ++ (title_pieces (Some title) ++ link_end label)) refl
         (element-read p (codes "a") (attribute (codes "href") (href_of options target.destination)
         ∷ attribute (codes "title") title ∷ []) label
         (a_href_title (href_of options target.destination) title (href-escaped options target.destination) h)
-        (pass_two p.test (attribute (codes "href") (href_of options target.destination)) (attribute (codes "title") title)
-        (test.link target.destination) (test.other (codes "title") title refl)) r)
+        (pass_two p.test (attribute (codes "href") (href_of options target.destination))
+        (attribute (codes "title") title) (test.link target.destination) (test.other (codes "title") title refl)) r)
 
 -- a link with no title
 pub adds-autolink : (p : Claim) (ending : List ℕ) (options : CompileOptions) (test : IsTest p.test options)
@@ -213,8 +214,9 @@ pub adds-call : (p : Claim) (ending : List ℕ) (options : CompileOptions) (test
     (call_tags options identifier number occurrence)
 adds-call p ending options test identifier number occurrence passes =
     adds-flat p ending p.holds (call_tags options identifier number occurrence) refl
-    (call-read p options test (footnote_id options identifier number) (call_id options identifier number occurrence) (decimal number)
-    (footnote_id-escaped options identifier number) passes (call_id-escaped options identifier number occurrence)
+    (call-read p options test (footnote_id options identifier number) (call_id options identifier number occurrence)
+    (decimal number) (footnote_id-escaped options identifier number) passes
+    (call_id-escaped options identifier number occurrence)
     (decimal-escaped number))
 
 mark-read : (p : Attribute → Bool) (occurrence : ℕ) → HasReadingWith p (occurrence_mark occurrence)
@@ -234,8 +236,9 @@ back-read : (p : Attribute → Bool) (options : CompileOptions) (test : IsTest p
     → HasReadingWith p (codes "<a href=\"#" ++ (v ++ (codes "\" data-footnote-backref=\"\" aria-label=\""
     ++ (t ++ (codes "\" class=\"data-footnote-backref\">" ++ (arrow ++ (m ++ codes "</a>")))))))
 back-read p options test v t m h g r =
-    element-read (reading p) (codes "a") (attribute (codes "href") (35 ∷ v) ∷ attribute (codes "data-footnote-backref") []
-    ∷ attribute (codes "aria-label") t ∷ attribute (codes "class") (codes "data-footnote-backref") ∷ [])
+    element-read (reading p) (codes "a") (attribute (codes "href") (35 ∷ v)
+    ∷ attribute (codes "data-footnote-backref") [] ∷ attribute (codes "aria-label") t
+    ∷ attribute (codes "class") (codes "data-footnote-backref") ∷ [])
     (arrow ++ m) (a_back v t h g)
     (pass_four p (attribute (codes "href") (35 ∷ v)) (attribute (codes "data-footnote-backref") [])
     (attribute (codes "aria-label") t) (attribute (codes "class") (codes "data-footnote-backref"))

@@ -1,7 +1,8 @@
--- A node of any content, before what is printed behind it.
+-- A node of any content, before what is printed behind it: the step of the induction in `Forests.antt`.
 use Rattle.std.proofs.Common.{◌≡◌, ℕ, Bool, true, false, not, ◌||◌, cond, List, [], ◌∷◌, ◌++◌, refl, sym, ap, ◌∙◌, subst, inl, inr, append_assoc, append-nil, codes}
 use Rattle.std.specs.List.{list_any}
 use Rattle.std.proofs.lemmas.Bool.{cond_both, or_cases}
+use Rattle.md_base.proofs.Lies.{lie}
 use Rattle.md_base.specs.declared.event.Name.{Name}
 use Rattle.md_base.specs.declared.event.Name.TheVariants.{Other, BlockQuotePrefix, SpaceOrTab, LineEnding, BlankLineEnding, CodeFencedFence, CodeFencedFenceInfo, CodeFencedFenceMeta, CodeFlowChunk, MathFlowFence, MathFlowFenceMeta, MathFlowChunk, GfmTaskListItemValueChecked}
 use Rattle.md_text.specs.Encode.{encoded}
@@ -19,7 +20,7 @@ use Rattle.md_safe.proofs.Texts.{Escaped}
 use Rattle.md_safe.proofs.Laid.{adds-append, adds-text, adds-nothing, adds-needed, adds-weaker}
 use Rattle.md_safe.proofs.Tags.{adds-nil}
 use Rattle.md_safe.proofs.Elements.{IsRaw, IsInCode, IsDone, bare-in_code, info-in_code, raw-code, raw-math, code_tag, math_tag}
-use Rattle.md_safe.proofs.Contents.{is_blocks, Holds, Suits, Follows, lie, second, holds-nothing, later-inside}
+use Rattle.md_safe.proofs.Contents.{is_blocks, Holds, Suits, Follows, second, holds-nothing, later-inside}
 use Rattle.md_safe.proofs.Spot.{IsWhole, Setting, Spot, node_pieces, IsFitAt, Here, Prints, Inside, narrow-wide, narrow-escaping, wide-escaped, prints-own}
 use Rattle.md_safe.proofs.StringNodes.{string-node, line_ending-escaped}
 use Rattle.md_safe.proofs.SpanNodes.{span-node, media-node, autolink-node}
@@ -38,7 +39,7 @@ span-any s t name suits stands fit inner a =
       | inl is ↦ string-node s t Spans name (narrow-wide s.p t.around.is_escaping t.around.in_image Escaped suits.0 w)
           is fit inner a
       | inr c ↦ elim (or_cases (is_span name) (is_in_media name || is_autolink name) c) [
-        | inl is ↦ span-node s t Spans name suits.0 w is (λ _ out. absurd (lie (sym out ∙ suits.1))) inner a
+        | inl is ↦ span-node s t Spans name suits.0 w is (λ _ out. lie (sym out ∙ suits.1)) inner a
         | inr c ↦ elim (or_cases (is_in_media name) (is_autolink name) c) [
           | inl is ↦ media-node s t Spans name suits.0 w is inner a
           | inr is ↦ autolink-node s t Spans name w is inner a
@@ -51,7 +52,7 @@ begun : (s : Setting) (has_fence : Bool) (holds within later : List ℕ → Type
     ((x y : List ℕ) → within x → later y → holds (x ++ (62 ∷ y))) → has_fence ≡ false → (inner rest : List Piece) →
     Prints s within inner → Prints s later rest
     → Prints s holds ((inner ++ ((cond (not has_fence) (said (codes ">")) []) ++ [])) ++ rest)
-begun s true holds within later both e inner rest a b = absurd (lie (sym e))
+begun s true holds within later both e inner rest a b = lie (sym e)
 begun s false holds within later both e inner rest a b =
     subst (Prints s holds) (sym (append_assoc inner (said (codes ">")) rest))
     (adds-append s.p s.given.ending within (λ w. (y : List ℕ) × (w ≡ 62 ∷ y) × later y) holds inner (Text (codes ">")
@@ -66,7 +67,7 @@ code_fence-node : (s : Setting) (t : Spot) (name : Name) → t.left.spine.has_fe
     Prints s (IsRaw s.p code_tag) (node_pieces s t name inner ++ rest)
 code_fence-node s t CodeFencedFence e is inner rest a b =
     begun s t.left.spine.has_fence (IsRaw s.p code_tag) (IsInCode s.p) Escaped (raw-code s.p) e inner rest a b
-code_fence-node s t _ e is inner rest a b = absurd (lie is)
+code_fence-node s t _ e is inner rest a b = lie is
 
 math_fence-node : (s : Setting) (t : Spot) (name : Name) → t.left.spine.has_fence ≡ false →
     is_math_fence name ≡ true → (inner rest : List Piece) → Inside s t FirstMathFence name inner →
@@ -75,13 +76,13 @@ math_fence-node s t MathFlowFence e is inner rest a b =
     begun s t.left.spine.has_fence (IsRaw s.p math_tag) IsNil Escaped
     (λ x y f h. subst (λ x. IsRaw s.p math_tag (x ++ (62 ∷ y))) (sym f) (raw-math s.p s.given.options s.test y h)) e
     inner rest a b
-math_fence-node s t _ e is inner rest a b = absurd (lie is)
+math_fence-node s t _ e is inner rest a b = lie is
 
 -- a later fence prints nothing
 closed : (s : Setting) (has_fence : Bool) → has_fence ≡ true → (inner : List Piece) → Prints s IsNil inner →
     Prints s Escaped (inner ++ ((cond (not has_fence) (said (codes ">")) []) ++ []))
 closed s true e inner a = prints-own s Escaped inner [] a (adds-nil s.p s.given.ending)
-closed s false e inner a = absurd (lie e)
+closed s false e inner a = lie e
 
 chunk-escaped : (s : Setting) (t : Spot) (inner : List Piece) → Prints s IsNil inner →
     Prints s Escaped (inner ++ (Text (encoded true (serialized_of s.given.bytes t.start t.end)) ∷ []))
@@ -103,7 +104,7 @@ line-node s t CodeFlowChunk e is fit inner a = chunk-escaped s t inner a
 line-node s t MathFlowChunk e is fit inner a = chunk-escaped s t inner a
 line-node s t CodeFencedFence e is fit inner a = closed s t.left.spine.has_fence e inner a
 line-node s t MathFlowFence e is fit inner a = closed s t.left.spine.has_fence e inner a
-line-node s t _ e is fit inner a = absurd (lie is)
+line-node s t _ e is fit inner a = lie is
 
 -- the info string
 info-node : (s : Setting) (escaping : Bool) → escaping ≡ true → (inner rest : List Piece) →
@@ -136,13 +137,13 @@ info_or_meta-node : (s : Setting) (t : Spot) (name : Name) → t.around.is_escap
 info_or_meta-node s t CodeFencedFenceInfo e is inner rest a b = info-node s t.around.is_escaping e inner rest a b
 info_or_meta-node s t CodeFencedFenceMeta e is inner rest a b = in_code-nil s rest b
 info_or_meta-node s t MathFlowFenceMeta e is inner rest a b = in_code-nil s rest b
-info_or_meta-node s t _ e is inner rest a b = absurd (lie is)
+info_or_meta-node s t _ e is inner rest a b = lie is
 
 meta-node : (s : Setting) (t : Spot) (name : Name) → may_stand MetaAlone name ≡ true → (inner rest : List Piece) →
     Prints s IsNil rest → Prints s IsNil (node_pieces s t name inner ++ rest)
 meta-node s t CodeFencedFenceMeta is inner rest b = b
 meta-node s t MathFlowFenceMeta is inner rest b = b
-meta-node s t _ is inner rest b = absurd (lie is)
+meta-node s t _ is inner rest b = lie is
 
 -- the mark of a task that is done
 checked : (s : Setting) (in_image : Bool) (inner rest : List Piece) → Prints s IsNil inner → Prints s IsNil rest →
@@ -161,10 +162,11 @@ done-node : (s : Setting) (t : Spot) (name : Name) → may_stand Done name ≡ t
     Inside s t Done name inner → Prints s IsNil rest → Prints s (IsDone t.around.in_image) (node_pieces s t name inner
     ++ rest)
 done-node s t GfmTaskListItemValueChecked is inner rest a b = checked s t.around.in_image inner rest a b
-done-node s t _ is inner rest a b = absurd (lie is)
+done-node s t _ is inner rest a b = lie is
 
-not_part : (part : Bool) → cond part false true ≡ true → part ≡ false
-not_part true h = absurd (lie h)
+-- what stands among blocks is no part of another node
+pub not_part : (part : Bool) → cond part false true ≡ true → part ≡ false
+not_part true h = lie h
 not_part false h = refl
 
 -- a node that isn't transparent, and what is printed behind it
@@ -196,8 +198,9 @@ solid-node s t InfoAndMeta name names fences solid stands fit suits f whole inne
     info_or_meta-node s t name suits stands inner rest a b
 solid-node s t MetaAlone name names fences solid stands fit suits f whole inner rest a b =
     meta-node s t name stands inner rest b
-solid-node s t Done name names fences solid stands fit suits f whole inner rest a b = done-node s t name stands inner rest a b
-solid-node s t Nothing name names fences solid stands fit suits f whole inner rest a b = absurd (lie stands)
+solid-node s t Done name names fences solid stands fit suits f whole inner rest a b =
+    done-node s t name stands inner rest a b
+solid-node s t Nothing name names fences solid stands fit suits f whole inner rest a b = lie stands
 
 -- what children print before any other pieces
 abbrev pub Before : Setting → Spot → Content → Name → List Piece → Type 0
@@ -217,7 +220,7 @@ through-node s t content BlockQuotePrefix is inner rest a b =
     subst (λ x. Prints s (Here s t content) (x ++ rest)) (sym (append-nil inner)) (a rest b)
 through-node s t content SpaceOrTab is inner rest a b = subst (λ x. Prints s (Here s t content) (x ++ rest))
     (sym (append-nil inner)) (a rest b)
-through-node s t content _ is inner rest a b = absurd (lie is)
+through-node s t content _ is inner rest a b = lie is
 
 -- what a node that isn't transparent holds
 pub inside-alone : (s : Setting) (t : Spot) (content : Content) (name : Name) → may_stand content name ≡ true →

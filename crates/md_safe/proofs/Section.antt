@@ -1,4 +1,4 @@
--- The section of footnotes has a reading.
+-- The section of footnotes has a reading: its heading, its items and their ways back.
 use Rattle.std.proofs.Common.{◌≡◌, ℕ, suc, ◌≤◌, Bool, true, false, cond, List, [], ◌∷◌, ◌++◌, length, take, drop, refl, sym, ap, ◌∙◌, subst, arith, append_assoc, append-nil, codes}
 use Rattle.std.specs.Prelude.{Some, None, option_map, find, bytes_eq, string_bytes}
 use Rattle.std.specs.Option.{option_map_or}
@@ -123,7 +123,8 @@ in_paragraph p x back r rb h =
     ∙ ap (λ y. take n x ++ ((32 ∷ back) ++ y)) (sym last))
     put
 
-body-prints : (s : Setting) (x back : List ℕ) → Reads s x → HasReadingWith s.p.test back → Prints s (Reads s) (body_pieces x back)
+body-prints : (s : Setting) (x back : List ℕ) → Reads s x → HasReadingWith s.p.test back →
+    Prints s (Reads s) (body_pieces x back)
 body-prints s x back r rb =
     cond_both (ends_in_paragraph x)
     (Text (take (paragraph_end x) x) ∷ Text (32 ∷ []) ∷ Text back ∷ Text (drop (paragraph_end x) x) ∷ [])
@@ -144,8 +145,8 @@ body-prints s x back r rb =
 pub li_id : (v : List ℕ) → Escaped v → is_tag elements (codes "li") (attribute (codes "id") v ∷ []) ≡ true
 li_id v h = rw h refl
 
-item-bracket : (s : Setting) (v : List ℕ) → s.p.test (attribute (codes "id") v) ≡ true → Escaped v → Bracket s.p (codes "<li id=\""
-    ++ (v ++ (codes "\">" ++ []))) (codes "</li>")
+item-bracket : (s : Setting) (v : List ℕ) → s.p.test (attribute (codes "id") v) ≡ true → Escaped v →
+    Bracket s.p (codes "<li id=\"" ++ (v ++ (codes "\">" ++ []))) (codes "</li>")
 item-bracket s v passes h =
     subst (λ o. Bracket s.p o (codes "</li>")) (ap (λ x. codes "<li id=\"" ++ x) (append_assoc v (34 ∷ []) (62 ∷ [])))
     (bracket-tag s.p (codes "li") (attribute (codes "id") v ∷ []) (li_id v h) (cc passes))
@@ -245,5 +246,7 @@ pub section-prints : (s : Setting) → IsWhole s.p → s.given.options.gfm_footn
     → Prints s (Reads s) (section_pieces s.given.options footnotes called)
 section-prints s whole no_tag no_attributes footnotes [] h = adds-nothing s.p s.given.ending (Reads s) (holds-none s)
 section-prints s whole no_tag no_attributes footnotes (called ∷ others) h =
-    section-around s s.p (heading-bracket s (heading_label_of s.given.options) whole.ids (label-escaped s.given.options)) no_tag no_attributes (items_pieces s.given.options footnotes 1 (called ∷ others))
+    section-around s s.p
+    (heading-bracket s (heading_label_of s.given.options) whole.ids (label-escaped s.given.options))
+    no_tag no_attributes (items_pieces s.given.options footnotes 1 (called ∷ others))
     (items-print s whole footnotes 1 (called ∷ others) h)

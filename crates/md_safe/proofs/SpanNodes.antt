@@ -1,6 +1,7 @@
--- The nodes of spans print texts with readings, and in images escaped ones.
+-- The nodes of spans print texts with readings, and in images escaped ones: a case for each name.
 use Rattle.std.proofs.Common.{◌≡◌, ℕ, suc, Bool, true, false, not, ◌&&◌, ◌||◌, cond, List, [], ◌∷◌, ◌++◌, refl, sym, ap, ◌∙◌, subst, inl, inr, codes}
 use Rattle.std.proofs.lemmas.Bool.{cond_both, or_parts}
+use Rattle.md_base.proofs.Lies.{lie}
 use Rattle.md_base.specs.declared.event.Name.{Name}
 use Rattle.md_base.specs.declared.event.Name.TheVariants.{HtmlText, HtmlTextData, Emphasis, Strong, GfmStrikethrough, CodeText, MathText, Link, Image, HardBreakEscape, HardBreakTrailing, GfmTaskListItemCheck, GfmFootnoteCall, Label, LabelText, Resource, ResourceDestinationString, ResourceTitleString, ReferenceString, AutolinkEmail, AutolinkProtocol, GfmAutolinkLiteralEmail, GfmAutolinkLiteralMailto, GfmAutolinkLiteralProtocol, GfmAutolinkLiteralWww, GfmAutolinkLiteralXmpp}
 use Rattle.md_text.specs.Encode.{encoded}
@@ -24,7 +25,7 @@ use Rattle.md_safe.proofs.Laid.{AreGood, adds-text, adds-nothing, adds-weaker, a
 use Rattle.md_safe.proofs.Tags.{Bracket, void-read, adds-flat, adds-pair, framed-text}
 use Rattle.md_safe.proofs.Media.{adds-link, adds-image, adds-autolink, adds-call}
 use Rattle.md_safe.proofs.Elements.{IsDone, bracket-plain, adds-code, adds-math, adds-task}
-use Rattle.md_safe.proofs.Contents.{Holds, lie}
+use Rattle.md_safe.proofs.Contents.{Holds}
 use Rattle.md_safe.proofs.Spot.{Setting, Spot, node_pieces, Here, Prints, Inside, IsWide, IsBeside, escaped-beside, PassesIds, encoded-escaped, prints-alone, prints-both, target-title}
 
 -- tags outside images round what stands in a node
@@ -86,10 +87,10 @@ break-beside : (s : Setting) (in_image : Bool) →
     Prints s (IsBeside s.p.test in_image) (cond in_image [] (said (codes "<br />")))
 break-beside s true = adds-nothing s.p s.given.ending (IsBeside s.p.test true) (escaped-beside s.p.test true [] refl)
 break-beside s false = adds-flat s.p s.given.ending (IsBeside s.p.test false) (said (codes "<br />")) refl
-    ((λ e. absurd (lie e)), (λ _. void-read (plain_of s.p) (codes "br") [] refl refl))
+    ((λ e. lie e), (λ _. void-read (plain_of s.p) (codes "br") [] refl refl))
 
 done-nothing : (x : List ℕ) → IsDone true x → x ≡ []
-done-nothing x done = elim done [ inl e ↦ e | inr outside ↦ absurd (lie (sym outside.0)) ]
+done-nothing x done = elim done [ inl e ↦ e | inr outside ↦ lie (sym outside.0) ]
 
 -- a task
 task-node : (s : Setting) (in_image : Bool) (holds : List ℕ → Type 0) → IsWide s.p in_image holds →
@@ -122,8 +123,8 @@ span-node s t content HtmlTextData e w is ids inner a =
     (html_pieces s.given t.around t.start t.end) (escaped-beside s.p.test t.around.in_image) (html-escaped s t e))
 span-node s t content Emphasis e w is ids inner a = prints-pair s t.around.in_image (Here s t content) w (codes "<em>")
     (codes "</em>") (bracket-plain s.p (codes "em") refl) inner a
-span-node s t content Strong e w is ids inner a = prints-pair s t.around.in_image (Here s t content) w (codes "<strong>")
-    (codes "</strong>") (bracket-plain s.p (codes "strong") refl) inner a
+span-node s t content Strong e w is ids inner a = prints-pair s t.around.in_image (Here s t content) w
+    (codes "<strong>") (codes "</strong>") (bracket-plain s.p (codes "strong") refl) inner a
 span-node s t content GfmStrikethrough e w is ids inner a = prints-pair s t.around.in_image (Here s t content) w
     (codes "<del>") (codes "</del>") (bracket-plain s.p (codes "del") refl) inner a
 span-node s t content CodeText e w is ids inner a =
@@ -170,7 +171,8 @@ span-node s t content HardBreakEscape e w is ids inner a =
 span-node s t content HardBreakTrailing e w is ids inner a =
     prints-both s (Here s t content) (IsBeside s.p.test t.around.in_image) w.both inner
     (outside_images t.around (said (codes "<br />"))) a (break-beside s t.around.in_image)
-span-node s t content GfmTaskListItemCheck e w is ids inner a = task-node s t.around.in_image (Here s t content) w inner a
+span-node s t content GfmTaskListItemCheck e w is ids inner a =
+    task-node s t.around.in_image (Here s t content) w inner a
 span-node s t content GfmFootnoteCall e w is ids inner a =
     let identifier : List ℕ = identifier_at s.given.bytes (ahead_of t.children).label in
     prints-outside s t.around.in_image (Here s t content) w []
@@ -181,7 +183,7 @@ span-node s t content GfmFootnoteCall e w is ids inner a =
     (suc (count_among t.left.called identifier))
     (ids refl out (call_id s.given.options identifier (number_among t.left.called identifier)
     (suc (count_among t.left.called identifier)))))
-span-node s t content _ e w is ids inner a = absurd (lie is)
+span-node s t content _ e w is ids inner a = lie is
 
 -- what stands in links, images and calls
 pub media-node : (s : Setting) (t : Spot) (content : Content) (name : Name) → t.around.is_escaping ≡ true →
@@ -199,7 +201,7 @@ media-node s t content ResourceTitleString e w is inner a =
     adds-note s.p s.given.ending (Here s t content) (Title (page_of s inner).text) (w.own [] refl)
     (page-holds s (λ x. t.around.is_escaping ≡ true → Escaped x) inner a e)
 media-node s t content ReferenceString e w is inner a = prints-nothing s t.around.in_image (Here s t content) w
-media-node s t content _ e w is inner a = absurd (lie is)
+media-node s t content _ e w is inner a = lie is
 
 -- an autolink, which is plain at least in images
 link-node : (s : Setting) (t : Spot) (holds : List ℕ → Type 0) → IsWide s.p t.around.in_image holds →
@@ -217,7 +219,7 @@ link-node s t holds w prefix plain outside inner a =
     (λ no.
     adds-weaker s.p s.given.ending (HasReadingWith s.p.test) beside
     (link_start s.given.options (prefix ++ x) ++ link_end (encoded true x))
-    (λ y h. ((λ e. absurd (lie (sym (outside no) ∙ e))), (λ _. h)))
+    (λ y h. ((λ e. lie (sym (outside no) ∙ e)), (λ _. h)))
     (adds-autolink (plain_of s.p) s.given.ending s.given.options s.test (prefix ++ x) (encoded true x)
     (text s.p.test (encoded true x) (is_escaped-encoded x)))))
 
@@ -244,4 +246,4 @@ autolink-node s t content GfmAutolinkLiteralProtocol w is inner a = literal-node
 autolink-node s t content GfmAutolinkLiteralWww w is inner a =
     literal-node s t (Here s t content) w (codes "http://") inner a
 autolink-node s t content GfmAutolinkLiteralXmpp w is inner a = literal-node s t (Here s t content) w [] inner a
-autolink-node s t content _ w is inner a = absurd (lie is)
+autolink-node s t content _ w is inner a = lie is

@@ -1,4 +1,5 @@
--- A node where it stands: what is known of the document and what the node prints.
+-- A node where it stands: what is known of the document and what the node prints. The lemmas on nodes speak of this
+-- record.
 use Rattle.std.proofs.Common.{refl, ◌≡◌, ℕ, Bool, true, false, cond, List, [], ◌∷◌, ◌++◌, sym, subst, append-nil, codes}
 use Rattle.std.specs.Prelude.{Option, Some, None, find, bytes_eq, unwrap_or}
 use Rattle.std.specs.Option.{option_map_or}

@@ -1,7 +1,8 @@
--- The nodes of strings print escaped texts.
+-- The nodes of strings print escaped texts: a case for each name.
 use Rattle.std.proofs.Common.{◌≡◌, ℕ, true, cond, List, [], ◌∷◌, ◌++◌, refl}
 use Rattle.std.specs.Prelude.{unwrap_or}
 use Rattle.std.proofs.lemmas.Bool.{cond_both}
+use Rattle.md_base.proofs.Lies.{lie}
 use Rattle.md_base.specs.Reference.{decoded}
 use Rattle.md_base.specs.declared.event.Name.{Name}
 use Rattle.md_base.specs.declared.event.Name.TheVariants.{LineEnding, Data, CharacterEscapeValue, CharacterReferenceMarker, CharacterReferenceMarkerNumeric, CharacterReferenceMarkerHexadecimal, CharacterReferenceValue, CodeTextData, MathTextData}
@@ -13,7 +14,6 @@ use Rattle.md_meaning.specs.Texts.{said, line_ending_pieces, marker_of, is_dropp
 use Rattle.md_shape.specs.Built.{Content, is_string}
 use Rattle.md_safe.proofs.Texts.{Escaped, line_ends-escaped}
 use Rattle.md_safe.proofs.Laid.{adds-text, adds-nothing, adds-weaker}
-use Rattle.md_safe.proofs.Contents.{lie}
 use Rattle.md_safe.proofs.Spot.{Setting, Spot, node_pieces, IsFitAt, Here, Prints, Inside, IsNarrow, encoded-escaped, prints-alone, prints-both, prints-own}
 
 -- a text, encoded where that is asked for
@@ -60,4 +60,4 @@ string-node s t content CharacterReferenceValue n is fit inner a =
 string-node s t content CharacterReferenceMarker n is fit inner a = prints-alone s (Here s t content) inner a
 string-node s t content CharacterReferenceMarkerNumeric n is fit inner a = prints-alone s (Here s t content) inner a
 string-node s t content CharacterReferenceMarkerHexadecimal n is fit inner a = prints-alone s (Here s t content) inner a
-string-node s t content _ n is fit inner a = absurd (lie is)
+string-node s t content _ n is fit inner a = lie is

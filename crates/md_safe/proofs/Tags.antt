@@ -1,4 +1,4 @@
--- Tags of the HTML grammar, written in one or between other pieces.
+-- Tags of the HTML grammar, written in one or between other pieces: a text between them keeps the claim.
 use Rattle.std.specs.Str.{bytes_eq}
 use Rattle.std.specs.List.{list_all}
 use Rattle.std.proofs.Common.{◌≡◌, ℕ, Bool, true, false, not, ◌&&◌, List, [], ◌∷◌, ◌++◌, refl, sym, ap, ◌∙◌, subst, append_assoc, codes}

@@ -1,4 +1,4 @@
--- Texts that are escaped: line endings, digits, numbers and the text of code.
+-- Texts that are escaped: line endings, digits, numbers and the text of code. They may stand anywhere.
 use Rattle.std.proofs.Common.{◌≡◌, ℕ, ◌-◌, ◌<◌, ◌≤◌, ◌/◌, ◌%◌, ◌==◌, zero, suc, Bool, true, false, not, ◌&&◌, ◌||◌, cond, List, [], ◌∷◌, ◌++◌, length, take, refl, sym, ap, subst, inl, inr, arith, append_assoc, append-nil, eqb-true}
 use Rattle.std.specs.Prelude.{slice_get, slice_range, nat_le}
 use Rattle.std.specs.Fmt.{decimal, digits, digits_onto, digit_glyph}
@@ -29,13 +29,6 @@ plain_first b rest plain h =
     by true and e = absurd (cc (e.0))
     by false true e = absurd (cc (e.1))
     by false false e = h
-
--- bytes that are no special characters are escaped
-pub plain-escaped : (text : List ℕ) → list_all is_plain text ≡ true → Escaped text
-plain-escaped [] h = refl
-plain-escaped (b ∷ text) h =
-    let parts = and_parts (is_plain b) (list_all is_plain text) h in
-    plain_first b text parts.0 (plain-escaped text parts.1)
 
 pub line_ends-escaped : (text : List ℕ) → is_line_ends text ≡ true → Escaped text
 line_ends-escaped [] h = refl

@@ -1,9 +1,10 @@
--- The meaning of a document has a reading in which each attribute passes a test.
+-- The meaning of a document has a reading in which each attribute passes a test, and has no id twice: both theorems
+-- from the two inductions.
 use Rattle.std.specs.Str.{bytes_eq}
 use Rattle.std.proofs.Common.{◌≡◌, ℕ, ◌&&◌, ◌||◌, Bool, true, false, not, cond, List, [], ◌∷◌, ◌++◌, length, ◌<◌, ◌^◌, ◌+◌, ◌≤◌, arith, refl, sym, ap, subst, codes}
 use Rattle.std.specs.Prelude.{Option, Some, None}
 use Rattle.std.specs.Option.{option_map_or}
-use Rattle.std.proofs.lemmas.Bool.{and_parts}
+use Rattle.std.proofs.lemmas.Bool.{and_parts, not-true}
 use Rattle.md_base.specs.declared.event.Name.{Name}
 use Rattle.md_base.specs.declared.event.Name.TheVariants.{LineEnding, BlankLineEnding}
 use Rattle.md_base.specs.declared.event.Point.{Point}
@@ -41,7 +42,7 @@ use Rattle.md_safe.proofs.Tags.{IsTest}
 use Rattle.md_safe.proofs.Contents.{Holds, after}
 use Rattle.md_safe.proofs.Spot.{PassesIds, IsWhole, Setting, AreTitles, Prints}
 use Rattle.md_safe.proofs.BlockNodes.{Reads}
-use Rattle.md_safe.proofs.Forests.{forest-prints, definitions-titles, footnotes-read}
+use Rattle.md_safe.proofs.Forests.{forest-prints, gathered}
 use Rattle.md_safe.proofs.Section.{section-prints}
 use Rattle.md_safe.proofs.CountedNodes.{Document}
 use Rattle.md_safe.proofs.CountedSection.{document-counted}
@@ -101,30 +102,12 @@ document-prints s whole document built keeps =
     let section : List Piece = section_pieces s.given.options (footnotes_of s.given outermost nothing_before document)
     (tally (calls_of s.given.bytes document)) in
     let last : Prints s (Reads s) section =
-    section-prints s whole keeps.usual_tag keeps.usual_attributes (footnotes_of s.given outermost nothing_before document)
-    (tally (calls_of s.given.bytes document))
-    (footnotes-read s document outermost nothing_before Blocks built refl tt (λ _. whole)) in
+    section-prints s whole keeps.usual_tag keeps.usual_attributes
+    (footnotes_of s.given outermost nothing_before document) (tally (calls_of s.given.bytes document))
+    (gathered s document outermost nothing_before Blocks built refl tt (λ _. whole)).texts in
     (adds-blank s.p s.given.ending (Reads s) (printed s.given outermost nothing_before document ++ section)
     (forest-prints s document outermost nothing_before Blocks built refl tt (λ _. whole) section
     (subst (λ content. Prints s (Holds s.p true false content) section) (sym (blocks-stay document)) last))).0
-
--- the meaning has a reading in which each attribute passes the test
-meaning-reads : (p : Attribute → Bool) (bytes : List ℕ) (names : List (List ℕ × List ℕ)) (options : CompileOptions)
-    (document : Forest) → IsTest p options → PassesIds p → IsBuilt bytes Blocks document → KeepsGrammar options
-    → HasReadingWith p (meaning options names bytes document)
-meaning-reads p bytes names options document test ids built keeps =
-    let claim : Claim = passing p (HasReadingWith p) (nothing p) in
-    let whole : IsWhole claim = record { both = join p; ids = ids; notes = λ x h. h; recalls = λ x h. h } in
-    let ending : List ℕ = ending_at options bytes (first_ending document) in
-    let escaped : Escaped ending = ending-escaped options bytes (first_ending document)
-    (first-is_ending bytes Blocks document built) in
-    let alone : Given = record { bytes = bytes; names = names; options = options; ending = ending; definitions = [] } in
-    let first : Setting = record { p = claim; given = alone; test = test; ending = escaped; titles = tt } in
-    let titles : AreTitles (definitions_of alone outermost nothing_before document) =
-    definitions-titles first document outermost nothing_before Blocks built refl tt (λ _. whole) in
-    let given : Given = record alone { definitions = definitions_of alone outermost nothing_before document } in
-    let s : Setting = record { p = claim; given = given; test = test; ending = escaped; titles = titles } in
-    document-prints s whole document built keeps
 
 -- any attribute passes
 any-test : (options : CompileOptions) → KeepsGrammar options → IsTest any_attribute options
@@ -155,24 +138,38 @@ titles-escaped bytes names options document ending escaped built keeps =
       notes = λ x h. h;
       recalls = λ x h. h;
     } in
-    definitions-titles (record {
+    let s : Setting = record {
       p = claim;
       given = alone;
       test = any-test options keeps;
       ending = escaped;
       titles = tt;
-    }) document outermost nothing_before Blocks built refl tt (λ _. whole)
+    } in
+    (gathered s document outermost nothing_before Blocks built refl tt (λ _. whole)).titles
 
-not_true : (b : Bool) → not b ≡ true → b ≡ false
-not_true true e = sym e
-not_true false e = refl
+-- the meaning has a reading in which each attribute passes the test
+meaning-reads : (p : Attribute → Bool) (bytes : List ℕ) (names : List (List ℕ × List ℕ)) (options : CompileOptions)
+    (document : Forest) → IsTest p options → PassesIds p → IsBuilt bytes Blocks document → KeepsGrammar options
+    → HasReadingWith p (meaning options names bytes document)
+meaning-reads p bytes names options document test ids built keeps =
+    let claim : Claim = passing p (HasReadingWith p) (nothing p) in
+    let whole : IsWhole claim = record { both = join p; ids = ids; notes = λ x h. h; recalls = λ x h. h } in
+    let ending : List ℕ = ending_at options bytes (first_ending document) in
+    let escaped : Escaped ending = ending-escaped options bytes (first_ending document)
+    (first-is_ending bytes Blocks document built) in
+    let alone : Given = record { bytes = bytes; names = names; options = options; ending = ending; definitions = [] } in
+    let titles : AreTitles (definitions_of alone outermost nothing_before document) =
+    titles-escaped bytes names options document ending escaped built keeps in
+    let given : Given = record alone { definitions = definitions_of alone outermost nothing_before document } in
+    let s : Setting = record { p = claim; given = given; test = test; ending = escaped; titles = titles } in
+    document-prints s whole document built keeps
 
 -- a safe link passes
 link-test : (options : CompileOptions) → KeepsLinks options → IsTest is_safe_link options
 link-test options keeps = record {
   other = λ name value h.
       ap (λ b. cond b (is_safe_value link_protocols value) true)
-      (not_true (bytes_eq name (codes "href")) (and_parts (not (bytes_eq name (codes "href")))
+      (not-true (bytes_eq name (codes "href")) (and_parts (not (bytes_eq name (codes "href")))
       (not (bytes_eq name (codes "src")) && not (bytes_eq name (codes "id"))) h).0);
   link = λ destination.
       subst (λ b. is_safe_value link_protocols (cond b (sanitized destination)
@@ -187,7 +184,7 @@ image-test : (options : CompileOptions) → KeepsImages options → IsTest is_sa
 image-test options keeps = record {
   other = λ name value h.
       ap (λ b. cond b (is_safe_value image_protocols value) true)
-      (not_true (bytes_eq name (codes "src")) (and_parts (not (bytes_eq name (codes "src")))
+      (not-true (bytes_eq name (codes "src")) (and_parts (not (bytes_eq name (codes "src")))
       (not (bytes_eq name (codes "id"))) (and_parts (not (bytes_eq name (codes "href")))
       (not (bytes_eq name (codes "src")) && not (bytes_eq name (codes "id"))) h).1).0);
   link = λ destination. refl;
@@ -213,14 +210,16 @@ pub safe-links : (bytes : List ℕ) (names : List (List ℕ × List ℕ)) (optio
     HasOneReadingWith is_safe_link (meaning options names bytes document)
 safe-links bytes names options document built keeps =
     only_reading is_safe_link (meaning options names bytes document)
-    (meaning-reads is_safe_link bytes names options document (link-test options keeps) (λ value. refl) built keeps.grammar)
+    (meaning-reads is_safe_link bytes names options document (link-test options keeps) (λ value. refl) built
+    keeps.grammar)
 
 pub safe-images : (bytes : List ℕ) (names : List (List ℕ × List ℕ)) (options : CompileOptions) (document : Forest) →
     IsBuilt bytes Blocks document → KeepsImages options →
     HasOneReadingWith is_safe_image (meaning options names bytes document)
 safe-images bytes names options document built keeps =
     only_reading is_safe_image (meaning options names bytes document)
-    (meaning-reads is_safe_image bytes names options document (image-test options keeps) (λ value. refl) built keeps.links.grammar)
+    (meaning-reads is_safe_image bytes names options document (image-test options keeps) (λ value. refl) built
+    keeps.links.grammar)
 
 -- a document has no more calls than half its events
 calls-fewer : (bytes : List ℕ) (forest : Forest) → length (calls_of bytes forest) + length (calls_of bytes forest)
@@ -258,5 +257,6 @@ distinct-ids bytes names options document built underlined keeps small =
       ending = escaped;
       titles = titles-escaped bytes names options document ending escaped built keeps.grammar;
     } in
-    counted-once (meaning options names bytes document) (λ w. document-counted d w document keeps.grammar keeps.by_number built underlined
+    counted-once (meaning options names bytes document)
+    (λ w. document-counted d w document keeps.grammar keeps.by_number built underlined
     (omega (calls-fewer bytes document, small, arith)))

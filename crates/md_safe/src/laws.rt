@@ -16,14 +16,14 @@ ghost use Rattle.md_safe.specs.Options.{KeepsGrammar, KeepsLinks, KeepsImages, K
 /// reading, where the options write nothing as it is given; and in that reading each link, and each image, has
 /// no protocol or a permitted one, where the options keep to those.
 pub fn safe_options_make_safe_output()
-    ensures one_reading { (bytes : List ℕ) (names : List (List ℕ × List ℕ)) (options : CompileOptions) (document : Forest)
-        → IsBuilt bytes Blocks document → KeepsGrammar options
+    ensures one_reading { (bytes : List ℕ) (names : List (List ℕ × List ℕ)) (options : CompileOptions)
+        (document : Forest) → IsBuilt bytes Blocks document → KeepsGrammar options
         → HasOneReadingWith any_attribute (meaning options names bytes document) }
-    ensures safe_links { (bytes : List ℕ) (names : List (List ℕ × List ℕ)) (options : CompileOptions) (document : Forest)
-        → IsBuilt bytes Blocks document → KeepsLinks options
+    ensures safe_links { (bytes : List ℕ) (names : List (List ℕ × List ℕ)) (options : CompileOptions)
+        (document : Forest) → IsBuilt bytes Blocks document → KeepsLinks options
         → HasOneReadingWith is_safe_link (meaning options names bytes document) }
-    ensures safe_images { (bytes : List ℕ) (names : List (List ℕ × List ℕ)) (options : CompileOptions) (document : Forest)
-        → IsBuilt bytes Blocks document → KeepsImages options
+    ensures safe_images { (bytes : List ℕ) (names : List (List ℕ × List ℕ)) (options : CompileOptions)
+        (document : Forest) → IsBuilt bytes Blocks document → KeepsImages options
         → HasOneReadingWith is_safe_image (meaning options names bytes document) }
 {}
 

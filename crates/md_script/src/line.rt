@@ -28,7 +28,7 @@ pub(crate) fn read_kind(sign: u8) -> Option<Kind>
     }
 }
 
-/// An index, and behind a dot the columns of a tab that are taken.
+/// An index, and after a dot the columns of a tab that are taken.
 fn read_point(place: &[u8]) -> Option<Point>
     ensures { result ≡ point_of place.now }
 {

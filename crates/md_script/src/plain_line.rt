@@ -46,7 +46,7 @@ fn find_break(bytes: &[u8]) -> Option<usize>
         .position(|byte| *byte == b' ' || *byte == b'\n')
 }
 
-/// An index of 1 to 9 digits, and what follows the line feed behind it.
+/// An index of 1 to 9 digits, and what follows the line feed after it.
 fn split_index(bytes: &[u8]) -> Option<(usize, &[u8])>
     ensures { IfSome result (λ read. BeginsWithIndex bytes.now read.0 read.1.now) }
 {

@@ -104,7 +104,7 @@ pub(crate) fn is_new(lines: &[&[u8]], line: &[u8]) -> bool
     }
 }
 
-/// The name behind `!`.
+/// The name after `!`.
 fn option_name(line: &[u8]) -> Option<&[u8]>
     ensures { option_copied result ≡ spec.option_name line.now }
 {
@@ -151,7 +151,7 @@ fn value_given<'a>(lines: &[&'a [u8]], name: &[u8]) -> Option<&'a str>
     None
 }
 
-/// What stands behind the first `=`, where it is a text.
+/// What stands after the first `=`, where it is a text.
 fn value_of(line: &[u8]) -> Option<&str>
     ensures { option_copied result ≡ spec.value_of line.now }
 {

@@ -1,7 +1,7 @@
 //! Readers and writers over memory, of which a read or a write fails.
 
 use crate::append_text;
-use md_html::Rule;
+use md_html::{CompileError, Rule};
 use md_script::{RunError, ServeError, serve};
 use std::alloc::Global;
 use std::io::{self, ErrorKind, Read, Write};
@@ -245,5 +245,28 @@ fn errors_have_a_status_and_a_line(rt: HostRuntime) -> Result<(), Fail> {
         assert_eq!(&rt; error.status(), status);
         assert_eq!(&rt; error.to_string(rt.alloc())?.as_str(), message);
     }
+    Ok(())
+}
+
+/// What is told of a script that has no text, and of events that have none.
+#[test]
+fn errors_are_told(rt: HostRuntime) -> Result<(), Fail> {
+    let refused = RunError::Event {
+        index: 3,
+        rule: Rule::Place,
+    };
+    let cases = [
+        (RunError::Memory, 3, "out of memory"),
+        (RunError::Line(4), 2, "line 4: unreadable"),
+        (refused, 1, "event 3: Place"),
+    ];
+    for (error, status, message) in cases {
+        assert_eq!(rt; error.status(), status);
+        assert_eq!(rt; error.to_string(rt.alloc())?.as_str(), message);
+    }
+    assert_eq!(rt;
+        CompileError::Memory.to_string(rt.alloc())?.as_str(),
+        "out of memory"
+    );
     Ok(())
 }

@@ -1,9 +1,11 @@
--- What matches the pattern of a role may stand in each node that has it.
+-- What matches the pattern of a role may stand in each node that has it: by computing over the patterns, once for each
+-- name. That documents are built so goes by it.
 use denote.Enum.Bare.{sameb}
 use Rattle.std.proofs.Common.{◌≡◌, inl, inr, ℕ, zero, suc, Bool, true, false, ◌&&◌, ◌||◌, List, [], ◌∷◌, ◌++◌, length, replicate, refl, sym, subst, arith}
 use Rattle.std.specs.List.{list_all, list_any}
-use Rattle.std.proofs.lemmas.Bool.{and_parts, and_from, false≢true}
+use Rattle.std.proofs.lemmas.Bool.{and_parts, and_from}
 use denote.Enum.Bare.{same_true}
+use Rattle.md_base.proofs.Lies.{lie}
 use Rattle.md_pattern.specs.contracts.kinds.Symbol.{the_type}
 use Rattle.md_pattern.specs.declared.kinds.Symbol.{Symbol}
 use Rattle.md_pattern.specs.declared.kinds.Symbol.TheVariants.{ReferenceMarker, ReferenceNumeric, ReferenceHexadecimal, ReferenceValue, SetextText, SetextUnderline, LineEnding}
@@ -17,13 +19,10 @@ use Rattle.md_pattern.specs.Spine.{IsTail, IsGrouped, Matches}
 use Rattle.md_shape.specs.Built.{Content, Blocks, Spans, Strings, FirstFence, FirstMathFence, Chunks, InfoAndMeta, MetaAlone, Done, Nothing}
 use Rattle.md_shape.proofs.Symbols.{may_show, past, admits, same_content, item_admits, pattern_admits}
 
-lie : false ≡ true → ⊥
-lie h = false≢true h
-
 -- what may stand at the beginning may stand behind others
 may_show-behind : (content : Content) (symbol : Symbol) → may_show false content symbol ≡ true →
     may_show true content symbol ≡ true
-may_show-behind Chunks symbol h = absurd (lie h)
+may_show-behind Chunks symbol h = lie h
 may_show-behind _ symbol h = h
 
 pub shown_behind : (behind : Bool) (content : Content) (symbol : Symbol) → may_show behind content symbol ≡ true →
@@ -55,12 +54,12 @@ same_content-is InfoAndMeta InfoAndMeta h = refl
 same_content-is MetaAlone MetaAlone h = refl
 same_content-is Done Done h = refl
 same_content-is Nothing Nothing h = refl
-same_content-is _ _ h = absurd (lie h)
+same_content-is _ _ h = lie h
 
 -- what holds of each member of a class holds of each symbol that it takes
 pub taken : (test : Symbol → Bool) (symbols : List Symbol) (symbol : Symbol) →
     list_any (λ member. sameb the_type member symbol) symbols ≡ true → list_all test symbols ≡ true → test symbol ≡ true
-taken test [] symbol seen h = absurd (lie seen)
+taken test [] symbol seen h = lie seen
 taken test (member ∷ symbols) symbol seen h =
     let parts = and_parts (test member) (list_all test symbols) h in
     by (sameb the_type member symbol) refl seen parts.0 (λ later. taken test symbols symbol later parts.1)
@@ -159,14 +158,14 @@ tail_admits ReferenceMarker tail others content is may h = by content may h
     by Blocks may h = with_tail Blocks h h h
     by Spans may h = with_tail Spans h h h
     by Strings may h = with_tail Strings h h h
-    by _ may h = absurd (lie may)
+    by _ may h = lie may
 tail_admits SetextText tail others content is may h = by content may h
   where
     by : (content : Content) → may_show true content SetextText ≡ true →
         admits true (past content SetextText) others ≡ true →
         admits true (past content SetextText) (tail ++ others) ≡ true
     by Blocks may h = subst (λ t. admits true Blocks (t ++ others) ≡ true) (sym is.1) (endings_admit is.0 others h)
-    by _ may h = absurd (lie may)
+    by _ may h = lie may
 tail_admits first tail others content is may h = subst (λ t. admits true (past content first) (t ++ others)
     ≡ true) (sym is) h
 

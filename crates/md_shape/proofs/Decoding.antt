@@ -3,7 +3,8 @@ use Rattle.std.proofs.Common.{◌≡◌, inl, inr, ℕ, zero, suc, Bool, true, f
 use Rattle.std.specs.Prelude.{if◌then◌else◌, is_some, replicate, unwrap_or}
 use Rattle.std.specs.Option.{option_map_or}
 use Rattle.std.specs.List.{list_all}
-use Rattle.std.proofs.lemmas.Bool.{and_parts, and_from, false≢true}
+use Rattle.std.proofs.lemmas.Bool.{and_parts, and_from}
+use Rattle.md_base.proofs.Lies.{lie}
 use Rattle.md_base.specs.declared.event.Name.{Name}
 use Rattle.md_base.specs.declared.event.Name.TheVariants as name
 use Rattle.md_base.specs.declared.event.Point.{Point}
@@ -13,15 +14,12 @@ use Rattle.md_pattern.specs.declared.kinds.Symbol.{Symbol}
 use Rattle.md_pattern.specs.declared.kinds.Symbol.TheVariants as symbol
 use Rattle.md_pattern.specs.declared.kinds.Role.{Role}
 use Rattle.md_pattern.specs.declared.kinds.Role.TheVariants as role
-use Rattle.md_pattern.specs.declared.kinds.Class.{Class}
-use Rattle.md_pattern.specs.declared.kinds.Item.{Item}
 use Rattle.md_pattern.specs.declared.kinds.Standing.{Standing}
 use Rattle.md_pattern.specs.declared.kinds.Standing.TheVariants.{Through, Space, Solid, Mdx}
-use Rattle.md_tree.specs.declared.rule.Rule.{Rule}
 use Rattle.md_tree.specs.declared.rule.Rule.TheVariants as rule
 use Rattle.md_base.specs.Tree.{Forest, Empty, Node}
 use Rattle.md_pattern.specs.Standing.{standing_of}
-use Rattle.md_pattern.specs.Pattern.{members, takes, pattern_of, Fits}
+use Rattle.md_pattern.specs.Pattern.{pattern_of}
 use Rattle.md_pattern.specs.Spine.{spine, shown, IsTail, IsGrouped, Matches}
 use Rattle.md_pattern.specs.Shape.{IsStanding, AreShaped, role_for, last_symbol, inner_role, inner_before}
 use Rattle.md_tree.specs.Rules.{broken_by, unless, is_decodable, marker_after}
@@ -34,11 +32,9 @@ use Rattle.md_meaning.specs.Surroundings.{last_of, spine_inside, spine_behind}
 use Rattle.md_meaning.specs.Meaning.Spans.{marker}
 use Rattle.md_shape.specs.Leads.{EverywhereAfter, Decodes}
 use Rattle.md_shape.proofs.Symbols.{Told, told}
-use Rattle.md_shape.proofs.Admitted.{taken}
 use Rattle.md_shape.proofs.Firsts.{IsFine, AreFine, fine, shaped}
-
-lie : false ≡ true → ⊥
-lie h = false≢true h
+use Rattle.md_shape.proofs.Fitting.{unless-holds}
+use Rattle.md_shape.proofs.Letters.{letters, fits-all}
 
 -- ---- values stand after marks
 
@@ -62,7 +58,7 @@ is_no_value symbol.ReferenceValue = false
 is_no_value _ = true
 
 well-first : (before : Option Symbol) (seen : Symbol) → is_no_value seen ≡ true → stands_well before seen ≡ true
-well-first before symbol.ReferenceValue h = absurd (lie h)
+well-first before symbol.ReferenceValue h = lie h
 well-first before _ h = refl
 
 well-endings : (n : ℕ) (before : Option Symbol) (rest : List Symbol) →
@@ -96,40 +92,13 @@ well-grouped (first ∷ firsts) spine h is before =
     ∙ and_from (stands_well before first) (are_well (Some first) (is.0 ++ is.1)) (well-first before first parts.0)
     (well-tail first is.0 is.1 is.3 (well-grouped firsts is.1 parts.1 is.4))
 
-no_value-append : (symbols others : List Symbol) → list_all is_no_value symbols ≡ true →
-    list_all is_no_value others ≡ true → list_all is_no_value (symbols ++ others) ≡ true
-no_value-append [] others h g = g
-no_value-append (seen ∷ symbols) others h g =
-    let parts = and_parts (is_no_value seen) (list_all is_no_value symbols) h in
-    and_from (is_no_value seen) (list_all is_no_value (symbols ++ others)) parts.0
-    (no_value-append symbols others parts.1 g)
-
-own-no_value : (class : Class) (own : List Symbol) → list_all is_no_value (members class) ≡ true →
-    list_all (takes class) own ≡ true → list_all is_no_value own ≡ true
-own-no_value class [] h own_taken = refl
-own-no_value class (seen ∷ own) h own_taken =
-    let parts = and_parts (takes class seen) (list_all (takes class) own) own_taken in
-    and_from (is_no_value seen) (list_all is_no_value own) (taken is_no_value (members class) seen parts.0 h)
-    (own-no_value class own h parts.1)
-
-fits-no_value : (items : List Item) (symbols : List Symbol) →
-    list_all (λ item. list_all is_no_value (members item.class)) items ≡ true → Fits items symbols →
-    list_all is_no_value symbols ≡ true
-fits-no_value [] symbols h fit = ap (list_all is_no_value) fit
-fits-no_value (item ∷ items) symbols h fit =
-    let parts = and_parts (list_all is_no_value (members item.class))
-    (list_all (λ i. list_all is_no_value (members i.class)) items) h in
-    ap (list_all is_no_value) fit.2 ∙ no_value-append fit.0 fit.1 (own-no_value item.class fit.0 parts.0 fit.3)
-    (fits-no_value items fit.1 parts.1 fit.5)
-
-pattern-no_value : (around : Role) → list_all (λ item. list_all is_no_value (members item.class)) (pattern_of around)
-    ≡ true
+pattern-no_value : (around : Role) → letters is_no_value (pattern_of around) ≡ true
 pattern-no_value role.Flow = refl
 pattern-no_value _ = refl
 
 well-spine : (around : Role) (spine : List Symbol) → Matches around spine → are_well None spine ≡ true
 well-spine around spine match = well-grouped match.0 spine
-    (fits-no_value (pattern_of around) match.0 (pattern-no_value around) match.2) match.1 None
+    (fits-all is_no_value (pattern_of around) match.0 match.2 (pattern-no_value around)) match.1 None
 
 well-split : (before : Option Symbol) (symbols others : List Symbol) → are_well before (symbols ++ others) ≡ true →
     (are_well before symbols ≡ true) × (are_well (last_symbol before symbols) others ≡ true)
@@ -160,9 +129,9 @@ last-push (other ∷ names) n = ap (λ o. Some (unwrap_or o other)) (last-push n
 solid-shown : (standing : Standing) (before : Option Symbol) (symbols : List Symbol) → is_solid standing ≡ true →
     last_symbol before (shown standing [] ++ symbols) ≡ last_symbol (symbol_in standing) symbols
 solid-shown (Solid seen usual reading) before symbols h = refl
-solid-shown Through before symbols h = absurd (lie h)
-solid-shown Space before symbols h = absurd (lie h)
-solid-shown Mdx before symbols h = absurd (lie h)
+solid-shown Through before symbols h = lie h
+solid-shown Space before symbols h = lie h
+solid-shown Mdx before symbols h = lie h
 
 -- names that stand on a spine follow others
 last-symbols : (names behind : List Name) (before : Option Symbol) →
@@ -214,20 +183,16 @@ mark-name : (n : Name) → is_mark (symbol_in (standing_of n)) ≡ true →
 mark-name name.CharacterReferenceMarker h = refl
 mark-name name.CharacterReferenceMarkerNumeric h = refl
 mark-name name.CharacterReferenceMarkerHexadecimal h = refl
-mark-name _ h = absurd (lie h)
+mark-name _ h = lie h
 
 decodable : (names : List (List ℕ × List ℕ)) (before : Option Symbol) (text : List ℕ) (m : ℕ) →
     marker_after before ≡ Some m → is_decodable names before text ≡ true → is_some (decoded names m text) ≡ true
 decodable names before text m e h = ap (λ o. option_map_or (λ k. is_some (decoded names k text)) o true) (sym e) ∙ h
 
-not_broken : (condition : Bool) (broken : Rule) → unless condition broken ≡ None → condition ≡ true
-not_broken true broken e = refl
-not_broken false broken e = cc
-
 after_name : (names : List (List ℕ × List ℕ)) (before : Option Symbol) (text : List ℕ) (last : Option Name) →
     is_mark before ≡ true → before ≡ symbol_of last → is_decodable names before text ≡ true →
     is_some (decoded names (option_map_or marker last 38) text) ≡ true
-after_name names before text None h e d = absurd (lie (ap is_mark (sym e) ∙ h))
+after_name names before text None h e d = lie (ap is_mark (sym e) ∙ h)
 after_name names before text (Some n) h e d =
     decodable names before text (marker n) (ap marker_after e ∙ mark-name n (ap is_mark (sym e) ∙ h)) d
 
@@ -237,7 +202,7 @@ value-decodes : (names : List (List ℕ × List ℕ)) (before : Option Symbol) (
     is_some (decoded names (option_map_or marker last 38) (unwrap_or text [])) ≡ true
 value-decodes names before None last h e rules = cc
 value-decodes names before (Some text) last h e rules = after_name names before text last h e
-    (not_broken (is_decodable names before text) rule.CharacterReference rules)
+    (unless-holds (is_decodable names before text) rule.CharacterReference rules)
 
 node-decodes : (bytes : List ℕ) (names : List (List ℕ × List ℕ)) (behind : List Name) (n : Name) (start end : Point)
     (children : Forest) (around : Role) (before : Option Symbol) →

@@ -1,7 +1,9 @@
--- The first node on a spine that passes a test.
+-- The first node on a spine that passes a test: there is one where the pattern begins with it. So a heading's mark, a
+-- fence and a label are found where the meaning looks for them.
 use Rattle.std.proofs.Common.{◌≡◌, ◌⊎◌, inl, inr, ℕ, Bool, true, false, ◌||◌, cond, Option, Some, None, List, [], ◌∷◌, ◌++◌, refl, sym, ap, ◌∙◌, subst, length, arith}
 use Rattle.std.specs.List.{list_all, list_any}
-use Rattle.std.proofs.lemmas.Bool.{and_parts, false≢true}
+use Rattle.std.proofs.lemmas.Bool.{and_parts}
+use Rattle.md_base.proofs.Lies.{lie}
 use Rattle.md_base.specs.declared.event.Name.{Name}
 use Rattle.md_base.specs.declared.event.Point.{Point}
 use Rattle.md_pattern.specs.declared.kinds.Symbol.{Symbol}
@@ -52,9 +54,6 @@ abbrev pub begins : (Symbol → Bool) → List Symbol → Bool
 begins test [] = false
 begins test (symbol ∷ symbols) = test symbol
 
-lie : false ≡ true → ⊥
-lie h = false≢true h
-
 -- a test on names that tells the same as a test on symbols
 abbrev pub Agree : (Symbol → Bool) → (Name → Bool) → Type 0
 Agree of_symbols of_names = (name : Name) → of_names name ≡ shows of_symbols (standing_of name)
@@ -100,9 +99,9 @@ module _ {A : Type 0} (of_symbols : Symbol → Bool) (of_names : Name →
     where
       by : (shows passes through : Bool) → passes ≡ shows → (shows || false) ≡ false → through ≡ false →
           told_here passes through (tell start end children) (first_on_spine of_names tell children) ≡ None
-      by true passes through e h t = absurd (lie (sym h))
-      by false true through e h t = absurd (lie (sym e))
-      by false false true e h t = absurd (lie (sym t))
+      by true passes through e h t = lie (sym h)
+      by false true through e h t = lie (sym e)
+      by false false true e h t = lie (sym t)
       by false false false e h t = refl
   none_step Mdx name start end children around before says same stands again absent = absurd stands
 
@@ -115,7 +114,7 @@ module _ {A : Type 0} (of_symbols : Symbol → Bool) (of_names : Name →
           (list_any of_symbols (symbols ++ others) ≡ false →
           (list_any of_symbols symbols ≡ false) × (list_any of_symbols others ≡ false)) →
           ((passes || list_any of_symbols symbols) ≡ false) × (list_any of_symbols others ≡ false)
-      by true h later = absurd (lie (sym h))
+      by true h later = lie (sym h)
       by false h later = later h
 
   -- there is none where no such symbol is
@@ -222,7 +221,7 @@ module _ {A : Type 0} (of_symbols : Symbol → Bool) (of_names : Name →
 
   pub has_first : (forest : Forest) (around : Role) → AreFine bytes names forest around None →
       begins of_symbols (spine forest) ≡ true → First forest around
-  has_first Empty around all h = absurd (lie h)
+  has_first Empty around all h = lie h
   has_first (Node name start end children rest) around all h =
       first_step (standing_of name) name start end children rest around (told name)
       (agree name) all.0.0.1 all.1 all.2 all.0 all.1
@@ -259,7 +258,7 @@ module _ {A : Type 0} (of_symbols : Symbol → Bool) (of_names : Name →
       by : (passes through : Bool) → (passes ≡ true → Holds (tell start end children)) → through ≡ false →
           OfFirst Holds (told_here passes through (tell start end children) (first_on_spine of_names tell children))
       by true through here e = here refl
-      by false true here e = absurd (lie (sym e))
+      by false true here e = lie (sym e)
       by false false here e = tt
   of_here Holds Mdx name start end children around before says same stands here fine_inside again = absurd stands
 

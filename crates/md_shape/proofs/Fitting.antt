@@ -1,4 +1,5 @@
--- What else is asked of a node holds of each node that has its shape and meets the rules.
+-- What else is asked of a node, as a heading's rank or a list's number, holds of each node that has its shape and
+-- meets the rules.
 use Rattle.std.specs.Str.{bytes_eq}
 use Rattle.std.proofs.Common.{◌≡◌, ◌⊎◌, inl, inr, ℕ, ◌^◌, ◌≤◌, Bool, true, false, not, ◌&&◌, ◌||◌, ◌==◌, if◌then◌else◌, cond, Option, Some, None, is_some, List, [], ◌∷◌, ◌++◌, length, refl, sym, ap, ◌∙◌, subst, arith}
 use Rattle.std.specs.Prelude.{nat_lt, nat_le, unwrap_or}
@@ -7,8 +8,9 @@ use Rattle.std.specs.Str.Parse.{digits_value}
 use Rattle.std.specs.Option.{option_map_or}
 use Rattle.std.specs.List.{list_all, list_any}
 use Rattle.std.specs.Cmp.Lexicographic.{bytes_decides}
-use Rattle.std.proofs.lemmas.Bool.{and_parts, and_from, false≢true, ltb-true, leb-true, le-leb}
+use Rattle.std.proofs.lemmas.Bool.{and_parts, and_from, ltb-true, leb-true, le-leb}
 use Rattle.std.proofs.lemmas.Str.Parse.{digit_from_value}
+use Rattle.md_base.proofs.Lies.{lie}
 use Rattle.md_base.specs.declared.event.Name.{Name}
 use Rattle.md_base.specs.declared.event.Name.TheVariants.{LineEnding, BlankLineEnding, HeadingAtx, HeadingAtxSequence, ListOrdered, ListItem, ListItemPrefix, ListItemValue, CodeFenced, MathFlow, CodeFencedFence}
 use Rattle.md_base.specs.declared.event.Point.{Point}
@@ -41,11 +43,8 @@ use Rattle.md_shape.proofs.Symbols.{is_fence_symbol, Told, told}
 use Rattle.md_shape.proofs.Admitted.{taken}
 use Rattle.md_shape.proofs.Firsts.{IsFine, AreFine, shows, begins, Agree, First, has_first, none_first, OfAll, OfFirst, of_first, begins_with}
 
-lie : false ≡ true → ⊥
-lie h = false≢true h
-
 -- a rule that isn't broken holds
-unless-holds : (condition : Bool) (broken : Rule) → unless condition broken ≡ None → condition ≡ true
+pub unless-holds : (condition : Bool) (broken : Rule) → unless condition broken ≡ None → condition ≡ true
 unless-holds true broken e = refl
 unless-holds false broken e = cc
 
@@ -67,14 +66,14 @@ ending-ends text h =
         found true b c x y z h = refl
         found false true c x y z h = refl
         found false false true x y z h = refl
-        found false false false x y z h = absurd (lie h)
+        found false false false x y z h = lie h
 
     by : (a b c : Bool) → (a ≡ true → is_line_ends text ≡ true) → (b ≡ true → is_line_ends text ≡ true) →
         (c ≡ true → is_line_ends text ≡ true) → (a || (b || c)) ≡ true → is_line_ends text ≡ true
     by true b c f g i h = f refl
     by false true c f g i h = g refl
     by false false true f g i h = i refl
-    by false false false f g i h = absurd (lie h)
+    by false false false f g i h = lie h
 
 -- what holds of a text that breaks nothing holds of the text that is read
 text_fits : (test : List ℕ → Bool) (broken : Rule) (Holds : List ℕ → Type 0) →
@@ -103,7 +102,7 @@ mark_agree _ = refl
 
 mark_is : (name : Name) → is_heading_mark name ≡ true → name ≡ HeadingAtxSequence
 mark_is HeadingAtxSequence h = refl
-mark_is _ h = absurd (lie h)
+mark_is _ h = lie h
 
 heading_fits : (bytes : List ℕ) (names : List (List ℕ × List ℕ)) (children : Forest) →
     AreFine bytes names children role.Heading None → begins is_mark_symbol (spine children) ≡ true →
@@ -148,7 +147,7 @@ value_agree _ = refl
 
 value_is : (name : Name) → is_item_value name ≡ true → name ≡ ListItemValue
 value_is ListItemValue h = refl
-value_is _ h = absurd (lie h)
+value_is _ h = lie h
 
 is_prefix_symbol : Symbol → Bool
 is_prefix_symbol symbol.ListItemPrefix = true
@@ -161,7 +160,7 @@ prefix_agree _ = refl
 
 prefix_is : (name : Name) → is_item_prefix name ≡ true → name ≡ ListItemPrefix
 prefix_is ListItemPrefix h = refl
-prefix_is _ h = absurd (lie h)
+prefix_is _ h = lie h
 
 is_item_symbol : Symbol → Bool
 is_item_symbol symbol.ListItem = true
@@ -174,7 +173,7 @@ item_agree _ = refl
 
 item_is : (name : Name) → is_item name ≡ true → name ≡ ListItem
 item_is ListItem h = refl
-item_is _ h = absurd (lie h)
+item_is _ h = lie h
 
 from_first_of : (bytes : List ℕ) (found : Option (Option Position)) → OfFirst (MayHaveDigits bytes) found →
     MayHaveDigits bytes (unwrap_or found None)
@@ -188,7 +187,7 @@ is_marker_symbol _ = false
 marker_is : (seen : Symbol) → is_marker_symbol seen ≡ true → seen ≡ symbol.ListItemMarker
 unfolding is_marker_symbol
 marker_is symbol.ListItemMarker h = refl
-marker_is _ h = absurd (lie h)
+marker_is _ h = lie h
 
 -- the spine of an ordered list's first prefix begins with a value, or has none
 value_or_none : (spine : List Symbol) → Matches role.FirstOrderedPrefix spine →
@@ -283,7 +282,7 @@ any_behind test (name ∷ names) others h = by (test name) (any_behind test name
 
 any_before : (test : Name → Bool) (names others : List Name) → list_any test names ≡ true →
     list_any test (names ++ others) ≡ true
-any_before test [] others h = absurd (lie h)
+any_before test [] others h = lie h
 any_before test (name ∷ names) others h = by (test name) h (λ later. any_before test names others later)
   where
     by : (passes : Bool) → (passes || list_any test names) ≡ true →
@@ -314,7 +313,7 @@ any_here : (standing : Standing) (name : Name) (children : Forest) (around : Rol
     list_any is_fence (if is_transparent name then spine_names children else name ∷ []) ≡ true
 any_here Through name children around before says same stands again h =
     ap (λ t. list_any is_fence (cond t (spine_names children) (name ∷ []))) says ∙ again h
-any_here Space name children around before says same stands again h = absurd (lie h)
+any_here Space name children around before says same stands again h = lie h
 any_here (Solid symbol usual reading) name children around before says same stands again h =
     ap (λ t. list_any is_fence (cond t (spine_names children) (name ∷ []))) says.0 ∙ (ap (λ t. t || false) same ∙ h)
 any_here Mdx name children around before says same stands again h = absurd stands
@@ -322,7 +321,7 @@ any_here Mdx name children around before says same stands again h = absurd stand
 fence_named : (bytes : List ℕ) (names : List (List ℕ × List ℕ)) (forest : Forest) (around : Role)
     (before : Option Symbol) → AreFine bytes names forest around before →
     list_any is_fence_symbol (spine forest) ≡ true → list_any is_fence (spine_names forest) ≡ true
-fence_named bytes names Empty around before all h = absurd (lie h)
+fence_named bytes names Empty around before all h = lie h
 fence_named bytes names (Node name start end children rest) around before all h =
     elim (any_split is_fence_symbol (shown (standing_of name) (spine children)) (spine rest) h) [
       | inl here ↦ any_before is_fence (if is_transparent name then spine_names children else name
@@ -334,7 +333,7 @@ fence_named bytes names (Node name start end children rest) around before all h 
     ]
 
 any_begins : (test : Symbol → Bool) (symbols : List Symbol) → begins test symbols ≡ true → list_any test symbols ≡ true
-any_begins test [] h = absurd (lie h)
+any_begins test [] h = lie h
 any_begins test (symbol ∷ symbols) h = ap (λ t. t || list_any test symbols) h
 
 -- what else is asked of a node

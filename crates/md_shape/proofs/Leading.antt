@@ -1,9 +1,11 @@
--- What links, images, calls and definitions refer by is the same in the grammar and in the meaning.
+-- What links, images, calls and definitions refer by is the same in the grammar, which takes the last label on a
+-- spine, and in the meaning, which looks for one by name.
 use denote.Enum.Bare.{sameb}
-use Rattle.std.proofs.Common.{◌≡◌, ◌≤◌, ◌⊎◌, inl, inr, ℕ, zero, suc, Bool, true, false, ◌&&◌, ◌||◌, Option, Some, None, List, [], ◌∷◌, ◌++◌, refl, sym, ap, ◌∙◌, subst, length, arith, append_assoc}
-use Rattle.std.specs.Prelude.{if◌then◌else◌, unwrap_or, is_some, replicate}
+use Rattle.std.proofs.Common.{◌≡◌, ◌≤◌, ◌⊎◌, inl, inr, Bool, true, false, ◌&&◌, ◌||◌, Option, Some, None, List, [], ◌∷◌, ◌++◌, refl, sym, ap, ◌∙◌, subst, length, arith, append_assoc}
+use Rattle.std.specs.Prelude.{if◌then◌else◌, unwrap_or, is_some}
 use Rattle.std.specs.List.{list_all, list_any}
-use Rattle.std.proofs.lemmas.Bool.{and_parts, and_from, false≢true}
+use Rattle.std.proofs.lemmas.Bool.{and_parts, and_from}
+use Rattle.md_base.proofs.Lies.{lie}
 use Rattle.md_base.specs.declared.event.Name.{Name}
 use Rattle.md_base.specs.declared.event.Name.TheVariants as name
 use Rattle.md_base.specs.declared.event.Point.{Point}
@@ -13,7 +15,6 @@ use Rattle.md_pattern.specs.contracts.kinds.Symbol.{the_type}
 use Rattle.md_pattern.specs.declared.kinds.Symbol.{Symbol}
 use Rattle.md_pattern.specs.declared.kinds.Symbol.TheVariants as symbol
 use Rattle.md_pattern.specs.declared.kinds.Class.TheVariants.{Phrasing, Flow, Only, Either}
-use Rattle.md_pattern.specs.declared.kinds.Class.{Class}
 use Rattle.md_pattern.specs.declared.kinds.Item.{Item}
 use Rattle.md_pattern.specs.declared.kinds.Role.{Role}
 use Rattle.md_pattern.specs.declared.kinds.Role.TheVariants as role
@@ -35,9 +36,7 @@ use Rattle.md_shape.specs.Leads.{label_target}
 use Rattle.md_shape.proofs.Admitted.{taken}
 use Rattle.md_shape.proofs.Firsts.{Agree}
 use Rattle.md_shape.proofs.Stands.{Stand, stand_here, stands, seen_of, spine-stands, target_by, sought, target-stands, first_seen, first-stands}
-
-lie : false ≡ true → ⊥
-lie h = false≢true h
+use Rattle.md_shape.proofs.Letters.{own-all, fits-all, followed-all}
 
 -- ---- symbols that leave no target, and those that do
 
@@ -58,13 +57,13 @@ is_neutral _ = true
 
 neutral-leaves : (seen : Symbol) (found inner : Target) (there : Position) → is_neutral seen ≡ true →
     target_by seen found inner there ≡ found
-neutral-leaves symbol.LabelText found inner there h = absurd (lie h)
-neutral-leaves symbol.ReferenceString found inner there h = absurd (lie h)
-neutral-leaves symbol.DefinitionLabel found inner there h = absurd (lie h)
-neutral-leaves symbol.FootnoteLabel found inner there h = absurd (lie h)
-neutral-leaves symbol.Label found inner there h = absurd (lie h)
-neutral-leaves symbol.FootnotePrefix found inner there h = absurd (lie h)
-neutral-leaves symbol.Resource found inner there h = absurd (lie h)
+neutral-leaves symbol.LabelText found inner there h = lie h
+neutral-leaves symbol.ReferenceString found inner there h = lie h
+neutral-leaves symbol.DefinitionLabel found inner there h = lie h
+neutral-leaves symbol.FootnoteLabel found inner there h = lie h
+neutral-leaves symbol.Label found inner there h = lie h
+neutral-leaves symbol.FootnotePrefix found inner there h = lie h
+neutral-leaves symbol.Resource found inner there h = lie h
 neutral-leaves _ found inner there h = refl
 
 sought-neutral : (nodes : List Stand) (found : Target) → list_all is_neutral (seen_of nodes) ≡ true →
@@ -89,7 +88,7 @@ text-agree _ = refl
 
 text-is : (seen : Symbol) → is_text seen ≡ true → seen ≡ symbol.LabelText
 text-is symbol.LabelText h = refl
-text-is _ h = absurd (lie h)
+text-is _ h = lie h
 
 abbrev text_seen : List Stand → Option Position
 text_seen nodes = first_seen is_text is_label_text text-agree position nodes
@@ -114,16 +113,8 @@ text-sought (node ∷ nodes) h = by (is_text node.seen) refl h (text-sought node
         (place node.start node.end) parts.0)
         ∙ again parts.1
 
-neutral-append : (symbols others : List Symbol) → list_all is_neutral symbols ≡ true →
-    list_all is_neutral others ≡ true → list_all is_neutral (symbols ++ others) ≡ true
-neutral-append [] others h g = g
-neutral-append (seen ∷ symbols) others h g =
-    let parts = and_parts (is_neutral seen) (list_all is_neutral symbols) h in
-    and_from (is_neutral seen) (list_all is_neutral (symbols ++ others)) parts.0
-    (neutral-append symbols others parts.1 g)
-
 neutral-no_text : (seen : Symbol) → is_neutral seen ≡ true → is_text seen ≡ false
-neutral-no_text symbol.LabelText h = absurd (lie h)
+neutral-no_text symbol.LabelText h = lie h
 neutral-no_text _ h = refl
 
 one_text-append : (symbols others : List Symbol) → list_all is_neutral symbols ≡ true → has_one_text others ≡ true →
@@ -142,29 +133,9 @@ neutral-one_text symbols h = subst (λ s. has_one_text s ≡ true) (append_nil s
     append_nil [] = refl
     append_nil (x ∷ xs) = ap (λ s. x ∷ s) (append_nil xs)
 
-endings-neutral : (n : ℕ) → list_all is_neutral (replicate n symbol.LineEnding) ≡ true
-endings-neutral zero = refl
-endings-neutral (suc n) = endings-neutral n
-
-tail-neutral : (first : Symbol) (tail : List Symbol) → is_neutral first ≡ true → IsTail first tail →
-    list_all is_neutral tail ≡ true
-tail-neutral symbol.ReferenceMarker tail h is = elim is [
-  | inl e ↦ ap (list_all is_neutral) e
-  | inr more ↦ elim more [ inl e ↦ ap (list_all is_neutral) e | inr e ↦ ap (list_all is_neutral) e ]
-]
-tail-neutral symbol.SetextText tail h is =
-    ap (list_all is_neutral) is.1 ∙ neutral-append (replicate is.0 symbol.LineEnding) (symbol.SetextUnderline
-    ∷ []) (endings-neutral is.0) refl
-tail-neutral _ tail h is = ap (list_all is_neutral) is
-
 grouped-neutral : (firsts spine : List Symbol) → list_all is_neutral firsts ≡ true → IsGrouped firsts spine →
     list_all is_neutral spine ≡ true
-grouped-neutral [] spine h is = ap (list_all is_neutral) is
-grouped-neutral (first ∷ firsts) spine h is =
-    let parts = and_parts (is_neutral first) (list_all is_neutral firsts) h in
-    ap (list_all is_neutral) is.2
-    ∙ and_from (is_neutral first) (list_all is_neutral (is.0 ++ is.1)) parts.0
-    (neutral-append is.0 is.1 (tail-neutral first is.0 parts.0 is.3) (grouped-neutral firsts is.1 parts.1 is.4))
+grouped-neutral firsts spine h is = followed-all is_neutral refl firsts spine is h
 
 -- the groups of two lists of first symbols
 grouped-split : (firsts others spine : List Symbol) → IsGrouped (firsts ++ others) spine →
@@ -179,14 +150,6 @@ grouped-split (first ∷ firsts) others spine is =
       (is.0, rest.0, refl, is.3, rest.3),
       rest.4,
     )
-
-own-neutral : (class : Class) (own : List Symbol) → list_all is_neutral (members class) ≡ true →
-    list_all (takes class) own ≡ true → list_all is_neutral own ≡ true
-own-neutral class [] h own_taken = refl
-own-neutral class (seen ∷ own) h own_taken =
-    let parts = and_parts (takes class seen) (list_all (takes class) own) own_taken in
-    and_from (is_neutral seen) (list_all is_neutral own) (taken is_neutral (members class) seen parts.0 h)
-    (own-neutral class own h parts.1)
 
 or_false : (b : Bool) → (b || false) ≡ true → b ≡ true
 or_false true h = refl
@@ -212,8 +175,9 @@ label-one : (before own after firsts spine : List Symbol) → list_all (takes Ph
 label-one before own after firsts spine b count o a e is =
     let parts = grouped-split before (own ++ after) spine (subst (λ f. IsGrouped f spine) e is) in
     ap has_one_text parts.2
-    ∙ one_text-append parts.0 parts.1 (grouped-neutral before parts.0 (own-neutral Phrasing before refl b) parts.3)
-    (texts-one own after parts.1 count o (own-neutral Phrasing after refl a) parts.4)
+    ∙ one_text-append parts.0 parts.1
+    (grouped-neutral before parts.0 (own-all is_neutral Phrasing before b refl) parts.3)
+    (texts-one own after parts.1 count o (own-all is_neutral Phrasing after a refl) parts.4)
 
 append-nothing : (xs ys : List Symbol) → ys ≡ [] → xs ++ ys ≡ xs
 append-nothing [] ys e = e
@@ -263,11 +227,11 @@ role_right _ _ = true
 
 label-role : (usual : Role) → role_right symbol.Label usual ≡ true → role.Label ≡ usual
 label-role role.Label h = refl
-label-role _ h = absurd (lie h)
+label-role _ h = lie h
 
 prefix-role : (usual : Role) → role_right symbol.FootnotePrefix usual ≡ true → role.FootnotePrefix ≡ usual
 prefix-role role.FootnotePrefix h = refl
-prefix-role _ h = absurd (lie h)
+prefix-role _ h = lie h
 
 abbrev IsRight : Standing → Type 0
 IsRight (Solid seen usual reading) = role_right seen usual ≡ true
@@ -427,8 +391,8 @@ is_lone symbol.SetextText = false
 is_lone _ = true
 
 lone-tail : (first : Symbol) (tail : List Symbol) → is_lone first ≡ true → IsTail first tail → tail ≡ []
-lone-tail symbol.ReferenceMarker tail h is = absurd (lie h)
-lone-tail symbol.SetextText tail h is = absurd (lie h)
+lone-tail symbol.ReferenceMarker tail h is = lie h
+lone-tail symbol.SetextText tail h is = lie h
 lone-tail _ tail h is = is
 
 -- a spine behind a symbol that stands alone
@@ -469,7 +433,7 @@ rest-of-media (seen ∷ []) others firsts spine count own_taken none e is =
     by symbol.ReferenceString h grouped =
         let f = follows symbol.ReferenceString [] spine refl grouped in
         inr (inr (f.are ∙ ap (λ s. symbol.ReferenceString ∷ s) f.grouped))
-    by _ h grouped = absurd (lie h)
+    by _ h grouped = lie h
 rest-of-media (seen ∷ another ∷ own) others firsts spine count own_taken none e is = absurd (omega arith)
 
 -- the label of a link, an image or a call, and what follows it
@@ -604,16 +568,6 @@ media-refers children shaped match =
 
 -- ---- what definitions are referred to by
 
-fits-neutral : (items : List Item) (symbols : List Symbol) →
-    list_all (λ item. list_all is_neutral (members item.class)) items ≡ true → Fits items symbols →
-    list_all is_neutral symbols ≡ true
-fits-neutral [] symbols h fit = ap (list_all is_neutral) fit
-fits-neutral (item ∷ items) symbols h fit =
-    let parts = and_parts (list_all is_neutral (members item.class))
-    (list_all (λ i. list_all is_neutral (members i.class)) items) h in
-    ap (list_all is_neutral) fit.2 ∙ neutral-append fit.0 fit.1 (own-neutral item.class fit.0 parts.0 fit.3)
-    (fits-neutral items fit.1 parts.1 fit.5)
-
 -- nodes that begin with a symbol, behind which nothing leaves a target
 behind-neutral : (seen : Symbol) (start end : Point) (children : Forest) (rest : List Stand) (others : List Symbol) →
     seen_of rest ≡ others → list_all is_neutral others ≡ true → (found : Target) → sought rest found ≡ found
@@ -634,7 +588,8 @@ definition-label children shaped match =
     let f = follows symbol.DefinitionLabel one.others (spine children) refl
     (subst (λ s. IsGrouped s (spine children)) one.are match.1) in
     let node = begins symbol.DefinitionLabel f.others (stands children) (sym (spine-stands children) ∙ f.are) in
-    let neutral = grouped-neutral one.others f.others (fits-neutral behind_a_label one.others refl one.fit) f.grouped
+    let neutral = grouped-neutral one.others f.others
+    (fits-all is_neutral behind_a_label one.others one.fit refl) f.grouped
     in (
       position node.start node.end node.children,
       first-stands is_definition_symbol is_definition_label definition-agree position children role.Definition None
@@ -655,7 +610,7 @@ prefix-label children holds =
     let f = follows symbol.FootnoteLabel one.others (spine children) refl
     (subst (λ s. IsGrouped s (spine children)) one.are match.1) in
     let node = begins symbol.FootnoteLabel f.others (stands children) (sym (spine-stands children) ∙ f.are) in
-    let neutral = grouped-neutral one.others f.others (fits-neutral [] one.others refl one.fit) f.grouped in (
+    let neutral = grouped-neutral one.others f.others (fits-all is_neutral [] one.others one.fit refl) f.grouped in (
       position node.start node.end node.children,
       first-stands is_footnote_symbol is_footnote_label footnote-agree position children role.FootnotePrefix None
           holds.0
@@ -675,7 +630,7 @@ footnote-label children shaped match =
     let f = follows symbol.FootnotePrefix one.others (spine children) refl
     (subst (λ s. IsGrouped s (spine children)) one.are match.1) in
     let node = begins symbol.FootnotePrefix f.others (stands children) (sym (spine-stands children) ∙ f.are) in
-    let neutral = grouped-neutral one.others f.others (fits-neutral (many Flow ∷ []) one.others refl one.fit)
+    let neutral = grouped-neutral one.others f.others (fits-all is_neutral (many Flow ∷ []) one.others one.fit refl)
     f.grouped in
     let holds = (subst (EachHeld role.FootnoteDefinition) node.are
     (held children role.FootnoteDefinition None shaped)).0 in
@@ -707,7 +662,7 @@ some_text (seen ∷ symbols) others h = or_right (is_text seen) (list_any is_tex
 
 text-there : (nodes : List Stand) → list_any is_text (seen_of nodes) ≡ true →
     (there : Position) × (text_seen nodes ≡ Some there)
-text-there [] h = absurd (lie h)
+text-there [] h = lie h
 text-there (node ∷ nodes) h = by (is_text node.seen) h (text-there nodes)
   where
     by : (text : Bool) → (text || list_any is_text (seen_of nodes)) ≡ true →
@@ -740,7 +695,8 @@ call-label children shaped match =
     let own = label.2.5 in
     let seen = one-there label.2.0 own.0 own.1 (spine node.inner) own.4 own.3
     (subst (λ s. IsGrouped s (spine node.inner)) (label.2.2 ∙ ap (λ s. label.2.0 ++ s) own.2) label.1) in
-    let text = text-there (stands node.inner) (subst (λ s. list_any is_text s ≡ true) (spine-stands node.inner) seen) in (
+    let stood = subst (λ s. list_any is_text s ≡ true) (spine-stands node.inner) seen in
+    let text = text-there (stands node.inner) stood in (
       text.0,
       label-found role.FootnoteCall children f.others shaped node
           ∙ first-stands is_text is_label_text text-agree position node.inner role.CallLabel None node.holds.0 ∙ text.1,

@@ -1,6 +1,7 @@
 pub mod Symbols
 pub mod Admitted
 pub mod Spots
+pub mod Letters
 pub mod Firsts
 pub mod Stands
 pub mod Leading

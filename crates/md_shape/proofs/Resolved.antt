@@ -3,7 +3,7 @@ use Rattle.std.proofs.Common.{◌≡◌, ◌⊎◌, inl, inr, ℕ, ◌<◌, Bool
 use Rattle.std.specs.Prelude.{map, option_map, unwrap_or, is_some, if◌then◌else◌, All, Contains, ◌&&◌, replicate}
 use Rattle.std.proofs.lemmas.List.{map-append, length-map, get_or-map}
 use Rattle.std.proofs.lemmas.List.Elements.{All-nil, All-cons, All-head, All-tail}
-use Rattle.std.proofs.lemmas.Bool.{false≢true}
+use Rattle.md_base.proofs.Lies.{lie}
 use Rattle.md_base.specs.declared.event.Name.{Name}
 use Rattle.md_base.specs.declared.event.Name.TheVariants.{Link, Image, Definition, GfmFootnoteCall, GfmFootnoteDefinition}
 use Rattle.md_base.specs.declared.event.Point.{Point}
@@ -36,11 +36,8 @@ use Rattle.md_base.specs.NameTests.{is_link_definition, is_footnote_definition, 
 use Rattle.md_meaning.specs.Places.{identifier_at}
 use Rattle.md_meaning.specs.Meaning.Finds.{first, label_in_node, referring_in, footnote_label}
 use Rattle.md_shape.specs.Leads.{Everywhere, HasItsText, HasItsLabel, label_target, RefersAlike, defined_in, footnotes_in, LeadsSomewhere}
-use Rattle.md_shape.proofs.Firsts.{IsFine, AreFine, fine}
+use Rattle.md_shape.proofs.Firsts.{IsFine, AreFine, fine, shaped}
 use Rattle.md_shape.proofs.Leading.{media-refers, call-refers, call-label, definition-label, footnote-label}
-
-lie : false ≡ true → ⊥
-lie h = false≢true h
 
 -- a claim that a fine node meets holds of each
 everywhere : (bytes : List ℕ) (names : List (List ℕ × List ℕ)) (holds : Name → Point → Point → Forest → Type 0) →
@@ -87,7 +84,7 @@ text-read bytes names (Solid symbol usual reading.Number) around before start en
     text_there (text_between bytes start end) _ e
 text-read bytes names (Solid symbol usual reading.Value) around before start end target e h =
     text_there (text_between bytes start end) _ e
-text-read bytes names _ around before start end target e h = absurd (lie h)
+text-read bytes names _ around before start end target e h = lie h
 
 label-read : (bytes : List ℕ) (names : List (List ℕ × List ℕ)) (standing : Standing) (around : Role)
     (before : Option Symbol) (start end : Point) (target : Target) →
@@ -95,7 +92,7 @@ label-read : (bytes : List ℕ) (names : List (List ℕ × List ℕ)) (standing 
     has_reading is_identifier standing ≡ true → is_some (label_between bytes start end) ≡ true
 label-read bytes names (Solid symbol usual reading.Identifier) around before start end target e h =
     text_there (label_between bytes start end) _ e
-label-read bytes names _ around before start end target e h = absurd (lie h)
+label-read bytes names _ around before start end target e h = lie h
 
 -- the same with spaces at its ends
 text_when-there : (readable : Bool) (one other : List ℕ) → is_utf8 one ≡ is_utf8 other →
@@ -399,12 +396,6 @@ Leads bytes mentions document name start end children =
     IsResolved bytes mentions (mention_of (reading_of (standing_of name)) (target_of children Missing)) →
     LeadsSomewhere bytes document name start end children
 
-shaped_of : (bytes : List ℕ) (names : List (List ℕ × List ℕ)) (forest : Forest) (around : Role)
-    (before : Option Symbol) → AreFine bytes names forest around before → AreShaped forest around before
-shaped_of bytes names Empty around before all = tt
-shaped_of bytes names (Node name start end children rest) around before all =
-    (all.0.0, shaped_of bytes names children _ _ all.1, shaped_of bytes names rest _ _ all.2)
-
 pub leads-somewhere : (bytes : List ℕ) (names : List (List ℕ × List ℕ)) (document : Forest) →
     IsGrammatical bytes names document → Everywhere (LeadsSomewhere bytes document) document
 leads-somewhere bytes names document grammatical =
@@ -419,5 +410,5 @@ leads-somewhere bytes names document grammatical =
     (mention-everywhere (IsResolved bytes mentions) document grammatical.resolved)
     (everywhere bytes names (Leads bytes mentions document)
     (λ around before name start end children here inner. node-leads bytes names mentions document d f around before
-    name start end children here (shaped_of bytes names children _ _ inner))
+    name start end children here (shaped bytes names children _ _ inner))
     document role.Flow None (fine bytes names document role.Flow None grammatical.shape.0 grammatical.rules))

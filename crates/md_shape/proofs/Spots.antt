@@ -1,4 +1,4 @@
--- A node, what stands in it and what stands behind it: what may stand there.
+-- A node, what stands in it and what stands behind it: what may stand there, from the spine that it is on.
 use Rattle.std.proofs.Common.{◌≡◌, Bool, true, false, ◌&&◌, ◌||◌, cond, Option, Some, None, is_some, List, [], ◌∷◌, ◌++◌, refl, sym, ap, ◌∙◌, subst}
 use Rattle.std.specs.List.{list_all}
 use Rattle.std.proofs.lemmas.Bool.{and_parts}

@@ -1,4 +1,5 @@
--- The nodes on a spine, one after another: what is told of a spine is told of this list.
+-- The nodes on a spine, one after another: what is told of a spine is told of this list, which is easier to go over
+-- than the tree (`Leading.antt`).
 use Rattle.std.proofs.Common.{◌≡◌, Bool, true, false, Option, Some, None, List, [], ◌∷◌, ◌++◌, refl, sym, ap, ◌∙◌}
 use Rattle.std.specs.Prelude.{map, if◌then◌else◌}
 use Rattle.std.proofs.lemmas.List.{map-append}

@@ -1,4 +1,5 @@
--- What may stand where, said by the symbols of the grammar in place of names, and that both say the same.
+-- What may stand where, said by the symbols of the grammar in place of names, and that both say the same. `told` says
+-- of each name what proofs ask of how it stands.
 use Rattle.std.proofs.Common.{◌≡◌, Bool, true, false, ◌&&◌, ◌||◌, if◌then◌else◌, List, [], ◌∷◌, refl}
 use Rattle.std.specs.List.{list_all}
 use Rattle.std.proofs.lemmas.Bool.{and_parts}

@@ -1,9 +1,10 @@
--- Where underlines stand on the spines of the grammar, and in its documents.
+-- Where underlines stand on the spines of the grammar, and in its documents: a heading that is printed at its
+-- underline is printed once.
 use Rattle.std.proofs.Common.{◌≡◌, inl, inr, ℕ, zero, suc, Bool, true, false, ◌&&◌, cond, List, [], ◌∷◌, ◌++◌, refl, sym, ap, subst, ◌∙◌, Option, None}
 use Rattle.std.specs.Prelude.{replicate}
 use Rattle.std.specs.List.{list_all}
-use Rattle.std.proofs.lemmas.Bool.{true≢false, and_parts, and_from}
-use Rattle.std.proofs.lemmas.List.Folds.{list_all-append}
+use Rattle.std.proofs.lemmas.Bool.{and_parts, and_from}
+use Rattle.md_base.proofs.Lies.{lie}
 use Rattle.md_base.specs.declared.event.Name.{Name}
 use Rattle.md_base.specs.declared.event.Name.TheVariants.{HeadingSetextUnderlineSequence, BlockQuotePrefix, SpaceOrTab, Other, MdxEsm, MdxFlowExpression, MdxTextExpression, MdxJsxFlowTag, MdxJsxTextTag}
 use Rattle.md_base.specs.Tree.{Forest, Empty, Node}
@@ -13,18 +14,16 @@ use Rattle.md_pattern.specs.declared.kinds.Symbol.{Symbol}
 use Rattle.md_pattern.specs.declared.kinds.Symbol.TheVariants.{ReferenceMarker, SetextText, SetextUnderline, LineEnding}
 use Rattle.md_pattern.specs.declared.kinds.Role.{Role}
 use Rattle.md_pattern.specs.declared.kinds.Role.TheVariants as role
-use Rattle.md_pattern.specs.declared.kinds.Item.{Item}
-use Rattle.md_pattern.specs.declared.kinds.Class.{Class}
 use Rattle.md_pattern.specs.Standing.{standing_of}
-use Rattle.md_pattern.specs.Pattern.{Fits, pattern_of, members, takes}
+use Rattle.md_pattern.specs.Pattern.{Fits, pattern_of}
 use Rattle.md_pattern.specs.Spine.{spine, shown, IsTail, IsGrouped, Matches}
 use Rattle.md_pattern.specs.Shape.{AreShaped, IsStanding, inner_role}
 use Rattle.md_tree.specs.Grammar.{IsGrammatical}
 use Rattle.md_shape.specs.Underlined.{is_underline, waits_past, waits_after, IsUnderlined}
-use Rattle.md_shape.proofs.Admitted.{taken}
-
-lie : {A : Type 0} → false ≡ true → A
-lie h = absurd (true≢false (sym h))
+use Rattle.md_shape.proofs.Symbols.{Told, told}
+use Rattle.md_pattern.specs.declared.kinds.Standing.{Standing}
+use Rattle.md_pattern.specs.declared.kinds.Standing.TheVariants.{Through, Space, Solid, Mdx}
+use Rattle.md_shape.proofs.Letters.{letters, fits-all}
 
 -- a heading waits for its underline, behind a symbol
 abbrev pub next_waits : Bool → Symbol → Bool
@@ -91,26 +90,6 @@ grouped-underlined (first ∷ firsts) spine g h waits =
     subst (λ s. underlined waits s ≡ true) (sym g.2)
     (tail-underlined first g.0 g.1 g.3 parts.0 (grouped-underlined firsts g.1 g.4 parts.1) waits)
 
--- what holds of all letters of a pattern holds of what fits it
-own-all : (test : Symbol → Bool) (class : Class) (own : List Symbol) → list_all (takes class) own ≡ true →
-    list_all test (members class) ≡ true → list_all test own ≡ true
-own-all test class [] took h = refl
-own-all test class (s ∷ own) took h =
-    let parts = and_parts (takes class s) (list_all (takes class) own) took in
-    and_from (test s) (list_all test own) (taken test (members class) s parts.0 h) (own-all test class own parts.1 h)
-
-abbrev pub letters : (Symbol → Bool) → List Item → Bool
-letters test items = list_all (λ item. list_all test (members item.class)) items
-
-pub fits-all : (test : Symbol → Bool) (items : List Item) (firsts : List Symbol) → Fits items firsts →
-    letters test items ≡ true → list_all test firsts ≡ true
-fits-all test [] firsts fit h = subst (λ s. list_all test s ≡ true) (sym fit) refl
-fits-all test (item ∷ items) firsts fit h =
-    let parts = and_parts (list_all test (members item.class)) (letters test items) h in
-    subst (λ s. list_all test s ≡ true) (sym fit.2)
-    (list_all-append test fit.0 fit.1 ∙ and_from (list_all test fit.0) (list_all test fit.1)
-    (own-all test item.class fit.0 fit.3 parts.0) (fits-all test items fit.1 fit.5 parts.1))
-
 role-no_underline : (r : Role) → letters no_underline (pattern_of r) ≡ true
 unfolding no_underline
 role-no_underline role.Flow = refl
@@ -124,7 +103,8 @@ matches-underlined r spine m waits = grouped-underlined m.0 spine m.1
 
 -- a heading waits behind a node as behind what it shows
 node-waits : (name : Name) (children : Forest) (around : Role) (before : Option Symbol) (waits : Bool) →
-    IsStanding (standing_of name) around before children → waits_after waits children ≡ waits_behind waits (spine children)
+    IsStanding (standing_of name) around before children →
+    waits_after waits children ≡ waits_behind waits (spine children)
     → cond (is_transparent name) (waits_after waits children) (waits_past waits name)
     ≡ waits_behind waits (shown (standing_of name) (spine children))
 node-waits (Other number) children around before waits is same = same
@@ -138,8 +118,8 @@ node-waits MdxJsxTextTag children around before waits is same = absurd is
 node-waits _ children around before waits is same = refl
 
 -- and behind some nodes as behind their spine
-same-waits : (forest : Forest) (around : Role) (before : Option Symbol) (waits : Bool) → AreShaped forest around before →
-    waits_after waits forest ≡ waits_behind waits (spine forest)
+same-waits : (forest : Forest) (around : Role) (before : Option Symbol) (waits : Bool) →
+    AreShaped forest around before → waits_after waits forest ≡ waits_behind waits (spine forest)
 same-waits Empty around before waits all = refl
 same-waits (Node name start end children rest) around before waits all =
     let here = node-waits name children around before waits all.0.1 (same-waits children _ _ waits all.1) in
@@ -147,30 +127,29 @@ same-waits (Node name start end children rest) around before waits all =
     ∙ same-waits rest _ _ (waits_behind waits (shown (standing_of name) (spine children))) all.2
     ∙ sym (waits-append waits (shown (standing_of name) (spine children)) (spine rest))
 
-both_none : {A : Type 0} (xs ys : List A) → xs ++ ys ≡ [] → (xs ≡ []) × (ys ≡ [])
+-- where two lists in a row are empty, each is
+pub both_none : {A : Type 0} (xs ys : List A) → xs ++ ys ≡ [] → (xs ≡ []) × (ys ≡ [])
 both_none [] ys h = (refl, h)
 both_none (x ∷ xs) ys h = absurd (cc h)
 
 -- on an empty spine there are no names
-own_names : (name : Name) (children : Forest) (around : Role) (before : Option Symbol) →
-    IsStanding (standing_of name) around before children → (spine children ≡ [] → spine_names children ≡ []) →
-    shown (standing_of name) (spine children) ≡ [] → cond (is_transparent name) (spine_names children) (name ∷ []) ≡ []
-own_names (Other number) children around before is below h = below h
-own_names BlockQuotePrefix children around before is below h = below h
-own_names SpaceOrTab children around before is below h = ap spine_names is
-own_names MdxEsm children around before is below h = absurd is
-own_names MdxFlowExpression children around before is below h = absurd is
-own_names MdxTextExpression children around before is below h = absurd is
-own_names MdxJsxFlowTag children around before is below h = absurd is
-own_names MdxJsxTextTag children around before is below h = absurd is
-own_names _ children around before is below h = absurd (cc h)
+own_names : (standing : Standing) (name : Name) (children : Forest) (around : Role) (before : Option Symbol) →
+    Told standing name → IsStanding standing around before children → (spine children ≡ [] → spine_names children ≡ [])
+    → shown standing (spine children) ≡ [] → cond (is_transparent name) (spine_names children) (name ∷ []) ≡ []
+own_names Through name children around before told is below h =
+    ap (λ b. cond b (spine_names children) (name ∷ [])) told ∙ below h
+own_names Space name children around before told is below h =
+    ap (λ b. cond b (spine_names children) (name ∷ [])) told ∙ ap spine_names is
+own_names (Solid symbol usual reading) name children around before told is below h = absurd (cc h)
+own_names Mdx name children around before told is below h = absurd is
 
 no-names : (forest : Forest) (around : Role) (before : Option Symbol) → AreShaped forest around before →
     spine forest ≡ [] → spine_names forest ≡ []
 no-names Empty around before all h = refl
 no-names (Node name start end children rest) around before all h =
     let parts = both_none (shown (standing_of name) (spine children)) (spine rest) h in
-    let own = own_names name children around before all.0.1 (no-names children _ _ all.1) parts.0 in
+    let own = own_names (standing_of name) name children around before (told name) all.0.1
+    (no-names children _ _ all.1) parts.0 in
     ap (λ names. names ++ spine_names rest) own ∙ no-names rest _ _ all.2 parts.1
 
 -- nothing stands in an underline
@@ -190,20 +169,18 @@ awaited HeadingSetextUnderlineSequence children around inner before first waits 
 awaited _ children around inner before first waits is all h underline = lie underline
 
 -- the spine below a node
-below-underlined : (name : Name) (children : Forest) (around : Role) (before : Option Symbol) (waits : Bool) →
-    IsStanding (standing_of name) around before children →
-    underlined waits (shown (standing_of name) (spine children)) ≡ true →
+below-underlined : (standing : Standing) (name : Name) (children : Forest) (around : Role) (before : Option Symbol)
+    (waits : Bool) → Told standing name → IsStanding standing around before children →
+    underlined waits (shown standing (spine children)) ≡ true →
     underlined (cond (is_transparent name) waits false) (spine children) ≡ true
-below-underlined (Other number) children around before waits is h = h
-below-underlined BlockQuotePrefix children around before waits is h = h
-below-underlined SpaceOrTab children around before waits is h = subst (λ f. underlined waits (spine f) ≡ true) (sym is) refl
-below-underlined MdxEsm children around before waits is h = absurd is
-below-underlined MdxFlowExpression children around before waits is h = absurd is
-below-underlined MdxTextExpression children around before waits is h = absurd is
-below-underlined MdxJsxFlowTag children around before waits is h = absurd is
-below-underlined MdxJsxTextTag children around before waits is h = absurd is
-below-underlined other children around before waits is h =
-    matches-underlined (inner_role (standing_of other) around before) (spine children) is false
+below-underlined Through name children around before waits told is h =
+    subst (λ b. underlined (cond b waits false) (spine children) ≡ true) (sym told) h
+below-underlined Space name children around before waits told is h =
+    subst (λ f. underlined (cond (is_transparent name) waits false) (spine f) ≡ true) (sym is) refl
+below-underlined (Solid symbol usual reading) name children around before waits told is h =
+    matches-underlined (inner_role (Solid symbol usual reading) around before) (spine children) is
+    (cond (is_transparent name) waits false)
+below-underlined Mdx name children around before waits told is h = absurd is
 
 -- nodes whose spine has its underlines where headings wait have them so at any depth
 nodes-underlined : (forest : Forest) (around : Role) (before : Option Symbol) (waits : Bool) →
@@ -214,7 +191,7 @@ nodes-underlined (Node name start end children rest) around before waits all h =
     let here = node-waits name children around before waits all.0.1 (same-waits children _ _ waits all.1) in (
       awaited name children around _ before _ waits all.0.1 all.1 parts.0,
       nodes-underlined children _ _ (cond (is_transparent name) waits false) all.1
-          (below-underlined name children around before waits all.0.1 parts.0),
+          (below-underlined (standing_of name) name children around before waits (told name) all.0.1 parts.0),
       nodes-underlined rest _ _ (cond (is_transparent name) (waits_after waits children) (waits_past waits name)) all.2
           (subst (λ b. underlined b (spine rest) ≡ true) (sym here) parts.1),
     )

@@ -16,15 +16,15 @@ pub fn grammatical_documents_are_built()
         → IsGrammatical bytes names forest → IsBuilt bytes Blocks forest }
 {}
 
-/// In a document of the grammar each underline stands behind the text of its heading, with nothing printed between, and
+/// In a document of the grammar each underline stands after the text of its heading, with nothing printed between, and
 /// nothing stands in it.
 pub fn underlines_stand_behind_headings()
     ensures { (bytes : List ℕ) (names : List (List ℕ × List ℕ)) (forest : Forest)
         → IsGrammatical bytes names forest → IsUnderlined false forest }
 {}
 
-/// In a document of the grammar each text and each label that the meaning reads is there, and each reference stands for a
-/// text.
+/// In a document of the grammar each text and each label that the meaning reads is there, and each reference stands for
+/// a text.
 pub fn texts_are_there()
     ensures texts { (bytes : List ℕ) (names : List (List ℕ × List ℕ)) (document : Forest)
         → IsGrammatical bytes names document → Everywhere (HasItsText bytes) document }
@@ -46,7 +46,9 @@ pub fn references_lead_somewhere()
     ensures found { (bytes : List ℕ) (names : List (List ℕ × List ℕ)) (document : Forest)
         → IsGrammatical bytes names document → Everywhere (LeadsSomewhere bytes document) document }
     ensures definitions { (given : Given) (around : Surroundings) (before : Before) (document : Forest)
-        → map (λ defined. defined.identifier) (meant given around before document).definitions ≡ defined_in given.bytes document }
+        → map (λ defined. defined.identifier) (meant given around before document).definitions
+        ≡ defined_in given.bytes document }
     ensures footnotes { (given : Given) (around : Surroundings) (before : Before) (document : Forest)
-        → map (λ footnote. footnote.identifier) (meant given around before document).footnotes ≡ footnotes_in given.bytes document }
+        → map (λ footnote. footnote.identifier) (meant given around before document).footnotes
+        ≡ footnotes_in given.bytes document }
 {}

@@ -8,6 +8,15 @@ use md_meaning::CompileOptions;
 use md_text::{encode, sanitize};
 use std::alloc::{AllocError, Global};
 
+/// A footnote that is called, with its number.
+#[derive(Clone, Copy)]
+pub struct NumberedFootnote<'a> {
+    /// Its identifier.
+    pub identifier: &'a str,
+    /// Its place among the footnotes that are called, in the order of their first calls, from 1.
+    pub number: usize,
+}
+
 /// A text that an option gives, escaped, or what stands where it gives none.
 ///
 /// # Errors
@@ -56,8 +65,7 @@ fn numbered_id_of(
     Ok(id)
 }
 
-/// The id of the footnote with an identifier and a number: it has the number where ids go by number, else the
-/// identifier.
+/// The id of a footnote: it has the number where ids go by number, else the identifier.
 ///
 /// # Errors
 ///
@@ -65,15 +73,14 @@ fn numbered_id_of(
 pub fn footnote_id(
     alloc: Global,
     options: &CompileOptions,
-    identifier: &str,
-    number: usize,
+    footnote: &NumberedFootnote,
 ) -> Result<String, AllocError>
-    ensures { IfOk result (λ id. string_bytes id ≡ notes.footnote_id options.now identifier.now number) }
+    ensures { IfOk result (λ id. string_bytes id ≡ notes.footnote_id options.now footnote.now.identifier.now footnote.now.number) }
 {
     if options.gfm_footnote_number_ids {
-        numbered_id_of(alloc, options, "fn-", number)
+        numbered_id_of(alloc, options, "fn-", footnote.number)
     } else {
-        id_of(alloc, options, "fn-", identifier)
+        id_of(alloc, options, "fn-", footnote.identifier)
     }
 }
 
@@ -95,8 +102,8 @@ fn push_suffix(alloc: Global, text: &mut String, occurrence: usize) -> Result<()
     push_occurrence(alloc, text, occurrence)
 }
 
-/// The id of one of the calls of the footnote with an identifier and a number, by its occurrence from 1: where ids go by
-/// number it has the number in place of the identifier, and the occurrence also where that is 1.
+/// The id of one of a footnote's calls, by its occurrence from 1: where ids go by number it has the number in place of the
+/// identifier, and the occurrence also where that is 1.
 ///
 /// # Errors
 ///
@@ -104,18 +111,17 @@ fn push_suffix(alloc: Global, text: &mut String, occurrence: usize) -> Result<()
 pub fn call_id(
     alloc: Global,
     options: &CompileOptions,
-    identifier: &str,
-    number: usize,
+    footnote: &NumberedFootnote,
     occurrence: usize,
 ) -> Result<String, AllocError>
-    ensures { IfOk result (λ id. string_bytes id ≡ notes.call_id options.now identifier.now number occurrence) }
+    ensures { IfOk result (λ id. string_bytes id ≡ notes.call_id options.now footnote.now.identifier.now footnote.now.number occurrence) }
 {
     if options.gfm_footnote_number_ids {
-        let mut id = numbered_id_of(alloc, options, "fnref-", number)?;
+        let mut id = numbered_id_of(alloc, options, "fnref-", footnote.number)?;
         push_occurrence(alloc, &mut id, occurrence)?;
         Ok(id)
     } else {
-        let mut id = id_of(alloc, options, "fnref-", identifier)?;
+        let mut id = id_of(alloc, options, "fnref-", footnote.identifier)?;
         push_suffix(alloc, &mut id, occurrence)?;
         Ok(id)
     }

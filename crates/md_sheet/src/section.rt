@@ -7,11 +7,22 @@ ghost use Rattle.md_meaning.specs.Footnotes as notes;
 use crate::body::lay_body;
 use crate::calls::Calls;
 use crate::footnotes::Footnotes;
-use crate::ids::{escaped_option, footnote_id};
+use crate::ids::{NumberedFootnote, escaped_option, footnote_id};
 use crate::sheet::Sheet;
 use crate::ways_back::backreferences;
 use md_meaning::CompileOptions;
 use std::alloc::{AllocError, Global};
+
+/// What the section is laid by, whichever footnotes are called.
+#[derive(Clone, Copy)]
+pub struct Settings<'a> {
+    /// What its texts are allocated with.
+    pub alloc: Global,
+    /// The options.
+    pub options: &'a CompileOptions,
+    /// The line ending that is used.
+    pub ending: &'a str,
+}
 
 /// Lays the beginning of a footnote with an id, up to its text.
 fn item_start(sheet: &mut Sheet, ending: &str, id: &str) -> Result<(), AllocError>
@@ -43,35 +54,42 @@ fn item_end(sheet: &mut Sheet, ending: &str) -> Result<(), AllocError>
 
 /// Lays the footnotes that are called, in the order of their first calls, numbered from 1.
 fn items(
-    alloc: Global,
+    settings: &Settings,
     sheet: &mut Sheet,
-    options: &CompileOptions,
-    ending: &str,
     calls: &Calls,
     footnotes: &Footnotes,
 ) -> Result<(), AllocError>
-    ensures { OnOk result (sheet.new ≡ lay ending.now sheet.old (notes.items_pieces options.now footnotes.now 1 calls.now)) }
+    ensures { OnOk result (sheet.new ≡ lay settings.now.ending.now sheet.old (notes.items_pieces settings.now.options.now footnotes.now 1 calls.now)) }
 {
+    let Settings {
+        alloc,
+        options,
+        ending,
+    } = *settings;
     let mut index = 0;
     while let Some((identifier, count)) = calls.at(index) {
         let text = footnotes.text_of(identifier);
         index += 1;
-        let id = footnote_id(alloc, options, identifier, index)?;
-        let back = backreferences(alloc, options, identifier, index, count)?;
+        let footnote = NumberedFootnote {
+            identifier,
+            number: index,
+        };
+        let id = footnote_id(alloc, options, &footnote)?;
+        let back = backreferences(alloc, options, &footnote, count)?;
         item(sheet, ending, id.as_str(), text, back.as_str())?;
     }
     Ok(())
 }
 
 /// Lays the beginning of the section, up to its footnotes.
-fn section_start(
-    alloc: Global,
-    sheet: &mut Sheet,
-    options: &CompileOptions,
-    ending: &str,
-) -> Result<(), AllocError>
-    ensures { OnOk result (sheet.new ≡ lay ending.now sheet.old (notes.section_opening options.now)) }
+fn section_start(settings: &Settings, sheet: &mut Sheet) -> Result<(), AllocError>
+    ensures { OnOk result (sheet.new ≡ lay settings.now.ending.now sheet.old (notes.section_opening settings.now.options.now)) }
 {
+    let Settings {
+        alloc,
+        options,
+        ending,
+    } = *settings;
     let tag = escaped_option(alloc, &options.gfm_footnote_label_tag_name, "h2")?;
     heading_start(sheet, ending, tag.as_str(), attributes_of(options))?;
     label(alloc, sheet, options)?;
@@ -142,19 +160,17 @@ fn section_end(sheet: &mut Sheet, ending: &str) -> Result<(), AllocError>
 ///
 /// Only where memory runs out.
 pub fn lay_section(
-    alloc: Global,
+    settings: &Settings,
     sheet: &mut Sheet,
-    options: &CompileOptions,
-    ending: &str,
     calls: &Calls,
     footnotes: &Footnotes,
 ) -> Result<(), AllocError>
-    ensures { OnOk result (sheet.new ≡ lay ending.now sheet.old (notes.section_pieces options.now footnotes.now calls.now)) }
+    ensures { OnOk result (sheet.new ≡ lay settings.now.ending.now sheet.old (notes.section_pieces settings.now.options.now footnotes.now calls.now)) }
 {
     if calls.is_empty() {
         return Ok(());
     }
-    section_start(alloc, sheet, options, ending)?;
-    items(alloc, sheet, options, ending, calls, footnotes)?;
-    section_end(sheet, ending)
+    section_start(settings, sheet)?;
+    items(settings, sheet, calls, footnotes)?;
+    section_end(sheet, settings.ending)
 }

@@ -3,7 +3,7 @@
 ghost use Rattle.std.specs.Prelude.{◌≡◌, ◌∷◌, [], ◌++◌, ◌==◌, codes, IfOk, OnOk, string_bytes, if◌then◌else◌};
 ghost use Rattle.md_meaning.specs.Footnotes as notes;
 
-use crate::ids::{call_id, escaped_option};
+use crate::ids::{NumberedFootnote, call_id, escaped_option};
 use md_meaning::CompileOptions;
 use std::alloc::{AllocError, Global};
 
@@ -24,13 +24,12 @@ fn push_href(
     alloc: Global,
     text: &mut String,
     options: &CompileOptions,
-    identifier: &str,
-    number: usize,
+    footnote: &NumberedFootnote,
     occurrence: usize,
 ) -> Result<(), AllocError>
-    ensures { OnOk result (string_bytes text.new ≡ string_bytes text.old ++ (codes "<a href=\"#" ++ (notes.call_id options.now identifier.now number occurrence ++ codes "\" data-footnote-backref=\"\" aria-label=\""))) }
+    ensures { OnOk result (string_bytes text.new ≡ string_bytes text.old ++ (codes "<a href=\"#" ++ (notes.call_id options.now footnote.now.identifier.now footnote.now.number occurrence ++ codes "\" data-footnote-backref=\"\" aria-label=\""))) }
 {
-    let id = call_id(alloc, options, identifier, number, occurrence)?;
+    let id = call_id(alloc, options, footnote, occurrence)?;
     text.push_str("<a href=\"#")?;
     text.push_str(id.as_str())?;
     text.push_str("\" data-footnote-backref=\"\" aria-label=\"")
@@ -59,13 +58,12 @@ fn push_backreference(
     alloc: Global,
     text: &mut String,
     options: &CompileOptions,
-    identifier: &str,
-    number: usize,
+    footnote: &NumberedFootnote,
     occurrence: usize,
 ) -> Result<(), AllocError>
-    ensures { OnOk result (string_bytes text.new ≡ string_bytes text.old ++ notes.backreference options.now identifier.now number occurrence) }
+    ensures { OnOk result (string_bytes text.new ≡ string_bytes text.old ++ notes.backreference options.now footnote.now.identifier.now footnote.now.number occurrence) }
 {
-    push_href(alloc, text, options, identifier, number, occurrence)?;
+    push_href(alloc, text, options, footnote, occurrence)?;
     push_label(alloc, text, options)?;
     push_arrow(alloc, text, occurrence)
 }
@@ -81,7 +79,7 @@ fn push_space(text: &mut String, done: usize) -> Result<(), AllocError>
     }
 }
 
-/// The ways back from the footnote with an identifier and a number to so many calls, with single spaces between.
+/// The ways back from a footnote to so many calls, with single spaces between.
 ///
 /// # Errors
 ///
@@ -89,18 +87,17 @@ fn push_space(text: &mut String, done: usize) -> Result<(), AllocError>
 pub fn backreferences(
     alloc: Global,
     options: &CompileOptions,
-    identifier: &str,
-    number: usize,
+    footnote: &NumberedFootnote,
     count: usize,
 ) -> Result<String, AllocError>
-    ensures { IfOk result (λ text. string_bytes text ≡ notes.backreferences options.now identifier.now number count) }
+    ensures { IfOk result (λ text. string_bytes text ≡ notes.backreferences options.now footnote.now.identifier.now footnote.now.number count) }
 {
     let mut text = String::new(alloc);
     let mut done = 0;
     while done < count {
         push_space(&mut text, done)?;
         done += 1;
-        push_backreference(alloc, &mut text, options, identifier, number, done)?;
+        push_backreference(alloc, &mut text, options, footnote, done)?;
     }
     Ok(text)
 }

@@ -1,4 +1,4 @@
--- What is escaped is clean, and reads back.
+-- What is escaped is clean, and reads back: two of the laws. `md_safe` reads attributes and ids back by them.
 use Rattle.std.proofs.Common.{◌≡◌, ◌≢◌, ℕ, Bool, true, false, ◌&&◌, cond, eqb, List, [], ◌∷◌, ◌++◌, refl, sym, ap, ◌∙◌, append_assoc, ne_eqb}
 use Rattle.md_text.specs.Encode.{encoded, encoded_byte}
 use Rattle.md_text.specs.References.{is_escaped, is_escaped_byte, read_back, read_back_after, referenced, reference_tail}
@@ -51,7 +51,8 @@ read_back-encoded (b ∷ rest) = read_back_first b (encoded true rest)
     ∙ ap (λ x. encoded_byte false b ++ x) (read_back-encoded rest)
 
 -- an encoded text is read back before what follows it
-pub read_back-before : (text rest : List ℕ) → read_back (encoded true text ++ rest) ≡ encoded false text ++ read_back rest
+pub read_back-before : (text rest : List ℕ) →
+    read_back (encoded true text ++ rest) ≡ encoded false text ++ read_back rest
 read_back-before [] rest = refl
 read_back-before (b ∷ text) rest =
     ap read_back (append_assoc (encoded_byte true b) (encoded true text) rest)

@@ -1,4 +1,4 @@
--- Escaping, by bytes and by characters.
+-- Escaping, by bytes and by characters: the body goes by characters, the definition by bytes.
 use Rattle.std.proofs.Common.{◌≡◌, ◌≢◌, ℕ, ◌<◌, ◌≤◌, Bool, true, false, ◌&&◌, eqb, List, [], ◌∷◌, ◌++◌, refl, sym, ap, ◌∙◌, subst, encode_utf8, encode_utf8_all, arith, ne_eqb, append-nil, inl, inr, IsUtf8}
 use Rattle.std.specs.List.{flat_map}
 use Rattle.std.specs.Str.{chars}

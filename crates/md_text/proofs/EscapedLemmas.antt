@@ -1,7 +1,8 @@
--- Escaped texts: joined, cut and with a byte taken out.
+-- Escaped texts: joined, cut and with a byte taken out. So a text that is printed in parts is a text of the HTML
+-- grammar.
 use Rattle.std.proofs.Common.{◌≡◌, ℕ, ◌==◌, Bool, true, false, not, ◌||◌, cond, eqb, List, [], ◌∷◌, ◌++◌, refl, inl, inr, codes}
 use Rattle.std.specs.List.{list_all}
-use Rattle.std.proofs.lemmas.Bool.{and_parts, and_from, or_cases, or_left, or_right, cond_both}
+use Rattle.std.proofs.lemmas.Bool.{and_parts, and_from, or_cases, or_left, or_right, cond_both, not-true, both_ways}
 use Rattle.md_text.specs.References.{is_escaped, is_escaped_byte, completes_reference, begins_with, outside_references}
 use Rattle.md_text.specs.Url.{sanitized, sanitized_with, normalized_url, has_permitted_protocol}
 use Rattle.md_text.proofs.EncodeLaws.{is_escaped-encoded}
@@ -44,19 +45,13 @@ escaped-append (b ∷ x) y hx hy =
 pub escaped-tail : (b : ℕ) (rest : List ℕ) → is_escaped (b ∷ rest) ≡ true → is_escaped rest ≡ true
 escaped-tail b rest h = (and_parts (is_escaped_byte b rest) (is_escaped rest) h).1
 
-lie : false ≡ true → ⊥
-lie e = cc
-
-not_both : (t : Bool) → not t ≡ true → t ≡ true → ⊥
-not_both true e f = lie e
-not_both false e f = lie f
-
 -- taken out, it changes no beginning that it isn't in
 begins-without : (b : ℕ) (start text more : List ℕ) → list_all (λ c. not (c == b)) start ≡ true →
     begins_with start (text ++ (b ∷ more)) ≡ true → begins_with start (text ++ more) ≡ true
 begins-without b [] text more out h = refl
 begins-without b (s ∷ start) [] more out h =
-    absurd (not_both (eqb s b) (and_parts (not (eqb s b)) (list_all (λ c. not (c == b)) start) out).0
+    absurd (both_ways (eqb s b)
+    (not-true (eqb s b) (and_parts (not (eqb s b)) (list_all (λ c. not (c == b)) start) out).0)
     (and_parts (eqb s b) (begins_with start more) h).0)
 begins-without b (s ∷ start) (c ∷ text) more out h =
     let parts = and_parts (eqb s c) (begins_with start (text ++ (b ∷ more))) h in

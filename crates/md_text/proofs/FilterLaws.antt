@@ -1,4 +1,4 @@
--- The tag filter changes only some `<`, and a second time nothing.
+-- The tag filter changes only some `<`, and a second time nothing: the law on it.
 use Rattle.std.proofs.Common.{◌≡◌, ◌≢◌, ◌⊎◌, ℕ, true, false, ◌&&◌, cond, eqb, List, [], ◌∷◌, ◌++◌, refl, sym, ap, ap₂, ◌∙◌, subst, ne_eqb, inl, inr, codes, length, drop, take_while}
 use Rattle.std.proofs.lemmas.Bool.{cases_eq, cases_Bool}
 use Rattle.std.proofs.lemmas.List.Sums.{take_while-cons}

@@ -1,4 +1,4 @@
--- The tag filter, character by character.
+-- The tag filter, character by character: the body goes by characters, the definition by bytes.
 use Rattle.std.proofs.Common.{◌≡◌, ◌≢◌, ℕ, Bool, ◌&&◌, cond, eqb, List, [], ◌∷◌, ◌++◌, refl, sym, ap, ◌∙◌, subst, encode_utf8, arith, ne_eqb, inl, inr, codes}
 use Rattle.std.proofs.lemmas.Bool.{cases_lt, cases_eq}
 use Rattle.std.proofs.lemmas.Str.{encode_ascii}

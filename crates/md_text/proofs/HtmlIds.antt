@@ -1,19 +1,18 @@
--- How often an id stands in what a text is read as: in nothing, in tags round a text, in two texts.
+-- How often an id stands in what a text is read as: in nothing, in tags around a text, in two texts. `md_safe` counts
+-- by this that no two ids are equal.
 use Rattle.std.specs.Prelude.{bytes_eq}
 use Rattle.std.specs.List.{list_all, list_any}
 use Rattle.std.proofs.Common.{◌≡◌, ℕ, suc, ◌+◌, ◌≤◌, Bool, true, false, not, ◌&&◌, ◌||◌, cond, List, [], ◌∷◌, ◌++◌, refl, sym, ap, ap₂, ◌∙◌, subst, arith, append-nil, append_assoc, codes}
-use Rattle.std.proofs.lemmas.Bool.{and_parts, and_from, true≢false}
+use Rattle.std.proofs.lemmas.Bool.{and_parts, and_from}
 use Rattle.std.proofs.lemmas.Slice.Eq.{bytes_eq-Decides}
+use Rattle.md_base.proofs.Lies.{lie}
 use Rattle.md_text.specs.References.{read_back}
 use Rattle.md_text.specs.Html.{Attribute, Forest, Empty, Text, Void, Element, is_forest, is_tag, elements, void_tags, written_attributes, written, opening_tag, closing_tag, IsReading, HasReadingWith, all_attributes, any_attribute}
 use Rattle.md_text.specs.Laws.{is_line_ends}
 use Rattle.md_text.specs.Ids.{id_in, ids_in, ids, are_distinct, HasDistinctIds}
 use Rattle.md_text.proofs.HtmlJoin.{text, text_before, joined, after_forest, opening-before}
 use Rattle.md_text.proofs.HtmlPut.{IsMade, made-before}
-use Rattle.md_text.proofs.HtmlReading.{one_reading}
-
-lie : {A : Type 0} → false ≡ true → A
-lie h = absurd (true≢false (sym h))
+use Rattle.md_text.proofs.HtmlReading.{one_reading, all-any}
 
 -- how often a text is among some
 abbrev pub occurs : List ℕ → List (List ℕ) → ℕ
@@ -25,7 +24,8 @@ occurs-append w [] ys = omega arith
 occurs-append w (x ∷ xs) ys = by (bytes_eq x w) (occurs-append w xs ys)
   where
     by : (is : Bool) → occurs w (xs ++ ys) ≡ occurs w xs + occurs w ys →
-        cond is (suc (occurs w (xs ++ ys))) (occurs w (xs ++ ys)) ≡ cond is (suc (occurs w xs)) (occurs w xs) + occurs w ys
+        cond is (suc (occurs w (xs ++ ys))) (occurs w (xs ++ ys))
+        ≡ cond is (suc (occurs w xs)) (occurs w xs) + occurs w ys
     by true e = omega (e, arith)
     by false e = e
 
@@ -108,22 +108,6 @@ ids-joined (Element name attributes children rest) g =
     ap (λ x. ids_in attributes ++ (ids children ++ x)) (ids-joined rest g)
     ∙ ap (λ x. ids_in attributes ++ x) (sym (append_assoc (ids children) (ids rest) (ids g)))
     ∙ sym (append_assoc (ids_in attributes) (ids children ++ ids rest) (ids g))
-
-any_all : (attributes : List Attribute) → list_all any_attribute attributes ≡ true
-any_all [] = refl
-any_all (a ∷ rest) = any_all rest
-
--- any forest passes where nothing is asked
-all-any : (f : Forest) → all_attributes any_attribute f ≡ true
-all-any Empty = refl
-all-any (Text bytes rest) = all-any rest
-all-any (Void name attributes rest) = and_from (list_all any_attribute attributes) (all_attributes any_attribute rest)
-    (any_all attributes) (all-any rest)
-all-any (Element name attributes children rest) =
-    and_from (list_all any_attribute attributes && all_attributes any_attribute children)
-    (all_attributes any_attribute rest)
-    (and_from (list_all any_attribute attributes) (all_attributes any_attribute children) (any_all attributes)
-    (all-any children)) (all-any rest)
 
 few-joined : (w : List ℕ) (n m : ℕ) (f g : Forest) → occurs w (ids f) ≤ n → occurs w (ids g) ≤ m →
     occurs w (ids (joined f g)) ≤ n + m

@@ -1,4 +1,5 @@
--- What has a reading: nothing, a text, tags round what has one, and two such texts joined.
+-- What has a reading: nothing, a text, tags around what has one, and two such texts joined. All that is printed is put
+-- together so.
 use Rattle.md_base.specs.Identifier.{is_nonempty}
 use Rattle.std.specs.List.{list_all}
 use Rattle.std.proofs.Common.{◌≡◌, ℕ, Bool, true, not, ◌&&◌, List, [], ◌∷◌, ◌++◌, refl, sym, ap, ap₂, ◌∙◌, subst, append-nil, append_assoc}

@@ -1,7 +1,8 @@
--- The names of the tables, and where names, values and texts end.
+-- The names of the tables, and where names, values and texts end: by this a reading can't go wrong at a boundary.
 use Rattle.std.specs.Str.{bytes_eq}
+use Rattle.md_base.proofs.Lies.{lie}
 use Rattle.md_base.specs.Identifier.{is_nonempty}
-use Rattle.std.proofs.Common.{◌≡◌, ℕ, ◌==◌, Bool, true, false, not, ◌&&◌, ◌||◌, List, [], ◌∷◌, refl, sym, ap, subst, inl, inr, ne_eqb}
+use Rattle.std.proofs.Common.{◌≡◌, ℕ, ◌==◌, Bool, true, not, ◌&&◌, ◌||◌, List, [], ◌∷◌, refl, sym, ap, subst, inl, inr, ne_eqb}
 use Rattle.std.specs.List.{list_all, list_any}
 use Rattle.std.specs.Cmp.Lexicographic.{bytes_decides}
 use Rattle.std.proofs.lemmas.Bool.{and_parts, or_cases, and_from, cases_eq}
@@ -32,19 +33,16 @@ abbrev pub rules_hold_names : List (List ℕ × List (List ℕ)) → Bool
 rules_hold_names [] = true
 rules_hold_names (rule ∷ rules) = is_name rule.0 && (list_all is_name rule.1 && rules_hold_names rules)
 
-lie : false ≡ true → ⊥
-lie e = cc
-
 -- what is escaped has none of these
 escaped_byte-angle : (b : ℕ) (rest : List ℕ) → is_escaped_byte b rest ≡ true → no_angle b ≡ true
 escaped_byte-angle b rest e = elim (cases_eq b 60) [
-  | inl is ↦ absurd (lie (subst (λ b. is_escaped_byte b rest ≡ true) is e))
+  | inl is ↦ lie (subst (λ b. is_escaped_byte b rest ≡ true) is e)
   | inr ne ↦ ap not (ne_eqb b 60 ne)
 ]
 
 escaped_byte-quote : (b : ℕ) (rest : List ℕ) → is_escaped_byte b rest ≡ true → no_quote b ≡ true
 escaped_byte-quote b rest e = elim (cases_eq b 34) [
-  | inl is ↦ absurd (lie (subst (λ b. is_escaped_byte b rest ≡ true) is e))
+  | inl is ↦ lie (subst (λ b. is_escaped_byte b rest ≡ true) is e)
   | inr ne ↦ ap not (ne_eqb b 34 ne)
 ]
 
@@ -89,7 +87,7 @@ attributes-tidy listed (a ∷ rest) g e =
 tag-tidy : (rules : List (List ℕ × List (List ℕ))) (name : List ℕ) (attributes : List Attribute) →
     rules_hold_names rules ≡ true → is_tag rules name attributes ≡ true →
     (is_name name ≡ true) × (are_tidy attributes ≡ true)
-tag-tidy [] name attributes g e = absurd (lie e)
+tag-tidy [] name attributes g e = lie e
 tag-tidy (rule ∷ rules) name attributes g e =
     let p = and_parts (is_name rule.0) (list_all is_name rule.1 && rules_hold_names rules) g in
     let q = and_parts (list_all is_name rule.1) (rules_hold_names rules) p.1 in

@@ -1,6 +1,7 @@
--- A paragraph takes an insertion before its end.
+-- A paragraph takes an insertion before its end: so the ways back stand in a footnote's last paragraph.
+use Rattle.md_base.proofs.Lies.{lie}
 use Rattle.md_base.specs.Identifier.{is_nonempty}
-use Rattle.std.proofs.Common.{◌≡◌, ◌⊎◌, ℕ, ◌==◌, Bool, true, false, not, ◌&&◌, ◌||◌, eqb, List, [], ◌∷◌, ◌++◌, refl, sym, ap, ap₂, ◌∙◌, subst, inl, inr, append-nil, append_assoc, codes, eqb-true}
+use Rattle.std.proofs.Common.{◌≡◌, ◌⊎◌, ℕ, ◌==◌, Bool, true, not, ◌&&◌, ◌||◌, eqb, List, [], ◌∷◌, ◌++◌, refl, sym, ap, ap₂, ◌∙◌, subst, inl, inr, append-nil, append_assoc, codes, eqb-true}
 use Rattle.std.specs.List.{list_all}
 use Rattle.std.proofs.lemmas.Bool.{and_parts, and_from, or_cases, cases_Bool}
 use Rattle.std.proofs.lemmas.List.Folds.{list_all-append}
@@ -10,9 +11,6 @@ use Rattle.md_text.specs.Html.{Attribute, Forest, Empty, Text, Void, Element, is
 use Rattle.md_text.proofs.HtmlNames.{is_name, is_name_byte, no_angle, no_quote, are_tidy, element-tidy, void-tidy, escaped-angle}
 use Rattle.md_text.proofs.HtmlSplit.{name-not}
 use Rattle.md_text.proofs.HtmlJoin.{text, void, round, join, opening-before}
-
-lie : false ≡ true → ⊥
-lie e = cc
 
 -- where one cut of a text is, seen from another cut
 abbrev Meets : List ℕ → List ℕ → List ℕ → List ℕ → Type 0
@@ -43,7 +41,7 @@ name-angle (b ∷ name) h =
   where
     by : (b : ℕ) → is_name_byte b ≡ true → no_angle b ≡ true
     by b h = elim (cases_Bool (eqb b 60)) [
-      | inl is ↦ absurd (lie (subst (λ b. is_name_byte b ≡ true) (eqb-true b 60 is) h))
+      | inl is ↦ lie (subst (λ b. is_name_byte b ≡ true) (eqb-true b 60 is) h)
       | inr ne ↦ ap not ne
     ]
 

@@ -1,15 +1,17 @@
--- A reader of HTML: it guesses a forest, which is a reading where it is one and is written as the text.
+-- A reader of HTML: it guesses a forest, which is a reading where it is one and is written as the text. The cases of
+-- texts with a reading, and of those without one, compute by it.
 use Rattle.std.specs.Str.{bytes_eq}
+use Rattle.md_base.proofs.Lies.{lie}
 use Rattle.md_base.specs.Identifier.{is_nonempty}
-use Rattle.std.proofs.Common.{◌≡◌, ℕ, ◌+◌, ◌≤◌, ◌==◌, Bool, true, false, not, ◌&&◌, cond, if◌then◌else◌, List, [], ◌∷◌, ◌++◌, drop, length, refl, sym, ap, ◌∙◌, subst, inl, inr, append-nil, zero, suc, arith, ne_eqb, length-append}
+use Rattle.std.proofs.Common.{◌≡◌, ℕ, ◌+◌, ◌≤◌, ◌==◌, Bool, true, false, ◌&&◌, cond, if◌then◌else◌, List, [], ◌∷◌, ◌++◌, drop, length, refl, sym, ap, ◌∙◌, subst, inl, inr, append-nil, zero, suc, arith, ne_eqb, length-append}
 use Rattle.std.specs.List.{list_all}
-use Rattle.std.proofs.lemmas.Bool.{and_parts, and_from}
+use Rattle.std.proofs.lemmas.Bool.{and_parts, and_from, not-true}
 use Rattle.std.specs.Cmp.Lexicographic.{bytes_decides}
-use Rattle.md_text.specs.Html.{Attribute, Forest, Empty, Text, Void, Element, is_forest, written, written_attributes, IsReading, HasReading, HasReadingWith, all_attributes, any_attribute}
+use Rattle.md_text.specs.Html.{Attribute, Forest, Empty, Text, Void, Element, is_forest, written, written_attributes, IsReading, HasReading, HasReadingWith, all_attributes}
 use Rattle.md_text.proofs.HtmlNames.{is_name, is_name_byte, no_angle, no_quote, are_tidy}
 use Rattle.md_text.proofs.HtmlSplit.{stops, EndsAttributes}
 use Rattle.md_text.proofs.HtmlWriting.{attributes_before, forest_before, written-before}
-use Rattle.md_text.proofs.HtmlReading.{IsEnd, text_parts, element_parts, void_parts, after_text, attributes_stop}
+use Rattle.md_text.proofs.HtmlReading.{IsEnd, text_parts, element_parts, void_parts, after_text, attributes_stop, all-any}
 
 -- something read, and what is left
 pub record Left (X : Type 0) : Type 0 where
@@ -27,14 +29,10 @@ abbrev pub read_run : (ℕ → Bool) → List ℕ → Left (List ℕ)
 read_run t [] = with_left [] []
 read_run t (b ∷ rest) = if t b then more_run b (read_run t rest) else with_left [] (b ∷ rest)
 
-not_true : (t : Bool) → not t ≡ true → t ≡ false
-not_true true e = cc
-not_true false e = refl
-
 read_run-at : (t : ℕ → Bool) (x a : List ℕ) → list_all t x ≡ true → stops t a ≡ true →
     read_run t (x ++ a) ≡ with_left x a
 read_run-at t [] [] h s = refl
-read_run-at t [] (b ∷ a) h s = ap (λ c. cond c (more_run b (read_run t a)) (with_left [] (b ∷ a))) (not_true (t b) s)
+read_run-at t [] (b ∷ a) h s = ap (λ c. cond c (more_run b (read_run t a)) (with_left [] (b ∷ a))) (not-true (t b) s)
 read_run-at t (b ∷ x) a h s =
     let p = and_parts (t b) (list_all t x) h in
     ap (λ c. cond c (more_run b (read_run t (x ++ a))) (with_left [] (b ∷ (x ++ a)))) p.0
@@ -110,15 +108,12 @@ read_forest (suc n) text = at_node (read_forest n) text
 
 -- ---- the reader finds what is written
 
-lie : false ≡ true → ⊥
-lie e = cc
-
 passes_not : (t : ℕ → Bool) (b n : ℕ) → t n ≡ false → t b ≡ true → (b == n) ≡ false
 passes_not t b n no_n yes_b = ne_eqb b n (λ e. lie (sym no_n ∙ ap t (sym e) ∙ yes_b))
 
 past_space-name : (go : List ℕ → Left (List Attribute)) (name tail : List ℕ) → is_name name ≡ true →
     past_space go (name ++ tail) ≡ past_name go (read_run is_name_byte (name ++ tail))
-past_space-name go [] tail h = absurd (lie h)
+past_space-name go [] tail h = lie h
 past_space-name go (b ∷ name) tail h =
     ap (λ c. cond c (with_left [] (32 ∷ b ∷ (name ++ tail)))
     (past_name go (read_run is_name_byte ((b ∷ name) ++ tail))))
@@ -165,7 +160,7 @@ size (Element name attributes children rest) = suc (size children + size rest)
 
 past_angle-name : (go : List ℕ → Left Forest) (name tail : List ℕ) → is_name name ≡ true →
     past_angle go (name ++ tail) ≡ past_tag_name go (read_run is_name_byte (name ++ tail))
-past_angle-name go [] tail h = absurd (lie h)
+past_angle-name go [] tail h = lie h
 past_angle-name go (b ∷ name) tail h =
     ap (λ c. cond c (with_left Empty (60 ∷ b ∷ (name ++ tail)))
     (past_tag_name go (read_run is_name_byte ((b ∷ name) ++ tail))))
@@ -173,7 +168,7 @@ past_angle-name go (b ∷ name) tail h =
 
 at_node-text : (go : List ℕ → Left Forest) (bytes tail : List ℕ) → is_nonempty bytes ≡ true →
     list_all no_angle bytes ≡ true → at_node go (bytes ++ tail) ≡ past_text go (read_run no_angle (bytes ++ tail))
-at_node-text go [] tail f h = absurd (lie f)
+at_node-text go [] tail f h = lie f
 at_node-text go (b ∷ bytes) tail f h =
     ap (λ c. cond c (past_angle go (bytes ++ tail)) (past_text go (read_run no_angle ((b ∷ bytes) ++ tail))))
     (passes_not no_angle b 60 refl (and_parts (no_angle b) (list_all no_angle bytes) h).0)
@@ -235,7 +230,7 @@ size-written (Text bytes rest) h =
     omega (arith, size-written rest p.later, length-append bytes (written rest), filled-length bytes p.filled)
   where
     filled-length : (bytes : List ℕ) → is_nonempty bytes ≡ true → 1 ≤ length bytes
-    filled-length [] f = absurd (lie f)
+    filled-length [] f = lie f
     filled-length (b ∷ bytes) f = omega arith
 size-written (Void name attributes rest) h =
     let p = void_parts name attributes rest h in
@@ -266,19 +261,6 @@ size-written (Element name attributes children rest) h =
 abbrev pub guessed : List ℕ → Forest
 guessed text = (read_forest (suc (length text)) text).found
 
-any_of : (attributes : List Attribute) → list_all any_attribute attributes ≡ true
-any_of [] = refl
-any_of (a ∷ rest) = any_of rest
-
-any_pass : (f : Forest) → all_attributes any_attribute f ≡ true
-any_pass Empty = refl
-any_pass (Text bytes rest) = any_pass rest
-any_pass (Void name attributes rest) = and_from (list_all any_attribute attributes)
-    (all_attributes any_attribute rest) (any_of attributes) (any_pass rest)
-any_pass (Element name attributes children rest) =
-    and_from _ (all_attributes any_attribute rest) (and_from (list_all any_attribute attributes)
-    (all_attributes any_attribute children) (any_of attributes) (any_pass children)) (any_pass rest)
-
 abbrev pub is_readable : List ℕ → Bool
 is_readable text = is_forest (guessed text) && bytes_eq (written (guessed text)) text
 
@@ -288,7 +270,7 @@ guessed_reading text h =
     record { in_grammar = p.0; written_so = (bytes_decides (written (guessed text)) text).0 p.1 }
 
 pub readable : (text : List ℕ) → is_readable text ≡ true → HasReading text
-readable text h = record { forest = guessed text; reading = guessed_reading text h; passes = any_pass (guessed text) }
+readable text h = record { forest = guessed text; reading = guessed_reading text h; passes = all-any (guessed text) }
 
 guessed-is : (text : List ℕ) (f : Forest) → IsReading text f → guessed text ≡ f
 guessed-is text f reading =

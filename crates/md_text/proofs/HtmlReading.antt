@@ -1,10 +1,11 @@
--- No text has two readings.
+-- No text has two readings: what is written from a place on says which node comes, and where it ends.
+use Rattle.md_base.proofs.Lies.{lie}
 use Rattle.md_base.specs.Identifier.{is_nonempty}
-use Rattle.std.proofs.Common.{Bool, ◌≡◌, ◌⊎◌, ℕ, true, false, not, ◌&&◌, List, [], ◌∷◌, ◌++◌, refl, sym, ap, ◌∙◌, subst, inl, inr, append-nil}
+use Rattle.std.proofs.Common.{Bool, ◌≡◌, ◌⊎◌, ℕ, true, not, ◌&&◌, List, [], ◌∷◌, ◌++◌, refl, sym, ap, ◌∙◌, subst, inl, inr, append-nil}
 use Rattle.std.specs.List.{list_all}
-use Rattle.std.proofs.lemmas.Bool.{and_parts}
+use Rattle.std.proofs.lemmas.Bool.{and_parts, and_from}
 use Rattle.md_text.specs.References.{is_escaped}
-use Rattle.md_text.specs.Html.{Attribute, Forest, Empty, Text, Void, Element, is_forest, is_tag, begins_with_text, elements, void_tags, written, IsReading, HasReadingWith, HasOneReadingWith}
+use Rattle.md_text.specs.Html.{Attribute, Forest, Empty, Text, Void, Element, is_forest, is_tag, begins_with_text, elements, void_tags, written, IsReading, HasReadingWith, HasOneReadingWith, any_attribute, all_attributes}
 use Rattle.md_text.proofs.HtmlNames.{is_name, is_name_byte, no_angle, are_tidy, element-tidy, void-tidy, escaped-angle}
 use Rattle.md_text.proofs.HtmlSplit.{stops, split, EndsAttributes, same_attributes, name-not}
 use Rattle.md_text.proofs.HtmlWriting.{attributes_before, forest_before, written-before}
@@ -12,9 +13,6 @@ use Rattle.md_text.proofs.HtmlWriting.{attributes_before, forest_before, written
 -- where a forest ends: the text ends, or a closing tag begins
 abbrev pub IsEnd : List ℕ → Type 0
 IsEnd r = (r ≡ []) ⊎ ((more : List ℕ) × (r ≡ 60 ∷ 47 ∷ more))
-
-lie : false ≡ true → ⊥
-lie e = cc
 
 nil_or : (b : ℕ) (x : List ℕ) → [] ≡ b ∷ x → ⊥
 nil_or b x e = cc
@@ -56,7 +54,7 @@ after_text Empty r h ends = elim ends [
       ≡ true) (sym empty) refl
   | inr slash ↦ subst (λ r. stops no_angle r ≡ true) (sym slash.1) refl
 ]
-after_text (Text bytes rest) r h ends = absurd (lie h)
+after_text (Text bytes rest) r h ends = lie h
 after_text (Void name attributes rest) r h ends = refl
 after_text (Element name attributes children rest) r h ends = refl
 
@@ -206,3 +204,19 @@ only_reading p text h = record {
   passes = h.passes;
   only = λ other reading. one_reading text other h.forest reading h.reading;
 }
+
+any_all : (attributes : List Attribute) → list_all any_attribute attributes ≡ true
+any_all [] = refl
+any_all (a ∷ rest) = any_all rest
+
+-- any forest passes where nothing is asked
+pub all-any : (f : Forest) → all_attributes any_attribute f ≡ true
+all-any Empty = refl
+all-any (Text bytes rest) = all-any rest
+all-any (Void name attributes rest) = and_from (list_all any_attribute attributes) (all_attributes any_attribute rest)
+    (any_all attributes) (all-any rest)
+all-any (Element name attributes children rest) =
+    and_from (list_all any_attribute attributes && all_attributes any_attribute children)
+    (all_attributes any_attribute rest)
+    (and_from (list_all any_attribute attributes) (all_attributes any_attribute children) (any_all attributes)
+    (all-any children)) (all-any rest)

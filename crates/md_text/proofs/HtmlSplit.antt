@@ -1,33 +1,27 @@
--- Where two texts that are equal as a whole come apart.
+-- Where two texts that are equal as a whole come apart: the longest runs, the attributes, the names. That no text has
+-- two readings goes by it.
 use Rattle.std.proofs.Common.{◌≡◌, ℕ, Bool, true, false, not, ◌&&◌, ◌⊎◌, List, [], ◌∷◌, ◌++◌, refl, sym, ap, ap₂, ◌∙◌, subst, inl, inr}
 use Rattle.std.specs.List.{list_all}
-use Rattle.std.proofs.lemmas.Bool.{and_parts}
+use Rattle.std.proofs.lemmas.Bool.{and_parts, not-true, both_ways}
 use Rattle.md_text.specs.Html.{Attribute}
 use Rattle.md_text.proofs.HtmlNames.{is_name, is_name_byte, no_angle, no_quote, are_tidy}
 use Rattle.md_text.proofs.HtmlWriting.{attributes_before}
+use Rattle.md_base.proofs.Lies.{lie}
 
 -- the text is empty, or begins with a byte that fails the test
 abbrev pub stops : (ℕ → Bool) → List ℕ → Bool
 stops t [] = true
 stops t (b ∷ rest) = not (t b)
 
-clash : (t : Bool) → not t ≡ true → t ≡ true → ⊥
-clash true e f = absurd (lie e)
-  where
-    lie : false ≡ true → ⊥
-    lie e = cc
-clash false e f = absurd (lie f)
-  where
-    lie : false ≡ true → ⊥
-    lie e = cc
-
 -- the longest runs that pass a test are the same, and so is what follows them
 pub split : (t : ℕ → Bool) (x y a b : List ℕ) → list_all t x ≡ true → list_all t y ≡ true → stops t a ≡ true →
     stops t b ≡ true → x ++ a ≡ y ++ b → (x ≡ y) × (a ≡ b)
 split t [] [] a b hx hy sa sb e = (refl, e)
-split t [] (c ∷ y) a b hx hy sa sb e = absurd (clash (t c) (subst (λ z. stops t z ≡ true) e sa)
+split t [] (c ∷ y) a b hx hy sa sb e =
+    absurd (both_ways (t c) (not-true (t c) (subst (λ z. stops t z ≡ true) e sa))
     (and_parts (t c) (list_all t y) hy).0)
-split t (c ∷ x) [] a b hx hy sa sb e = absurd (clash (t c) (subst (λ z. stops t z ≡ true) (sym e) sb)
+split t (c ∷ x) [] a b hx hy sa sb e =
+    absurd (both_ways (t c) (not-true (t c) (subst (λ z. stops t z ≡ true) (sym e) sb))
     (and_parts (t c) (list_all t x) hx).0)
 split t (c ∷ x) (d ∷ y) a b hx hy sa sb e =
     let first : c ≡ d = cc in
@@ -44,16 +38,10 @@ EndsAttributes r = ((more : List ℕ) × (r ≡ 62 ∷ more)) ⊎ ((more : List 
 pub name-not : (n : ℕ) (name tail more : List ℕ) → is_name_byte n ≡ false → is_name name ≡ true →
     name ++ tail ≡ n ∷ more → ⊥
 name-not n [] tail more no_byte h e = lie h
-  where
-    lie : false ≡ true → ⊥
-    lie e = cc
 name-not n (b ∷ name) tail more no_byte h e =
     let is : b ≡ n = cc in
     let passes = (and_parts (is_name_byte b) (list_all is_name_byte name) h).0 in
     lie (sym no_byte ∙ ap is_name_byte (sym is) ∙ passes)
-  where
-    lie : false ≡ true → ⊥
-    lie e = cc
 
 no_attribute : (a : Attribute) (rest : List Attribute) (r s : List ℕ) → are_tidy (a ∷ rest) ≡ true →
     EndsAttributes r → r ≡ attributes_before (a ∷ rest) s → ⊥

@@ -1,4 +1,4 @@
--- What is written, with what follows it.
+-- What is written, with what follows it: one list to compare, in place of a text and a rest.
 use Rattle.std.proofs.Common.{◌≡◌, ℕ, List, [], ◌∷◌, ◌++◌, refl, ap, ◌∙◌, append_assoc}
 use Rattle.md_text.specs.Html.{Attribute, Forest, Empty, Text, Void, Element, written, written_attributes}
 

@@ -1,16 +1,17 @@
--- Reading references back changes no protocol that is kept.
+-- Reading references back changes no protocol that is kept: so a link's protocol is the one that was judged.
 use Rattle.std.specs.Prelude.{◌||◌}
 use Rattle.std.specs.Str.{bytes_eq}
 use Rattle.std.proofs.Common.{◌≡◌, ◌≢◌, ℕ, ◌==◌, Bool, true, false, not, ◌&&◌, cond, List, [], ◌∷◌, take, length, Option, Some, None, option_map, refl, sym, ap, ap₂, ◌∙◌, subst, ne_eqb, eqb-true, inl, inr, codes, zero, suc}
 use Rattle.std.specs.List.{list_all}
 use Rattle.std.specs.Option.{option_map_or}
 use Rattle.std.specs.Cmp.Lexicographic.{bytes_decides}
-use Rattle.std.proofs.lemmas.Bool.{cases_eq, cases_Bool, and_parts, or_cases, cond_both, and_from}
+use Rattle.std.proofs.lemmas.Bool.{cases_eq, cases_Bool, and_parts, or_cases, cond_both, and_from, not-true}
 use Rattle.md_text.specs.Bytes.{lower, lowered, is_one_of}
 use Rattle.md_text.specs.References.{read_back, read_back_after, referenced, reference_tail, begins_with}
 use Rattle.md_text.specs.Url.{protocol_of, has_permitted_protocol, sanitized, sanitized_with, link_protocols, image_protocols}
 use Rattle.md_text.specs.Safe.{is_safe_value}
 use Rattle.md_text.proofs.EncodeLaws.{read_back-other}
+use Rattle.md_base.proofs.Lies.{lie}
 
 -- `?`, `#` or `/`, which end the place where a protocol may stand
 abbrev ends_protocol : ℕ → Bool
@@ -20,16 +21,12 @@ ends_protocol b = (b == 63) || (b == 35) || (b == 47)
 abbrev goes_on : ℕ → Bool
 goes_on b = not (b == 58) && not (ends_protocol b)
 
-not_true : (t : Bool) → not t ≡ true → t ≡ false
-not_true true e = cc
-not_true false e = refl
-
 protocol_of-goes_on : (b : ℕ) (rest : List ℕ) → goes_on b ≡ true →
     protocol_of (b ∷ rest) ≡ option_map (λ before. b ∷ before) (protocol_of rest)
 protocol_of-goes_on b rest e =
     let parts = and_parts (not (b == 58)) (not (ends_protocol b)) e in
     ap₂ (λ s t. cond s (Some []) (cond t None (option_map (λ before. b ∷ before) (protocol_of rest))))
-    (not_true (b == 58) parts.0) (not_true (ends_protocol b) parts.1)
+    (not-true (b == 58) parts.0) (not-true (ends_protocol b) parts.1)
 
 protocol_of-colon : (b : ℕ) (rest : List ℕ) → (b == 58) ≡ true → protocol_of (b ∷ rest) ≡ Some []
 protocol_of-colon b rest e = ap (λ s. cond s (Some []) (cond (ends_protocol b) None
@@ -108,14 +105,11 @@ none_stays (suc n) (b ∷ rest) f e =
     none_stays n rest parts.1 (map_none b (protocol_of rest) (sym (protocol_of-goes_on b rest parts.0) ∙ e))
 
 -- a byte that isn't `&`
-abbrev no_and : ℕ → Bool
+abbrev pub no_and : ℕ → Bool
 no_and b = not (b == 38)
 
 no_and-ne : (b : ℕ) → no_and b ≡ true → b ≢ 38
-no_and-ne b e is = absurd (lie (sym (ap no_and is) ∙ e))
-  where
-    lie : false ≡ true → ⊥
-    lie e = cc
+no_and-ne b e is = lie (sym (ap no_and is) ∙ e)
 
 -- a protocol without `&`, also once references are read back
 some_stays : (v q : List ℕ) → list_all no_and q ≡ true → protocol_of v ≡ Some q → protocol_of (read_back v) ≡ Some q

@@ -1,4 +1,4 @@
--- A sanitized URL is ASCII, and a second time nothing changes where no `&` stands in it.
+-- A sanitized URL is ASCII, and a second time nothing changes where no `&` stands in it: the law `sanitize_is_ascii`.
 use Rattle.std.proofs.Common.{◌≡◌, ℕ, ◌==◌, ◌<◌, ◌/◌, ◌%◌, Bool, true, false, ◌&&◌, ◌||◌, cond, eqb, List, [], ◌∷◌, All, refl, sym, subst, arith, inl, inr, codes, lit<}
 use Rattle.std.proofs.lemmas.Bool.{cases_eq, cases_Bool, agree_below_at, or_cases, and_parts, or_left, or_right, and_from}
 use Rattle.std.proofs.lemmas.List.Elements.{All-nil, All-cons, All-head, All-tail, All-append, All-from_recursion}

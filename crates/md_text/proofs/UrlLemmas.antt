@@ -1,4 +1,4 @@
--- Which bytes a URL keeps, and what becomes of them in HTML.
+-- Which bytes a URL keeps, and what becomes of them in HTML: the body's steps, and the ground of the laws on URLs.
 use Rattle.std.proofs.Common.{◌≡◌, ◌≢◌, ℕ, ◌<◌, ◌≤◌, true, false, cond, eqb, List, [], ◌∷◌, refl, sym, ap, ◌∙◌, subst, encode_utf8, arith, ne_eqb, append-nil, inl, inr}
 use Rattle.std.proofs.lemmas.Bool.{cases_lt, both_ways}
 use Rattle.std.proofs.lemmas.Bool.Decides.{nat_tests}

@@ -1,4 +1,4 @@
--- Each `%` of a sanitized URL begins a percent triple.
+-- Each `%` of a sanitized URL begins a percent triple: the law `percent_begins_a_triple`.
 use Rattle.std.proofs.Common.{◌≡◌, ℕ, ◌==◌, ◌<◌, ◌/◌, ◌%◌, true, false, not, ◌&&◌, ◌||◌, cond, List, [], ◌∷◌, ◌++◌, refl, sym, ap, ◌∙◌, subst, inl, inr}
 use Rattle.std.proofs.lemmas.Bool.{cases_Bool, cases_eq, agree_below_at, or_cases, and_parts, or_left, or_right, and_from, both_ways}
 use Rattle.std.proofs.lemmas.List.Elements.{All-head, All-tail}

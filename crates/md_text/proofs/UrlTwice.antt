@@ -1,4 +1,4 @@
--- A normalized URL stays as it is, and one with no `&` is its own escaped text.
+-- A normalized URL stays as it is, and one with no `&` is its own escaped text: so to sanitize twice is to do it once.
 use Rattle.std.proofs.Common.{◌≡◌, ◌≢◌, ℕ, ◌==◌, ◌<◌, ◌/◌, ◌%◌, true, false, not, ◌&&◌, ◌||◌, cond, eqb, List, [], ◌∷◌, ◌++◌, All, refl, sym, ap, ap₂, ◌∙◌, subst, inl, inr}
 use Rattle.std.proofs.lemmas.Bool.{cases_Bool, agree_below_at, or_cases, and_parts, or_left, or_right, and_from, both_ways}
 use Rattle.std.proofs.lemmas.List.Elements.{All-nil, All-cons, All-head, All-tail, All-append, All-from_recursion}

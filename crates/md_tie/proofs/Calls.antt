@@ -1,32 +1,12 @@
--- Numbers of calls: the place among those so far, and among all.
-use Rattle.std.proofs.Common.{◌≡◌, ℕ, ◌+◌, suc, Bool, true, false, ◌||◌, not, cond, List, [], ◌∷◌, ◌++◌, map, refl, ap, sym, ◌∙◌, arith, bytes_eq, length, Some}
-use Rattle.std.specs.Prelude.{if◌then◌else◌, filter, find}
+-- Numbers of calls: the place among those so far, by which the machine prints, is the place among all, by which the
+-- meaning does.
+use Rattle.std.proofs.Common.{◌≡◌, ℕ, suc, Bool, true, false, ◌||◌, not, cond, List, [], ◌∷◌, ◌++◌, map, refl, ap, sym, ◌∙◌, bytes_eq, length, Some}
+use Rattle.std.specs.Prelude.{if◌then◌else◌, find}
 use Rattle.std.specs.Option.{option_map_or}
-use Rattle.std.specs.List.{list_any}
-use Rattle.std.specs.Bool.{one_answer}
-use Rattle.std.proofs.lemmas.Bool.{true≢false}
-use Rattle.std.proofs.lemmas.Slice.Eq.{bytes_eq-Decides}
+use Rattle.std.proofs.lemmas.Bool.{or_parts}
 use Rattle.md_meaning.specs.Calls.{Called, distinct, count_of, tally, number_among, count_among}
 use Rattle.md_meaning.specs.Meaning.Footnotes.{place_among}
-
--- an identifier is among some
-abbrev pub is_in : List ℕ → List (List ℕ) → Bool
-is_in identifier others = list_any (λ other. bytes_eq other identifier) others
-
-abbrev others_than : List ℕ → List (List ℕ) → List (List ℕ)
-others_than x ys = filter (λ other. not (bytes_eq other x)) ys
-
-pub same : (xs ys : List ℕ) → bytes_eq xs ys ≡ true → xs ≡ ys
-same xs ys h = (bytes_eq-Decides xs ys).0 h
-
-pub itself : (xs : List ℕ) → bytes_eq xs xs ≡ true
-itself xs = (bytes_eq-Decides xs xs).1 refl
-
-pub bytes_eq-sym : (xs ys : List ℕ) → bytes_eq xs ys ≡ bytes_eq ys xs
-bytes_eq-sym xs ys = one_answer (bytes_eq xs ys) (bytes_eq ys xs) (bytes_eq-Decides xs ys) (
-  (λ h. sym (same ys xs h)),
-  (λ e. (bytes_eq-Decides ys xs).1 (sym e)),
-)
+use Rattle.md_meaning.proofs.Identifiers.{is_in, others_than, Apart, same, itself, bytes_eq-sym, is_in-distinct, distinct-apart, count-missing}
 
 -- the place in a tally is that among its identifiers
 pub number-placed : (f : List ℕ → ℕ) (xs : List (List ℕ)) (x : List ℕ) →
@@ -90,37 +70,6 @@ number-same xs later x =
     ∙ ap (λ ws. suc (length ws)) (sym (upto-distinct xs later x))
     ∙ sym (placed-upto (distinct (xs ++ x ∷ later)) x)
 
-pub or_parts : (a b : Bool) → a || b ≡ false → (a ≡ false) × (b ≡ false)
-or_parts true b h = absurd (true≢false h)
-or_parts false b h = (refl, h)
-
-others_stay : (x z : List ℕ) (ys : List (List ℕ)) → bytes_eq x z ≡ false → is_in z (others_than x ys) ≡ is_in z ys
-others_stay x z [] h = refl
-others_stay x z (y ∷ ys) h =
-    elim (bytes_eq y x) as (λ b. bytes_eq y x ≡ b → is_in z (cond (not b) (y ∷ others_than x ys) (others_than x ys))
-    ≡ bytes_eq y z || is_in z ys) [
-      | true ↦ λ e. others_stay x z ys h ∙ ap (λ b. b || is_in z ys) (sym (ap (λ w. bytes_eq w z) (same y x e) ∙ h))
-      | false ↦ λ e. ap (λ b. bytes_eq y z || b) (others_stay x z ys h)
-    ] refl
-
-pub is_in-distinct : (xs : List (List ℕ)) (z : List ℕ) → is_in z (distinct xs) ≡ is_in z xs
-is_in-distinct [] z = refl
-is_in-distinct (x ∷ xs) z =
-    elim (bytes_eq x z) as (λ b. bytes_eq x z ≡ b → b || is_in z (others_than x (distinct xs)) ≡ b || is_in z xs) [
-      | true ↦ λ e. refl
-      | false ↦ λ e. others_stay x z (distinct xs) e ∙ is_in-distinct xs z
-    ] refl
-
-zero_plus : (n : ℕ) → 0 + n ≡ n
-zero_plus n = omega arith
-
-count-missing : (calls : List (List ℕ)) (z : List ℕ) → is_in z calls ≡ false → count_of calls z ≡ 0
-count-missing [] z h = refl
-count-missing (call ∷ calls) z h =
-    ap (λ b. (if b then 1 else 0) + count_of calls z) (or_parts (bytes_eq call z) (is_in z calls) h).0
-    ∙ zero_plus (count_of calls z)
-    ∙ count-missing calls z (or_parts (bytes_eq call z) (is_in z calls) h).1
-
 count-found : (f : List ℕ → ℕ) (xs : List (List ℕ)) (x : List ℕ) →
     count_among (map (λ i. record { identifier = i; count = f i }) xs) x ≡ (if is_in x xs then f x else 0)
 count-found f [] x = refl
@@ -148,11 +97,6 @@ abbrev pub Numbered : List (List ℕ) → ℕ → List (List ℕ) → Type 0
 Numbered xs number [] = Unit {0}
 Numbered xs number (y ∷ ys) = (place_among xs y ≡ number) × Numbered xs (suc number) ys
 
--- no two are the same
-abbrev pub Apart : List (List ℕ) → Type 0
-Apart [] = Unit {0}
-Apart (x ∷ xs) = (is_in x xs ≡ false) × Apart xs
-
 -- behind one more, places are one further
 numbered-behind : (x : List ℕ) (xs : List (List ℕ)) (number : ℕ) (ys : List (List ℕ)) → is_in x ys ≡ false →
     Numbered xs number ys → Numbered (x ∷ xs) (suc number) ys
@@ -168,34 +112,6 @@ apart-numbered [] apart = tt
 apart-numbered (x ∷ xs) apart = (
   ap (λ b. if b then 1 else suc (place_among xs x)) (itself x),
   numbered-behind x xs 1 xs apart.0 (apart-numbered xs apart.1),
-)
-
--- what is left out isn't there, and the others stay apart
-left_out : (x : List ℕ) (ys : List (List ℕ)) → is_in x (others_than x ys) ≡ false
-left_out x [] = refl
-left_out x (y ∷ ys) =
-    elim (bytes_eq y x) as (λ b. bytes_eq y x ≡ b → is_in x (cond (not b) (y ∷ others_than x ys) (others_than x ys))
-    ≡ false) [
-      | true ↦ λ e. left_out x ys
-      | false ↦ λ e. ap (λ b. b || is_in x (others_than x ys)) e ∙ left_out x ys
-    ] refl
-
-others-apart : (x : List ℕ) (ys : List (List ℕ)) → Apart ys → Apart (others_than x ys)
-others-apart x [] apart = tt
-others-apart x (y ∷ ys) apart =
-    elim (bytes_eq y x) as (λ b. bytes_eq y x ≡ b → Apart (cond (not b) (y ∷ others_than x ys) (others_than x ys))) [
-      | true ↦ λ e. others-apart x ys apart.1
-      | false ↦ λ e. (
-        others_stay x y ys (bytes_eq-sym x y ∙ e) ∙ apart.0,
-        others-apart x ys apart.1,
-      )
-    ] refl
-
-pub distinct-apart : (calls : List (List ℕ)) → Apart (distinct calls)
-distinct-apart [] = tt
-distinct-apart (call ∷ calls) = (
-  left_out call (distinct calls),
-  others-apart call (distinct calls) (distinct-apart calls),
 )
 
 -- the distinct identifiers are numbered from 1 in their order

@@ -1,8 +1,9 @@
--- What the machine prints for a node whose children's text is captured, and what it notes.
+-- What the machine prints for a node whose children's text is captured, and what it notes: the same as the clause of
+-- its name.
 use Rattle.std.proofs.Common.{◌≡◌, ℕ, suc, Bool, true, false, not, List, [], ◌∷◌, ◌++◌, refl, ap, sym, subst, ◌∙◌, Option, Some, None, append-nil}
 use Rattle.std.specs.Prelude.{if◌then◌else◌, codes, unwrap_or, count_by, slice_get}
 use Rattle.std.specs.Option.{option_map_or}
-use Rattle.std.proofs.lemmas.Bool.{true≢false}
+use Rattle.md_base.proofs.Lies.{lie}
 use Rattle.md_base.specs.declared.event.Name.{Name}
 use Rattle.md_base.specs.declared.event.Name.TheVariants.{CodeText, MathText, HeadingSetextText, CodeFencedFenceMeta, MathFlowFenceMeta, Frontmatter, Definition, DefinitionLabelString, DefinitionDestinationString, DefinitionTitleString, GfmFootnoteDefinition, GfmFootnoteDefinitionLabelString, Link, Image, Resource, ResourceDestinationString, ResourceTitleString, ReferenceString, GfmFootnoteCall, GfmTableCell, GfmTableDelimiterRow}
 use Rattle.md_base.specs.declared.event.AlignKind.{AlignKind}
@@ -74,9 +75,6 @@ quietly given at name inner page opens says nothing = record {
   after = λ notes. subst (λ found. After notes (noted_after notes (closing_at given at page name)) found)
       (sym nothing) (quiet notes (noted_after notes (closing_at given at page name)) (says notes).1);
 }
-
-lie : {A : Type 0} → false ≡ true → A
-lie h = absurd (true≢false (sym h))
 
 code-says : (in_image : Bool) (tag text : List ℕ) (notes : Notes) →
     Says notes ((if in_image then Said text ∷ [] else Said tag ∷ Said text ∷ Said (codes "</code>") ∷ [])

@@ -1,7 +1,7 @@
--- By induction over the nodes: what is printed is what is meant.
+-- By induction over the nodes: what is printed is what is meant, definitions and footnotes included.
 use Rattle.std.proofs.Common.{◌≡◌, ℕ, Bool, true, false, ◌&&◌, List, [], ◌∷◌, ◌++◌, refl, ap, sym, subst, ◌∙◌, Option, append-nil, append_assoc}
 use Rattle.std.specs.Prelude.{if◌then◌else◌, unwrap_or}
-use Rattle.std.proofs.lemmas.Bool.{true≢false}
+use Rattle.md_base.proofs.Lies.{lie}
 use Rattle.md_base.specs.declared.event.Name.{Name}
 use Rattle.md_base.specs.declared.event.Name.TheVariants.{Definition, GfmFootnoteDefinition}
 use Rattle.md_pattern.specs.declared.kinds.Symbol.{Symbol}
@@ -39,9 +39,7 @@ use Rattle.md_tie.proofs.Shapes.{leaf-silent, quiet, quiet_name, QuietInside}
 use Rattle.md_tie.proofs.Silence.{through, silent-printed, silent-meant, Untargeted, quiet-found}
 use Rattle.md_tie.proofs.Marks.{next-same}
 use Rattle.md_tie.proofs.Nodes.{node_printed, Agree, OnPage, on_page, captured_node, streamed_node, through_node, agree_both}
-
-lie : {A : Type 0} → false ≡ true → A
-lie h = absurd (true≢false (sym h))
+use Rattle.md_shape.proofs.Listed.{node_at}
 
 -- what is asked of some nodes, before which a heading waits for its underline or none
 pub record Ready (given : Given) (forest : Forest) (before : Before) (r : Role) (b : Option Symbol)
@@ -86,6 +84,40 @@ AllTied given round own children = (r : Role) (b : Option Symbol) (content : Con
     (notes : Notes) (waits : Bool) → Ready given children own r b content later notes waits →
     Tied given round own notes waits children
 
+-- a node that is looked through is tied as its children are
+through_tied : (given : Given) (round : Surroundings) (own : Before) (at : At) (name : Name) (children : Forest)
+    (r : Role) (b : Option Symbol) (content : Content) (later : List (List ℕ)) (notes : Notes) (waits : Bool) →
+    is_transparent name ≡ true → AreShaped children r b → underlined waits (spine children) ≡ true →
+    (waits ≡ true → notes.heading ≡ unwrap_or at.before.found.heading []) → IsBuilt given.bytes content children →
+    given.calls ≡ own.calls ++ (calls_of given.bytes children ++ later) →
+    waits_behind waits (shown (standing_of name) (spine children)) ≡ waits_behind waits (spine children) →
+    at.found ≡ (meant given round own children).found → own.found
+    ≡ (if is_transparent name then at.before.found else nothing_found) →
+    AllTied given round own children → NodeTied given round own at name children notes waits
+through_tied given round own at name children r b content later notes waits transparent shaped underlines heading
+    built calls same found own_found all =
+    let inner : Meant = meant given round own children in
+    let inner_printed : List Printed = printed (source_of given) round (stood own) children in
+    let passed : own.found ≡ at.before.found = own_found
+    ∙ ap (λ t. if t then at.before.found else nothing_found) transparent in
+    let tied = all r b content later notes waits (record {
+      shaped = shaped;
+      built = built;
+      underlines = underlines;
+      heading = λ w. heading w ∙ ap (λ (f : Found). unwrap_or f.heading []) (sym passed);
+      calls = calls;
+    }) in
+    record {
+      agree = through_node given at name own notes (waits_behind waits (spine children))
+          (waits_behind waits (shown (standing_of name) (spine children))) inner_printed inner.pieces
+          transparent (ap (λ (f : Found). f.heading) passed) same
+          (subst (λ f. Agree own notes (waits_behind waits (spine children)) inner_printed inner.pieces f) (sym found)
+          tied.agree);
+      definitions = tied.definitions;
+      footnotes = tied.footnotes;
+      page = λ h. lie (sym (through given at name transparent).caught ∙ h);
+    }
+
 node_tied : (given : Given) (round : Surroundings) (own : Before) (at : At) (name : Name) (children : Forest)
     (r : Role) (b : Option Symbol) (content : Content) (later behind : List (List ℕ)) (notes : Notes) (waits : Bool) →
     (standing : Standing) → standing ≡ standing_of name → Told standing name → IsStanding standing r b children →
@@ -101,51 +133,14 @@ node_tied : (given : Given) (round : Surroundings) (own : Before) (at : At) (nam
     AllTied given round own children → NodeTied given round own at name children notes waits
 node_tied given round own at name children r b content later behind notes waits Through e told is shaped quiet
     underlines heading fit built calls call found own_found all =
-    let inner : Meant = meant given round own children in
-    let passed : own.found ≡ at.before.found = own_found
-    ∙ ap (λ t. if t then at.before.found else nothing_found) told in
-    let tied = all r b content later notes waits (record {
-      shaped = shaped;
-      built = built;
-      underlines = underlines;
-      heading = λ w. heading w ∙ ap (λ (f : Found). unwrap_or f.heading []) (sym passed);
-      calls = calls;
-    }) in
-    record {
-      agree = through_node given at name own notes (waits_behind waits (spine children))
-          (waits_behind waits (shown (standing_of name) (spine children)))
-          (printed (source_of given) round (stood own) children) inner.pieces
-          told (ap (λ (f : Found). f.heading) passed) (ap (λ s. waits_behind waits (shown s (spine children))) (sym e))
-          (subst (λ f. Agree own notes (waits_behind waits (spine children))
-          (printed (source_of given) round (stood own) children) inner.pieces f) (sym found) tied.agree);
-      definitions = tied.definitions;
-      footnotes = tied.footnotes;
-      page = λ h. lie (sym (through given at name told).caught ∙ h);
-    }
+    through_tied given round own at name children r b content later notes waits told shaped underlines heading built
+    calls (ap (λ s. waits_behind waits (shown s (spine children))) (sym e)) found own_found all
 node_tied given round own at name children r b content later behind notes waits Space e told is shaped quiet
     underlines heading fit built calls call found own_found all =
-    let inner : Meant = meant given round own children in
-    let passed : own.found ≡ at.before.found = own_found
-    ∙ ap (λ t. if t then at.before.found else nothing_found) told in
-    let tied = all _ _ content later notes waits (record {
-      shaped = shaped;
-      built = built;
-      underlines = subst (λ f. underlined waits (spine f) ≡ true) (sym is) refl;
-      heading = λ w. heading w ∙ ap (λ (f : Found). unwrap_or f.heading []) (sym passed);
-      calls = calls;
-    }) in
-    record {
-      agree = through_node given at name own notes (waits_behind waits (spine children))
-          (waits_behind waits (shown (standing_of name) (spine children)))
-          (printed (source_of given) round (stood own) children) inner.pieces
-          told (ap (λ (f : Found). f.heading) passed) (ap (λ s. waits_behind waits (shown s (spine children))) (sym e)
-          ∙ ap (λ f. waits_behind waits (spine f)) (sym is))
-          (subst (λ f. Agree own notes (waits_behind waits (spine children))
-          (printed (source_of given) round (stood own) children) inner.pieces f) (sym found) tied.agree);
-      definitions = tied.definitions;
-      footnotes = tied.footnotes;
-      page = λ h. lie (sym (through given at name told).caught ∙ h);
-    }
+    through_tied given round own at name children _ _ content later notes waits told shaped
+    (subst (λ f. underlined waits (spine f) ≡ true) (sym is) refl) heading built calls
+    (ap (λ s. waits_behind waits (shown s (spine children))) (sym e) ∙ ap (λ f. waits_behind waits (spine f)) (sym is))
+    found own_found all
 node_tied given round own at name children r b content later behind notes waits
     (Solid s usual reading) e told is shaped quiet underlines heading fit built calls call found own_found all =
     let inner : Meant = meant given round own children in
@@ -252,15 +247,7 @@ tied given (Node name start end children rest) around before r b content later n
     let round : Surroundings = inside given.options (is_loose children) name around in
     let own : Before = before_children name children before in
     let inner : Meant = meant given round own children in
-    let at : At = record {
-      around = around;
-      before = before;
-      children = children;
-      found = inner.found;
-      start = start;
-      end = end;
-      is_last = around.is_outermost && is_empty rest;
-    } in
+    let at : At = node_at around before children start end (around.is_outermost && is_empty rest) inner.found in
     let found : Found = found_at given at name inner.pieces in
     let next : Before = before_next given at name found in
     let inner_printed : List Printed = printed (source_of given) round (stood own) children in

@@ -1,10 +1,10 @@
--- What is written twice, once for the machine and once for the meaning, is one.
+-- What is written twice, once for the machine and once for the meaning, is one: the words that single nodes print.
 use Rattle.std.proofs.Common.{◌≡◌, ℕ, ◌+◌, ◌-◌, ◌≤◌, zero, suc, Bool, true, false, ◌&&◌, ◌||◌, not, List, [], ◌∷◌, ◌++◌, length, drop, take, refl, ap, sym, ◌∙◌, Option, Some, None, arith}
 use Rattle.std.specs.Prelude.{if◌then◌else◌, cond, count_by, min, slice_get, slice_range, ◌==◌, codes}
 use Rattle.std.specs.Option.{option_map_or}
 use Rattle.std.specs.List.{list_any}
 use Rattle.std.specs.Fmt.{decimal}
-use Rattle.std.proofs.lemmas.Bool.{true≢false, ne_eqb}
+use Rattle.std.proofs.lemmas.Bool.{ne_eqb, or_parts}
 use Rattle.std.proofs.lemmas.List.Sums.{sum_by-cons}
 use Rattle.std.proofs.lemmas.Fmt.{decimal_digit}
 use Rattle.md_base.specs.declared.event.Name.{Name}
@@ -28,7 +28,7 @@ use Rattle.md_meaning.specs.Meaning.Tables.{align_attribute}
 use Rattle.md_meaning.specs.Places.{length_of}
 use Rattle.md_meaning.specs.Meaning.Spans.{marker, is_at, without_escapes, trimmed}
 use Rattle.md_meaning.specs.Meaning.Blocks.{heading_tag}
-use Rattle.md_meaning.specs.Meaning.Media.{href, src}
+use Rattle.md_meaning.specs.Meaning.Media.{src}
 use Rattle.md_meaning.specs.Meaning.Footnotes as notes
 
 pub marker-same : (name : Option Name) → old.marker_of name ≡ option_map_or marker name 38
@@ -77,10 +77,6 @@ pub code-same : (in_table : Bool) (text : List ℕ) → old.trimmed (if in_table
 code-same true text = trimmed-same (old.unescaped_pipes text) ∙ ap trimmed (escapes-same text)
 code-same false text = trimmed-same text
 
-pub href-same : (options : CompileOptions) (destination : List ℕ) →
-    old_media.href_of options destination ≡ href options destination
-href-same options destination = refl
-
 pub src-same : (options : CompileOptions) (destination : List ℕ) →
     old_media.src_of options destination ≡ src options destination
 src-same options destination =
@@ -113,10 +109,6 @@ underline-small true = omega arith
 underline-small false = omega arith
 
 -- one fence alone
-or_parts : (a b : Bool) → a || b ≡ false → (a ≡ false) × (b ≡ false)
-or_parts true b h = absurd (true≢false h)
-or_parts false b h = (refl, h)
-
 two-any : (p : Name → Bool) (xs : List Name) → list_any p xs ≡ false → two_pass p xs ≡ false
 two-any p [] h = refl
 two-any p (x ∷ xs) h =

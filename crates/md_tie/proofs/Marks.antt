@@ -1,4 +1,4 @@
--- What stands before a node, as the machine knows it and as the meaning does.
+-- What stands before a node, as the machine knows it and as the meaning does: both tell the same of line endings.
 use Rattle.std.proofs.Common.{◌≡◌, ℕ, Bool, true, false, not, List, [], ◌∷◌, ◌++◌, refl, ap, ◌∙◌, Some}
 use Rattle.std.specs.Prelude.{if◌then◌else◌}
 use Rattle.md_base.specs.declared.event.Name.{Name}

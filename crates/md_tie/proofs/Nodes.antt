@@ -1,7 +1,9 @@
--- What the machine prints for some nodes is what they mean.
+-- What the machine prints for some nodes is what they mean: how a node's own pieces, its children's and the later ones
+-- agree.
 use Rattle.std.proofs.Common.{◌≡◌, ℕ, Bool, true, false, List, [], ◌++◌, refl, ap, sym, subst, ◌∙◌, Option, Some, None, is_some, append-nil}
 use Rattle.std.specs.Prelude.{if◌then◌else◌, unwrap_or}
-use Rattle.std.proofs.lemmas.Bool.{true≢false, and_parts}
+use Rattle.std.proofs.lemmas.Bool.{and_parts}
+use Rattle.md_base.proofs.Lies.{lie}
 use Rattle.md_base.specs.declared.event.Name.{Name}
 use Rattle.md_base.specs.declared.event.Name.TheVariants.{HeadingSetextText, Resource, DefinitionDestinationString, DefinitionTitleString, ResourceDestinationString, ResourceTitleString, BlockQuotePrefix, SpaceOrTab, Other, LineEnding, HeadingSetextUnderlineSequence, MdxEsm, MdxFlowExpression, MdxTextExpression, MdxJsxFlowTag, MdxJsxTextTag}
 use Rattle.md_pattern.specs.declared.kinds.Symbol.{Symbol}
@@ -23,9 +25,6 @@ use Rattle.md_tie.proofs.Sides.{opening_at, closing_at, is_leaf, is_underline, S
 use Rattle.md_tie.proofs.Captured.{Captured, captured, After}
 use Rattle.md_shape.proofs.Underlines.{underlined, waits_behind}
 use Rattle.md_tie.proofs.Silence.{Passes, through, found-through}
-
-lie : {A : Type 0} → false ≡ true → A
-lie h = absurd (true≢false (sym h))
 
 -- what the machine prints for a node, by what it prints for the children
 abbrev pub node_printed : Given → At → Name → List Printed → Bool → List Printed

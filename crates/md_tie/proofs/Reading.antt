@@ -1,4 +1,5 @@
--- What the machine prints, read as pieces of the meaning: notes are kept aside.
+-- What the machine prints, read as pieces of the meaning: notes are kept aside, since the meaning finds on the spine
+-- what the machine notes.
 use Rattle.std.proofs.Common.{◌≡◌, ℕ, true, List, [], ◌∷◌, ◌++◌, refl, ap, ◌∙◌, Option, Some, None}
 use Rattle.std.specs.Prelude.{if◌then◌else◌, length, ◌-◌, slice_get, ◌||◌, ◌==◌}
 use Rattle.std.specs.Option.{option_map_or}

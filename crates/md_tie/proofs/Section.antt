@@ -1,4 +1,4 @@
--- The section of footnotes, as the machine prints it and as it is meant.
+-- The section of footnotes, as the machine prints it and as it is meant: item by item.
 use Rattle.std.proofs.Common.{◌≡◌, ℕ, ◌-◌, suc, Bool, true, false, not, List, [], ◌∷◌, ◌++◌, length, take, drop, map, refl, ap, sym, ◌∙◌, subst, bytes_eq, arith, append_assoc}
 use Rattle.std.specs.Prelude.{if◌then◌else◌, codes, ◌==◌}
 use Rattle.std.specs.List.{flat_map}

@@ -1,9 +1,9 @@
--- What the grammar says of spines: where underlines stand, and which names have nothing to note or to print.
-use Rattle.std.proofs.Common.{◌≡◌, inl, inr, ℕ, zero, suc, Bool, true, false, List, [], ◌∷◌, ◌++◌, refl, sym, subst, ◌∙◌, Option, Some, None}
-use Rattle.std.specs.Prelude.{replicate}
+-- What the grammar says of spines: where underlines stand, and which names have nothing to note or to print. So what
+-- the machine keeps and what the meaning finds can't differ there.
+use Rattle.std.proofs.Common.{◌≡◌, Bool, true, false, List, refl, sym, subst, Option}
 use Rattle.std.specs.List.{list_all}
-use Rattle.std.proofs.lemmas.Bool.{true≢false, and_parts, and_from}
-use Rattle.std.proofs.lemmas.List.Folds.{list_all-append}
+use Rattle.std.proofs.lemmas.Bool.{true≢false}
+use Rattle.md_base.proofs.Lies.{lie}
 use Rattle.md_base.specs.declared.event.Name.{Name}
 use Rattle.md_base.specs.declared.event.Name.TheVariants.{Definition, Link, Image, Resource, BlockQuotePrefix, SpaceOrTab, Other, MdxEsm, MdxFlowExpression, MdxTextExpression, MdxJsxFlowTag, MdxJsxTextTag}
 use Rattle.md_pattern.specs.declared.kinds.Symbol.{Symbol}
@@ -16,28 +16,12 @@ use Rattle.md_pattern.specs.declared.kinds.Standing.{Standing}
 use Rattle.md_pattern.specs.declared.kinds.Standing.TheVariants.{Through, Space, Solid, Mdx}
 use Rattle.md_pattern.specs.Standing.{standing_of}
 use Rattle.md_pattern.specs.Pattern.{pattern_of}
-use Rattle.md_pattern.specs.Spine.{IsTail, IsGrouped, Matches}
+use Rattle.md_pattern.specs.Spine.{IsTail, Matches}
 use Rattle.md_pattern.specs.Shape.{role_for, prefix_in}
-use Rattle.md_shape.proofs.Underlines.{letters, fits-all}
+use Rattle.md_shape.proofs.Letters.{letters, fits-all, grouped-all, followed-all, by_behind}
 use Rattle.md_shape.proofs.Symbols.{roles_for}
-use Rattle.md_shape.proofs.Spots.{role_listed}
 use Rattle.md_meaning.specs.Printed.{is_captured}
 use Rattle.md_tie.proofs.Sides.{is_leaf}
-
-lie : {A : Type 0} → false ≡ true → A
-lie h = absurd (true≢false (sym h))
-
--- what holds of all letters of a role's pattern, and of what follows them in groups, holds of the spine
-grouped-all : (test : Symbol → Bool) → ((first : Symbol) (tail : List Symbol) → test first ≡ true →
-    IsTail first tail → list_all test tail ≡ true) →
-    (firsts spine : List Symbol) → IsGrouped firsts spine → list_all test firsts ≡ true → list_all test spine ≡ true
-grouped-all test tails [] spine g h = subst (λ s. list_all test s ≡ true) (sym g) refl
-grouped-all test tails (first ∷ firsts) spine g h =
-    let parts = and_parts (test first) (list_all test firsts) h in
-    subst (λ s. list_all test s ≡ true) (sym g.2)
-    (and_from (test first) (list_all test (g.0 ++ g.1)) parts.0
-    (list_all-append test g.0 g.1 ∙ and_from (list_all test g.0) (list_all test g.1) (tails first g.0 parts.0 g.3)
-    (grouped-all test tails firsts g.1 g.4 parts.1)))
 
 -- what notes no target
 abbrev pub quiet : Symbol → Bool
@@ -47,20 +31,6 @@ quiet symbol.ResourceTitle = false
 quiet symbol.DefinitionDestination = false
 quiet symbol.DefinitionTitle = false
 quiet _ = true
-
-endings-quiet : (endings : ℕ) → list_all quiet (replicate endings LineEnding ++ SetextUnderline ∷ []) ≡ true
-endings-quiet zero = refl
-endings-quiet (suc endings) = endings-quiet endings
-
-quiet-tails : (first : Symbol) (tail : List Symbol) → quiet first ≡ true → IsTail first tail →
-    list_all quiet tail ≡ true
-quiet-tails ReferenceMarker tail h is = elim is [
-  | inl e ↦ subst (λ t. list_all quiet t ≡ true) (sym e) refl
-  | inr (inl e) ↦ subst (λ t. list_all quiet t ≡ true) (sym e) refl
-  | inr (inr e) ↦ subst (λ t. list_all quiet t ≡ true) (sym e) refl
-]
-quiet-tails SetextText tail h is = subst (λ t. list_all quiet t ≡ true) (sym is.1) (endings-quiet is.0)
-quiet-tails first tail h is = subst (λ t. list_all quiet t ≡ true) (sym is) refl
 
 abbrev quiet_role : Role → Bool
 quiet_role r = letters quiet (pattern_of r)
@@ -86,17 +56,11 @@ quiet_roles MdxJsxFlowTag h = tt
 quiet_roles MdxJsxTextTag h = tt
 quiet_roles _ h = (refl, refl)
 
-by_behind : (test : Role → Bool) (around : Role) (before : Option Symbol) (usual : Role) →
-    list_all test (roles_for true usual) ≡ true → list_all test (roles_for false usual) ≡ true →
-    test (role_for around before usual) ≡ true
-by_behind test around None usual first second = role_listed test around None usual second
-by_behind test around (Some s) usual first second = role_listed test around (Some s) usual first
-
 solid-quiet : (s : Symbol) (usual around : Role) (before : Option Symbol) (spine : List Symbol) →
     (list_all quiet_role (roles_for true usual) ≡ true) × (list_all quiet_role (roles_for false usual) ≡ true) →
     Matches (role_for around before usual) spine → list_all quiet spine ≡ true
 solid-quiet s usual around before spine h m =
-    grouped-all quiet quiet-tails m.0 spine m.1 (fits-all quiet (pattern_of (role_for around before usual)) m.0 m.2
+    followed-all quiet refl m.0 spine m.1 (fits-all quiet (pattern_of (role_for around before usual)) m.0 m.2
     (by_behind quiet_role around before usual h.0 h.1))
 
 abbrev pub QuietInside : Standing → Type 0

@@ -1,9 +1,10 @@
--- What the machine prints before and after a node's children that aren't captured, and what the node means round them.
+-- What the machine prints before and after a node's children that aren't captured, and what the node means around
+-- them: the same, name by name.
 use Rattle.std.proofs.Common.{◌≡◌, ℕ, ◌≤◌, Bool, true, false, ◌&&◌, ◌||◌, not, List, [], ◌∷◌, ◌++◌, drop, refl, ap, sym, ◌∙◌, Option, Some, None, append_assoc, append-nil, bytes_eq}
 use Rattle.std.specs.Prelude.{if◌then◌else◌, codes, unwrap_or, count_by, slice_get, ◌==◌}
 use Rattle.std.specs.Option.{option_map_or}
 use Rattle.std.specs.List.{list_any, flat_map}
-use Rattle.std.proofs.lemmas.Bool.{true≢false}
+use Rattle.md_base.proofs.Lies.{lie}
 use Rattle.md_base.specs.declared.event.Name.{Name}
 use Rattle.md_base.specs.declared.event.Name.TheVariants.{LineEnding, BlankLineEnding, BlockQuote, ListOrdered, ListUnordered, ListItem, ListItemPrefix, Data, CharacterEscapeValue, CharacterReferenceValue, CodeIndented, AutolinkEmail, AutolinkProtocol, GfmAutolinkLiteralEmail, GfmAutolinkLiteralMailto, GfmAutolinkLiteralProtocol, GfmAutolinkLiteralWww, GfmAutolinkLiteralXmpp, CodeFenced, CodeFencedFence, CodeFencedFenceInfo, CodeFlowChunk, MathFlow, MathFlowFence, MathFlowChunk, CodeTextData, MathTextData, HtmlFlow, HtmlFlowData, HtmlTextData, GfmTable, GfmTableHead, GfmTableBody, GfmTableRow, HeadingAtx, HeadingSetextUnderlineSequence, Emphasis, Strong, GfmStrikethrough, GfmTaskListItemCheck, GfmTaskListItemValueChecked, HardBreakEscape, HardBreakTrailing, Paragraph, ThematicBreak, CodeText, MathText, HeadingSetextText, CodeFencedFenceMeta, MathFlowFenceMeta, Frontmatter, Definition, DefinitionLabelString, DefinitionDestinationString, DefinitionTitleString, GfmFootnoteDefinition, GfmFootnoteDefinitionLabelString, Link, Image, Resource, ResourceDestinationString, ResourceTitleString, ReferenceString, GfmFootnoteCall, GfmTableCell, GfmTableDelimiterRow}
 use Rattle.md_base.specs.declared.event.AlignKind.{AlignKind}
@@ -97,9 +98,6 @@ pub record Sides (given : Given) (at : At) (name : Name) : Type 0 where
   pub closes : (notes : Notes) → Recalls at name notes → Says notes (closing_at given at blank name) back
   pub whole : (inner : List Piece) → (is_leaf (standing_of name) ≡ true → inner ≡ []) →
       front ++ (inner ++ back) ≡ means given at name inner
-
-lie : {A : Type 0} → true ≡ false → A
-lie h = absurd (true≢false h)
 
 -- choices
 either : (b : Bool) (notes : Notes) (xs ys : List Printed) (us vs : List Piece) → Says notes (xs ++ []) us →
@@ -486,27 +484,27 @@ sides given at GfmTableRow fit h =
     tagged given at GfmTableRow (on_own_line (codes "<tr>")) (row_end at) (λ n. (refl, refl))
     (λ n. row-says at.around.in_head (drop (count_by is_cell (spine_names at.children)) at.before.columns) n)
     (λ inner. refl)
-sides given at CodeText fit h = lie h
-sides given at MathText fit h = lie h
-sides given at HeadingSetextText fit h = lie h
-sides given at CodeFencedFenceMeta fit h = lie h
-sides given at MathFlowFenceMeta fit h = lie h
-sides given at Frontmatter fit h = lie h
-sides given at Definition fit h = lie h
-sides given at DefinitionLabelString fit h = lie h
-sides given at DefinitionDestinationString fit h = lie h
-sides given at DefinitionTitleString fit h = lie h
-sides given at GfmFootnoteDefinition fit h = lie h
-sides given at GfmFootnoteDefinitionLabelString fit h = lie h
-sides given at Link fit h = lie h
-sides given at Image fit h = lie h
-sides given at Resource fit h = lie h
-sides given at ResourceDestinationString fit h = lie h
-sides given at ResourceTitleString fit h = lie h
-sides given at ReferenceString fit h = lie h
-sides given at GfmFootnoteCall fit h = lie h
-sides given at GfmTableCell fit h = lie h
-sides given at GfmTableDelimiterRow fit h = lie h
+sides given at CodeText fit h = lie (sym h)
+sides given at MathText fit h = lie (sym h)
+sides given at HeadingSetextText fit h = lie (sym h)
+sides given at CodeFencedFenceMeta fit h = lie (sym h)
+sides given at MathFlowFenceMeta fit h = lie (sym h)
+sides given at Frontmatter fit h = lie (sym h)
+sides given at Definition fit h = lie (sym h)
+sides given at DefinitionLabelString fit h = lie (sym h)
+sides given at DefinitionDestinationString fit h = lie (sym h)
+sides given at DefinitionTitleString fit h = lie (sym h)
+sides given at GfmFootnoteDefinition fit h = lie (sym h)
+sides given at GfmFootnoteDefinitionLabelString fit h = lie (sym h)
+sides given at Link fit h = lie (sym h)
+sides given at Image fit h = lie (sym h)
+sides given at Resource fit h = lie (sym h)
+sides given at ResourceDestinationString fit h = lie (sym h)
+sides given at ResourceTitleString fit h = lie (sym h)
+sides given at ReferenceString fit h = lie (sym h)
+sides given at GfmFootnoteCall fit h = lie (sym h)
+sides given at GfmTableCell fit h = lie (sym h)
+sides given at GfmTableDelimiterRow fit h = lie (sym h)
 sides given at _ fit h = record {
   front = [];
   back = [];

@@ -1,12 +1,13 @@
--- Nodes that print nothing, and spines on which nothing is noted.
+-- Nodes that print nothing, and spines on which nothing is noted: where the machine drops what was captured, the
+-- meaning has nothing either.
 use Rattle.std.proofs.Common.{◌≡◌, ◌⊎◌, inl, inr, Bool, true, false, ◌&&◌, List, [], ◌++◌, refl, ap, sym, subst, ◌∙◌, Option, None}
 use Rattle.std.specs.Prelude.{if◌then◌else◌}
 use Rattle.std.specs.List.{list_all}
-use Rattle.std.proofs.lemmas.Bool.{true≢false, and_parts}
+use Rattle.std.proofs.lemmas.Bool.{and_parts}
 use Rattle.std.proofs.lemmas.List.Folds.{list_all-append}
+use Rattle.md_base.proofs.Lies.{lie}
 use Rattle.md_base.specs.declared.event.Name.{Name}
 use Rattle.md_base.specs.declared.event.Name.TheVariants.{Resource, DefinitionDestinationString, DefinitionTitleString, ResourceDestinationString, ResourceTitleString, ListItemValue, ListItemMarker, BlockQuotePrefix, SpaceOrTab, Other}
-use Rattle.md_base.specs.declared.event.Point.{Point}
 use Rattle.md_pattern.specs.declared.kinds.Symbol.{Symbol}
 use Rattle.md_pattern.specs.declared.kinds.Role.{Role}
 use Rattle.md_pattern.specs.declared.kinds.Standing.{Standing}
@@ -32,9 +33,12 @@ use Rattle.md_meaning.specs.Meaning.Means.{means}
 use Rattle.md_meaning.specs.Meaning.Nodes.{Meant, meant, found_at}
 use Rattle.md_tie.proofs.Sides.{source_of, opening_at, closing_at, is_leaf}
 use Rattle.md_tie.proofs.Shapes.{silent, leaf-silent, quiet}
+use Rattle.md_shape.proofs.Listed.{node_at}
 
-lie : {A : Type 0} → false ≡ true → A
-lie h = absurd (true≢false (sym h))
+-- what all of two lists in a row pass, all of each pass
+all-parts : (test : Symbol → Bool) (xs ys : List Symbol) → list_all test (xs ++ ys) ≡ true →
+    (list_all test xs ≡ true) × (list_all test ys ≡ true)
+all-parts test xs ys h = and_parts (list_all test xs) (list_all test ys) (sym (list_all-append test xs ys) ∙ h)
 
 -- a node prints what its children do, and that is all
 pub record Passes (given : Given) (at : At) (name : Name) : Type 0 where
@@ -120,28 +124,16 @@ before_of before = record {
   columns = before.columns;
 }
 
-abbrev plain_at : Surroundings → Before → Forest → Point → Point → Bool → Found → At
-plain_at around before children start end last found = record {
-  around = around;
-  before = before;
-  children = children;
-  found = found;
-  start = start;
-  end = end;
-  is_last = last;
-}
-
 -- nothing but this prints nothing
 pub silent-printed : (given : Given) (forest : Forest) (around : Surroundings) (before : Stood) (r : Role)
     (b : Option Symbol) → AreShaped forest r b → list_all silent (spine forest) ≡ true →
     printed (source_of given) around before forest ≡ []
 silent-printed given Empty around before r b shaped h = refl
 silent-printed given (Node name start end children rest) around before r b shaped h =
-    let parts = and_parts (list_all silent (shown (standing_of name) (spine children))) (list_all silent (spine rest))
-    (sym (list_all-append silent (shown (standing_of name) (spine children)) (spine rest)) ∙ h) in
+    let parts = all-parts silent (shown (standing_of name) (spine children)) (spine rest) h in
     let round : Surroundings = inside given.options (is_loose children) name around in
     let inner : List Printed = printed (source_of given) round (children_stood name children before) children in
-    let at : At = plain_at around (before_of before) children start end (around.is_outermost
+    let at : At = node_at around (before_of before) children start end (around.is_outermost
     && is_empty rest) nothing_found in
     let passes : Passes given at name = passes_by given at name children r b shaped.0.1 parts.0 in
     let page : Bool → Page = λ c. if c then lay given.ending blank inner else blank in
@@ -165,11 +157,10 @@ pub silent-meant : (given : Given) (forest : Forest) (around : Surroundings) (be
     (meant given around before forest).pieces ≡ []
 silent-meant given Empty around before r b shaped h = refl
 silent-meant given (Node name start end children rest) around before r b shaped h =
-    let parts = and_parts (list_all silent (shown (standing_of name) (spine children))) (list_all silent (spine rest))
-    (sym (list_all-append silent (shown (standing_of name) (spine children)) (spine rest)) ∙ h) in
+    let parts = all-parts silent (shown (standing_of name) (spine children)) (spine rest) h in
     let round : Surroundings = inside given.options (is_loose children) name around in
     let inner : Meant = meant given round (before_children name children before) children in
-    let at : At = plain_at around before children start end (around.is_outermost && is_empty rest) inner.found in
+    let at : At = node_at around before children start end (around.is_outermost && is_empty rest) inner.found in
     let passes : Passes given at name = passes_by given at name children r b shaped.0.1 parts.0 in
     let none : inner.pieces ≡ [] = inside_silent (λ f. (meant given round
     (before_children name children before) f).pieces ≡ []) (standing_of name) children r b
@@ -232,11 +223,10 @@ pub quiet-found : (given : Given) (forest : Forest) (around : Surroundings) (bef
     Untargeted (meant given around before forest).found
 quiet-found given Empty around before r b shaped h = (refl, refl, refl)
 quiet-found given (Node name start end children rest) around before r b shaped h =
-    let parts = and_parts (list_all quiet (shown (standing_of name) (spine children))) (list_all quiet (spine rest))
-    (sym (list_all-append quiet (shown (standing_of name) (spine children)) (spine rest)) ∙ h) in
+    let parts = all-parts quiet (shown (standing_of name) (spine children)) (spine rest) h in
     let round : Surroundings = inside given.options (is_loose children) name around in
     let inner : Meant = meant given round (before_children name children before) children in
-    let at : At = plain_at around before children start end (around.is_outermost && is_empty rest) inner.found in
+    let at : At = node_at around before children start end (around.is_outermost && is_empty rest) inner.found in
     let found : Found = found_at given at name inner.pieces in
     let next : Before = before_next given at name found in
     both_untargeted found (meant given around next rest).found

@@ -1,4 +1,4 @@
--- What is printed for a document of the grammar is what it means.
+-- What is printed for a document of the grammar is what it means: the theorem of this crate.
 use Rattle.std.proofs.Common.{◌≡◌, ℕ, List, [], ◌++◌, ap, sym, ◌∙◌, None, false, append-nil}
 use Rattle.std.proofs.lemmas.Bool.{true≢false}
 use Rattle.md_pattern.specs.declared.kinds.Role.TheVariants as role

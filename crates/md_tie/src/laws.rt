@@ -10,5 +10,6 @@ ghost use Rattle.md_meaning.specs.Whole.{printed_meaning};
 /// What the compiler prints for a document of the grammar is the document's meaning.
 pub fn printed_is_meant()
     ensures { (options : CompileOptions) (names : List (List ℕ × List ℕ)) (bytes : List ℕ) (document : Forest)
-        → IsGrammatical bytes names document → printed_meaning options names bytes document ≡ meaning options names bytes document }
+        → IsGrammatical bytes names document
+        → printed_meaning options names bytes document ≡ meaning options names bytes document }
 {}

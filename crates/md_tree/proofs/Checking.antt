@@ -131,7 +131,8 @@ module _ (given : Document) (index : ℕ) (d : Event) (course : Course) (inside 
         omega arith,
         (λ _. subst BeginNoTree (sym seen_more)
             (BeginNoTree-stuck (Unbroken given.bytes given.names) (take index given.events) event course runs
-            (λ next step. order_stuck given.bytes given.names event.kind event.name event.point course next stops step))),
+            (λ next step.
+            order_stuck given.bytes given.names event.kind event.name event.point course next stops step))),
         (λ e. absurd (omega (arith, e))),
       )
   said_order _ stops = tt

@@ -1,14 +1,31 @@
 -- A node without children, which is entered and exited at once.
-use Rattle.std.proofs.Common.{◌≡◌, inr, ℕ, suc, Some, None, List, ◌∷◌, refl, sym, subst}
+use Rattle.std.proofs.Common.{◌≡◌, ◌⊎◌, inl, inr, true, false, ℕ, suc, Some, None, List, ◌∷◌, refl, sym, ap, subst, ◌∙◌}
 use Rattle.std.specs.Prelude.{MatchOption}
 use Rattle.md_base.specs.declared.event.Point.{Point}
 use Rattle.md_base.specs.declared.event.Name.{Name}
+use Rattle.md_tree.specs.declared.rule.Rule.{Rule}
+use Rattle.md_tree.specs.declared.rule.Rule.TheVariants as rule
 use Rattle.md_tree.specs.declared.rule.CompileError.{CompileError}
+use Rattle.md_tree.specs.declared.rule.CompileError.TheVariants as error
+use Rattle.md_pattern.specs.declared.kinds.Symbol.{Symbol}
+use Rattle.md_pattern.specs.declared.kinds.Role.{Role}
+use Rattle.md_pattern.specs.declared.kinds.Role.TheVariants as role
+use Rattle.md_pattern.specs.declared.kinds.Reading.{Reading}
+use Rattle.md_pattern.specs.declared.kinds.Reading.TheVariants as reads
+use Rattle.md_pattern.specs.declared.kinds.Reading.TheVariants.{Free}
+use Rattle.md_pattern.specs.declared.kinds.Standing.{Standing}
+use Rattle.md_pattern.specs.declared.kinds.Standing.TheVariants.{Through, Space, Solid, Mdx}
 use Rattle.md_pattern.specs.Standing.{standing_of}
-use Rattle.md_tree.specs.Rules.{place}
-use Rattle.md_tree.specs.Machine.{Reads, Outer, Entry, Course, entered, after_entry, after_through, Enters, ExitsWhere}
-use Rattle.md_tree.specs.Walk.{Passes, IsStopAtLeaf, IsStopInside}
-use Rattle.md_tree.proofs.Breaks.{IsStop-inside, IsStopInside-same}
+use Rattle.md_pattern.specs.Shape.{role_for}
+use Rattle.md_tree.specs.declared.mention.Target.{Target}
+use Rattle.md_tree.specs.declared.mention.Target.TheVariants.{Missing}
+use Rattle.md_tree.specs.declared.state.State.{State}
+use Rattle.md_tree.specs.Rules.{place, target_at, broken_rule}
+use Rattle.md_tree.specs.declared.mention.Mention.TheVariants.{Nothing}
+use Rattle.md_tree.specs.Mentions.{mention_of, mentions_with}
+use Rattle.md_tree.specs.Machine.{Reads, Outer, Entry, Course, start_of, may_hold, advance, entered, after_entry, after_through, after_exit, is_complete, Enters, ExitsWhere}
+use Rattle.md_tree.specs.Walk.{Passes, Unbroken, misplaced, misplaced_where, StopsAtEntry, IsStopAtLeaf, IsStopInside}
+use Rattle.md_tree.proofs.Breaks.{IsStop-inside, IsStopInside-same, StopsInside-broken}
 
 -- the course inside such a node, without the node among the open ones
 abbrev pub inside : Entry → Course → Course
@@ -19,6 +36,60 @@ inside entry from = record {
   count = suc from.count;
   mentions = from.mentions;
 }
+
+-- where the children of a node begin, by how its name stands
+module _ (name : Name) (state : State) (target : Target) (holds : may_hold state.role ≡ true) where
+  pub entered-through : standing_of name ≡ Through →
+      entered (standing_of name) state target ≡ Some (record { state = state; target = target; outer = None })
+  entered-through stands = rw (stands, holds) refl
+
+  pub entered-space : standing_of name ≡ Space → entered (standing_of name) state target ≡ Some (record {
+    state = start_of role.Childless;
+    target = Missing;
+    outer = Some (record { state = state; before = state.before; target = target; reading = Free });
+  })
+  entered-space stands = rw (stands, holds) refl
+
+  pub entered-solid : (symbol : Symbol) (usual : Role) (reading : Reading) (next : State) →
+      standing_of name ≡ Solid symbol usual reading → advance state symbol ≡ Some next →
+      entered (standing_of name) state target ≡ Some (record {
+        state = start_of (role_for state.role state.before usual);
+        target = Missing;
+        outer = Some (record { state = next; before = state.before; target = target; reading = reading });
+      })
+  entered-solid symbol usual reading next stands moves = rw (stands, holds, moves) refl
+
+  pub entered-unmoved : (symbol : Symbol) (usual : Role) (reading : Reading) →
+      standing_of name ≡ Solid symbol usual reading → advance state symbol ≡ None →
+      entered (standing_of name) state target ≡ None
+  entered-unmoved symbol usual reading stands stays = rw (stands, holds, stays) refl
+
+-- a node that may not stand here
+pub not-entered : (name : Name) (start : Point) (from next : Course) →
+    entered (standing_of name) from.state from.target ≡ None → Enters name start from next → ⊥
+not-entered name start from next nowhere enters =
+    subst (λ o. MatchOption o ⊥ (λ e. next ≡ after_entry e name start from)) nowhere enters
+
+-- no node may stand here
+misplaced-stops : (standing : Standing) (name : Name) (start : Point) (from : Course) → standing_of name ≡ standing →
+    ((next : Course) → Enters name start from next → ⊥) → StopsAtEntry (misplaced_where standing) name start from
+misplaced-stops Mdx name start from stands never = stands
+misplaced-stops Through name start from stands never = never
+misplaced-stops Space name start from stands never = never
+misplaced-stops (Solid symbol usual reading) name start from stands never = never
+
+pub StopsAtEntry-misplaced : (name : Name) (start : Point) (from : Course) → may_hold from.state.role ≡ false →
+    StopsAtEntry (misplaced name) name start from
+StopsAtEntry-misplaced name start from childless =
+    misplaced-stops (standing_of name) name start from refl
+    (λ next. not-entered name start from next (rw childless refl))
+
+-- a node that is entered where its children begin
+pub Enters-by : (name : Name) (start : Point) (from to : Course) (entry : Entry) →
+    entered (standing_of name) from.state from.target ≡ Some entry → to ≡ after_entry entry name start from →
+    Enters name start from to
+Enters-by name start from to entry stands same =
+    subst (λ o. MatchOption o ⊥ (λ e. to ≡ after_entry e name start from)) (sym stands) same
 
 module _ (name : Name) (start end : Point) (from : Course) (entry : Entry)
     (stands : entered (standing_of name) from.state from.target ≡ Some entry) where
@@ -67,3 +138,77 @@ module _ (name : Name) (start end : Point) (from : Course) (entry : Entry)
             from.open_nodes (record { name = name; start = start; outer = entry.outer } ∷ from.open_nodes)
             (suc from.count) from.mentions stops),
       )
+
+-- a node without children that stands on no spine
+pub passes-over : (bytes : List ℕ) (names : List (List ℕ × List ℕ)) (name : Name) (start end : Point) (from : Course) →
+    may_hold from.state.role ≡ true → (standing_of name ≡ Through) ⊎ (standing_of name ≡ Space) →
+    Passes (Unbroken bytes names) name start end from (record from { count = suc (suc from.count) })
+passes-over bytes names name start end from holds (inl through) =
+    Passes-through name start end from _ (entered-through name from.state from.target holds through)
+    (Unbroken bytes names) _ refl refl
+passes-over bytes names name start end from holds (inr space) =
+    Passes-exit name start end from _ (entered-space name from.state from.target holds space)
+    (Unbroken bytes names) _ _ refl (refl, refl, refl)
+
+no-mention : (reading : Reading) → mention_of reading Missing ≡ Nothing
+no-mention reads.Media = refl
+no-mention _ = refl
+
+-- a node without children that stands on the spine
+module _ (name : Name) (symbol : Symbol) (usual : Role) (reading : Reading) (next : State) (start end : Point)
+    (from : Course) (holds : may_hold from.state.role ≡ true) (stands : standing_of name ≡ Solid symbol usual reading)
+    (moves : advance from.state symbol ≡ Some next) where
+  abbrev outer : Outer
+  outer = record { state = next; before = from.state.before; target = from.target; reading = reading }
+
+  abbrev inner : State
+  inner = start_of (role_for from.state.role from.state.before usual)
+
+  abbrev begins : Entry
+  begins = record { state = inner; target = Missing; outer = Some outer }
+
+  abbrev behind : Course
+  behind = record from {
+    state = next;
+    target = target_at reading from.target Missing (place start end);
+    count = suc (suc from.count);
+  }
+
+  exits-so : behind ≡ after_exit outer start end from.open_nodes (inside begins from)
+  exits-so =
+      ap (λ m. record behind { mentions = mentions_with (suc from.count) m from.mentions }) (sym (no-mention reading))
+
+  pub Passes-solid : (bytes : List ℕ) (names : List (List ℕ × List ℕ)) (target : Target) → is_complete inner ≡ true →
+      broken_rule bytes names reading next.role from.state.before start end Missing ≡ None →
+      target ≡ target_at reading from.target Missing (place start end) →
+      Passes (Unbroken bytes names) name start end from
+      (record from { state = next; target = target; count = suc (suc from.count) })
+  Passes-solid bytes names target complete sound target_is =
+      Passes-exit name start end from begins
+      (entered-solid name from.state from.target holds symbol usual reading next stands moves) (Unbroken bytes names)
+      outer _ refl (
+        complete,
+        sound,
+        ap (λ t. record behind { target = t }) target_is ∙ exits-so,
+      )
+
+  stops-so : (bytes : List ℕ) (names : List (List ℕ × List ℕ)) (index : ℕ) (refusal : CompileError) →
+      IsStopInside bytes names (suc index) outer (place start end) (inside begins from) refusal →
+      IsStopAtLeaf bytes names index name start end from refusal
+  stops-so bytes names index refusal =
+      IsStopAtLeaf-exit name start end from begins
+      (entered-solid name from.state from.target holds symbol usual reading next stands moves) bytes names index refusal
+      outer refl
+
+  pub IsStopAtLeaf-open : (bytes : List ℕ) (names : List (List ℕ × List ℕ)) (index : ℕ) → is_complete inner ≡ false →
+      IsStopAtLeaf bytes names index name start end from (error.Event (suc index) rule.Order)
+  IsStopAtLeaf-open bytes names index unfinished =
+      stops-so bytes names index (error.Event (suc index) rule.Order) (refl, unfinished)
+
+  pub IsStopAtLeaf-broken : (bytes : List ℕ) (names : List (List ℕ × List ℕ)) (index : ℕ) (broken : Rule) →
+      is_complete inner ≡ true →
+      broken_rule bytes names reading next.role from.state.before start end Missing ≡ Some broken →
+      IsStopAtLeaf bytes names index name start end from (error.Event (suc index) broken)
+  IsStopAtLeaf-broken bytes names index broken complete breaks =
+      stops-so bytes names index (error.Event (suc index) broken)
+      (refl, StopsInside-broken bytes names broken outer start end (inside begins from) complete breaks)

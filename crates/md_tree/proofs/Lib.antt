@@ -15,6 +15,7 @@ pub mod LeafRuns
 pub mod Groups
 pub mod Listing
 pub mod Paths
+pub mod Patterns
 pub mod Resolving
 pub mod Runs
 pub mod Searching

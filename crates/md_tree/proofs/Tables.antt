@@ -257,7 +257,8 @@ row_level children shaped matches =
     (λ seen e none. (
       none,
       or_false (sameb the_type symbol.TableHead seen)
-          (sameb the_type symbol.TableDelimiterRow seen) (neither_first symbol.TableHead symbol.TableDelimiterRow seen e)
+          (sameb the_type symbol.TableDelimiterRow seen)
+          (neither_first symbol.TableHead symbol.TableDelimiterRow seen e)
           (neither_second symbol.TableHead symbol.TableDelimiterRow seen e),
     ))
     children role.TableDelimiterRow None shaped (matches_pass p role.TableDelimiterRow

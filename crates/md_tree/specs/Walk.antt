@@ -6,6 +6,7 @@ use Rattle.md_base.specs.declared.event.Name.{Name}
 use Rattle.md_base.specs.declared.event.Event.{Event}
 use Rattle.md_base.specs.declared.event.Kind.{Kind}
 use Rattle.md_base.specs.declared.event.Kind.TheVariants.{Enter, Exit}
+use Rattle.md_pattern.specs.declared.kinds.Standing.{Standing}
 use Rattle.md_pattern.specs.declared.kinds.Standing.TheVariants as standing
 use Rattle.md_tree.specs.declared.rule.Rule.{Rule}
 use Rattle.md_tree.specs.declared.rule.Rule.TheVariants as rule
@@ -13,7 +14,6 @@ use Rattle.md_tree.specs.declared.rule.CompileError.{CompileError}
 use Rattle.md_tree.specs.declared.rule.CompileError.TheVariants as error
 use Rattle.md_tree.specs.declared.mention.Target.{Target}
 use Rattle.md_tree.specs.declared.mention.Target.TheVariants.{Missing, Resource, Label}
-use Rattle.md_tree.specs.declared.state.State.{State}
 use Rattle.md_tree.specs.declared.state.Aim.{Aim}
 use Rattle.md_tree.specs.declared.state.Aim.TheVariants as aim
 use Rattle.md_tree.specs.declared.state.Open.{Open as KeptOpen}
@@ -22,7 +22,7 @@ use Rattle.md_tree.specs.declared.state.Entry.{Entry as KeptEntry}
 use Rattle.md_tree.specs.declared.walk.Walk.{Walk}
 use Rattle.md_pattern.specs.Standing.{standing_of}
 use Rattle.md_tree.specs.Rules.{place, broken_rule}
-use Rattle.md_tree.specs.Machine.{Reads, Outer, Open, Entry, Course, entered, Enters, Exits, is_complete}
+use Rattle.md_tree.specs.Machine.{Reads, Outer, Open, Entry, Course, Enters, Exits, is_complete}
 
 -- the point of the event at an index
 abbrev pub point_of : Option Event → Point
@@ -81,16 +81,6 @@ course_of events count walk = record {
   mentions = walk.mentions.items;
 }
 
--- the same inside a node whose spine stands so
-abbrev pub inside_of : List Event → ℕ → State → Aim → Walk → Course
-inside_of events count state target walk =
-    record (course_of events count walk) { state = state; target = target_seen events target }
-
--- the children of a node that stands so begin here
-abbrev pub IsEntry : Name → List Event → Course → KeptEntry → Type 0
-IsEntry name events course entry =
-    entered (standing_of name) course.state course.target ≡ Some (entry_seen events entry)
-
 -- a node without children, which is entered and exited
 abbrev pub Passes : Reads → Name → Point → Point → Course → Course → Type 0
 Passes holds name start end from to = (between : Course) × Enters name start from between
@@ -121,6 +111,14 @@ abbrev pub BreaksAtExit : List ℕ → List (List ℕ × List ℕ) → Rule → 
 BreaksAtExit bytes names broken [] name point course = ⊥
 BreaksAtExit bytes names broken (open_node ∷ others) name point course =
     (open_node.name ≡ name) × BreaksWhere bytes names broken open_node.outer open_node.start point course
+
+-- the rule that a name breaks where no node may stand
+abbrev pub misplaced_where : Standing → Rule
+misplaced_where standing.Mdx = rule.Mdx
+misplaced_where _ = rule.Order
+
+abbrev pub misplaced : Name → Rule
+misplaced name = misplaced_where (standing_of name)
 
 -- why an entering event stops a walk: nothing may stand there, or it is a name of MDX
 abbrev pub StopsAtEntry : Rule → Name → Point → Course → Type 0

@@ -78,15 +78,16 @@ fn read_document(
 {
     let texts = Texts::new(alloc, bytes)?;
     let source = Source {
+        alloc,
         events,
         bytes: &texts,
         names,
     };
-    read_events(alloc, source)
+    read_events(source)
 }
 
 /// Reads all events, each by the walk and by the pass that finds what is read or inferred.
-fn read_events(alloc: Global, source: Source) -> Result<Read, CompileError>
+fn read_events(source: Source) -> Result<Read, CompileError>
     ensures walked { IfOk result
         (λ read. Runs (Unbroken source.entry.bytes.now (name_table source.entry.names.now)) source.entry.events.now beginning (course_of source.entry.events.now (length source.entry.events.now) read.walk)) }
     ensures facts { IfOk result (λ read. read.found.facts.items ≡ facts_at source.entry.events.now) }
@@ -96,11 +97,11 @@ fn read_events(alloc: Global, source: Source) -> Result<Read, CompileError>
     ensures visits { IfOk result (λ read. read.found.visits ≡ length source.entry.events.now) }
     ensures refused { IfErr result (IsRefusal (handed source.entry.events.now source.entry.bytes.now source.entry.names.now)) }
 {
-    let mut reader = Reader::new(alloc, source);
+    let mut reader = Reader::new(source);
     let mut visits = 0;
     // Each turn visits an event, or an entry and its own exit.
     while let Some(event) = source.events.get(visits) {
-        visits += reader.advance(alloc, source, visits, *event)?;
+        visits += reader.advance(source, visits, *event)?;
     }
     let Reader {
         walk,

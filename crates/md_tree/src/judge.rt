@@ -10,7 +10,7 @@ ghost use Rattle.md_tree.specs.declared.rule.Rule.TheVariants as rule;
 
 use crate::mention::Mention;
 use crate::rule::Rule;
-use crate::state::{Aim, Outer};
+use crate::state::Aim;
 use crate::texts::Texts;
 use md_base::{Event, Point, Position, Slice, decode_character_reference};
 use md_pattern::{Reading, Role, Symbol};
@@ -22,7 +22,7 @@ use std::alloc::{AllocError, Global};
 pub fn text_at<'a>(bytes: &'a [u8], position: &Position) -> Option<&'a str>
     ensures { option_copied result ≡ text_between bytes.now position.now.start position.now.end }
 {
-    Slice::from_position(bytes, position)?.as_str()
+    Slice::text_at(bytes, position)
 }
 
 /// The text between the indices of a node's points, where they fit the bytes and it is one.
@@ -174,15 +174,16 @@ fn broken_target(target: Aim) -> Option<Rule>
     }
 }
 
-/// What a node, which is entered and exited at these indices, leaves as the target of the node around.
-pub fn target_left(reading: Reading, found: Aim, inner: Aim, entry: usize, exit: usize) -> Aim
-    ensures { (events : List Event) → target_seen events result ≡ target_at reading (target_seen events found) (target_seen events inner) (place_at events entry exit) }
+/// Goes on with the target of a node behind a child, which is entered and exited at these indices, and has a target.
+#[inline(always)]
+pub fn retarget(found: &mut Aim, reading: Reading, inner: Aim, entry: usize, exit: usize)
+    ensures { (events : List Event) → target_seen events found.new ≡ target_at reading (target_seen events found.old) (target_seen events inner) (place_at events entry exit) }
 {
     match reading {
-        Reading::Identifier => Aim::Label(entry, exit),
-        Reading::Holder => inner,
-        Reading::Resource => Aim::Resource,
-        _ => found,
+        Reading::Identifier => *found = Aim::Label(entry, exit),
+        Reading::Holder => *found = inner,
+        Reading::Resource => *found = Aim::Resource,
+        _ => {}
     }
 }
 
@@ -227,41 +228,56 @@ pub fn place_at(events: &[Event], entry: usize, exit: usize) -> Position
 /// A document's events and bytes, and the names of character references with their texts.
 #[derive(Clone, Copy)]
 pub struct Source<'t, 'a> {
+    /// Where what is kept of them gets its memory.
+    pub alloc: Global,
     pub events: &'a [Event],
     pub bytes: &'t Texts<'a>,
     pub names: &'a [(&'a str, &'a str)],
+}
+
+/// Where a node stands, and what is read of it.
+#[derive(Clone, Copy)]
+pub struct Spot {
+    /// The role around it.
+    pub around: Role,
+    /// The symbol before it.
+    pub before: Option<Symbol>,
+    pub reading: Reading,
 }
 
 /// The rule that a node breaks, by what is read of it, the role around it, the symbol before it,
 /// its place and its target.
 #[inline(always)]
 pub fn broken(
-    alloc: Global,
     source: Source,
-    outer: &Outer,
+    spot: Spot,
     entry: usize,
     exit: usize,
     target: Aim,
 ) -> Result<Option<Rule>, AllocError>
     ensures { IfOk result
-        (λ broken. broken ≡ broken_rule source.entry.bytes.now (name_table source.entry.names.now) outer.now.reading outer.now.state.role outer.now.before (point_at source.entry.events.now entry) (point_at source.entry.events.now exit) (target_seen source.entry.events.now target)) }
+        (λ broken. broken ≡ broken_rule source.entry.bytes.now (name_table source.entry.names.now) spot.reading spot.around spot.before (point_at source.entry.events.now entry) (point_at source.entry.events.now exit) (target_seen source.entry.events.now target)) }
 {
-    let around = outer.state.role;
+    let Spot {
+        around,
+        before,
+        reading,
+    } = spot;
     let bytes = source.bytes.bytes();
-    match outer.reading {
+    match reading {
         Reading::Text => Ok(broken_text(text_of(source, entry, exit))),
         Reading::LineEnding => Ok(broken_ending(text_of(source, entry, exit))),
         Reading::Number => {
             let text = text_of(source, entry, exit);
-            Ok(broken_number(around, outer.before, text))
+            Ok(broken_number(around, before, text))
         }
         Reading::Value => {
             let text = text_of(source, entry, exit);
-            broken_value(alloc, source.names, outer.before, text)
+            broken_value(source.alloc, source.names, before, text)
         }
         Reading::Mark => {
             let position = place_at(source.events, entry, exit);
-            Ok(broken_mark(bytes, around, outer.before, &position))
+            Ok(broken_mark(bytes, around, before, &position))
         }
         Reading::Underline => Ok(broken_underline(bytes, point_at(source.events, entry))),
         Reading::Identifier => {

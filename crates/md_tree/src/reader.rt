@@ -13,7 +13,6 @@ use crate::rule::CompileError;
 use crate::walk::Walk;
 use md_base::{Event, Kind, is_same_name};
 use md_infer::{Pass, ending_behind};
-use std::alloc::Global;
 
 /// What is known of the events that have been read.
 #[derive(Drop)]
@@ -26,12 +25,12 @@ pub struct Reader {
 
 impl Reader {
     /// Before any event.
-    pub fn new(alloc: Global, source: Source) -> Reader
+    pub fn new(source: Source) -> Reader
         ensures { HasRead source.entry.bytes.now (name_table source.entry.names.now) source.entry.events.now 0 result }
     {
         Reader {
-            walk: Walk::new(alloc),
-            pass: Pass::new(alloc),
+            walk: Walk::new(source.alloc),
+            pass: Pass::new(source.alloc),
             first_ending: None,
         }
     }
@@ -41,7 +40,6 @@ impl Reader {
     #[inline(always)]
     pub fn advance(
         &mut self,
-        alloc: Global,
         source: Source,
         index: usize,
         event: Event,
@@ -55,32 +53,26 @@ impl Reader {
     {
         match own_exit(source.events, index, &event) {
             Some(exit) => {
-                self.read_leaf(alloc, source, index, event, exit)?;
+                self.read_leaf(source, index, event, exit)?;
                 Ok(2)
             }
             None => {
-                self.read(alloc, source, index, event)?;
+                self.read(source, index, event)?;
                 Ok(1)
             }
         }
     }
 
     /// Reads the event at an index.
-    fn read(
-        &mut self,
-        alloc: Global,
-        source: Source,
-        index: usize,
-        event: Event,
-    ) -> Result<(), CompileError>
+    fn read(&mut self, source: Source, index: usize, event: Event) -> Result<(), CompileError>
         requires here { slice_get source.events.now index ≡ Some event }
         requires before { HasRead source.bytes.now (name_table source.names.now) source.events.now index self.old }
         ensures read { OnOk result
             (HasRead source.entry.bytes.now (name_table source.entry.names.now) source.entry.events.now (suc index) self.new) }
         ensures refused { IfErr result (IsRefusal (handed source.entry.events.now source.entry.bytes.now source.entry.names.now)) }
     {
-        self.walk.step(alloc, source, index, &event)?;
-        self.pass.find(alloc, &event)?;
+        self.walk.step(source, index, &event)?;
+        self.pass.find(source.alloc, &event)?;
         note_ending(&mut self.first_ending, index, &event);
         Ok(())
     }
@@ -88,7 +80,6 @@ impl Reader {
     /// Reads the two events of a node without children, of which the first has this index.
     fn read_leaf(
         &mut self,
-        alloc: Global,
         source: Source,
         index: usize,
         event: Event,
@@ -102,8 +93,8 @@ impl Reader {
             (HasRead source.entry.bytes.now (name_table source.entry.names.now) source.entry.events.now (suc (suc index)) self.new) }
         ensures refused { IfErr result (IsRefusal (handed source.entry.events.now source.entry.bytes.now source.entry.names.now)) }
     {
-        self.walk.leaf(alloc, source, index, event.name)?;
-        self.pass.leaf(alloc, event.name)?;
+        self.walk.leaf(source, index, event.name)?;
+        self.pass.leaf(source.alloc, event.name)?;
         note_ending(&mut self.first_ending, index + 1, exit);
         Ok(())
     }

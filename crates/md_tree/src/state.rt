@@ -20,7 +20,7 @@ pub enum Stage {
 #[derive(Clone, Copy, Debug, PartialEq, Eq)]
 pub struct State {
     /// The item of the pattern from which on the next symbol may be taken.
-    pub position: usize,
+    pub position: u8,
     /// The role of the node whose spine it is.
     pub role: Role,
     /// The last symbol.

@@ -1,12 +1,10 @@
-ghost use Rattle.std.specs.Prelude.{◌≡◌, ◌<◌, ◌+◌, ◌^◌, List, drop, option_map};
+ghost use Rattle.std.specs.Prelude.{◌≡◌, ◌<◌, ◌+◌, ◌^◌, Some, None, if◌then◌else◌, drop};
 ghost use Rattle.std.specs.List.{list_all};
-ghost use Rattle.md_tree.specs.Machine.{begun_by, continued, is_optional, after_item, seek, advance, is_complete, start_of, may_hold, entered};
-ghost use Rattle.md_base.specs.declared.event.Event.{Event};
-ghost use Rattle.md_tree.specs.Walk.{target_seen, entry_seen};
-ghost use Rattle.md_tree.specs.declared.state.Aim.TheVariants.{Missing};
+ghost use Rattle.md_tree.specs.Machine.{begun_by, continued, is_optional, after_item, seek, advance, is_complete, start_of, may_hold, is_full_list_part, is_full};
+ghost use Rattle.md_pattern.specs.Pattern.{pattern_of};
 
-use crate::state::{Aim, Entry, Outer, Stage, State};
-use md_pattern::{Item, Reading, Role, Standing, Symbol, Times, pattern, role_of, takes};
+use crate::state::{Stage, State};
+use md_pattern::{Class, Item, Role, Symbol, Times, pattern, takes};
 
 /// The group that a symbol begins.
 fn begun(symbol: Symbol) -> Stage
@@ -20,6 +18,7 @@ fn begun(symbol: Symbol) -> Stage
 }
 
 /// The next stage of a group that has begun.
+#[inline(never)]
 fn next_stage(stage: Stage, symbol: Symbol) -> Option<Stage>
     ensures { result ≡ continued stage symbol }
 {
@@ -74,14 +73,37 @@ fn sought(items: &[Item], from: usize, symbol: Symbol) -> Option<usize>
     None
 }
 
+/// The same in the pattern of a role.
+#[inline(always)]
+fn sought_in(role: Role, from: u8, symbol: Symbol) -> Option<u8>
+    ensures { result ≡ seek from (drop from (pattern_of role)) symbol }
+{
+    match (role, from) {
+        // Most nodes stand in these two, whose patterns have one item, of which there may be many.
+        (Role::Flow, 0) => first_if(takes(Class::Flow, symbol)),
+        (Role::Phrasing, 0) => first_if(takes(Class::Phrasing, symbol)),
+        _ => {
+            let position = sought(pattern(role), usize::from(from), symbol)?;
+            Some(position as u8)
+        }
+    }
+}
+
+/// The first item, if it takes a symbol.
+fn first_if(takes: bool) -> Option<u8>
+    ensures { result ≡ (if takes then Some 0 else None) }
+{
+    if takes { Some(0) } else { None }
+}
+
 /// The state after a symbol.
 #[inline(always)]
-fn advanced(state: State, symbol: Symbol) -> Option<State>
+pub fn advanced(state: State, symbol: Symbol) -> Option<State>
     ensures { result ≡ advance state symbol }
 {
     let (position, stage) = match state.stage {
         Stage::Whole => (
-            sought(pattern(state.role), state.position, symbol)?,
+            sought_in(state.role, state.position, symbol)?,
             begun(symbol),
         ),
         stage => (state.position, next_stage(stage, symbol)?),
@@ -99,8 +121,20 @@ pub fn can_end(state: State) -> bool
     ensures { result ≡ is_complete state }
 {
     match state.stage {
-        Stage::Whole => all_optional(pattern(state.role), state.position),
+        Stage::Whole => can_end_in(state.role, state.position),
         _ => false,
+    }
+}
+
+/// Whether each item of a role's pattern from this one on may be left out.
+#[inline(always)]
+fn can_end_in(role: Role, from: u8) -> bool
+    ensures { result ≡ list_all is_optional (drop from (pattern_of role)) }
+{
+    match role {
+        // Whatever of it was taken.
+        Role::Flow | Role::Phrasing => true,
+        _ => all_optional(pattern(role), usize::from(from)),
     }
 }
 
@@ -128,56 +162,56 @@ pub fn start(role: Role) -> State
     }
 }
 
+/// Whether the spine of a node of this role may end where it begins.
+#[inline(always)]
+pub fn can_be_empty(role: Role) -> bool
+    ensures { result ≡ is_complete (start_of role) }
+{
+    !is_full_list_part(role) && !is_full(role)
+}
+
+/// Whether a node of this role is a list or a part of one that holds a node whatever it holds.
+#[inline(always)]
+fn is_full_list_part(role: Role) -> bool
+    ensures { result ≡ is_full_list_part role }
+{
+    matches!(
+        role,
+        Role::OrderedList
+            | Role::UnorderedList
+            | Role::FirstOrderedItem
+            | Role::OrderedItem
+            | Role::Item
+            | Role::FirstOrderedPrefix
+            | Role::OrderedPrefix
+            | Role::Prefix
+    )
+}
+
+/// Whether another node of this role does.
+#[inline(always)]
+fn is_full(role: Role) -> bool
+    ensures { result ≡ is_full role }
+{
+    matches!(
+        role,
+        Role::FootnoteDefinition
+            | Role::FootnotePrefix
+            | Role::Heading
+            | Role::CodeFenced
+            | Role::Math
+            | Role::Media
+            | Role::FootnoteCall
+            | Role::CallLabel
+            | Role::Definition
+            | Role::Table
+            | Role::TableHead
+    )
+}
+
 /// Whether a node of this role may have children.
-fn can_hold(role: Role) -> bool
+pub fn can_hold(role: Role) -> bool
     ensures { result ≡ may_hold role }
 {
     !matches!(role, Role::Childless)
-}
-
-/// Where the children of a node begin, if it may stand here.
-#[inline(always)]
-pub fn entry(standing: Standing, state: State, target: Aim) -> Option<Entry>
-    ensures { (events : List Event) → option_map (λ entry. entry_seen events entry) result ≡ entered standing state (target_seen events target) }
-{
-    if !can_hold(state.role) {
-        return None;
-    }
-    match standing {
-        Standing::Through => Some(Entry {
-            state,
-            target,
-            outer: None,
-        }),
-        Standing::Space => Some(below(Role::Childless, outer(state, state, target, Reading::Free))),
-        Standing::Solid(symbol, usual, reading) => {
-            let next = advanced(state, symbol)?;
-            let role = role_of(state.role, state.before, usual);
-            Some(below(role, outer(next, state, target, reading)))
-        }
-        Standing::Mdx => None,
-    }
-}
-
-/// What waits for the end of a node, by the spine with and without it.
-fn outer(after: State, before: State, target: Aim, reading: Reading) -> Outer
-    ensures { result ≡ record { state = after; before = before.before; target = target; reading = reading } }
-{
-    Outer {
-        state: after,
-        before: before.before,
-        target,
-        reading,
-    }
-}
-
-/// A spine of its own.
-fn below(role: Role, outer: Outer) -> Entry
-    ensures { result ≡ record { state = start_of role; target = Missing; outer = Some outer } }
-{
-    Entry {
-        state: start(role),
-        target: Aim::Missing,
-        outer: Some(outer),
-    }
 }

@@ -1,14 +1,15 @@
-ghost use Rattle.std.specs.Prelude.{◌≡◌, OnOk};
+ghost use Rattle.std.specs.Prelude.{◌≡◌, Err, OnOk};
+ghost use Rattle.md_tree.specs.declared.rule.CompileError.TheVariants as error;
 ghost use Rattle.md_tree.specs.Mentions.{mention_of, mentions_with};
-ghost use Rattle.md_tree.specs.Walk.{target_seen};
+ghost use Rattle.md_tree.specs.Walk.{target_seen, misplaced};
 
-use crate::judge::{Source, broken, mention, place_at, target_left};
+use crate::judge::{Source, Spot, broken, mention, place_at, retarget};
 use crate::mention::{Mention, Mentioned};
 use crate::rule::{CompileError, Rule};
 use crate::state::{Aim, Entry, Open, Outer, State};
-use crate::steps::{can_end, entry, start};
+use crate::steps::{advanced, can_be_empty, can_end, can_hold, start};
 use md_base::{Event, Kind, Name, is_same_name};
-use md_pattern::{Reading, Role, Standing, standing};
+use md_pattern::{Reading, Role, Standing, role_of, standing};
 use std::alloc::{AllocError, Global};
 
 /// How far events have been read.
@@ -29,8 +30,10 @@ impl Walk {
     ghost use Rattle.md_base.specs.Reference.{name_table};
     ghost use Rattle.md_base.specs.declared.event.Event.{Event};
     ghost use Rattle.md_base.specs.declared.event.Kind.TheVariants as kind;
-    ghost use Rattle.md_tree.specs.Machine.{Steps, Enters, Exits, ExitsWhere, beginning};
-    ghost use Rattle.md_tree.specs.Walk.{point_at, place_at, outer_seen, opens_seen, course_of, inside_of, IsEntry, Passes, Unbroken, IsStop, IsStopAtLeaf, IsStopInside};
+    ghost use Rattle.md_tree.specs.Machine.{Steps, Enters, Exits, ExitsWhere, start_of, after_entry, beginning};
+    ghost use Rattle.md_tree.specs.declared.state.Aim.TheVariants.{Missing};
+    ghost use Rattle.md_tree.specs.declared.rule.CompileError.TheVariants.{Memory};
+    ghost use Rattle.md_tree.specs.Walk.{point_at, place_at, outer_seen, opens_seen, entry_seen, course_of, Passes, Unbroken, IsStop, IsStopAtLeaf, IsStopInside};
 
     /// Before any event.
     pub fn new(alloc: Global) -> Walk
@@ -45,13 +48,7 @@ impl Walk {
     }
 
     /// Reads an event, the one at this index.
-    pub fn step(
-        &mut self,
-        alloc: Global,
-        source: Source,
-        index: usize,
-        event: &Event,
-    ) -> Result<(), CompileError>
+    pub fn step(&mut self, source: Source, index: usize, event: &Event) -> Result<(), CompileError>
         requires { event.now.point ≡ point_at source.events.now index }
         ensures ok { OnOk result
             (Steps (Unbroken source.entry.bytes.now (name_table source.entry.names.now)) event.now (course_of source.entry.events.now index self.old) (course_of source.entry.events.now (suc index) self.new)) }
@@ -60,32 +57,8 @@ impl Walk {
     {
         match event.kind {
             Kind::Enter => self.enter(source, index, event.name),
-            Kind::Exit => self.exit(alloc, source, index, event.name),
+            Kind::Exit => self.exit(source, index, event.name),
         }
-    }
-
-    /// Where the children of a node begin that is entered here.
-    #[inline(always)]
-    fn begin(&self, source: Source, index: usize, name: Name) -> Result<Entry, CompileError>
-        ensures ok { IfOk result
-            (λ entry. IsEntry name source.entry.events.now (course_of source.entry.events.now index self.now) entry) }
-        ensures refused { IfErr result
-            (IsStop source.entry.bytes.now (name_table source.entry.names.now) index kind.Enter name (point_at source.entry.events.now index) (course_of source.entry.events.now index self.now)) }
-    {
-        let standing = standing(name);
-        if matches!(standing, Standing::Mdx) {
-            return Err(CompileError::Event {
-                index,
-                rule: Rule::Mdx,
-            });
-        }
-        let Some(entry) = entry(standing, self.state, self.target) else {
-            return Err(CompileError::Event {
-                index,
-                rule: Rule::Order,
-            });
-        };
-        Ok(entry)
     }
 
     /// Enters a node.
@@ -95,7 +68,64 @@ impl Walk {
         ensures refused { IfErr result
             (IsStop source.entry.bytes.now (name_table source.entry.names.now) index kind.Enter name (point_at source.entry.events.now index) (course_of source.entry.events.now index self.old)) }
     {
-        let entry = self.begin(source, index, name)?;
+        if !can_hold(self.state.role) {
+            return refuse(index, misplaced(name));
+        }
+        match standing(name) {
+            Standing::Mdx => refuse(index, Rule::Mdx),
+            Standing::Through => {
+                self.open_nodes.push(Open {
+                    name,
+                    entry: index,
+                    outer: None,
+                })?;
+                Ok(())
+            }
+            Standing::Space => {
+                let entry = self.inside(Role::Childless, self.state, Reading::Free);
+                self.open(source, index, name, entry)
+            }
+            Standing::Solid(symbol, usual, reading) => {
+                let Some(around) = advanced(self.state, symbol) else {
+                    return refuse(index, Rule::Order);
+                };
+                let role = role_of(self.state.role, self.state.before, usual);
+                let entry = self.inside(role, around, reading);
+                self.open(source, index, name, entry)
+            }
+        }
+    }
+
+    /// Where the children of a node of this role begin, by the spine around it with the node.
+    #[inline(always)]
+    fn inside(&self, role: Role, around: State, reading: Reading) -> Entry
+        ensures { result ≡ record { state = start_of role; target = Missing; outer = Some (record { state = around; before = self.now.state.before; target = self.now.target; reading = reading }) } }
+    {
+        Entry {
+            state: start(role),
+            target: Aim::Missing,
+            outer: Some(Outer {
+                state: around,
+                before: self.state.before,
+                target: self.target,
+                reading,
+            }),
+        }
+    }
+
+    /// Goes on with the children of a node that is entered at an index.
+    #[inline(always)]
+    fn open(
+        &mut self,
+        source: Source,
+        index: usize,
+        name: Name,
+        entry: Entry,
+    ) -> Result<(), CompileError>
+        ensures ok { OnOk result
+            (course_of source.entry.events.now (suc index) self.new ≡ after_entry (entry_seen source.entry.events.now entry) name (point_at source.entry.events.now index) (course_of source.entry.events.now index self.old)) }
+        ensures memory { IfErr result (λ error. error ≡ Memory) }
+    {
         self.open_nodes.push(Open {
             name,
             entry: index,
@@ -107,74 +137,57 @@ impl Walk {
     }
 
     /// Enters a node at this index, and leaves it at the next one.
-    pub fn leaf(
-        &mut self,
-        alloc: Global,
-        source: Source,
-        index: usize,
-        name: Name,
-    ) -> Result<(), CompileError>
+    pub fn leaf(&mut self, source: Source, index: usize, name: Name) -> Result<(), CompileError>
         requires { index + 1 < length source.events.now }
         ensures ok { OnOk result
             (Passes (Unbroken source.entry.bytes.now (name_table source.entry.names.now)) name (point_at source.entry.events.now index) (point_at source.entry.events.now (suc index)) (course_of source.entry.events.now index self.old) (course_of source.entry.events.now (suc (suc index)) self.new)) }
         ensures refused { IfErr result
             (IsStopAtLeaf source.entry.bytes.now (name_table source.entry.names.now) index name (point_at source.entry.events.now index) (point_at source.entry.events.now (suc index)) (course_of source.entry.events.now index self.old)) }
     {
-        let inner = self.begin(source, index, name)?;
-        match inner.outer {
-            None => {
-                self.state = inner.state;
-                self.target = inner.target;
+        if !can_hold(self.state.role) {
+            return refuse(index, misplaced(name));
+        }
+        match standing(name) {
+            Standing::Mdx => refuse(index, misplaced(name)),
+            Standing::Through | Standing::Space => Ok(()),
+            Standing::Solid(symbol, usual, reading) => {
+                let Some(state) = advanced(self.state, symbol) else {
+                    return refuse(index, Rule::Order);
+                };
+                if !can_be_empty(role_of(self.state.role, self.state.before, usual)) {
+                    return refuse(index + 1, Rule::Order);
+                }
+                let spot = Spot {
+                    around: state.role,
+                    before: self.state.before,
+                    reading,
+                };
+                if let Some(rule) = broken(source, spot, index, index + 1, Aim::Missing)? {
+                    return refuse(index + 1, rule);
+                }
+                retarget(&mut self.target, reading, Aim::Missing, index, index + 1);
+                self.state = state;
                 Ok(())
             }
-            Some(outer) => self.leave(
-                alloc,
-                source,
-                index + 1,
-                index,
-                outer,
-                inner.state,
-                inner.target,
-            ),
         }
     }
 
     /// Leaves the innermost open node.
-    fn exit(
-        &mut self,
-        alloc: Global,
-        source: Source,
-        index: usize,
-        name: Name,
-    ) -> Result<(), CompileError>
+    fn exit(&mut self, source: Source, index: usize, name: Name) -> Result<(), CompileError>
         ensures ok { OnOk result
             (Exits (Unbroken source.entry.bytes.now (name_table source.entry.names.now)) (opens_seen source.entry.events.now self.old.open_nodes.items) name (point_at source.entry.events.now index) (course_of source.entry.events.now index self.old) (course_of source.entry.events.now (suc index) self.new)) }
         ensures refused { IfErr result
             (IsStop source.entry.bytes.now (name_table source.entry.names.now) index kind.Exit name (point_at source.entry.events.now index) (course_of source.entry.events.now index self.old)) }
     {
         let Some(open_node) = self.open_nodes.pop() else {
-            return Err(CompileError::Event {
-                index,
-                rule: Rule::Order,
-            });
+            return refuse(index, Rule::Order);
         };
         if !is_same_name(open_node.name, name) {
-            return Err(CompileError::Event {
-                index,
-                rule: Rule::Order,
-            });
+            return refuse(index, Rule::Order);
         }
         match open_node.outer {
             None => Ok(()),
-            Some(outer) => self.leave(
-                alloc,
-                source,
-                index,
-                open_node.entry,
-                outer,
-                self.state,
-                self.target,
-            ),
+            Some(outer) => self.leave(source, index, open_node.entry, outer),
         }
     }
 
@@ -182,38 +195,57 @@ impl Walk {
     #[inline(always)]
     fn leave(
         &mut self,
-        alloc: Global,
         source: Source,
         index: usize,
         entry: usize,
         outer: Outer,
-        state: State,
-        target: Aim,
     ) -> Result<(), CompileError>
         ensures ok { OnOk result
-            (ExitsWhere (Unbroken source.entry.bytes.now (name_table source.entry.names.now)) (Some (outer_seen source.entry.events.now outer)) (point_at source.entry.events.now entry) (point_at source.entry.events.now index) (opens_seen source.entry.events.now self.old.open_nodes.items) (inside_of source.entry.events.now index state target self.old) (course_of source.entry.events.now (suc index) self.new)) }
+            (ExitsWhere (Unbroken source.entry.bytes.now (name_table source.entry.names.now)) (Some (outer_seen source.entry.events.now outer)) (point_at source.entry.events.now entry) (point_at source.entry.events.now index) (opens_seen source.entry.events.now self.old.open_nodes.items) (course_of source.entry.events.now index self.old) (course_of source.entry.events.now (suc index) self.new)) }
         ensures refused { IfErr result
-            (IsStopInside source.entry.bytes.now (name_table source.entry.names.now) index (outer_seen source.entry.events.now outer) (place_at source.entry.events.now entry index) (inside_of source.entry.events.now index state target self.old)) }
+            (IsStopInside source.entry.bytes.now (name_table source.entry.names.now) index (outer_seen source.entry.events.now outer) (place_at source.entry.events.now entry index) (course_of source.entry.events.now index self.old)) }
     {
-        if !can_end(state) {
-            return Err(CompileError::Event {
-                index,
-                rule: Rule::Order,
-            });
+        if !can_end(self.state) {
+            return refuse(index, Rule::Order);
         }
-        if let Some(rule) = broken(alloc, source, &outer, entry, index, target)? {
-            return Err(CompileError::Event { index, rule });
+        let inner = self.target;
+        let spot = Spot {
+            around: outer.state.role,
+            before: outer.before,
+            reading: outer.reading,
+        };
+        if let Some(rule) = broken(source, spot, entry, index, inner)? {
+            return refuse(index, rule);
         }
         keep(
             &mut self.mentions,
             source.events,
             index,
             outer.reading,
-            target,
+            inner,
         )?;
-        self.target = target_left(outer.reading, outer.target, target, entry, index);
+        self.target = outer.target;
+        retarget(&mut self.target, outer.reading, inner, entry, index);
         self.state = outer.state;
         Ok(())
+    }
+}
+
+/// Refuses the event at an index.
+#[inline(always)]
+fn refuse(index: usize, rule: Rule) -> Result<(), CompileError>
+    ensures { result ≡ Err (error.Event index rule) }
+{
+    Err(CompileError::Event { index, rule })
+}
+
+/// The rule that a node breaks that stands where no node may.
+fn misplaced(name: Name) -> Rule
+    ensures { result ≡ misplaced name }
+{
+    match standing(name) {
+        Standing::Mdx => Rule::Mdx,
+        _ => Rule::Order,
     }
 }
 

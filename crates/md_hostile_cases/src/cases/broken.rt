@@ -163,15 +163,23 @@ fn is_right(
     }
 }
 
+/// How a tree is broken, and where.
+#[derive(Clone, Copy)]
+struct Breaking {
+    place: usize,
+    change: Break,
+    /// The index and the columns that an event is moved to.
+    to: (usize, usize),
+}
+
 /// Breaks a tree at one place, and mends it.
 fn break_once(
     rt: &(impl Abort + AllocGlobal),
     tree: &Tree,
     whole: &str,
-    place: usize,
-    change: Break,
-    to: (usize, usize),
+    breaking: Breaking,
 ) -> Result<(), Fail> {
+    let Breaking { place, change, to } = breaking;
     let events = tree.events.as_slice();
     let Some([first, second, ..]) = events.get(place..) else {
         return Ok(());
@@ -216,7 +224,7 @@ fn break_tree(
         for _ in 0..TIMES {
             let place = random.below(tree.events.len().saturating_sub(1));
             let to = random.pick(&PLACES).unwrap_or((0, 0));
-            break_once(rt, tree, &whole, place, change, to)?;
+            break_once(rt, tree, &whole, Breaking { place, change, to })?;
         }
     }
     Ok(())

@@ -1,3 +1,4 @@
+-- The loop over characters: what is written, and what the rest will add, is the collapsed text.
 use Rattle.std.proofs.Common.{◌≡◌, ◌<◌, ◌++◌, true, length, string_bytes}
 use Rattle.std.specs.Str.Iter.{chars_rest}
 use Rattle.md_base.specs.Identifier.{collapsed}

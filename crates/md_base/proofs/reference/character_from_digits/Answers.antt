@@ -1,3 +1,4 @@
+-- A number is read where the digits are no sign: std takes a `+` before them, and the rules don't.
 use Rattle.std.proofs.Common.{get_or, Some, sym, ap, ◌∙◌, lit<, encode_utf8}
 use Rattle.std.proofs.lemmas.Bool.{eqb-false}
 use Rattle.std.specs.Prelude.{option_map}

@@ -1,3 +1,4 @@
+-- The loop: as many spaces are pushed as turns were made.
 use Rattle.std.proofs.Common.{◌≡◌, ◌++◌, replicate, string_bytes}
 use Rattle.md_base.proofs.slice.push_spaces.Given as goal
 

@@ -80,7 +80,14 @@ returns c =
           (safe-images checked.bytes checked.names options read.0 built keeps);
       distinct_ids = λ keeps. subst HasDistinctIds (sym (printed read.0 read.1.flattened))
           (distinct-ids checked.bytes checked.names options read.0 built underlined keeps few);
-      least = omega (arith, c.visits.ensures, c.saturating_add-visits.ensures, c.saturating_add-visits-2.ensures);
+      least = omega (
+        arith,
+        c.in_ok-ran.ensures.visits,
+        c.in_ok-ran.ensures.fits,
+        c.visits.ensures,
+        c.saturating_add-visits.ensures,
+        c.saturating_add-visits-2.ensures,
+      );
       most = omega (
         arith,
         own,

@@ -12,9 +12,9 @@ next n = omega arith
 
 pub loop-identifier-preserved : goal.loop-identifier-preserved
 loop-identifier-preserved c =
-    let options = c.args.options.now in
+    let options = c.args.settings.now.options.now in
     let footnotes = c.args.footnotes.now in
-    let ending = c.args.ending.now in
+    let ending = c.args.settings.now.ending.now in
     let sheet = c.loop-identifier.sheet in
     let number : ℕ = c.loop-identifier.index + 1 in
     let called : Called = record { identifier = c.in-Some.identifier.now; count = c.in-Some.count } in
@@ -42,7 +42,7 @@ loop-identifier-preserved c =
 
 pub returns : goal.returns
 returns c =
-    ap (λ calls. lay c.args.ending.now c.loop-identifier.sheet
-    (notes.items_pieces c.args.options.now c.args.footnotes.now (c.loop-identifier.index + 1) calls))
+    ap (λ calls. lay c.args.settings.now.ending.now c.loop-identifier.sheet
+    (notes.items_pieces c.args.settings.now.options.now c.args.footnotes.now (c.loop-identifier.index + 1) calls))
     (sym (drop-missing c.args.calls.now c.loop-identifier.index (sym c.in_default.ensures.call)))
     ∙ c.loop-identifier.invariant.0

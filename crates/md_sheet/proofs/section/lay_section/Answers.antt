@@ -19,10 +19,10 @@ parts options footnotes (called ∷ others) h = refl
 
 pub returns : goal.returns
 returns c =
-    let options = c.args.options.now in
+    let options = c.args.settings.now.options.now in
     let footnotes = c.args.footnotes.now in
     let calls = c.args.calls.now in
-    let ending = c.args.ending.now in
+    let ending = c.args.settings.now.ending.now in
     let start : Page = c.args.sheet.now in
     let opening : List Piece = notes.section_opening options in
     let items : List Piece = notes.items_pieces options footnotes 1 calls in

@@ -18,14 +18,15 @@ one_more options identifier number n =
 pub loop-done-preserved : goal.loop-done-preserved
 loop-done-preserved c =
     let options = c.args.options.now in
-    let identifier = c.args.identifier.now in
-    let number = c.args.number in
+    let identifier = c.args.footnote.now.identifier.now in
+    let number = c.args.footnote.now.number in
     let done = c.loop-done.done in (
       c.in_ok-push_backreference.ensures
           ∙ ap (λ t. t ++ notes.backreference options identifier number (done + 1)) c.in_ok-push_space.ensures
           ∙ append_assoc (string_bytes c.loop-done.text) (if done == 0 then [] else 32
           ∷ []) (notes.backreference options identifier number (done + 1))
-          ∙ ap (λ t. t ++ ((if done == 0 then [] else 32 ∷ []) ++ notes.backreference options identifier number (done + 1)))
+          ∙ ap (λ t. t ++ ((if done == 0 then [] else 32 ∷ [])
+          ++ notes.backreference options identifier number (done + 1)))
           c.loop-done.invariant.0
           ∙ one_more options identifier number done,
       search rules,

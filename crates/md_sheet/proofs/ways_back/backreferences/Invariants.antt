@@ -4,7 +4,8 @@ use Rattle.md_sheet.proofs.ways_back.backreferences.Given as goal
 
 abbrev pub invariant-loop-done : goal.invariant-loop-done
 invariant-loop-done l =
-    (string_bytes l.text ≡ notes.backreferences l.options l.identifier l.number l.done) × (l.done ≤ l.count)
+    (string_bytes l.text ≡ notes.backreferences l.options l.footnote.identifier.now l.footnote.number l.done)
+    × (l.done ≤ l.count)
 
 -- proposed from the loop's first test
 abbrev pub decreases-loop-done : goal.decreases-loop-done

@@ -1,3 +1,4 @@
+-- The loop over characters: what is written, and what the rest becomes, is the escaped text.
 use Rattle.std.proofs.Common.{◌≡◌, ◌++◌, string_bytes}
 use Rattle.md_text.specs.Encode.{encoded}
 use Rattle.md_text.proofs.escape.encode.Given as goal

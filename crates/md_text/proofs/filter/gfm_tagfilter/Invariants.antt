@@ -1,3 +1,4 @@
+-- The loop over characters: what is written, and what the rest becomes, is the filtered text.
 use Rattle.std.proofs.Common.{◌≡◌, ◌++◌, string_bytes}
 use Rattle.md_text.specs.Filter.{tag_filtered}
 use Rattle.md_text.proofs.filter.gfm_tagfilter.Given as goal

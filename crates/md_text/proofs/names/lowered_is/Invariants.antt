@@ -1,3 +1,4 @@
+-- The loop over both texts: the rests decide, and are of one length.
 use Rattle.std.specs.Str.{bytes_eq}
 use Rattle.std.proofs.Common.{◌≡◌, length}
 use Rattle.std.specs.Slice.Iter.{iter_rest}

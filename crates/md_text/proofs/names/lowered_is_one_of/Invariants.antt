@@ -1,3 +1,4 @@
+-- The loop over the list: what is left of it decides.
 use Rattle.std.proofs.Common.{◌≡◌, map, drop}
 use Rattle.md_text.specs.Bytes.{lowered, is_one_of}
 use Rattle.md_text.proofs.names.lowered_is_one_of.Given as goal

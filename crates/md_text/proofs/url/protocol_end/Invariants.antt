@@ -1,3 +1,4 @@
+-- The loop over bytes: those so far are part of the protocol, if there is one.
 use Rattle.std.proofs.Common.{◌≡◌, ◌++◌, take, drop, option_map}
 use Rattle.md_text.specs.Url.{protocol_of}
 use Rattle.md_text.proofs.url.protocol_end.Given as goal

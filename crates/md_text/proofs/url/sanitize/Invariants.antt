@@ -1,3 +1,4 @@
+-- The loop over bytes: what is written, and what the rest becomes, is the sanitized URL.
 use Rattle.std.proofs.Common.{◌≡◌, ◌++◌, drop, string_bytes}
 use Rattle.md_text.specs.Url.{sanitized}
 use Rattle.md_text.proofs.url.sanitize.Given as goal

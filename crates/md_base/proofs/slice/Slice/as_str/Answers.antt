@@ -1,3 +1,4 @@
+-- A slice is a text exactly where its bytes are UTF-8, by the two answers of std's check.
 use Rattle.std.proofs.Common.{◌≡◌, ℕ, Bool, true, cond, List, Option, Some, None, Result, Ok, Err, IsUtf8, sym, ap, ◌∙◌, inl, inr}
 use Rattle.std.specs.Prelude.{option_copied, MatchResult}
 use Rattle.std.specs.Borrow.{Bor}

@@ -1,3 +1,4 @@
+-- The three parts that are pushed, spaces, bytes and spaces, are the padded text.
 use Rattle.std.proofs.Common.{◌≡◌, ◌++◌, replicate, string_bytes}
 use Rattle.md_base.proofs.SpaceLemmas.{padded_none, padded_some}
 use Rattle.md_base.proofs.slice.Slice.serialize.Goals as goal

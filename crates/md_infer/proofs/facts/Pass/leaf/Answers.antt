@@ -1,29 +1,56 @@
-use Rattle.std.proofs.Common.{rules, ◌≡◌, ◌+◌, ◌++◌, ◌∷◌, [], length}
-use Rattle.md_infer.specs.Columns.{Collected, columns_entered, columns_exited}
-use Rattle.md_infer.specs.Told.{nothing_told}
-use Rattle.md_infer.specs.Facts.{opened, followed, fact_alone, partner_alone, definitions_with}
+use Rattle.std.proofs.Common.{rules, ◌≡◌, ◌<◌, ◌+◌, ◌-◌, ◌++◌, ◌∷◌, [], length, get_or, sym, ap, ◌∙◌, subst}
+use Rattle.std.specs.Prelude.{set}
+use Rattle.md_infer.specs.Columns.{Collected}
 use Rattle.md_infer.specs.contracts.facts.Pass.{the_view}
-use Rattle.md_infer.proofs.Leaves.{passed-leaf_by}
+use Rattle.md_infer.specs.Facts.{opens, next_round, others_round, fact_alone, partner_alone}
+use Rattle.md_infer.proofs.Opens.{on_answer, opens-set, opens-last, opens-alone, passed_leaf-by}
 use Rattle.md_infer.proofs.facts.Pass.leaf.Goals as goal
 
-pub returns : goal.returns
-returns c =
+pub returns-in-Some : goal.returns-in-Some
+returns-in-Some c =
     let pass = the_view c.self.inside in
     let name = c.args.name in
     let entry = c.len-entry.result in
-    let entered = c.enter.new.self in
-    let fact = c.fact_alone-fact.result in
+    let items = c.self.inside.open.items in
+    let document = c.self.inside.document in
+    let here = c.in-Some.here.now in
+    let after = c.follow_leaf.new.here in
+    let counted = c.self.inside.open.ok.0 in
+    let some : 0 < length items = subst (λ n. 0 < n) counted (search rules) in
     let entry_is : entry ≡ length pass.facts = search rules in
-    let entered_is : entered ≡ columns_entered name pass.columns = c.in_ok-enter.ensures in
-    let fact_is : fact ≡ fact_alone name (entry + 1) (length (Collected.tables entered)) = cc in
-    let once_is : c.push.new.self.items ≡ pass.facts ++ fact ∷ [] = search rules in
+    let fact_is : c.fact_alone-fact.result ≡ fact_alone name (entry + 1) (length (Collected.tables c.enter.new.self))
+    = cc in
+    let once_is : c.push.new.self.items ≡ pass.facts ++ c.fact_alone-fact.result ∷ [] = search rules in
     let twice_is : c.push-2.new.self.items ≡ c.push.new.self.items ++ partner_alone entry ∷ [] = search rules in
-    let columns_is : c.exit.new.self ≡ columns_exited name nothing_told pass.here.collects entered
-    = c.in_ok-exit.ensures in
-    let definitions_is : c.define.new.definitions.items ≡ definitions_with name entry pass.definitions
-    = c.in_ok-define.ensures in
-    let here_is : c.follow_leaf.new.here ≡ followed name (opened entry name pass.here) pass.here
-    = c.follow_leaf.ensures in
-    rw (← c.self.view_is) (passed-leaf_by name pass entry c.follow_leaf.new.here entered c.exit.new.self
-    fact c.push.new.self.items c.push-2.new.self.items c.define.new.definitions.items entry_is entered_is fact_is
-    once_is twice_is columns_is definitions_is here_is)
+    let here_is = c.in-Some.ensures.value ∙ ap (λ n. get_or items (n - 1) here) counted
+    ∙ opens-last items document here some in
+    let stack_is = ap (λ n. opens (set items (n - 1) after) document) counted ∙ opens-set items document after some in
+    rw (← c.self.view_is) (on_answer _ _ _ _ (λ after_is columns_is definitions_is.
+    passed_leaf-by name pass entry here after c.enter.new.self c.follow_leaf.new.ended.columns c.fact_alone-fact.result
+    c.push.new.self.items c.push-2.new.self.items c.follow_leaf.new.ended.definitions.items _ entry_is
+    c.in_ok-enter.ensures fact_is once_is twice_is here_is stack_is columns_is definitions_is after_is)
+    c.follow_leaf.result c.follow_leaf.ensures.here c.follow_leaf.ensures.columns c.follow_leaf.ensures.definitions)
+
+pub returns-in-None : goal.returns-in-None
+returns-in-None c =
+    let pass = the_view c.self.inside in
+    let name = c.args.name in
+    let entry = c.len-entry.result in
+    let items = c.self.inside.open.items in
+    let document = c.self.inside.document in
+    let after = c.follow_leaf-in-None.new.here in
+    let none : length items ≡ 0 = subst (λ n. n ≡ 0) c.self.inside.open.ok.0 (search rules) in
+    let entry_is : entry ≡ length pass.facts = search rules in
+    let fact_is : c.fact_alone-fact.result ≡ fact_alone name (entry + 1) (length (Collected.tables c.enter.new.self))
+    = cc in
+    let once_is : c.push.new.self.items ≡ pass.facts ++ c.fact_alone-fact.result ∷ [] = search rules in
+    let twice_is : c.push-2.new.self.items ≡ c.push.new.self.items ++ partner_alone entry ∷ [] = search rules in
+    let alone = opens-alone items document none in
+    let here_is = ap next_round (sym alone) in
+    let stack_is = opens-alone items after none ∙ ap (λ o. after ∷ others_round o) (sym alone) in
+    rw (← c.self.view_is) (on_answer _ _ _ _ (λ after_is columns_is definitions_is.
+    passed_leaf-by name pass entry document after c.enter.new.self c.follow_leaf-in-None.new.ended.columns
+    c.fact_alone-fact.result c.push.new.self.items c.push-2.new.self.items
+    c.follow_leaf-in-None.new.ended.definitions.items _ entry_is c.in_ok-enter.ensures fact_is once_is twice_is here_is
+    stack_is columns_is definitions_is after_is) c.follow_leaf-in-None.result c.follow_leaf-in-None.ensures.here
+    c.follow_leaf-in-None.ensures.columns c.follow_leaf-in-None.ensures.definitions)

@@ -29,8 +29,8 @@ returns-clause-differ c = distinct-by _ (item (codes "a") Empty (item (codes "b"
 
 pub returns-clause-other_attribute : goal.returns-clause-other_attribute
 returns-clause-other_attribute c =
-    distinct-by _ (with (codes "a") (codes "title") (codes "a") Empty (with (codes "a") (codes "title") (codes "a") Empty
-    Empty)) (record { in_grammar = refl; written_so = refl }) refl
+    distinct-by _ (with (codes "a") (codes "title") (codes "a") Empty
+    (with (codes "a") (codes "title") (codes "a") Empty Empty)) (record { in_grammar = refl; written_so = refl }) refl
 
 pub returns-clause-equal : goal.returns-clause-equal
 unfolding item

@@ -1,56 +1,78 @@
-use Rattle.std.proofs.Common.{Result, Ok, Err, Some, refl, ap, subst, add-one, suc}
-use Rattle.std.specs.Prelude.{option_map, IfErr, OnOk}
+use Rattle.std.proofs.Common.{◌≡◌, ◌⊎◌, Some, None, ap, sym, ◌∙◌, subst, add-one, suc}
 use Rattle.md_base.specs.Reference.{name_table}
-use Rattle.md_tree.specs.Machine.{ExitsWhere}
-use Rattle.md_tree.specs.Walk.{point_at, place_at, outer_seen, opens_seen, entry_seen, course_of, inside_of, Unbroken, IsStopInside}
-use Rattle.md_tree.proofs.Leaves.{Passes-through, Passes-exit, IsStopAtLeaf-exit}
+use Rattle.md_pattern.specs.declared.kinds.Standing.TheVariants.{Through, Space}
+use Rattle.md_tree.specs.declared.rule.Rule.TheVariants as rule
+use Rattle.md_tree.specs.declared.rule.CompileError.TheVariants as error
+use Rattle.md_tree.specs.declared.mention.Target.TheVariants.{Missing}
+use Rattle.md_tree.specs.Rules.{target_at, broken_rule}
+use Rattle.md_tree.specs.Machine.{start_of, is_complete}
+use Rattle.md_tree.specs.Walk.{point_at, place_at, target_seen, course_of, IsStopAtLeaf}
+use Rattle.md_tree.proofs.Leaves.{passes-over, Passes-solid, IsStopAtLeaf-open, IsStopAtLeaf-broken}
 use Rattle.md_tree.proofs.walk.Walk.leaf.Goals as goal
 
--- a claim of an answer, and one of an error
-on_answer : {A E : Type 0} (P Q : Type 0) → (P → Q) → (result : Result A E) → OnOk result P → OnOk result Q
-on_answer P Q f (Ok a) p = f p
-on_answer P Q f (Err e) p = p
-
-on_error : {A E : Type 0} (P Q : E → Type 0) → ((e : E) → P e → Q e) → (result : Result A E) → IfErr result P →
-    IfErr result Q
-on_error P Q f (Ok a) p = p
-on_error P Q f (Err e) p = f e p
-
-pub returns-in-None-clause-ok : goal.returns-in-None-clause-ok
-returns-in-None-clause-ok c =
-    let events = c.args.source.events.now in
-    Passes-through c.args.name (point_at events c.args.index) (point_at events (suc c.args.index))
-    (course_of events c.args.index c.args.self.now) (entry_seen events c.in_ok-inner.inner) c.in_ok-inner.ensures.ok
-    (Unbroken c.args.source.bytes.now (name_table c.args.source.names.now)) _
-    (ap (option_map (λ outer. outer_seen events outer)) c.in-None.is) refl
-
-pub returns-in-Some-clause-ok : goal.returns-in-Some-clause-ok
-returns-in-Some-clause-ok c =
+pub returns-in-Through-clause-ok : goal.returns-in-Through-clause-ok
+returns-in-Through-clause-ok c =
     let events = c.args.source.events.now in
     let self = c.args.self.now in
-    let entry = c.in_ok-inner.inner in
-    let holds = Unbroken c.args.source.bytes.now (name_table c.args.source.names.now) in
-    on_answer _ _ (λ exits.
-    Passes-exit c.args.name (point_at events c.args.index) (point_at events (suc c.args.index))
-    (course_of events c.args.index self) (entry_seen events entry) c.in_ok-inner.ensures.ok holds
-    (outer_seen events c.in-Some.outer) _ (ap (option_map (λ outer. outer_seen events outer)) c.in-Some.is)
-    (subst (λ exit. ExitsWhere holds (Some (outer_seen events c.in-Some.outer)) (point_at events c.args.index)
-    (point_at events exit) (opens_seen events self.open_nodes.items)
-    (inside_of events exit entry.state entry.target self)
-    (course_of events (suc exit) c.leave.new.self)) (add-one c.args.index) exits)) c.leave.result c.leave.ensures.ok
+    let over = c.in-Through.is in
+    passes-over c.args.source.bytes.now (name_table c.args.source.names.now) c.args.name
+    (point_at events c.args.index) (point_at events (suc c.args.index)) (course_of events c.args.index self)
+    (sym c.can_hold.ensures ∙ c.if-not-can_hold.false)
+    (subst (λ s. (s ≡ Through) ⊎ (s ≡ Space)) c.standing.ensures over)
 
-pub returns-in-Some-clause-refused : goal.returns-in-Some-clause-refused
-returns-in-Some-clause-refused c =
+pub returns-then-not-can_be_empty-clause-refused : goal.returns-then-not-can_be_empty-clause-refused
+returns-then-not-can_be_empty-clause-refused c =
     let events = c.args.source.events.now in
     let self = c.args.self.now in
-    let entry = c.in_ok-inner.inner in
     let bytes = c.args.source.bytes.now in
     let names = name_table c.args.source.names.now in
-    let outer = outer_seen events c.in-Some.outer in
-    on_error _ _ (λ refusal stops.
-    IsStopAtLeaf-exit c.args.name (point_at events c.args.index) (point_at events (suc c.args.index))
-    (course_of events c.args.index self) (entry_seen events entry) c.in_ok-inner.ensures.ok bytes names c.args.index
-    refusal outer (ap (option_map (λ o. outer_seen events o)) c.in-Some.is)
-    (subst (λ exit. IsStopInside bytes names exit outer (place_at events c.args.index exit)
-    (inside_of events exit entry.state entry.target self) refusal)
-    (add-one c.args.index) stops)) c.leave.result c.leave.ensures.refused
+    let index = c.args.index in
+    let unfinished = ap (λ r. is_complete (start_of r)) (sym c.role_of.ensures) ∙ sym c.can_be_empty.ensures
+    ∙ c.if-not-can_be_empty.true in
+    rw c.refuse-then-not-can_be_empty.ensures (subst (λ n. IsStopAtLeaf bytes names index c.args.name
+    (point_at events index) (point_at events (suc index)) (course_of events index self) (error.Event n rule.Order))
+    (sym (add-one index)) (IsStopAtLeaf-open c.args.name c.in-Solid.symbol c.in-Solid.usual c.in-Solid.reading
+    c.in-Some.state (point_at events index) (point_at events (suc index)) (course_of events index self)
+    (sym c.can_hold.ensures ∙ c.if-not-can_hold.false) (sym c.standing.ensures ∙ c.in-Solid.is)
+    (sym c.advanced.ensures ∙ c.in-Some.is) bytes names index unfinished))
+
+pub returns-in-Some-2-clause-refused : goal.returns-in-Some-2-clause-refused
+returns-in-Some-2-clause-refused c =
+    let events = c.args.source.events.now in
+    let self = c.args.self.now in
+    let bytes = c.args.source.bytes.now in
+    let names = name_table c.args.source.names.now in
+    let index = c.args.index in
+    let broken = c.in-Some-2.rule in
+    let complete = ap (λ r. is_complete (start_of r)) (sym c.role_of.ensures) ∙ sym c.can_be_empty.ensures
+    ∙ c.if-not-can_be_empty.false in
+    let breaks = subst (λ exit. broken_rule bytes names c.in-Solid.reading c.in-Some.state.role self.state.before
+    (point_at events index) (point_at events exit) Missing ≡ Some broken) (add-one index)
+    (sym c.in_ok-rule-in-Solid.ensures ∙ c.in-Some-2.is) in
+    rw c.refuse-in-Some-2.ensures (subst (λ n. IsStopAtLeaf bytes names index c.args.name
+    (point_at events index) (point_at events (suc index)) (course_of events index self) (error.Event n broken))
+    (sym (add-one index)) (IsStopAtLeaf-broken c.args.name c.in-Solid.symbol c.in-Solid.usual c.in-Solid.reading
+    c.in-Some.state (point_at events index) (point_at events (suc index)) (course_of events index self)
+    (sym c.can_hold.ensures ∙ c.if-not-can_hold.false) (sym c.standing.ensures ∙ c.in-Solid.is)
+    (sym c.advanced.ensures ∙ c.in-Some.is) bytes names index broken complete breaks))
+
+pub returns-in_default-2-clause-ok : goal.returns-in_default-2-clause-ok
+returns-in_default-2-clause-ok c =
+    let events = c.args.source.events.now in
+    let self = c.args.self.now in
+    let bytes = c.args.source.bytes.now in
+    let names = name_table c.args.source.names.now in
+    let index = c.args.index in
+    let reading = c.in-Solid.reading in
+    let complete = ap (λ r. is_complete (start_of r)) (sym c.role_of.ensures) ∙ sym c.can_be_empty.ensures
+    ∙ c.if-not-can_be_empty.false in
+    let sound = subst (λ exit. broken_rule bytes names reading c.in-Some.state.role self.state.before
+    (point_at events index) (point_at events exit) Missing ≡ None) (add-one index)
+    (sym c.in_ok-rule-in-Solid.ensures ∙ c.in_default-2.is) in
+    let target_is = subst (λ exit. target_seen events c.retarget.new.found
+    ≡ target_at reading (target_seen events self.target) Missing (place_at events index exit)) (add-one index)
+    (c.retarget.ensures events) in
+    Passes-solid c.args.name c.in-Solid.symbol c.in-Solid.usual reading
+    c.in-Some.state (point_at events index) (point_at events (suc index)) (course_of events index self)
+    (sym c.can_hold.ensures ∙ c.if-not-can_hold.false) (sym c.standing.ensures ∙ c.in-Solid.is)
+    (sym c.advanced.ensures ∙ c.in-Some.is) bytes names _ complete sound target_is

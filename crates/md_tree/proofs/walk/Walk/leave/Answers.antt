@@ -1,15 +1,16 @@
 use Rattle.std.proofs.Common.{refl, sym, ◌∙◌}
 use Rattle.md_base.specs.Reference.{name_table}
-use Rattle.md_tree.specs.Walk.{point_at, outer_seen, inside_of}
+use Rattle.md_tree.specs.Walk.{point_at, outer_seen, course_of}
 use Rattle.md_tree.proofs.Breaks.{StopsInside-broken}
 use Rattle.md_tree.proofs.walk.Walk.leave.Goals as goal
 
 pub returns-in-Some-clause-refused : goal.returns-in-Some-clause-refused
 returns-in-Some-clause-refused c =
-    let events = c.args.source.events.now in (
+    let events = c.args.source.events.now in
+    rw c.refuse-in-Some.ensures (
       refl,
       StopsInside-broken c.args.source.bytes.now (name_table c.args.source.names.now) c.in-Some.rule
           (outer_seen events c.args.outer) (point_at events c.args.entry) (point_at events c.args.index)
-          (inside_of events c.args.index c.args.state c.args.target c.args.self.now) (sym c.can_end.ensures
+          (course_of events c.args.index c.args.self.now) (sym c.can_end.ensures
           ∙ c.if-not-can_end.false) (sym c.in_ok-rule.ensures ∙ c.in-Some.is),
     )

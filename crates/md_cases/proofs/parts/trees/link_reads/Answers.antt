@@ -1,6 +1,6 @@
 use Rattle.std.proofs.Common.{rules}
 use Rattle.md_base.specs.declared.event.Name.TheVariants.{Link}
-use Rattle.md_part_cases.proofs.trees.find.link_reads.Goals as goal
+use Rattle.md_cases.proofs.parts.trees.link_reads.Goals as goal
 
 pub reads-requires : goal.reads-requires
 reads-requires c = (Link, search rules)

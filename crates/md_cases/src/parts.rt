@@ -1,0 +1,114 @@
+//! Cases of the calls below the compiler: a script that begins with questions is given a line for each of them.
+//!
+//! A question is a line `? PART CALL ARGUMENT`. Lines `=NAME TEXT` may follow, names with their texts; then the script.
+
+mod compiled;
+mod endings;
+mod notes;
+mod places;
+mod sheets;
+mod texts;
+mod trees;
+
+use crate::reading::{Script, read};
+use std::alloc::{AllocError, Global};
+
+/// How a question begins.
+pub(crate) const QUESTION: &str = "? ";
+
+/// Questions, names with their texts, and the script that they are asked of.
+#[derive(Drop)]
+struct Asked<'a> {
+    questions: Vec<&'a str>,
+    names: Vec<(&'a str, &'a str)>,
+    script: Script<'a>,
+}
+
+/// A call and its argument.
+#[derive(Clone, Copy)]
+struct Call<'a> {
+    name: &'a str,
+    argument: &'a str,
+}
+
+/// What is answered to each question of a script.
+pub(crate) fn answer_questions(alloc: Global, input: &[u8]) -> Result<String, AllocError> {
+    let Some(asked) = read_asked(alloc, input)? else {
+        return String::from_str(alloc, "! unreadable");
+    };
+    let mut said = String::new(alloc);
+    for question in &asked.questions {
+        if !said.is_empty() {
+            said.push('\n')?;
+        }
+        let answer = answer_to(alloc, &asked, question)?;
+        write!(said, "{question}: {answer}")?;
+    }
+    Ok(said)
+}
+
+/// What is answered to a question.
+fn answer_to(alloc: Global, asked: &Asked<'_>, question: &str) -> Result<String, AllocError> {
+    let (part, call) = question.split_once(' ').unwrap_or((question, ""));
+    let (name, argument) = call.split_once(' ').unwrap_or((call, ""));
+    let call = Call { name, argument };
+    match part {
+        "text" => texts::answer(alloc, asked, call),
+        "ending" => endings::answer(alloc, asked, call),
+        "place" => places::answer(alloc, asked, call),
+        "tree" => trees::answer(alloc, asked, call),
+        "notes" => notes::answer(alloc, asked, call),
+        "sheet" => sheets::answer(alloc, asked, call),
+        "compiled" => compiled::answer(alloc, asked, call),
+        _ => no_such_call(alloc),
+    }
+}
+
+/// What is answered where there is no such call.
+fn no_such_call(alloc: Global) -> Result<String, AllocError> {
+    String::from_str(alloc, "no such call")
+}
+
+/// A number that may not be there.
+fn number(alloc: Global, number: Option<usize>) -> Result<String, AllocError> {
+    match number {
+        Some(number) => format!(in alloc; "{number}"),
+        None => String::from_str(alloc, "none"),
+    }
+}
+
+/// Reads the questions and the names before a script, and the script; `None` where it can't be read.
+fn read_asked(alloc: Global, input: &[u8]) -> Result<Option<Asked<'_>>, AllocError> {
+    let mut questions = Vec::new(alloc);
+    let mut names = Vec::new(alloc);
+    let mut length: usize = 0;
+    for line in input.split(|byte| *byte == b'\n') {
+        let text = std::str::from_utf8(line).unwrap_or("");
+        if let Some(question) = text.strip_prefix(QUESTION) {
+            questions.push(question)?;
+        } else if let Some(name) = text.strip_prefix('=') {
+            names.push(name.split_once(' ').unwrap_or((name, "")))?;
+        } else {
+            break;
+        }
+        length = length.saturating_add(line.len()).saturating_add(1);
+    }
+    let Ok(script) = read(alloc, input.get(length..).unwrap_or(&[])) else {
+        return Ok(None);
+    };
+    Ok(Some(Asked {
+        questions,
+        names,
+        script,
+    }))
+}
+
+/// The document as a text.
+fn document<'a>(asked: &Asked<'a>) -> &'a str {
+    std::str::from_utf8(asked.script.document).unwrap_or("")
+}
+
+/// A text where `\n` stands for a line feed.
+fn with_line_feeds(alloc: Global, text: &str) -> Result<String, AllocError> {
+    text.replace(alloc, "\\n", "\n")
+}

@@ -1,0 +1,78 @@
+//! Questions on a script that `run` can't ask: by the names as references, as a page, with its visits.
+
+use super::{Asked, Call, no_such_call, with_line_feeds};
+use md_html::{
+    CompileError, CompileOptions, SafeError, SafeHtml, check, compile, compile_checked,
+    compile_counted, compile_safe,
+};
+use md_page::page;
+use std::alloc::{AllocError, Global};
+
+/// What a call answers.
+pub(super) fn answer(
+    alloc: Global,
+    asked: &Asked<'_>,
+    call: Call<'_>,
+) -> Result<String, AllocError> {
+    match call.name {
+        "compile" => said_of(alloc, by_compile(alloc, asked)),
+        "compile_checked" => said_of(alloc, by_checked(alloc, asked)),
+        "compile_counted" => said_of(alloc, by_counted(alloc, asked)),
+        "compile_safe" => match by_safe(alloc, asked) {
+            Ok(html) => String::from_str(alloc, html.as_str()),
+            Err(error) => format!(in alloc; "! {error}"),
+        },
+        "page" => page_titled(alloc, asked, call.argument),
+        "default" => format!(in alloc; "{:?}", CompileOptions::default()),
+        "gfm" => format!(in alloc; "{:?}", CompileOptions::gfm()),
+        _ => no_such_call(alloc),
+    }
+}
+
+fn said_of(alloc: Global, answer: Result<String, CompileError>) -> Result<String, AllocError> {
+    match answer {
+        Ok(text) => Ok(text),
+        Err(error) => format!(in alloc; "! {error}"),
+    }
+}
+
+/// What `compile` answers.
+fn by_compile(alloc: Global, asked: &Asked<'_>) -> Result<String, CompileError> {
+    let script = &asked.script;
+    let events = script.events.as_slice();
+    let names = asked.names.as_slice();
+    compile(alloc, events, script.document, &script.options, names)
+}
+
+/// What `compile_checked` answers, once the events are checked.
+fn by_checked(alloc: Global, asked: &Asked<'_>) -> Result<String, CompileError> {
+    let script = &asked.script;
+    let events = script.events.as_slice();
+    let checked = check(alloc, events, script.document, asked.names.as_slice())?;
+    Ok(compile_checked(alloc, &checked, &script.options)?)
+}
+
+/// What `compile_counted` answers: how many events were visited, and the text.
+fn by_counted(alloc: Global, asked: &Asked<'_>) -> Result<String, CompileError> {
+    let script = &asked.script;
+    let events = script.events.as_slice();
+    let names = asked.names.as_slice();
+    let counted = compile_counted(alloc, events, script.document, &script.options, names)?;
+    Ok(format!(in alloc; "{} visits, {}", counted.visits, counted.text)?)
+}
+
+/// What `compile_safe` answers.
+fn by_safe(alloc: Global, asked: &Asked<'_>) -> Result<SafeHtml, SafeError> {
+    let script = &asked.script;
+    let events = script.events.as_slice();
+    let names = asked.names.as_slice();
+    compile_safe(alloc, events, script.document, &script.options, names)
+}
+
+/// The page of the safe text, with a title.
+fn page_titled(alloc: Global, asked: &Asked<'_>, title: &str) -> Result<String, AllocError> {
+    match by_safe(alloc, asked) {
+        Ok(html) => page(alloc, with_line_feeds(alloc, title)?.as_str(), &html),
+        Err(error) => format!(in alloc; "! {error}"),
+    }
+}

@@ -1,0 +1,128 @@
+//! Questions on what is kept by identifier: calls of footnotes, footnotes, definitions, ids.
+
+use super::{Asked, Call, document, no_such_call, with_line_feeds};
+use md_html::CompileOptions;
+use md_sheet::{
+    Calls, Defined, Definitions, Footnotes, NumberedFootnote, Settings, Sheet, Target, call_id,
+    footnote_id, lay_section,
+};
+use std::alloc::{AllocError, Global};
+
+/// What a call answers.
+pub(super) fn answer(
+    alloc: Global,
+    asked: &Asked<'_>,
+    call: Call<'_>,
+) -> Result<String, AllocError> {
+    let argument = call.argument;
+    match call.name {
+        "number" => format!(in alloc; "{}", calls(alloc, asked)?.number(argument)),
+        "count_of" => format!(in alloc; "{}", calls(alloc, asked)?.count_of(argument)),
+        "is_empty" => format!(in alloc; "{}", calls(alloc, asked)?.is_empty()),
+        "at" => call_at(alloc, &calls(alloc, asked)?, argument),
+        "text_of" => text_of(alloc, asked, argument),
+        "target" => target(alloc, asked, argument),
+        "section" => section(alloc, asked, argument),
+        "footnote_id" => own_id(alloc, asked, argument),
+        "call_id" => id_of_call(alloc, asked, argument),
+        _ => no_such_call(alloc),
+    }
+}
+
+/// Calls of the names.
+fn calls(alloc: Global, asked: &Asked<'_>) -> Result<Calls, AllocError> {
+    let mut calls = Calls::new(alloc);
+    for (identifier, _) in &asked.names {
+        calls.count(String::from_str(alloc, identifier)?)?;
+    }
+    Ok(calls)
+}
+
+/// The footnote that was called first at an index, and how often it is called.
+fn call_at(alloc: Global, calls: &Calls, index: &str) -> Result<String, AllocError> {
+    match calls.at(index.parse().unwrap_or(0)) {
+        Some((identifier, count)) => format!(in alloc; "{identifier}, {count}"),
+        None => String::from_str(alloc, "(none)"),
+    }
+}
+
+/// Footnotes with the names as identifiers.
+fn footnotes(alloc: Global, asked: &Asked<'_>) -> Result<Footnotes, AllocError> {
+    let mut footnotes = Footnotes::new(alloc);
+    for (identifier, text) in &asked.names {
+        let identifier = String::from_str(alloc, identifier)?;
+        footnotes.note(identifier, with_line_feeds(alloc, text)?)?;
+    }
+    Ok(footnotes)
+}
+
+/// The text of a footnote.
+fn text_of(alloc: Global, asked: &Asked<'_>, identifier: &str) -> Result<String, AllocError> {
+    let footnotes = footnotes(alloc, asked)?;
+    String::from_str(alloc, footnotes.text_of(identifier))
+}
+
+/// Definitions of the names, each with its text as the destination.
+fn definitions(alloc: Global, asked: &Asked<'_>) -> Result<Definitions, AllocError> {
+    if asked.names.is_empty() {
+        return Ok(Definitions::new(alloc));
+    }
+    let mut list = Vec::new(alloc);
+    for (identifier, destination) in &asked.names {
+        list.push(Defined {
+            identifier: String::from_str(alloc, identifier)?,
+            target: Target {
+                destination: String::from_str(alloc, destination)?,
+                title: None,
+            },
+        })?;
+    }
+    Definitions::first_of(alloc, list)
+}
+
+/// The destination of a definition.
+fn target(alloc: Global, asked: &Asked<'_>, identifier: &str) -> Result<String, AllocError> {
+    let definitions = definitions(alloc, asked)?;
+    match definitions.target(identifier) {
+        Some(target) => target.destination.clone(),
+        None => String::from_str(alloc, "(none)"),
+    }
+}
+
+/// The document with the section of footnotes behind it, where the argument's words are called.
+fn section(alloc: Global, asked: &Asked<'_>, called: &str) -> Result<String, AllocError> {
+    let mut calls = Calls::new(alloc);
+    for identifier in called.split_whitespace() {
+        calls.count(String::from_str(alloc, identifier)?)?;
+    }
+    let footnotes = footnotes(alloc, asked)?;
+    let settings = Settings {
+        alloc,
+        options: &CompileOptions::default(),
+        ending: "\n",
+    };
+    let mut sheet = Sheet::new(alloc);
+    sheet.put(document(asked))?;
+    lay_section(&settings, &mut sheet, &calls, &footnotes)?;
+    sheet.into_text(alloc)
+}
+
+/// The id of a footnote whose identifier is the document, by its number.
+fn own_id(alloc: Global, asked: &Asked<'_>, number: &str) -> Result<String, AllocError> {
+    let footnote = NumberedFootnote {
+        identifier: document(asked),
+        number: number.parse().unwrap_or(0),
+    };
+    footnote_id(alloc, &asked.script.options, &footnote)
+}
+
+/// The id of a call of that footnote, by its number and by which of its calls it is.
+fn id_of_call(alloc: Global, asked: &Asked<'_>, numbers: &str) -> Result<String, AllocError> {
+    let (number, occurrence) = numbers.split_once(' ').unwrap_or((numbers, ""));
+    let footnote = NumberedFootnote {
+        identifier: document(asked),
+        number: number.parse().unwrap_or(0),
+    };
+    let occurrence = occurrence.parse().unwrap_or(0);
+    call_id(alloc, &asked.script.options, &footnote, occurrence)
+}

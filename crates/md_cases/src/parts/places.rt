@@ -1,0 +1,46 @@
+//! Questions on the first two events: what stands between their places, and whether their names are the same.
+
+use super::{Asked, Call, no_such_call};
+use md_html::{Event, Position, Slice, is_same_name};
+use std::alloc::{AllocError, Global};
+
+/// What a call answers.
+pub(super) fn answer(
+    alloc: Global,
+    asked: &Asked<'_>,
+    call: Call<'_>,
+) -> Result<String, AllocError> {
+    let bytes = asked.script.document;
+    let [start, end] = asked.script.events.as_slice() else {
+        return no_such_call(alloc);
+    };
+    let (from, to) = between(start, end).to_indices();
+    match call.name {
+        "slice" => slice(alloc, Slice::from_position(bytes, &between(start, end))),
+        "slice_from_indices" => slice(alloc, Slice::from_indices(bytes, from, to)),
+        "to_indices" => format!(in alloc; "{from} to {to}"),
+        "is_same_name" => format!(in alloc; "{}", is_same_name(start.name, end.name)),
+        _ => no_such_call(alloc),
+    }
+}
+
+/// The place between two events.
+fn between(start: &Event, end: &Event) -> Position {
+    Position {
+        start: start.point,
+        end: end.point,
+    }
+}
+
+/// How long a slice is, its text, and its text with what is cut of tabs as spaces.
+fn slice(alloc: Global, slice: Option<Slice<'_>>) -> Result<String, AllocError> {
+    let Some(slice) = slice else {
+        return String::from_str(alloc, "(none)");
+    };
+    let length = slice.len();
+    let text = slice.as_str().unwrap_or("(none)");
+    match slice.serialize(alloc)? {
+        Some(serialized) => format!(in alloc; "{length} bytes, [{text}], [{serialized}]"),
+        None => format!(in alloc; "{length} bytes, {text}"),
+    }
+}

@@ -1,0 +1,92 @@
+//! Questions on a page that the names lay out, each a step with its text.
+
+use super::{Asked, Call, document, no_such_call};
+use md_sheet::{Rope, Sheet, Target};
+use std::alloc::{AllocError, Global};
+
+/// What a call answers.
+pub(super) fn answer(
+    alloc: Global,
+    asked: &Asked<'_>,
+    call: Call<'_>,
+) -> Result<String, AllocError> {
+    match call.name {
+        "text" => text(alloc, laid_out(alloc, asked)?),
+        "resource" => resource(alloc, laid_out(alloc, asked)?),
+        "target" => target(alloc, laid_out(alloc, asked)?),
+        "rope" => rope(alloc, document(asked)),
+        _ => no_such_call(alloc),
+    }
+}
+
+/// The page after all steps.
+fn laid_out(alloc: Global, asked: &Asked<'_>) -> Result<Sheet, AllocError> {
+    let mut sheet = Sheet::new(alloc);
+    for (step, text) in &asked.names {
+        take_step(alloc, &mut sheet, step, text)?;
+    }
+    Ok(sheet)
+}
+
+/// Takes a step; a line ending is a line feed.
+fn take_step(alloc: Global, sheet: &mut Sheet, step: &str, text: &str) -> Result<(), AllocError> {
+    let own = String::from_str(alloc, text)?;
+    match step {
+        "put" => sheet.put(text)?,
+        "need" => sheet.need("\n")?,
+        "recall" => sheet.recall()?,
+        "append" => sheet.append(alloc, Rope::from_string(alloc, own))?,
+        "note_heading" => sheet.note_heading(own),
+        "note_destination" => sheet.note_destination(own),
+        "note_title" => sheet.note_title(own),
+        _ => sheet.note_resource(Target {
+            destination: own,
+            title: None,
+        }),
+    }
+    Ok(())
+}
+
+/// The text of a page.
+fn text(alloc: Global, sheet: Sheet) -> Result<String, AllocError> {
+    let (text, _) = sheet.into_parts();
+    text.into_string(alloc)
+}
+
+/// The destination of the resource that a page noted.
+fn resource(alloc: Global, sheet: Sheet) -> Result<String, AllocError> {
+    let (_, notes) = sheet.into_parts();
+    match notes.resource() {
+        Some(target) => target.destination.clone(),
+        None => String::from_str(alloc, "(none)"),
+    }
+}
+
+/// The destination and the title that a page noted.
+fn target(alloc: Global, sheet: Sheet) -> Result<String, AllocError> {
+    let target = sheet.into_target();
+    let destination = target.destination.as_str();
+    match &target.title {
+        Some(title) => format!(in alloc; "[{destination}] [{title}]"),
+        None => format!(in alloc; "[{destination}]"),
+    }
+}
+
+/// The last byte of a text in parts, at first and after each line of the document, which goes behind it between `<` and
+/// `>`, and the text at last.
+fn rope(alloc: Global, document: &str) -> Result<String, AllocError> {
+    let mut text = Rope::new(alloc);
+    let mut said = format!(in alloc; "{:?}", text.last_byte())?;
+    for part in document.split('\n') {
+        let mut next = Rope::new(alloc);
+        next.push_str("<")?;
+        next.push_str(part)?;
+        text.append(alloc, next)?;
+        text.push_str(">")?;
+        write!(said, " {:?}", text.last_byte())?;
+    }
+    text.append(alloc, Rope::new(alloc))?;
+    let text = text.into_string(alloc)?;
+    write!(said, " {text}")?;
+    Ok(said)
+}

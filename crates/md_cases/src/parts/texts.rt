@@ -1,0 +1,61 @@
+//! Questions on a document that is a text.
+
+use super::{Asked, Call, document, no_such_call};
+use md_html::{
+    SAFE_PROTOCOL_HREF, SAFE_PROTOCOL_SRC, decode_character_reference, encode, gfm_tagfilter,
+    normalize_identifier, sanitize, sanitize_with_protocols,
+};
+use std::alloc::{AllocError, Global};
+
+/// What a call answers.
+pub(super) fn answer(
+    alloc: Global,
+    asked: &Asked<'_>,
+    call: Call<'_>,
+) -> Result<String, AllocError> {
+    let text = document(asked);
+    let names = asked.names.as_slice();
+    match call.name {
+        "normalize_identifier" => normalize_identifier(alloc, text),
+        "decode_character_reference" => decode(alloc, text, call.argument, names),
+        "encode" => encode(alloc, text, call.argument == "html"),
+        "sanitize" => sanitize(alloc, text),
+        "sanitize_with_protocols" => permit(alloc, text, call.argument, names),
+        "gfm_tagfilter" => gfm_tagfilter(alloc, text),
+        _ => no_such_call(alloc),
+    }
+}
+
+/// The text of a reference whose marker is the argument's first byte.
+fn decode(
+    alloc: Global,
+    value: &str,
+    marker: &str,
+    names: &[(&str, &str)],
+) -> Result<String, AllocError> {
+    let marker = marker.as_bytes().first().copied().unwrap_or(0);
+    match decode_character_reference(alloc, value, marker, names)? {
+        Some(text) => Ok(text),
+        None => String::from_str(alloc, "(none)"),
+    }
+}
+
+/// A URL under the protocols of links or of images, or else under those that are named.
+fn permit(
+    alloc: Global,
+    url: &str,
+    list: &str,
+    names: &[(&str, &str)],
+) -> Result<String, AllocError> {
+    match list {
+        "href" => sanitize_with_protocols(alloc, url, &SAFE_PROTOCOL_HREF),
+        "src" => sanitize_with_protocols(alloc, url, &SAFE_PROTOCOL_SRC),
+        _ => {
+            let mut protocols = Vec::new(alloc);
+            for (protocol, _) in names {
+                protocols.push(*protocol)?;
+            }
+            sanitize_with_protocols(alloc, url, protocols.as_slice())
+        }
+    }
+}

@@ -1,0 +1,148 @@
+//! Questions on events: whether they are a document, and what `check` finds of its nodes.
+
+use super::{Asked, Call, no_such_call, number};
+use crate::reading::name_of;
+use md_html::{Checked, Name, Position, check, gfm_table_align, list_item_loose, list_loose};
+use std::alloc::{AllocError, Global};
+
+/// What a call answers of a document's events, or why they are none.
+pub(super) fn answer(
+    alloc: Global,
+    asked: &Asked<'_>,
+    call: Call<'_>,
+) -> Result<String, AllocError> {
+    let events = asked.script.events.as_slice();
+    let names = asked.names.as_slice();
+    match check(alloc, events, asked.script.document, names) {
+        Ok(checked) => answer_checked(alloc, asked, &checked, call),
+        Err(error) => format!(in alloc; "{error}"),
+    }
+}
+
+/// What a call answers of all events, or of the one at an index.
+fn answer_checked(
+    alloc: Global,
+    asked: &Asked<'_>,
+    checked: &Checked<'_>,
+    call: Call<'_>,
+) -> Result<String, AllocError> {
+    let (place, name) = call.argument.split_once(' ').unwrap_or((call.argument, ""));
+    let index: usize = place.parse().unwrap_or(0);
+    match call.name {
+        "check" => String::from_str(alloc, "accepted"),
+        "kept" => format!(in alloc; "{}", is_kept(asked, checked)),
+        "definitions" => format!(in alloc; "{:?}", checked.definitions()),
+        "partner" => number(alloc, checked.partner(index)),
+        "enters" => format!(in alloc;
+            "{}",
+            name_of(name).is_some_and(|name| checked.enters(index, name))
+        ),
+        "exits" => format!(in alloc;
+            "{}",
+            name_of(name).is_some_and(|name| checked.exits(index, name))
+        ),
+        _ => answer_found(alloc, checked, call.name, index),
+    }
+}
+
+/// Whether the events, the bytes and as many names are kept.
+fn is_kept(asked: &Asked<'_>, checked: &Checked<'_>) -> bool {
+    checked.events() == asked.script.events.as_slice()
+        && checked.bytes() == asked.script.document
+        && checked.names().len() == asked.names.len()
+}
+
+/// What is found of the node that the event at an index enters.
+fn answer_found(
+    alloc: Global,
+    checked: &Checked<'_>,
+    call: &str,
+    index: usize,
+) -> Result<String, AllocError> {
+    match call {
+        "list_loose" => flag(alloc, of_list(checked, index, false)),
+        "list_loose_by_items" => flag(alloc, of_list(checked, index, true)),
+        "list_item_loose" => flag(alloc, of_item(checked, index)),
+        "has_resource" => flag(alloc, of_link(checked, index)),
+        "gfm_table_align" => columns(alloc, checked, index),
+        "last_contributing" => contributing(alloc, checked, index),
+        "link_reads" => link_reads(alloc, checked, index),
+        "heading_reads" => heading_reads(alloc, checked, index),
+        _ => no_such_call(alloc),
+    }
+}
+
+/// Whether a list is loose, its items looked at or not.
+fn of_list(checked: &Checked<'_>, index: usize, include_items: bool) -> Option<bool> {
+    if checked.enters(index, Name::ListUnordered) || checked.enters(index, Name::ListOrdered) {
+        return Some(list_loose(checked, index, include_items));
+    }
+    None
+}
+
+/// Whether an item is loose.
+fn of_item(checked: &Checked<'_>, index: usize) -> Option<bool> {
+    if checked.enters(index, Name::ListItem) {
+        return Some(list_item_loose(checked, index));
+    }
+    None
+}
+
+/// Whether a link has a resource.
+fn of_link(checked: &Checked<'_>, index: usize) -> Option<bool> {
+    if checked.enters(index, Name::Link) {
+        return Some(checked.has_resource(index));
+    }
+    None
+}
+
+/// How the columns of a table are aligned.
+fn columns(alloc: Global, checked: &Checked<'_>, index: usize) -> Result<String, AllocError> {
+    if !checked.enters(index, Name::GfmTable) {
+        return no_such_node(alloc);
+    }
+    let columns = gfm_table_align(alloc, checked, index)?;
+    format!(in alloc; "{:?}", columns.as_slice())
+}
+
+/// The last contributing child of an item.
+fn contributing(alloc: Global, checked: &Checked<'_>, index: usize) -> Result<String, AllocError> {
+    if checked.enters(index, Name::ListItem) {
+        return number(alloc, checked.last_contributing(index));
+    }
+    no_such_node(alloc)
+}
+
+/// From which index to which a link reads.
+fn link_reads(alloc: Global, checked: &Checked<'_>, index: usize) -> Result<String, AllocError> {
+    if checked.enters(index, Name::Link) {
+        return span(alloc, checked.reads(index));
+    }
+    no_such_node(alloc)
+}
+
+/// The same of a heading's mark.
+fn heading_reads(alloc: Global, checked: &Checked<'_>, index: usize) -> Result<String, AllocError> {
+    if checked.enters(index, Name::HeadingAtx) {
+        return span(alloc, checked.reads(index));
+    }
+    no_such_node(alloc)
+}
+
+fn span(alloc: Global, place: Option<Position>) -> Result<String, AllocError> {
+    match place {
+        Some(place) => format!(in alloc; "{} to {}", place.start.index, place.end.index),
+        None => String::from_str(alloc, "none"),
+    }
+}
+
+fn flag(alloc: Global, flag: Option<bool>) -> Result<String, AllocError> {
+    match flag {
+        Some(flag) => format!(in alloc; "{flag}"),
+        None => no_such_node(alloc),
+    }
+}
+
+fn no_such_node(alloc: Global) -> Result<String, AllocError> {
+    String::from_str(alloc, "no such node")
+}

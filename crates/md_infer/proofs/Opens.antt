@@ -1,0 +1,118 @@
+-- The open nodes, of which the vector has the innermost last: what they are where that one changes.
+use Rattle.std.proofs.Common.{◌≡◌, ℕ, ◌+◌, ◌-◌, ◌<◌, List, [], ◌∷◌, ◌++◌, length, get_or, Result, Ok, Err, refl, sym, ap, subst, ◌∙◌, arith}
+use Rattle.std.specs.Prelude.{set, reverse, OnOk}
+use Rattle.std.proofs.Math.Seq.{set-append_seam, get_or-append_seam}
+use Rattle.std.proofs.lemmas.List.{length-append, reverse-append, reverse-reverse}
+use Rattle.md_base.specs.declared.event.Name.{Name}
+use Rattle.md_infer.specs.declared.facts.Fact.{Fact}
+use Rattle.md_infer.specs.declared.facts.OpenNode.{OpenNode}
+use Rattle.md_infer.specs.Columns.{Collected, columns_entered, columns_exited}
+use Rattle.md_infer.specs.Told.{nothing_told}
+use Rattle.md_infer.specs.Facts.{Passed, opens, next_round, others_round, grounded, opened, followed, fact_of, fact_alone, partner_alone, definitions_with, passed_entry, passed_exit}
+use Rattle.md_infer.proofs.Leaves.{passed-leaf_by}
+
+-- an answer of a call of which three things are known
+pub on_answer : {A E : Type 0} (P Q R S : Type 0) → (P → Q → R → S) → (result : Result A E) → OnOk result P →
+    OnOk result Q → OnOk result R → OnOk result S
+on_answer P Q R S f (Ok a) p q r = f p q r
+on_answer P Q R S f (Err e) p q r = p
+
+opens-seam : (r : List OpenNode) (x d : OpenNode) → opens (reverse r ++ x ∷ []) d ≡ x ∷ r ++ d ∷ []
+opens-seam r x d =
+    ap (λ xs. xs ++ d ∷ []) (reverse-append (reverse r) (x ∷ []) ∙ ap (λ xs. x ∷ xs) (reverse-reverse r))
+
+one_less : (n : ℕ) → (n + 1) - 1 ≡ n
+one_less n = omega arith
+
+last-place : (r : List OpenNode) (x : OpenNode) → length (r ++ x ∷ []) - 1 ≡ length r
+last-place r x = ap (λ n. n - 1) (length-append r (x ∷ [])) ∙ one_less (length r)
+
+set-by : (r items : List OpenNode) (d w : OpenNode) → items ≡ reverse r → 0 < length items →
+    opens (set items (length items - 1) w) d ≡ w ∷ others_round (opens items d)
+set-by [] items d w is some = absurd (omega (arith, subst (λ xs. 0 < length xs) is some))
+set-by (x ∷ r) items d w is some =
+    let parts = is ∙ reverse-append (x ∷ []) r in
+    rw parts (ap (λ n. opens (set (reverse r ++ x ∷ []) n w) d) (last-place (reverse r) x)
+    ∙ ap (λ xs. opens xs d) (set-append_seam (reverse r) x [] w)
+    ∙ opens-seam r w d
+    ∙ ap (λ o. w ∷ others_round o) (sym (opens-seam r x d)))
+
+last-by : (r items : List OpenNode) (d x : OpenNode) → items ≡ reverse r → 0 < length items →
+    get_or items (length items - 1) x ≡ next_round (opens items d)
+last-by [] items d x is some = absurd (omega (arith, subst (λ xs. 0 < length xs) is some))
+last-by (y ∷ r) items d x is some =
+    let parts = is ∙ reverse-append (y ∷ []) r in
+    rw parts (ap (λ n. get_or (reverse r ++ y ∷ []) n x) (last-place (reverse r) y)
+    ∙ get_or-append_seam (reverse r) y [] x
+    ∙ ap next_round (sym (opens-seam r y d)))
+
+pub opens-set : (items : List OpenNode) (d w : OpenNode) → 0 < length items →
+    opens (set items (length items - 1) w) d ≡ w ∷ others_round (opens items d)
+opens-set items d w some = set-by (reverse items) items d w (sym (reverse-reverse items)) some
+
+pub opens-last : (items : List OpenNode) (d x : OpenNode) → 0 < length items →
+    get_or items (length items - 1) x ≡ next_round (opens items d)
+opens-last items d x some = last-by (reverse items) items d x (sym (reverse-reverse items)) some
+
+pub opens-alone : (items : List OpenNode) (d : OpenNode) → length items ≡ 0 → opens items d ≡ d ∷ []
+opens-alone [] d none = refl
+opens-alone (x ∷ items) d none = absurd (omega (arith, none))
+
+grounded-next : (r : List OpenNode) → next_round (grounded r) ≡ next_round r
+grounded-next [] = refl
+grounded-next (x ∷ r) = refl
+
+grounded-others : (r : List OpenNode) → others_round (grounded r) ≡ others_round r
+grounded-others [] = refl
+grounded-others (x ∷ r) = refl
+
+-- the exit of a node, by what each step gave: the node, what is left, and what it is then
+pub passed_exit-by : (name : Name) (pass : Passed) (own here after : OpenNode) (facts : List Fact) (columns : Collected)
+    (definitions : List ℕ) (left stack : List OpenNode) → own ≡ pass.here → left ≡ grounded pass.round →
+    here ≡ next_round left → stack ≡ after ∷ others_round left → after ≡ followed name own here →
+    facts ≡ set pass.facts own.entry (fact_of name (length pass.facts) (length pass.columns.tables) own.contributing
+    own.sought own.told) ++ partner_alone own.entry ∷ [] →
+    columns ≡ columns_exited name own.told here.collects pass.columns →
+    definitions ≡ definitions_with name own.entry pass.definitions →
+    record {
+      facts = facts;
+      columns = columns;
+      definitions = definitions;
+      here = next_round stack;
+      round = others_round stack;
+    } ≡ passed_exit name pass
+passed_exit-by name pass own here after facts columns definitions left stack own_is left_is here_is stack_is after_is
+    facts_is columns_is definitions_is =
+    rw (
+      stack_is,
+      after_is,
+      facts_is,
+      columns_is,
+      definitions_is,
+      here_is,
+      left_is,
+      own_is,
+      grounded-next pass.round,
+      grounded-others pass.round,
+    ) refl
+
+-- a node without children, by what each step gave
+pub passed_leaf-by : (name : Name) (pass : Passed) (entry : ℕ) (here after : OpenNode) (entered columns : Collected)
+    (fact : Fact) (once twice : List Fact) (definitions : List ℕ) (stack : List OpenNode) → entry ≡ length pass.facts →
+    entered ≡ columns_entered name pass.columns →
+    fact ≡ fact_alone name (entry + 1) (length (Collected.tables entered)) →
+    once ≡ pass.facts ++ fact ∷ [] → twice ≡ once ++ partner_alone entry ∷ [] → here ≡ pass.here →
+    stack ≡ after ∷ pass.round → columns ≡ columns_exited name nothing_told here.collects entered →
+    definitions ≡ definitions_with name entry pass.definitions → after ≡ followed name (opened entry name here) here →
+    record {
+      facts = twice;
+      columns = columns;
+      definitions = definitions;
+      here = next_round stack;
+      round = others_round stack;
+    } ≡ passed_exit name (passed_entry name pass)
+passed_leaf-by name pass entry here after entered columns fact once twice definitions stack entry_is entered_is fact_is
+    once_is twice_is here_is stack_is columns_is definitions_is after_is =
+    rw stack_is (passed-leaf_by name pass entry after entered columns fact once twice definitions entry_is entered_is
+    fact_is once_is twice_is (columns_is ∙ ap (λ h. columns_exited name nothing_told (OpenNode.collects h) entered)
+    here_is) definitions_is (after_is ∙ ap (λ h. followed name (opened entry name h) h) here_is))

@@ -1,0 +1,13 @@
+use Rattle.std.proofs.Common.{rules}
+use Rattle.md_tree.proofs.Patterns.{empty-complete}
+use Rattle.md_tree.proofs.steps.can_be_empty.Goals as goal
+
+pub returns-then-not-is_full_list_part : goal.returns-then-not-is_full_list_part
+returns-then-not-is_full_list_part c =
+    let whole = empty-complete c.args.role in
+    search (rules, whole)
+
+pub returns-else-not-is_full_list_part : goal.returns-else-not-is_full_list_part
+returns-else-not-is_full_list_part c =
+    let whole = empty-complete c.args.role in
+    search (rules, whole)

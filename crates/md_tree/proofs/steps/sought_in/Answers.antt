@@ -1,0 +1,9 @@
+use Rattle.std.proofs.Common.{rules}
+use Rattle.std.proofs.Math.Facts.{Fits-of_lt}
+use Rattle.md_tree.proofs.Patterns.{seek-fits}
+use Rattle.md_tree.proofs.steps.sought_in.Goals as goal
+
+pub overflow_cast-result : goal.overflow_cast-result
+overflow_cast-result c =
+    Fits-of_lt (seek-fits c.args.role c.args.from c.args.symbol c.in_ok-position-in_default.position c.ranges.from.fits
+    (search rules))
