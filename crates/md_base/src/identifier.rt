@@ -6,6 +6,13 @@ use std::alloc::{AllocError, Global};
 
 /// The form in which identifiers are compared: each run of white space is one space, none is left
 /// at the ends, and case is folded.
+///
+/// # Examples
+///
+/// ```
+/// let identifier = normalize_identifier(alloc, " a\t\n B ")?;
+/// assert_eq!(identifier.as_str(), "a b");
+/// ```
 pub fn normalize_identifier(alloc: Global, value: &str) -> Result<String, AllocError>
     ensures { IfOk result (λ text. string_bytes text ≡ normalized value.now) }
 {

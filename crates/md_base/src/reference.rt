@@ -9,6 +9,13 @@ use std::alloc::{AllocError, Global};
 ///
 /// `None` where the name isn't there, where the value isn't one or more such digits whose number
 /// fits a `u32`, and at another marker.
+///
+/// # Examples
+///
+/// ```
+/// let text = decode_character_reference(alloc, "65", b'#', &[])?;
+/// // Some("A")
+/// ```
 pub fn decode_character_reference(
     alloc: Global,
     value: &str,

@@ -9,6 +9,16 @@ use std::alloc::{AllocError, Global};
 const TAB_SIZE: usize = 4;
 
 /// The bytes of a node, with the columns of the tabs that are cut at its two ends.
+///
+/// # Examples
+///
+/// ```
+/// // Two columns of the first tab are taken before the start, three of the second before the end.
+/// let start = Point { line: 1, column: 3, index: 0, vs: 2 };
+/// let end = Point { line: 1, column: 8, index: 2, vs: 3 };
+/// let slice = Slice::from_position(b"\ta\t", &Position { start, end });
+/// // Its bytes are "a\t", its text is "  a\t  ", and its length is 6.
+/// ```
 #[derive(Drop)]
 pub struct Slice<'a> {
     /// The bytes.

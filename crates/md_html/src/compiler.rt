@@ -61,6 +61,19 @@ pub struct Counted {
 ///
 /// An event where the list is no flattening of a document of the event grammar over these bytes and names, as
 /// [`check`] names it; or want of memory.
+///
+/// # Examples
+///
+/// ```
+/// let start = Point { line: 1, column: 1, index: 0, vs: 0 };
+/// let end = Point { line: 1, column: 4, index: 3, vs: 0 };
+/// let events = [
+///     Event { kind: Kind::Enter, name: Name::ThematicBreak, point: start },
+///     Event { kind: Kind::Exit, name: Name::ThematicBreak, point: end },
+/// ];
+/// let html = compile(alloc, &events, b"***", &CompileOptions::default(), &[])?;
+/// assert_eq!(html.as_str(), "<hr />");
+/// ```
 pub fn compile(
     alloc: Global,
     events: &[Event],
@@ -91,6 +104,14 @@ pub fn compile(
 /// # Errors
 ///
 /// Those of [`compile`].
+///
+/// # Examples
+///
+/// ```
+/// // No event, no visit.
+/// let counted = compile_counted(alloc, &[], b"", &CompileOptions::default(), &[])?;
+/// assert_eq!((counted.text.as_str(), counted.visits), ("", 0));
+/// ```
 pub fn compile_counted(
     alloc: Global,
     events: &[Event],
@@ -124,6 +145,13 @@ pub fn compile_counted(
 /// # Errors
 ///
 /// Only where memory runs out.
+///
+/// # Examples
+///
+/// ```
+/// let checked = check(alloc, &events, bytes, names)?;
+/// let html = compile_checked(alloc, &checked, &CompileOptions::default())?;
+/// ```
 pub fn compile_checked(
     alloc: Global,
     checked: &Checked,

@@ -103,6 +103,13 @@ impl From<CompileError> for SafeError {
 /// # Errors
 ///
 /// [`SafeError::Options`] exactly where the options aren't safe, whatever else is handed in; else the refusal of [`compile`].
+///
+/// # Examples
+///
+/// ```
+/// let html = compile_safe(alloc, &events, bytes, &CompileOptions::gfm(), names)?;
+/// let page = md_page::page(alloc, "Comments", &html)?;
+/// ```
 pub fn compile_safe(
     alloc: Global,
     events: &[Event],

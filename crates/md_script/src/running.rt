@@ -26,6 +26,13 @@ const REFERENCE_NAMES: [(&str, &str); 9] = [
 ///
 /// `RunError::Line` where a line can't be read, `RunError::Event` where an event is refused, and
 /// `RunError::Memory` where memory runs out.
+///
+/// # Examples
+///
+/// ```
+/// let html = run(alloc, b"+ThematicBreak 0\n-ThematicBreak 3\n--\n***\n")?;
+/// assert_eq!(html.as_str(), "<hr />");
+/// ```
 pub fn run(alloc: Global, input: &[u8]) -> Result<String, RunError>
     ensures text { IfOk result (λ text. IsTextOf input.now (string_bytes text)) }
     ensures err { IfErr result (λ error. ExplainsRun input.now error) }

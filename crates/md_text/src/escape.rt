@@ -14,6 +14,13 @@ use std::alloc::{AllocError, Global};
 /// # Errors
 ///
 /// Only where memory runs out.
+///
+/// # Examples
+///
+/// ```
+/// let text = encode(alloc, "I <3 🦀", true)?;
+/// assert_eq!(text.as_str(), "I &lt;3 🦀");
+/// ```
 pub fn encode(alloc: Global, value: &str, encode_html: bool) -> Result<String, AllocError>
     ensures by_byte { IfOk result (λ text. string_bytes text ≡ encoded encode_html value.now) }
     ensures by_character { IfOk result (λ text. string_bytes text

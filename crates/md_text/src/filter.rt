@@ -17,6 +17,13 @@ use std::alloc::{AllocError, Global};
 /// # Errors
 ///
 /// Only where memory runs out.
+///
+/// # Examples
+///
+/// ```
+/// let html = gfm_tagfilter(alloc, "<scripts><script")?;
+/// assert_eq!(html.as_str(), "<scripts>&lt;script");
+/// ```
 pub fn gfm_tagfilter(alloc: Global, value: &str) -> Result<String, AllocError>
     ensures { IfOk result (λ text. string_bytes text ≡ tag_filtered value.now) }
 {

@@ -3,6 +3,14 @@ use std::str::FromStr;
 use thiserror::Error;
 
 /// How a line ends.
+///
+/// # Examples
+///
+/// ```
+/// let ending: LineEnding = "\r\n".parse()?;
+/// assert_eq!(ending, LineEnding::CarriageReturnLineFeed);
+/// assert_eq!(ending.as_str(), "\r\n");
+/// ```
 #[derive(Clone, Debug, Default, Eq, PartialEq, Serialize, Deserialize, Drop)]
 pub enum LineEnding {
     /// `\r\n`

@@ -18,6 +18,13 @@ use std::alloc::{AllocError, Global};
 /// # Errors
 ///
 /// Only where memory runs out.
+///
+/// # Examples
+///
+/// ```
+/// let url = sanitize(alloc, "%%41")?;
+/// assert_eq!(url.as_str(), "%25%41");
+/// ```
 pub fn sanitize(alloc: Global, value: &str) -> Result<String, AllocError>
     ensures { IfOk result (λ url. string_bytes url ≡ sanitized value.now) }
 {
@@ -39,6 +46,15 @@ pub fn sanitize(alloc: Global, value: &str) -> Result<String, AllocError>
 /// # Errors
 ///
 /// Only where memory runs out.
+///
+/// # Examples
+///
+/// ```
+/// let path = sanitize_with_protocols(alloc, "./a:b", &["http"])?;
+/// assert_eq!(path.as_str(), "./a:b");
+/// let dropped = sanitize_with_protocols(alloc, "a&b:c", &["http"])?;
+/// assert_eq!(dropped.as_str(), "");
+/// ```
 pub fn sanitize_with_protocols(
     alloc: Global,
     value: &str,

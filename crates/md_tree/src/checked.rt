@@ -128,6 +128,15 @@ impl<'a> Checked<'a> {
 
     /// The index of the other event of the node that the event at the index enters or exits; None
     /// past the end.
+    ///
+    /// # Examples
+    ///
+    /// ```
+    /// // Where the first event enters a node without children, which the second exits:
+    /// assert_eq!(checked.partner(0), Some(1));
+    /// assert_eq!(checked.partner(1), Some(0));
+    /// assert_eq!(checked.partner(2), None);
+    /// ```
     pub fn partner(&self, index: usize) -> Option<usize>
         ensures { IsPartnerAt self.now index result }
     {

@@ -26,6 +26,23 @@ use std::alloc::Global;
 ///
 /// `CompileError::Memory` where memory is lacking, and `CompileError::Event` only where the events
 /// are the flattening of no such document, with an event and the rule that it breaks.
+///
+/// # Examples
+///
+/// ```
+/// let start = Point { line: 1, column: 1, index: 0, vs: 0 };
+/// let end = Point { line: 1, column: 4, index: 3, vs: 0 };
+/// let events = [
+///     Event { kind: Kind::Enter, name: Name::ThematicBreak, point: start },
+///     Event { kind: Kind::Exit, name: Name::ThematicBreak, point: end },
+/// ];
+/// let checked = check(alloc, &events, b"***", &[])?;
+/// assert_eq!(checked.partner(0), Some(1));
+///
+/// // A node that is never exited.
+/// let refused = check(alloc, &events[..1], b"***", &[]);
+/// // Err(CompileError::Event { index: 1, rule: Rule::Order })
+/// ```
 pub fn check<'a>(
     alloc: Global,
     events: &'a [Event],
