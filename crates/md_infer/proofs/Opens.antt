@@ -1,8 +1,8 @@
 -- The open nodes, of which the vector has the innermost last: what they are where that one changes.
-use Rattle.std.proofs.Common.{◌≡◌, ℕ, ◌+◌, ◌-◌, ◌<◌, List, [], ◌∷◌, ◌++◌, length, get_or, Result, Ok, Err, refl, sym, ap, subst, ◌∙◌, arith}
+use Rattle.std.proofs.Common.{◌≡◌, ℕ, ◌+◌, ◌-◌, ◌<◌, List, [], ◌∷◌, ◌++◌, length, get_or, take, drop, Result, Ok, Err, refl, sym, ap, subst, ◌∙◌, arith}
 use Rattle.std.specs.Prelude.{set, reverse, OnOk}
-use Rattle.std.proofs.Math.Seq.{set-append_seam, get_or-append_seam}
-use Rattle.std.proofs.lemmas.List.{length-append, reverse-append, reverse-reverse}
+use Rattle.std.proofs.Math.Seq.{set-append_seam, take-append_seam, get_or-append_seam}
+use Rattle.std.proofs.lemmas.List.{length-set, length-append, reverse-append, reverse-reverse}
 use Rattle.md_base.specs.declared.event.Name.{Name}
 use Rattle.md_infer.specs.declared.facts.Fact.{Fact}
 use Rattle.md_infer.specs.declared.facts.OpenNode.{OpenNode}
@@ -65,6 +65,18 @@ grounded-next (x ∷ r) = refl
 grounded-others : (r : List OpenNode) → others_round (grounded r) ≡ others_round r
 grounded-others [] = refl
 grounded-others (x ∷ r) = refl
+
+-- a fact that is put among others as a slice of their vector, and one that is pushed behind them
+pub put_then_pushed : (facts : List Fact) (index len : ℕ) (fact whole last alone : Fact) (put pushed : List Fact) →
+    len ≡ length facts → fact ≡ whole → put ≡ set facts index fact → last ≡ alone →
+    pushed ≡ take len (put ++ drop (length put) facts) ++ last ∷ [] → pushed ≡ set facts index whole ++ alone ∷ []
+put_then_pushed facts index len fact whole last alone put pushed len_is fact_is put_is last_is pushed_is =
+    pushed_is
+    ∙ ap (λ n. take n (put ++ drop (length put) facts) ++ last ∷ []) (len_is ∙ sym (length-set facts index fact)
+    ∙ ap length (sym put_is))
+    ∙ ap (λ fs. fs ++ last ∷ []) (take-append_seam put (drop (length put) facts) ∙ put_is
+    ∙ ap (λ f. set facts index f) fact_is)
+    ∙ ap (λ f. set facts index whole ++ f ∷ []) last_is
 
 -- the exit of a node, by what each step gave: the node, what is left, and what it is then
 pub passed_exit-by : (name : Name) (pass : Passed) (own here after : OpenNode) (facts : List Fact) (columns : Collected)

@@ -1,11 +1,9 @@
-use Rattle.std.proofs.Common.{rules, ◌≡◌, ◌<◌, ◌-◌, ◌++◌, ◌∷◌, [], length, get_or, take, drop, refl, sym, ap, ◌∙◌, subst}
+use Rattle.std.proofs.Common.{rules, ◌≡◌, ◌<◌, ◌-◌, ◌∷◌, [], length, get_or, refl, sym, ap, ◌∙◌, subst}
 use Rattle.std.specs.Prelude.{set}
-use Rattle.std.proofs.Math.Seq.{take-append_seam}
-use Rattle.std.proofs.lemmas.List.{length-set}
 use Rattle.md_infer.specs.contracts.facts.Pass.{the_view}
 use Rattle.md_infer.specs.Facts.{opens, fact_of, partner_alone}
 use Rattle.md_infer.specs.Columns.{Collected}
-use Rattle.md_infer.proofs.Opens.{on_answer, opens-set, opens-last, opens-alone, passed_exit-by}
+use Rattle.md_infer.proofs.Opens.{on_answer, opens-set, opens-last, opens-alone, put_then_pushed, passed_exit-by}
 use Rattle.md_infer.proofs.facts.Pass.exit.Goals as goal
 
 pub returns-in-Some : goal.returns-in-Some
@@ -23,15 +21,9 @@ returns-in-Some c =
     let fact_is : c.fact_of-fact.result ≡ fact_of name (length pass.facts) (length (Collected.tables pass.columns))
     own.contributing own.sought own.told = search rules in
     let put_is : c.put.new.facts ≡ set pass.facts own.entry c.fact_of-fact.result = search rules in
-    let put = c.put.new.facts in
-    let whole : c.self.inside.facts.len ≡ length put = c.self.inside.facts.ok.0
-    ∙ sym (length-set pass.facts own.entry c.fact_of-fact.result) ∙ ap length (sym put_is) in
-    let push_is : c.push.new.self.items ≡ put ++ partner_alone own.entry ∷ [] = c.in_ok-push.ensures.items
-    ∙ ap (λ n. take n (put ++ drop (length put) pass.facts) ++ c.partner_alone.result ∷ []) whole
-    ∙ ap (λ fs. fs ++ c.partner_alone.result ∷ []) (take-append_seam put (drop (length put) pass.facts))
-    ∙ ap (λ f. put ++ f ∷ []) c.partner_alone.ensures in
-    let facts_is = push_is ∙ ap (λ fs. fs ++ partner_alone own.entry ∷ []) (put_is
-    ∙ ap (λ f. set pass.facts own.entry f) fact_is) in
+    let facts_is = put_then_pushed pass.facts own.entry c.self.inside.facts.len c.fact_of-fact.result _
+    c.partner_alone.result (partner_alone own.entry) c.put.new.facts c.push.new.self.items c.self.inside.facts.ok.0 fact_is
+    put_is c.partner_alone.ensures c.in_ok-push.ensures.items in
     let here_is = c.in-Some.ensures.value ∙ ap (λ n. get_or items (n - 1) here) counted
     ∙ opens-last items document here some in
     let stack_is = ap (λ n. opens (set items (n - 1) after) document) counted ∙ opens-set items document after some in
@@ -53,15 +45,9 @@ returns-in-None c =
     let fact_is : c.fact_of-fact.result ≡ fact_of name (length pass.facts) (length (Collected.tables pass.columns))
     own.contributing own.sought own.told = search rules in
     let put_is : c.put.new.facts ≡ set pass.facts own.entry c.fact_of-fact.result = search rules in
-    let put = c.put.new.facts in
-    let whole : c.self.inside.facts.len ≡ length put = c.self.inside.facts.ok.0
-    ∙ sym (length-set pass.facts own.entry c.fact_of-fact.result) ∙ ap length (sym put_is) in
-    let push_is : c.push.new.self.items ≡ put ++ partner_alone own.entry ∷ [] = c.in_ok-push.ensures.items
-    ∙ ap (λ n. take n (put ++ drop (length put) pass.facts) ++ c.partner_alone.result ∷ []) whole
-    ∙ ap (λ fs. fs ++ c.partner_alone.result ∷ []) (take-append_seam put (drop (length put) pass.facts))
-    ∙ ap (λ f. put ++ f ∷ []) c.partner_alone.ensures in
-    let facts_is = push_is ∙ ap (λ fs. fs ++ partner_alone own.entry ∷ []) (put_is
-    ∙ ap (λ f. set pass.facts own.entry f) fact_is) in
+    let facts_is = put_then_pushed pass.facts own.entry c.self.inside.facts.len c.fact_of-fact.result _
+    c.partner_alone.result (partner_alone own.entry) c.put.new.facts c.push.new.self.items c.self.inside.facts.ok.0 fact_is
+    put_is c.partner_alone.ensures c.in_ok-push.ensures.items in
     let left_is = sym (opens-alone items document none) ∙ c.leave_innermost-own.ensures.left in
     rw (← c.self.view_is) (on_answer _ _ _ _ (λ after_is columns_is definitions_is.
     passed_exit-by name pass own document after c.push.new.self.items c.follow-in-None.new.ended.columns
