@@ -1,89 +1,13 @@
 -- What holds of all letters of a role's pattern holds of the spine of each node with that role.
-use Rattle.std.proofs.Common.{◌≡◌, inl, inr, ℕ, zero, suc, Bool, true, false, List, [], ◌∷◌, ◌++◌, refl, sym, subst, ◌∙◌, Option, Some, None}
-use Rattle.std.specs.Prelude.{replicate}
+use Rattle.std.proofs.Common.{◌≡◌, Bool, true, false, List, Option}
 use Rattle.std.specs.List.{list_all}
-use Rattle.std.proofs.lemmas.Bool.{and_parts, and_from}
-use Rattle.std.proofs.lemmas.List.Folds.{list_all-append}
 use Rattle.md_pattern.specs.declared.kinds.Symbol.{Symbol}
-use Rattle.md_pattern.specs.declared.kinds.Symbol.TheVariants.{ReferenceMarker, ReferenceNumeric, ReferenceHexadecimal, ReferenceValue, SetextText, SetextUnderline, LineEnding}
 use Rattle.md_pattern.specs.declared.kinds.Role.{Role}
-use Rattle.md_pattern.specs.declared.kinds.Item.{Item}
-use Rattle.md_pattern.specs.declared.kinds.Class.{Class}
-use Rattle.md_pattern.specs.Pattern.{Fits, pattern_of, members, takes}
-use Rattle.md_pattern.specs.Spine.{IsTail, IsGrouped, Matches}
+use Rattle.md_pattern.specs.Pattern.{pattern_of}
+use Rattle.md_pattern.specs.Spine.{Matches}
 use Rattle.md_pattern.specs.Shape.{role_for}
-use Rattle.md_shape.proofs.Admitted.{taken}
 use Rattle.md_shape.proofs.Symbols.{roles_for}
-use Rattle.md_shape.proofs.Spots.{role_listed}
-
-own-all : (test : Symbol → Bool) (class : Class) (own : List Symbol) → list_all (takes class) own ≡ true →
-    list_all test (members class) ≡ true → list_all test own ≡ true
-own-all test class [] took h = refl
-own-all test class (s ∷ own) took h =
-    let parts = and_parts (takes class s) (list_all (takes class) own) took in
-    and_from (test s) (list_all test own) (taken test (members class) s parts.0 h) (own-all test class own parts.1 h)
-
--- all letters of some items pass a test
-abbrev letters : (Symbol → Bool) → List Item → Bool
-letters test items = list_all (λ item. list_all test (members item.class)) items
-
-fits-all : (test : Symbol → Bool) (items : List Item) (firsts : List Symbol) → Fits items firsts →
-    letters test items ≡ true → list_all test firsts ≡ true
-fits-all test [] firsts fit h = subst (λ s. list_all test s ≡ true) (sym fit) refl
-fits-all test (item ∷ items) firsts fit h =
-    let parts = and_parts (list_all test (members item.class)) (letters test items) h in
-    subst (λ s. list_all test s ≡ true) (sym fit.2)
-    (list_all-append test fit.0 fit.1 ∙ and_from (list_all test fit.0) (list_all test fit.1)
-    (own-all test item.class fit.0 fit.3 parts.0) (fits-all test items fit.1 fit.5 parts.1))
-
--- what a group has behind its first symbol
-abbrev followers : List Symbol
-followers = ReferenceNumeric ∷ ReferenceHexadecimal ∷ ReferenceValue ∷ LineEnding ∷ SetextUnderline ∷ []
-
-endings-all : (test : Symbol → Bool) (endings : ℕ) → test LineEnding ≡ true → test SetextUnderline ≡ true →
-    list_all test (replicate endings LineEnding ++ SetextUnderline ∷ []) ≡ true
-endings-all test zero line under = and_from (test SetextUnderline) true under refl
-endings-all test (suc endings) line under = and_from (test LineEnding)
-    (list_all test (replicate endings LineEnding ++ SetextUnderline ∷ [])) line (endings-all test endings line under)
-
-tail-all : (test : Symbol → Bool) (first : Symbol) (tail : List Symbol) → list_all test followers ≡ true →
-    IsTail first tail → list_all test tail ≡ true
-tail-all test ReferenceMarker tail h is =
-    let numeric = and_parts (test ReferenceNumeric) (list_all test (ReferenceHexadecimal ∷ ReferenceValue ∷ LineEnding
-    ∷ SetextUnderline ∷ [])) h in
-    let hexadecimal = and_parts (test ReferenceHexadecimal)
-    (list_all test (ReferenceValue ∷ LineEnding ∷ SetextUnderline ∷ [])) numeric.1 in
-    let value = and_parts (test ReferenceValue) (list_all test (LineEnding ∷ SetextUnderline ∷ [])) hexadecimal.1 in
-    let one = and_from (test ReferenceValue) true value.0 refl in
-    elim is [
-      | inl e ↦ subst (λ t. list_all test t ≡ true) (sym e) one
-      | inr (inl e) ↦ subst (λ t. list_all test t ≡ true) (sym e)
-          (and_from (test ReferenceNumeric) (list_all test (ReferenceValue ∷ [])) numeric.0 one)
-      | inr (inr e) ↦
-          subst (λ t. list_all test t ≡ true) (sym e)
-          (and_from (test ReferenceNumeric) (list_all test (ReferenceHexadecimal ∷ ReferenceValue ∷ [])) numeric.0
-          (and_from (test ReferenceHexadecimal) (list_all test (ReferenceValue ∷ [])) hexadecimal.0 one))
-    ]
-tail-all test SetextText tail h is =
-    let numeric = and_parts (test ReferenceNumeric) (list_all test (ReferenceHexadecimal ∷ ReferenceValue ∷ LineEnding
-    ∷ SetextUnderline ∷ [])) h in
-    let hexadecimal = and_parts (test ReferenceHexadecimal)
-    (list_all test (ReferenceValue ∷ LineEnding ∷ SetextUnderline ∷ [])) numeric.1 in
-    let value = and_parts (test ReferenceValue) (list_all test (LineEnding ∷ SetextUnderline ∷ [])) hexadecimal.1 in
-    let line = and_parts (test LineEnding) (list_all test (SetextUnderline ∷ [])) value.1 in
-    subst (λ t. list_all test t ≡ true) (sym is.1) (endings-all test is.0 line.0
-    (and_parts (test SetextUnderline) true line.1).0)
-tail-all test first tail h is = subst (λ t. list_all test t ≡ true) (sym is) refl
-
-grouped-all : (test : Symbol → Bool) → list_all test followers ≡ true →
-    (firsts spine : List Symbol) → IsGrouped firsts spine → list_all test firsts ≡ true → list_all test spine ≡ true
-grouped-all test behind [] spine g h = subst (λ s. list_all test s ≡ true) (sym g) refl
-grouped-all test behind (first ∷ firsts) spine g h =
-    let parts = and_parts (test first) (list_all test firsts) h in
-    subst (λ s. list_all test s ≡ true) (sym g.2)
-    (and_from (test first) (list_all test (g.0 ++ g.1)) parts.0
-    (list_all-append test g.0 g.1 ∙ and_from (list_all test g.0) (list_all test g.1)
-    (tail-all test first g.0 behind g.3) (grouped-all test behind firsts g.1 g.4 parts.1)))
+use Rattle.md_shape.proofs.Letters.{letters, followers, fits-all, followed-all, by_behind}
 
 -- all letters of the patterns that a name with this usual role may have pass a test, and what groups have behind
 -- their first
@@ -92,16 +16,10 @@ pub record AllLetters (test : Symbol → Bool) (usual : Role) : Type 0 where
   pub later : list_all (λ r. letters test (pattern_of r)) (roles_for true usual) ≡ true
   pub first : list_all (λ r. letters test (pattern_of r)) (roles_for false usual) ≡ true
 
-by_behind : (test : Role → Bool) (around : Role) (before : Option Symbol) (usual : Role) →
-    list_all test (roles_for true usual) ≡ true → list_all test (roles_for false usual) ≡ true →
-    test (role_for around before usual) ≡ true
-by_behind test around None usual later first = role_listed test around None usual first
-by_behind test around (Some s) usual later first = role_listed test around (Some s) usual later
-
 pub spine-all : (test : Symbol → Bool) (usual around : Role) (before : Option Symbol) (spine : List Symbol) →
     AllLetters test usual →
     Matches (role_for around before usual) spine → list_all test spine ≡ true
 spine-all test usual around before spine all m =
-    grouped-all test all.behind m.0 spine m.1
+    followed-all test all.behind m.0 spine m.1
     (fits-all test (pattern_of (role_for around before usual)) m.0 m.2
     (by_behind (λ r. letters test (pattern_of r)) around before usual all.later all.first))

@@ -12,7 +12,7 @@ use Rattle.md_meaning.specs.Piece.{Target, nowhere}
 use Rattle.md_meaning.specs.Given.{Defined}
 use Rattle.md_meaning.specs.Media.{defined_target}
 use Rattle.md_sheet.specs.Seen.{definitions_in}
-use Rattle.md_sheet.proofs.Tally.{bytes_eq-sym}
+use Rattle.md_meaning.proofs.Identifiers.{bytes_eq-sym}
 
 -- what is found in two lists that begin alike
 pub found-behind : (first second third : List Defined) (identifier : List ℕ) →

@@ -1,17 +1,11 @@
 -- Counting calls one after another is to tally them.
 use Rattle.std.proofs.Common.{◌≡◌, ℕ, ◌+◌, suc, Bool, true, false, ◌||◌, not, cond, List, [], ◌∷◌, ◌++◌, map, fold, refl, ap, sym, ◌∙◌, append_assoc, append-nil, arith, bytes_eq}
 use Rattle.std.specs.Prelude.{if◌then◌else◌, filter}
-use Rattle.std.specs.List.{list_any}
-use Rattle.std.specs.Bool.{one_answer}
-use Rattle.std.proofs.lemmas.Bool.{true≢false}
-use Rattle.std.proofs.lemmas.Slice.Eq.{bytes_eq-Decides}
+use Rattle.std.proofs.lemmas.Bool.{or_parts}
 use Rattle.std.proofs.lemmas.List.Elements.{filter-append}
 use Rattle.md_meaning.specs.Calls.{Called, distinct, count_of, tally}
 use Rattle.md_sheet.specs.Seen.{counted}
-
--- an identifier is among some
-abbrev is_in : List ℕ → List (List ℕ) → Bool
-is_in identifier others = list_any (λ other. bytes_eq other identifier) others
+use Rattle.md_meaning.proofs.Identifiers.{is_in, others_than, Apart, same, itself, bytes_eq-sym, is_in-distinct, distinct-apart, count-missing}
 
 -- each of some identifiers with its count
 abbrev named : (List ℕ → ℕ) → List (List ℕ) → List Called
@@ -20,27 +14,6 @@ named f others = map (λ identifier. record { identifier = identifier; count = f
 -- one call more
 abbrev plus_one : (List ℕ → ℕ) → List ℕ → List ℕ → ℕ
 plus_one f identifier other = f other + (if bytes_eq identifier other then 1 else 0)
-
--- no identifier comes twice
-abbrev AreFresh : List (List ℕ) → Type 0
-AreFresh [] = Unit {0}
-AreFresh (x ∷ xs) = (is_in x xs ≡ false) × AreFresh xs
-
-same : (xs ys : List ℕ) → bytes_eq xs ys ≡ true → xs ≡ ys
-same xs ys h = (bytes_eq-Decides xs ys).0 h
-
-itself : (xs : List ℕ) → bytes_eq xs xs ≡ true
-itself xs = (bytes_eq-Decides xs xs).1 refl
-
-pub bytes_eq-sym : (xs ys : List ℕ) → bytes_eq xs ys ≡ bytes_eq ys xs
-bytes_eq-sym xs ys = one_answer (bytes_eq xs ys) (bytes_eq ys xs) (bytes_eq-Decides xs ys) (
-  (λ h. sym (same ys xs h)),
-  (λ e. (bytes_eq-Decides ys xs).1 (sym e)),
-)
-
-or_parts : (a b : Bool) → a || b ≡ false → (a ≡ false) × (b ≡ false)
-or_parts true b h = absurd (true≢false h)
-or_parts false b h = (refl, h)
 
 named-ext : (f g : List ℕ → ℕ) (xs : List (List ℕ)) → ((x : List ℕ) → f x ≡ g x) → named f xs ≡ named g xs
 named-ext f g [] h = refl
@@ -71,7 +44,7 @@ named-missing f (y ∷ ys) x h =
     (named-missing f ys x (or_parts (bytes_eq y x) (is_in x ys) h).1)
 
 -- one call more among identifiers that come once each
-counted-named : (f : List ℕ → ℕ) (xs : List (List ℕ)) (x : List ℕ) → AreFresh xs →
+counted-named : (f : List ℕ → ℕ) (xs : List (List ℕ)) (x : List ℕ) → Apart xs →
     counted (named f xs) x ≡ (if is_in x xs then named (plus_one f x) xs else named f xs
     ++ record { identifier = x; count = 1 } ∷ [])
 counted-named f [] x h = refl
@@ -103,62 +76,6 @@ counted-named f (y ∷ ys) x h =
           ]
     ] refl
 
--- the others than one
-abbrev others_than : List ℕ → List (List ℕ) → List (List ℕ)
-others_than x ys = filter (λ other. not (bytes_eq other x)) ys
-
-filtered_out : (x : List ℕ) (ys : List (List ℕ)) → is_in x (others_than x ys) ≡ false
-filtered_out x [] = refl
-filtered_out x (y ∷ ys) =
-    elim (bytes_eq y x) as (λ b. bytes_eq y x ≡ b → is_in x (cond (not b) (y ∷ others_than x ys) (others_than x ys))
-    ≡ false) [
-      | true ↦ λ e. filtered_out x ys
-      | false ↦ λ e. ap (λ b. b || is_in x (others_than x ys)) e ∙ filtered_out x ys
-    ] refl
-
-still_missing : (p : List ℕ → Bool) (x : List ℕ) (ys : List (List ℕ)) → is_in x ys ≡ false →
-    is_in x (filter p ys) ≡ false
-still_missing p x [] h = refl
-still_missing p x (y ∷ ys) h =
-    elim (p y) as (λ b. is_in x (cond b (y ∷ filter p ys) (filter p ys)) ≡ false) [
-      | true ↦ ap (λ b. b || is_in x (filter p ys)) (or_parts (bytes_eq y x) (is_in x ys) h).0
-          ∙ still_missing p x ys (or_parts (bytes_eq y x) (is_in x ys) h).1
-      | false ↦ still_missing p x ys (or_parts (bytes_eq y x) (is_in x ys) h).1
-    ]
-
-still_fresh : (p : List ℕ → Bool) (ys : List (List ℕ)) → AreFresh ys → AreFresh (filter p ys)
-still_fresh p [] h = tt
-still_fresh p (y ∷ ys) h =
-    elim (p y) as (λ b. AreFresh (cond b (y ∷ filter p ys) (filter p ys))) [
-      | true ↦ (still_missing p y ys h.0, still_fresh p ys h.1)
-      | false ↦ still_fresh p ys h.1
-    ]
-
-distinct_are_fresh : (xs : List (List ℕ)) → AreFresh (distinct xs)
-distinct_are_fresh [] = tt
-distinct_are_fresh (x ∷ xs) = (
-  filtered_out x (distinct xs),
-  still_fresh (λ other. not (bytes_eq other x)) (distinct xs) (distinct_are_fresh xs),
-)
-
--- another than x is as much among the others than x
-others_stay : (x z : List ℕ) (ys : List (List ℕ)) → bytes_eq x z ≡ false → is_in z (others_than x ys) ≡ is_in z ys
-others_stay x z [] h = refl
-others_stay x z (y ∷ ys) h =
-    elim (bytes_eq y x) as (λ b. bytes_eq y x ≡ b → is_in z (cond (not b) (y ∷ others_than x ys) (others_than x ys))
-    ≡ bytes_eq y z || is_in z ys) [
-      | true ↦ λ e. others_stay x z ys h ∙ ap (λ b. b || is_in z ys) (sym (ap (λ w. bytes_eq w z) (same y x e) ∙ h))
-      | false ↦ λ e. ap (λ b. bytes_eq y z || b) (others_stay x z ys h)
-    ] refl
-
-is_in-distinct : (xs : List (List ℕ)) (z : List ℕ) → is_in z (distinct xs) ≡ is_in z xs
-is_in-distinct [] z = refl
-is_in-distinct (x ∷ xs) z =
-    elim (bytes_eq x z) as (λ b. bytes_eq x z ≡ b → b || is_in z (others_than x (distinct xs)) ≡ b || is_in z xs) [
-      | true ↦ λ e. refl
-      | false ↦ λ e. others_stay x z (distinct xs) e ∙ is_in-distinct xs z
-    ] refl
-
 distinct-push : (xs : List (List ℕ)) (z : List ℕ) → distinct (xs ++ z ∷ [])
     ≡ (if is_in z xs then distinct xs else distinct xs ++ z ∷ [])
 distinct-push [] z = refl
@@ -186,23 +103,12 @@ distinct-push (x ∷ xs) z =
           ]
     ] refl
 
-zero_plus : (n : ℕ) → 0 + n ≡ n
-zero_plus n = omega arith
-
--- what isn't called has no calls
-count-missing : (calls : List (List ℕ)) (z : List ℕ) → is_in z calls ≡ false → count_of calls z ≡ 0
-count-missing [] z h = refl
-count-missing (call ∷ calls) z h =
-    ap (λ b. (if b then 1 else 0) + count_of calls z) (or_parts (bytes_eq call z) (is_in z calls) h).0
-    ∙ zero_plus (count_of calls z)
-    ∙ count-missing calls z (or_parts (bytes_eq call z) (is_in z calls) h).1
-
 -- to count one call more is to tally one call more
 pub counted-tally : (calls : List (List ℕ)) (z : List ℕ) → counted (tally calls) z ≡ tally (calls ++ z ∷ [])
 counted-tally calls z =
     let f = count_of calls in
     let g = count_of (calls ++ z ∷ []) in
-    counted-named f (distinct calls) z (distinct_are_fresh calls)
+    counted-named f (distinct calls) z (distinct-apart calls)
     ∙ elim (is_in z calls) as (λ b. is_in z calls ≡ b → (if is_in z (distinct calls)
     then named (plus_one f z) (distinct calls) else named f (distinct calls) ++ record { identifier = z; count = 1 }
     ∷ []) ≡ named g (if b then distinct calls else distinct calls ++ z ∷ [])) [

@@ -4,7 +4,7 @@ use Rattle.md_sheet.proofs.body.paragraph_end.Goals as goal
 use Rattle.std.proofs.Common.{ap, sym, ◌∙◌, arith, drop, bytes_eq}
 use Rattle.std.proofs.lemmas.Str.{IsCharBoundary-before_ascii}
 use Rattle.md_sheet.proofs.Endings.{paragraph-cut}
-use Rattle.md_sheet.proofs.Tally.{bytes_eq-sym}
+use Rattle.md_meaning.proofs.Identifiers.{bytes_eq-sym}
 
 pub returns-then-ends_with-clause-cut : goal.returns-then-ends_with-clause-cut
 returns-then-ends_with-clause-cut c =
