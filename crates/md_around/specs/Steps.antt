@@ -1,4 +1,4 @@
--- What is known behind an event, step by step. Only contracts of private functions speak of it.
+-- What is known after an event, step by step. Only contracts of private functions speak of it.
 use Rattle.std.specs.Prelude.{◌+◌, Bool, true, false, ◌&&◌, ◌||◌, if◌then◌else◌, List, [], ◌∷◌, Some, None}
 use Rattle.md_base.specs.declared.event.Name.{Name}
 use Rattle.md_base.specs.NameTests.{is_cell, is_transparent, contributes, is_fence, is_chunk}
@@ -20,7 +20,7 @@ others_of (first ∷ others) = others
 abbrev pub no_spine : Spine
 no_spine = record { has_fence = false; has_second_fence = false; has_chunk = false; cells = 0; last = None }
 
--- no child is passed, behind a spine
+-- no child is passed, after a spine
 abbrev pub nothing_passed : Spine → Passed
 nothing_passed spine = record { last = None; contributing = None; spine = spine }
 
@@ -42,7 +42,7 @@ passing name inner passed = record {
   spine = if is_transparent name then inner else with_name name passed.spine;
 }
 
--- the last mark, behind these, the latest first
+-- the last mark, after these, the latest first
 abbrev pub slurps_behind : List Mark → Bool → Bool
 slurps_behind [] slurping = slurping
 slurps_behind (Sets ∷ marks) slurping = true

@@ -1,4 +1,4 @@
--- White space collapsed in one pass: before the first word, inside a word, and behind one. The loop of
+-- White space collapsed in one pass: before the first word, inside a word, and after one. The loop of
 -- `collapse_white_space` goes by these steps.
 use Rattle.std.proofs.Common.{◌≡◌, ℕ, zero, suc, ◌<◌, ◌≤◌, Bool, true, false, not, eqb, cond, List, [], ◌∷◌, ◌++◌, length, get_or, refl, sym, ap, ◌∙◌, arith, inl, inr, encode_utf8}
 use Rattle.std.specs.Prelude.{filter}
@@ -9,7 +9,7 @@ use Rattle.std.proofs.lemmas.Bool.Decides.{nat_tests}
 use Rattle.std.proofs.lemmas.Str.{encode_ascii, inside_one, length-encode, len_utf8_bounds}
 use Rattle.md_base.specs.Identifier.{is_white, is_nonempty, collapsed}
 
--- further words, each behind a space
+-- further words, each after a space
 abbrev spaced : List (List ℕ) → List ℕ
 spaced [] = []
 spaced (word ∷ words) = 32 ∷ join_with_byte 32 (word ∷ words)
@@ -23,7 +23,7 @@ word_on (first ∷ parts) = first ++ spaced (filter is_nonempty parts)
 abbrev pub in_word : List ℕ → List ℕ
 in_word text = word_on (slice_split is_white text)
 
--- and behind one
+-- and after one
 abbrev pub behind_word : List ℕ → List ℕ
 behind_word text = spaced (filter is_nonempty (slice_split is_white text))
 

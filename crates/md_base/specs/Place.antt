@@ -3,7 +3,7 @@ use Rattle.std.specs.Prelude.{ℕ, ◌+◌, ◌-◌, Bool, ◌&&◌, nat_lt, nat
 use Rattle.std.specs.Str.{is_utf8}
 use Rattle.md_base.specs.declared.event.Point.{Point}
 
--- the index of a point's byte: where some columns of a tab are taken, the tab's byte is behind it
+-- the index of a point's byte: where some columns of a tab are taken, that after the tab's byte
 abbrev pub byte_index : Point → ℕ
 byte_index point = if nat_lt 0 point.vs then point.index + 1 else point.index
 

@@ -1,7 +1,7 @@
 //! What a script answers, by `run` and by the calls that it makes.
 
 use crate::parts::{QUESTION, answer_questions};
-use crate::reading::{REFERENCE_NAMES, read};
+use crate::reading::{REFERENCE_NAMES, Script, read};
 use md_html::{check, compile, compile_checked, compile_counted};
 use md_script::{RunError, run};
 use std::alloc::{AllocError, Global};
@@ -14,21 +14,44 @@ pub(crate) fn answer(alloc: Global, script: &[u8]) -> Result<String, AllocError>
     }
     let answer = run(alloc, script);
     let mut said = said_of(alloc, &answer)?;
+    say_calls(alloc, &mut said, script, &answer)?;
+    Ok(said)
+}
+
+/// Says which calls answer otherwise, where each line of the script can be read.
+fn say_calls(
+    alloc: Global,
+    said: &mut String,
+    script: &[u8],
+    answer: &Result<String, RunError>,
+) -> Result<(), AllocError> {
     if let Err(RunError::Line(_)) = answer {
-        return Ok(said);
+        return Ok(());
     }
-    say_unless(&mut said, by_compile(alloc, script) == answer, "compile")?;
+    match read(alloc, script) {
+        Ok(script) => say_others(alloc, said, &script, answer),
+        Err(error) => write!(said, "\n! read: {error}"),
+    }
+}
+
+/// Says which of the calls that a script makes answer otherwise.
+fn say_others(
+    alloc: Global,
+    said: &mut String,
+    script: &Script<'_>,
+    answer: &Result<String, RunError>,
+) -> Result<(), AllocError> {
+    say_unless(said, by_compile(alloc, script) == *answer, "compile")?;
     say_unless(
-        &mut said,
-        by_counted(alloc, script) == answer,
+        said,
+        by_counted(alloc, script) == *answer,
         "compile_counted",
     )?;
     say_unless(
-        &mut said,
-        by_checked(alloc, script) == answer,
+        said,
+        by_checked(alloc, script) == *answer,
         "compile_checked",
-    )?;
-    Ok(said)
+    )
 }
 
 /// The text, or why there is none.
@@ -48,8 +71,7 @@ fn say_unless(said: &mut String, is_same: bool, call: &str) -> Result<(), AllocE
 }
 
 /// What `compile` answers.
-fn by_compile(alloc: Global, script: &[u8]) -> Result<String, RunError> {
-    let script = read(alloc, script)?;
+fn by_compile(alloc: Global, script: &Script<'_>) -> Result<String, RunError> {
     Ok(compile(
         alloc,
         script.events.as_slice(),
@@ -60,8 +82,7 @@ fn by_compile(alloc: Global, script: &[u8]) -> Result<String, RunError> {
 }
 
 /// What `compile_counted` answers; `Memory` unless each event is visited once at least and three times at most.
-fn by_counted(alloc: Global, script: &[u8]) -> Result<String, RunError> {
-    let script = read(alloc, script)?;
+fn by_counted(alloc: Global, script: &Script<'_>) -> Result<String, RunError> {
     let counted = compile_counted(
         alloc,
         script.events.as_slice(),
@@ -78,8 +99,7 @@ fn by_counted(alloc: Global, script: &[u8]) -> Result<String, RunError> {
 }
 
 /// What `compile_checked` answers, once the events are checked.
-fn by_checked(alloc: Global, script: &[u8]) -> Result<String, RunError> {
-    let script = read(alloc, script)?;
+fn by_checked(alloc: Global, script: &Script<'_>) -> Result<String, RunError> {
     let events = script.events.as_slice();
     let checked = check(alloc, events, script.document, &REFERENCE_NAMES)?;
     Ok(compile_checked(alloc, &checked, &script.options)?)

@@ -59,16 +59,31 @@ fn main(rt: HostRuntime) -> ExitCode {
 /// Answers each case.
 fn answer_cases<R: Input + Print + AllocGlobal>(rt: &R) -> Result<(), ServeError> {
     let input = read_input(rt.alloc(), &mut rt.reader())?;
+    answer_each(rt, input.as_slice())
+}
+
+/// Answers each case of an input.
+fn answer_each<R: Print + AllocGlobal>(rt: &R, input: &[u8]) -> Result<(), ServeError> {
     let mut case: Option<Case<'_>> = None;
     for line in input.split(|byte| *byte == b'\n') {
-        if line.starts_with(MARK) {
-            write_answer(rt, case.as_ref())?;
-            case = Some(Case::new(rt.alloc(), line));
-        } else if let Some(open) = &mut case {
-            open.add(line)?;
-        }
+        take_line(rt, &mut case, line)?;
     }
     write_answer(rt, case.as_ref())
+}
+
+/// Takes a line: one that begins a case ends the case before it.
+fn take_line<'a, R: Print + AllocGlobal>(
+    rt: &R,
+    case: &mut Option<Case<'a>>,
+    line: &'a [u8],
+) -> Result<(), ServeError> {
+    if line.starts_with(MARK) {
+        write_answer(rt, case.as_ref())?;
+        *case = Some(Case::new(rt.alloc(), line));
+    } else if let Some(open) = case {
+        open.add(line)?;
+    }
+    Ok(())
 }
 
 /// Writes a case's first line and its answer.

@@ -33,18 +33,33 @@ struct Call<'a> {
 
 /// What is answered to each question of a script.
 pub(crate) fn answer_questions(alloc: Global, input: &[u8]) -> Result<String, AllocError> {
-    let Some(asked) = read_asked(alloc, input)? else {
-        return String::from_str(alloc, "! unreadable");
-    };
+    match read_asked(alloc, input)? {
+        Some(asked) => answers_to(alloc, &asked),
+        None => String::from_str(alloc, "! unreadable"),
+    }
+}
+
+/// What is answered to each question.
+fn answers_to(alloc: Global, asked: &Asked<'_>) -> Result<String, AllocError> {
     let mut said = String::new(alloc);
     for question in &asked.questions {
-        if !said.is_empty() {
-            said.push('\n')?;
-        }
-        let answer = answer_to(alloc, &asked, question)?;
-        write!(said, "{question}: {answer}")?;
+        say_answer(alloc, &mut said, asked, question)?;
     }
     Ok(said)
+}
+
+/// Says a question and what is answered to it, on a line of its own.
+fn say_answer(
+    alloc: Global,
+    said: &mut String,
+    asked: &Asked<'_>,
+    question: &str,
+) -> Result<(), AllocError> {
+    if !said.is_empty() {
+        said.push('\n')?;
+    }
+    let answer = answer_to(alloc, asked, question)?;
+    write!(said, "{question}: {answer}")
 }
 
 /// What is answered to a question.
@@ -81,6 +96,23 @@ fn number(alloc: Global, number: Option<usize>) -> Result<String, AllocError> {
 fn read_asked(alloc: Global, input: &[u8]) -> Result<Option<Asked<'_>>, AllocError> {
     let mut questions = Vec::new(alloc);
     let mut names = Vec::new(alloc);
+    let script = read_head(&mut questions, &mut names, input)?;
+    match read(alloc, script) {
+        Ok(script) => Ok(Some(Asked {
+            questions,
+            names,
+            script,
+        })),
+        Err(_) => Ok(None),
+    }
+}
+
+/// Reads the questions and the names, behind which the script is.
+fn read_head<'a>(
+    questions: &mut Vec<&'a str>,
+    names: &mut Vec<(&'a str, &'a str)>,
+    input: &'a [u8],
+) -> Result<&'a [u8], AllocError> {
     let mut length: usize = 0;
     for line in input.split(|byte| *byte == b'\n') {
         let text = std::str::from_utf8(line).unwrap_or("");
@@ -93,14 +125,7 @@ fn read_asked(alloc: Global, input: &[u8]) -> Result<Option<Asked<'_>>, AllocErr
         }
         length = length.saturating_add(line.len()).saturating_add(1);
     }
-    let Ok(script) = read(alloc, input.get(length..).unwrap_or(&[])) else {
-        return Ok(None);
-    };
-    Ok(Some(Asked {
-        questions,
-        names,
-        script,
-    }))
+    Ok(input.get(length..).unwrap_or(&[]))
 }
 
 /// The document as a text.

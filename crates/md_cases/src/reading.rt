@@ -32,25 +32,39 @@ pub(crate) fn read(alloc: Global, input: &[u8]) -> Result<Script<'_>, RunError> 
         document: &[],
         options: CompileOptions::default(),
     };
+    script.document = take_lines(alloc, &mut script, input)?;
+    Ok(script)
+}
+
+/// Takes the lines before the document, which is what comes behind them.
+fn take_lines<'a>(
+    alloc: Global,
+    script: &mut Script<'_>,
+    input: &'a [u8],
+) -> Result<&'a [u8], RunError> {
     let mut length: usize = 0;
     for line in input.split(|byte| *byte == b'\n') {
         length = length.saturating_add(line.len()).saturating_add(1);
         if line == b"--".as_slice() {
-            script.document = input.get(length..).unwrap_or(&[]);
-            return Ok(script);
+            return Ok(input.get(length..).unwrap_or(&[]));
         }
-        let Ok(text) = std::str::from_utf8(line) else {
-            return Err(RunError::Line(length));
-        };
-        if !take_line(alloc, &mut script, text)? {
-            return Err(RunError::Line(length));
+        if !take_line(alloc, script, line)? {
+            break;
         }
     }
     Err(RunError::Line(length))
 }
 
 /// Takes a line, and tells whether it could be read.
-fn take_line(alloc: Global, script: &mut Script<'_>, line: &str) -> Result<bool, AllocError> {
+fn take_line(alloc: Global, script: &mut Script<'_>, line: &[u8]) -> Result<bool, AllocError> {
+    match std::str::from_utf8(line) {
+        Ok(line) => take_text(alloc, script, line),
+        Err(_) => Ok(false),
+    }
+}
+
+/// Takes a line of text, and tells whether it could be read.
+fn take_text(alloc: Global, script: &mut Script<'_>, line: &str) -> Result<bool, AllocError> {
     if let Some(option) = line.strip_prefix('!') {
         return take_option(alloc, &mut script.options, option);
     }

@@ -11,9 +11,8 @@ pub record IsLonger (claim : List ℕ → Type 0) (buffer : List ℕ) (size : �
   pub longer : length buffer < size
 
 -- what an answer says of a buffer: with status `written` the buffer begins with a text of which the claim holds,
--- and what lies
--- behind that is as before; with `too_short` there is such a text, and it is longer; with all but `written` all is
--- as before
+-- and what lies after that is as before; with `too_short` there is such a text, and it is longer; with all but
+-- `written` all is as before
 pub record HandsOver (claim : List ℕ → Type 0) (old new : List ℕ) (answer : Answer) : Type 0 where
   pub text : answer.status ≡ written → claim (take answer.length new)
   pub fits : answer.status ≡ written → answer.length ≤ length old

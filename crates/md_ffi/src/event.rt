@@ -30,7 +30,7 @@ pub struct CEvent {
 ///
 /// # Errors
 ///
-/// The index of the first event that stands for none, or want of memory.
+/// Tells the index of the first event that stands for none, or that it is out of memory.
 pub(crate) fn read_events(alloc: Global, events: &[CEvent]) -> Result<Vec<Event>, Failure>
     ensures ok { IfOk result (λ read. StandFor event_of events.now read.items) }
     ensures err { IfErr result (IsEventFault events.now) }

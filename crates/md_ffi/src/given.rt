@@ -19,7 +19,7 @@ use std::alloc::Global;
 ///
 /// # Errors
 ///
-/// What stands for none, the refusal of the compiler, or want of memory.
+/// Tells what stands for none, the refusal of the compiler, or that it is out of memory.
 pub(crate) fn compile_given(
     alloc: Global,
     events: &[CEvent],

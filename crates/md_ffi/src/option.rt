@@ -42,7 +42,7 @@ pub struct COptions<'a> {
 ///
 /// # Errors
 ///
-/// The number of an option that stands for none, or want of memory.
+/// Tells the number of an option that stands for none, or that it is out of memory.
 pub(crate) fn read_options(alloc: Global, given: &COptions) -> Result<CompileOptions, Failure>
     ensures ok { IfOk result (HasOptions given.now) }
     ensures err { IfErr result (IsOptionFault given.now) }

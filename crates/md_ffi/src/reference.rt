@@ -23,7 +23,7 @@ pub struct CReference<'a> {
 ///
 /// # Errors
 ///
-/// The index of the first that stands for none, or want of memory.
+/// Tells the index of the first that stands for none, or that it is out of memory.
 pub(crate) fn read_references<'a>(
     alloc: Global,
     references: &[CReference<'a>],

@@ -12,7 +12,9 @@ mod random;
 mod scale;
 mod trees;
 
-use md_html::{CompileError, CompileOptions, Event, Kind, Name, Point, compile, compile_counted};
+use md_html::{
+    CompileError, CompileOptions, Counted, Event, Kind, Name, Point, compile, compile_counted,
+};
 use md_script::{RunError, run};
 use std::alloc::{AllocError, Global};
 use std::fmt::Write;
@@ -74,16 +76,27 @@ fn compiled(
 ) -> Result<String, CompileError> {
     let text = compile(rt.alloc(), given.events, given.bytes, options, given.names);
     let counted = compile_counted(rt.alloc(), given.events, given.bytes, options, given.names);
-    match (&text, counted) {
-        (Ok(text), Ok(counted)) => {
-            let events = given.events.len();
-            assert_eq!(rt; counted.text.as_str(), text.as_str());
-            assert!(rt; events <= counted.visits && counted.visits / 5 <= events);
-        }
-        (Err(refusal), Err(counted)) => assert_eq!(rt; &counted, refusal),
-        _ => assert!(rt; false, "one text and one refusal"),
-    }
+    let is_same = is_counted(&text, &counted, given.events.len());
+    assert!(rt;
+        is_same,
+        "what is counted is another answer, or has too many visits"
+    );
     text
+}
+
+/// Whether a counted answer is the same one, with a visit of each event and at most five of them.
+fn is_counted(
+    answer: &Result<String, CompileError>,
+    counted: &Result<Counted, CompileError>,
+    events: usize,
+) -> bool {
+    match (answer, counted) {
+        (Ok(text), Ok(counted)) => {
+            counted.text == *text && events <= counted.visits && counted.visits / 5 <= events
+        }
+        (Err(refusal), Err(counted)) => counted == refusal,
+        _ => false,
+    }
 }
 
 /// The same of a script of these events, whose document has the names of a script.
@@ -93,26 +106,25 @@ fn compiled_as_script(
 ) -> Result<String, CompileError> {
     let text = compiled(rt, given, &CompileOptions::default());
     let script = script(rt.alloc(), given)?;
-    match (&text, run(rt.alloc(), script.as_slice())) {
-        (Ok(text), Ok(ran)) => assert_eq!(rt; ran.as_str(), text.as_str()),
-        (Err(refusal), Err(ran)) => is_refused_alike(rt, refusal, &ran),
-        _ => assert!(rt; false, "one text and one refusal"),
-    }
+    let ran = run(rt.alloc(), script.as_slice());
+    assert!(rt; is_run(&text, &ran), "{ran:?}");
     text
 }
 
-fn is_refused_alike(rt: &impl Abort, refusal: &CompileError, ran: &RunError) {
-    match (refusal, ran) {
+/// Whether a script's answer is the same one.
+fn is_run(answer: &Result<String, CompileError>, ran: &Result<String, RunError>) -> bool {
+    match (answer, ran) {
+        (Ok(text), Ok(ran)) => ran == text,
         (
-            CompileError::Event { index, rule },
-            RunError::Event {
-                index: at,
-                rule: by,
-            },
-        ) => {
-            assert!(rt; index == at && rule == by, "event {index}: {rule}");
-        }
-        _ => assert!(rt; false, "{ran:?}"),
+            Err(CompileError::Event { index, rule }),
+            Err(
+                RunError::Event {
+                    index: at,
+                    rule: by,
+                },
+            ),
+        ) => index == at && rule == by,
+        _ => false,
     }
 }
 
@@ -149,7 +161,12 @@ fn answers(rt: &(impl Abort + AllocGlobal), events: &[Event], expected: &str) ->
         names: &SCRIPT_NAMES,
     };
     let text = compiled_as_script(rt, &given)?;
-    assert_eq!(rt; text.len(), expected.len());
-    assert!(rt; text.as_str() == expected, "other text of the same length");
+    is_text(rt, &text, expected);
     Ok(())
+}
+
+/// A text is exactly the expected one.
+fn is_text(rt: &impl Abort, text: &str, expected: &str) {
+    assert_eq!(rt; text.len(), expected.len());
+    assert!(rt; text == expected, "other text of the same length");
 }

@@ -97,7 +97,7 @@ inner-passes test Space children r b is all h = subst (λ f. list_all test (spin
 inner-passes test (Solid s usual reading) children r b is all h = spine-all test usual r b (spine children) all is
 inner-passes test Mdx children r b is all h = absurd is
 
--- it prints the same, whatever else is round it and before it
+-- it prints the same, whatever else is around it and before it
 line-bare : (given : Given) (around : Surroundings) (before : Before) (children : Forest) (ahead : Ahead)
     (passed : Passed) (last last' : Bool) (start end : Point) (inner : List Piece) →
     around.in_definition ≡ true →
@@ -164,7 +164,7 @@ target_letters SpaceOrTab h = tt
 target_letters (Other number) h = tt
 target_letters _ h = lie h
 
--- a definition's nodes print the same, whatever else is round them and before them
+-- a definition's nodes print the same, whatever else is around them and before them
 printed-bare : (given : Given) (forest : Forest) (around : Surroundings) (before : Before) (r : Role)
     (b : Option Symbol) →
     AreShaped forest r b → list_all in_target (spine forest) ≡ true → around.in_definition ≡ true →

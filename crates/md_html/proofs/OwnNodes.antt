@@ -98,14 +98,14 @@ nodes-defined given (Node name start end children rest) index =
     ∙ ap (λ xs. own_definitions given children ++ ((if is_link_definition name then defined_alone given children ∷ []
     else []) ++ xs)) (nodes-defined given rest (suc (behind (suc index) children)))
 
--- what is left behind the first
+-- what is left after the first
 drop-past : {A : Type 0} (xs : List A) (i : ℕ) (y : A) (ys : List A) → drop i xs ≡ y ∷ ys → drop (suc i) xs ≡ ys
 drop-past xs i y ys h = ap (λ n. drop n xs) (next i) ∙ sym (drop-later xs i y ys (sym h))
   where
     next : (n : ℕ) → suc n ≡ n + 1
     next n = omega arith
 
--- what is left behind some nodes' events, and behind what is told of them
+-- what is left after some nodes' events, and after what is told of them
 events-behind : (forest : Forest) (i : ℕ) (es tail : List Event) → drop i es ≡ flatten forest ++ tail →
     drop (behind i forest) es ≡ tail
 events-behind Empty i es tail h = h

@@ -316,7 +316,7 @@ left-known given before name start children captured state knows =
     ∙ ap (λ s. L (tally calls) (is_slurping before.marks) before.previous s (first_or [] state.tables)) knows.spine
     ∙ ap (λ k. L (tally calls) (is_slurping before.marks) before.previous (told_by before.spine) k) knows.columns
 
--- a node is left behind its children, whose text is not captured
+-- a node is left after its children, whose text is not captured
 node_step-streamed : (given : Given) (ahead : Ahead) (before : Before) (last : Bool) (name : Name) (start end : Point)
     (children : Forest) (state : State) → Knows state before →
     exited given last false name end (after given (before_children name children before) children
@@ -368,7 +368,7 @@ node_step-streamed given ahead before last name start end children state knows =
     (lay_parts given.ending state.page opened inner (close (left_of given.bytes before children)
     (last_name children) (last_contributing children)))
 
--- a node is left behind its children, whose text is captured
+-- a node is left after its children, whose text is captured
 node_step-captured : (given : Given) (ahead : Ahead) (before : Before) (last : Bool) (name : Name) (start end : Point)
     (children : Forest) (state : State) → Knows state before →
     exited given last true name end (after given (before_children name children before) children

@@ -9,7 +9,7 @@ use Rattle.md_pattern.specs.Shape.{role_for}
 use Rattle.md_shape.proofs.Symbols.{roles_for}
 use Rattle.md_shape.proofs.Letters.{letters, followers, fits-all, followed-all, by_behind}
 
--- all letters of the patterns that a name with this usual role may have pass a test, and what groups have behind
+-- all letters of the patterns that a name with this usual role may have pass a test, and what groups have after
 -- their first
 pub record AllLetters (test : Symbol → Bool) (usual : Role) : Type 0 where
   pub behind : list_all test followers ≡ true

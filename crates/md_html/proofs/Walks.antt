@@ -31,7 +31,7 @@ get-drop [] (suc i) = refl
 get-drop (x ∷ xs) zero = refl
 get-drop (x ∷ xs) (suc i) = get-drop xs i
 
--- the first of what is left, and what comes behind it
+-- the first of what is left, and what comes after it
 pub drop-first : {A : Type 0} (xs : List A) (i : ℕ) (y : A) (ys : List A) → y ∷ ys ≡ drop i xs → slice_get xs i ≡ Some y
 drop-first xs i y ys h = sym (ap (λ l. slice_get l 0) h ∙ get-drop xs i)
 

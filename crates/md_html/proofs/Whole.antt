@@ -50,7 +50,7 @@ run-events : (given : Given) (events : List Event) (document : Forest) → flatt
 run-events given events document flat = ap (λ es. run given es (children_of document) beginning) (sym flat)
     ∙ run-document given document
 
--- what is found behind one footnote
+-- what is found after one footnote
 found_behind : (first : Footnote) (xs ys : List Footnote) (identifier : List ℕ) →
     footnote_text xs identifier ≡ footnote_text ys identifier →
     footnote_text (first ∷ xs) identifier ≡ footnote_text (first ∷ ys) identifier
@@ -73,7 +73,7 @@ passed_by (other ∷ others) footnote more identifier h =
     found_behind other (others ++ more) ((others ++ footnote ∷ [])
     ++ more) identifier (passed_by others footnote more identifier h)
 
--- behind one with the same identifier another makes no difference
+-- after one with the same identifier another makes no difference
 same_behind : (first : Footnote) (others : List Footnote) (footnote : Footnote) (more : List Footnote)
     (identifier : List ℕ) → first.identifier ≡ footnote.identifier →
     footnote_text (first ∷ others ++ more) identifier ≡ footnote_text (first ∷ (others ++ footnote ∷ [])
@@ -87,7 +87,7 @@ same_behind first others footnote more identifier h =
       | false ↦ λ e. passed_by others footnote more identifier (ap (λ i. bytes_eq i identifier) (sym h) ∙ e)
     ] refl
 
--- a footnote behind others, noted or added: the first with an identifier stays the first
+-- a footnote after others, noted or added: the first with an identifier stays the first
 one_noted : (kept : List Footnote) (footnote : Footnote) (more : List Footnote) (identifier : List ℕ) →
     footnote_text (noted kept footnote ++ more) identifier ≡ footnote_text ((kept ++ footnote ∷ []) ++ more) identifier
 one_noted [] footnote more identifier = refl

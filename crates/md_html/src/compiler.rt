@@ -59,8 +59,8 @@ pub struct Counted {
 ///
 /// # Errors
 ///
-/// An event where the list is no flattening of a document of the event grammar over these bytes and names, as
-/// [`check`] names it; or want of memory.
+/// Names an event where the list is no flattening of a document of the event grammar over these bytes and names, as
+/// [`check`] does; or says that it is out of memory.
 ///
 /// # Examples
 ///

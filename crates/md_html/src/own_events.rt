@@ -55,7 +55,7 @@ fn node_events(events: &[Event], entry: usize, partner: Option<usize>) -> &[Even
     }
 }
 
-/// Prints the events of the node that is entered at an index, as if nothing stood before it and round it.
+/// Prints the events of the node that is entered at an index, as if nothing stood before it and around it.
 fn run_node(source: &Source, checked: &Checked, entry: usize) -> Result<Printer, AllocError>
     ensures grammatical { IsChecked checked.now }
     ensures printed { IfOk result (λ printer. (document : Forest) → flatten document ≡ checked.now.events

@@ -66,7 +66,7 @@ grounded-others : (r : List OpenNode) → others_round (grounded r) ≡ others_r
 grounded-others [] = refl
 grounded-others (x ∷ r) = refl
 
--- a fact that is put among others as a slice of their vector, and one that is pushed behind them
+-- a fact that is put among others as a slice of their vector, and one that is pushed after them
 pub put_then_pushed : (facts : List Fact) (index len : ℕ) (fact whole last alone : Fact) (put pushed : List Fact) →
     len ≡ length facts → fact ≡ whole → put ≡ set facts index fact → last ≡ alone →
     pushed ≡ take len (put ++ drop (length put) facts) ++ last ∷ [] → pushed ≡ set facts index whole ++ alone ∷ []

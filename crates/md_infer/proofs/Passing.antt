@@ -47,11 +47,11 @@ parted GfmTable = record { table = refl; value = refl; leads = refl }
 parted GfmTableDelimiterCellValue = record { table = refl; value = refl; leads = refl }
 parted _ = record { table = refl; value = refl; leads = refl }
 
--- the columns that a node adds to those of the table round it
+-- the columns that a node adds to those of the table around it
 abbrev added : Bool → Bool → Forest → List AlignKind
 added value leads children = cond value (alignment_of children ∷ []) (cond leads (alignments children) [])
 
--- what is collected behind a node
+-- what is collected after a node
 abbrev columns_next : Bool → Bool → Bool → Forest → Bool → Collected → Collected
 columns_next table value leads children collects columns = record {
   tables = columns.tables ++ (tables_of children ++ cond table (alignments children ∷ []) []);
@@ -214,7 +214,7 @@ passed_over-append : (xs ys : List Event) (pass : Passed) →
 passed_over-append [] ys pass = refl
 passed_over-append (x ∷ xs) ys pass = passed_over-append xs ys (passed x.kind x.name pass)
 
--- some nodes behind what is found so far
+-- some nodes after what is found so far
 abbrev passed_forest : ℕ → ℕ → Forest → Passed → Passed
 passed_forest index tables forest pass = record {
   facts = pass.facts ++ facts_of index tables forest;

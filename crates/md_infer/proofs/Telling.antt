@@ -222,7 +222,7 @@ prefix_with BlockQuotePrefix own told = refl
 prefix_with BlockQuote own told = prefix_quote own.last
 prefix_with _ own told = refl
 
--- nothing stands behind a marker in a node of this name, by its own last child
+-- nothing stands after a marker in a node of this name, by its own last child
 abbrev bare_by : Name → Last → Bool
 bare_by name own = is_item_prefix name || (is_block_quote name && is_quote_last own)
 
@@ -309,7 +309,7 @@ begins_over (Node name start end children rest) told =
     by true b = sym (or-false b)
     by false b = sym (or-false b)
 
--- nothing stands behind a marker in the last of some nodes behind another
+-- nothing stands after a marker in the last of some nodes after another
 abbrev bare_behind : Last → Forest → Bool
 bare_behind l forest = cond (is_end forest) (cond (is_empty forest) (is_bare_last l) (is_bare_last (spaced l)))
     (ends_bare forest)

@@ -22,7 +22,7 @@ part_of SpaceOrTab = part.Leads
 part_of (Other number) = part.Leads
 part_of _ = part.Apart
 
--- a value in a node is one of the table round it
+-- a value in a node is one of the table around it
 abbrev pub collects_where : Part → Bool → Bool
 collects_where part.Table around = true
 collects_where part.Leads around = around
@@ -86,7 +86,7 @@ tables_of Empty = []
 tables_of (Node name start end children rest) =
     tables_of children ++ ((if is_table name then alignments children ∷ [] else []) ++ tables_of rest)
 
--- what is collected behind some nodes
+-- what is collected after some nodes
 abbrev pub columns_behind : Forest → Bool → Collected → Collected
 columns_behind forest collects columns = record {
   tables = columns.tables ++ tables_of forest;

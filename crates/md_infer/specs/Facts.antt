@@ -1,9 +1,9 @@
 -- The pass over the events from the first to the last, which finds what is read or inferred of each node. Only
 -- contracts of private functions speak of it.
-use Rattle.std.specs.Prelude.{ℕ, suc, false, not, ◌&&◌, if◌then◌else◌, List, [], ◌∷◌, ◌++◌, length, reverse, set}
+use Rattle.std.specs.Prelude.{ℕ, suc, Bool, true, false, not, ◌&&◌, if◌then◌else◌, List, [], ◌∷◌, ◌++◌, length, reverse, set}
 use Rattle.md_base.specs.declared.event.AlignKind.{AlignKind}
 use Rattle.md_base.specs.declared.event.Name.{Name}
-use Rattle.md_base.specs.declared.event.Name.TheVariants.{Paragraph}
+use Rattle.md_base.specs.declared.event.Name.TheVariants.{Paragraph, Data, LineEnding, BlankLineEnding, BlockQuote, BlockQuotePrefix, ListItem, ListItemPrefix, GfmFootnoteDefinition, Definition, GfmTable, GfmTableDelimiterCellValue, GfmTableDelimiterMarker, SpaceOrTab, Other}
 use Rattle.md_base.specs.declared.event.Kind.{Kind}
 use Rattle.md_base.specs.declared.event.Kind.TheVariants.{Enter, Exit}
 use Rattle.md_base.specs.declared.event.Event.{Event}
@@ -26,7 +26,7 @@ nowhere = record { entry = 0; contributing = 0; collects = false; sought = searc
 abbrev pub sought_inside : Name → Sought → Sought
 sought_inside name around = if is_transparent name then around else search_of name
 
--- the search behind a node, after that in it
+-- the search after a node, given that in it
 abbrev pub sought_behind : Name → ℕ → Sought → Sought → Sought
 sought_behind name entry own around = if is_transparent name then own else seen around name entry own.place
 
@@ -44,7 +44,7 @@ opened entry name around = record {
   told = nothing_told;
 }
 
--- an open node behind one of its children
+-- an open node after one of its children
 abbrev pub followed : Name → OpenNode → OpenNode → OpenNode
 followed name own around = record {
   entry = around.entry;
@@ -59,6 +59,28 @@ abbrev pub place_of : Name → ℕ → ℕ → Sought → ℕ
 place_of name table contributing sought =
     if is_table name then table
     else (if is_item name then contributing else (if is_transparent name then 0 else sought.place))
+
+-- a node that, where it has no children, tells no more than what the last child is
+abbrev pub is_simple : Name → Bool
+is_simple name = elim name [ Data ↦ true | LineEnding ↦ true | SpaceOrTab ↦ true | Other number ↦ true | _ ↦ false ]
+
+-- a node as most are: it contributes, and is nothing that the node around it looks at
+abbrev pub is_common : Name → Bool
+is_common name = elim name [
+  | LineEnding ↦ false
+  | BlankLineEnding ↦ false
+  | BlockQuote ↦ false
+  | BlockQuotePrefix ↦ false
+  | ListItem ↦ false
+  | ListItemPrefix ↦ false
+  | GfmFootnoteDefinition ↦ false
+  | Definition ↦ false
+  | GfmTable ↦ false
+  | GfmTableDelimiterCellValue ↦ false
+  | GfmTableDelimiterMarker ↦ false
+  | SpaceOrTab ↦ false
+  | _ ↦ true
+]
 
 -- what is found of a node that exits at an index
 abbrev pub fact_of : Name → ℕ → ℕ → ℕ → Sought → Told → Fact
@@ -83,7 +105,7 @@ abbrev pub fact_alone : Name → ℕ → ℕ → Fact
 fact_alone name exit table = record (partner_alone exit) { place = if is_table name then table else 0 }
 
 -- what is found at the events so far, the entries of the definitions that have ended, the innermost open node, and
--- those round it, the next one first
+-- those around it, the next one first
 pub record Passed : Type 0 where
   pub facts : List Fact
   pub columns : Collected
@@ -152,7 +174,7 @@ abbrev pub passed_over : List Event → Passed → Passed
 passed_over [] pass = pass
 passed_over (event ∷ events) pass = passed_over events (passed event.kind event.name pass)
 
--- the last contributing of some nodes, behind others
+-- the last contributing of some nodes, after others
 abbrev pub contributing_over : ℕ → Forest → ℕ → ℕ
 contributing_over index Empty before = before
 contributing_over index (Node name start end children rest) before =
@@ -165,7 +187,7 @@ sought_over index (Node name start end children rest) sought =
     sought_over (suc (behind (suc index) children)) rest
     (sought_behind name index (sought_over (suc index) children (sought_inside name sought)) sought)
 
--- an open node behind some of its children
+-- an open node after some of its children
 abbrev pub after : ℕ → Forest → OpenNode → OpenNode
 after index forest here = record {
   entry = here.entry;
@@ -175,7 +197,7 @@ after index forest here = record {
   told = told_over forest here.told;
 }
 
--- how many tables have ended behind a node, and behind some nodes
+-- how many tables have ended after a node, and after some nodes
 abbrev pub tables_with : Name → ℕ → ℕ
 tables_with name tables = if is_table name then suc tables else tables
 

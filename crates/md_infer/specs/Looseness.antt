@@ -10,7 +10,7 @@ use Rattle.md_base.specs.Children.{is_empty, last_name}
 abbrev pub begins_blank : Forest → Bool
 begins_blank nodes = elim nodes [ Empty ↦ false | Node name _ _ _ _ ↦ is_blank_line_ending name ]
 
--- a space or tab, and behind it a blank line ending, come first
+-- a space or tab, and after it a blank line ending, come first
 abbrev pub begins_space_blank : Forest → Bool
 begins_space_blank nodes = elim nodes [ Empty ↦ false | Node name _ _ _ rest ↦ is_space name && begins_blank rest ]
 
@@ -18,17 +18,17 @@ begins_space_blank nodes = elim nodes [ Empty ↦ false | Node name _ _ _ rest �
 abbrev pub is_end : Forest → Bool
 is_end nodes = elim nodes [ Empty ↦ true | Node name _ _ _ rest ↦ is_space name && is_empty rest ]
 
--- an item's prefix, or a block quote that ends in its prefix: nothing stands behind the marker
+-- an item's prefix, or a block quote that ends in its prefix: nothing stands after the marker
 abbrev pub is_bare : Name → Forest → Bool
 is_bare name children =
     is_item_prefix name || is_block_quote name && option_map_or is_block_quote_prefix (last_name children) false
 
--- the last child, a space or tab behind it passed over, is bare
+-- the last child, a space or tab after it passed over, is bare
 abbrev pub ends_bare : Forest → Bool
 ends_bare Empty = false
 ends_bare (Node name start end children rest) = if is_end rest then is_bare name children else ends_bare rest
 
--- a blank line ending stands behind a child, where that is no item which ends bare
+-- a blank line ending stands after a child, where that is no item which ends bare
 abbrev pub has_parting_blank : Forest → Bool
 has_parting_blank Empty = false
 has_parting_blank (Node name start end children rest) =
@@ -38,7 +38,7 @@ has_parting_blank (Node name start end children rest) =
 abbrev pub is_loose_without_items : Forest → Bool
 is_loose_without_items children = begins_blank children || has_parting_blank children
 
--- a blank line ending stands behind a child that is no item's prefix, a space or tab between passed over
+-- a blank line ending stands after a child that is no item's prefix, a space or tab between passed over
 abbrev pub has_inner_blank : Forest → Bool
 has_inner_blank Empty = false
 has_inner_blank (Node name start end children rest) = not (is_item_prefix name)

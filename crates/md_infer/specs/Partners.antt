@@ -4,7 +4,7 @@ use Rattle.md_base.specs.Tree.{Forest, Empty, Node}
 use Rattle.md_base.specs.NameTests.{contributes, is_link_definition}
 use Rattle.md_base.specs.Children.{or_else}
 
--- the index behind the events of some nodes, of which the first has an index
+-- the index after the events of some nodes, of which the first has an index
 abbrev pub behind : ℕ → Forest → ℕ
 behind index Empty = index
 behind index (Node name start end children rest) = behind (suc (behind (suc index) children)) rest

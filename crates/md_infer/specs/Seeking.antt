@@ -74,7 +74,7 @@ refer_where _ sought place = record sought { found = so_far.Reference; place = p
 abbrev pub refer : Sought → ℕ → Sought
 refer sought place = refer_where sought.found sought place
 
--- a search behind a node that is entered here, and in which this was found
+-- a search after a node that is entered here, and in which this was found
 abbrev pub seen_as : Sight → Sought → ℕ → ℕ → Sought
 seen_as looks.Other sought entry inner = sought
 seen_as looks.Itself sought entry inner = first sought entry

@@ -11,13 +11,13 @@ use Rattle.md_infer.specs.declared.told.Told.{Told}
 use Rattle.md_infer.specs.declared.told.Looseness.{Looseness}
 use Rattle.md_base.specs.Tree.{Forest, Empty, Node}
 
--- what a space or tab is behind the last child
+-- what a space or tab is after the last child
 abbrev pub spaced : Last → Last
 spaced final.Prefix = final.PrefixSpace
 spaced final.Bare = final.BareSpace
 spaced _ = final.Plain
 
--- nothing stands behind a marker in the last child
+-- nothing stands after a marker in the last child
 abbrev pub is_bare_last : Last → Bool
 is_bare_last final.Prefix = true
 is_bare_last final.PrefixSpace = true
@@ -38,7 +38,7 @@ abbrev pub parts : Last → Bool
 parts final.BareItem = false
 parts _ = true
 
--- a blank line ending behind the last child loosens the item round it
+-- a blank line ending after the last child loosens the item around it
 abbrev pub loosens : Last → Bool
 loosens final.Prefix = false
 loosens final.PrefixSpace = false
@@ -81,7 +81,7 @@ nothing_told = record {
   of_item = false;
 }
 
--- what some nodes tell, behind others
+-- what some nodes tell, after others
 abbrev pub told_over : Forest → Told → Told
 told_over Empty told = told
 told_over (Node name start end children rest) told =

@@ -1,6 +1,6 @@
 //! The pass over the events from the first to the last, which finds what is read or inferred of each node.
 
-ghost use Rattle.std.specs.Prelude.{◌≡◌, OnOk, map, set, not, ◌&&◌};
+ghost use Rattle.std.specs.Prelude.{◌≡◌, ℕ, true, OnOk, map, set, not, ◌&&◌};
 ghost use Rattle.md_base.specs.NameTests.{is_transparent, contributes};
 ghost use Rattle.md_infer.specs.Facts as spec;
 ghost use Rattle.md_infer.specs.Ending.{ends_line, ending_behind};
@@ -10,7 +10,7 @@ ghost use Rattle.md_infer.specs.Told.{nothing_told};
 use crate::columns::{Columns, collects_in};
 use crate::names::{is_item, is_link_definition, is_table, is_transparent};
 use crate::seeking::{Sought, is_idle, search_of, seen};
-use crate::told::{Looseness, NOT_LOOSE, NOTHING_TOLD, Told, tell, told_looseness};
+use crate::told::{Last, Looseness, NOT_LOOSE, NOTHING_TOLD, Told, spaced, tell, told_looseness};
 use md_base::{AlignKind, Event, Kind, Name};
 use std::alloc::{AllocError, Global};
 use std::marker::Model;
@@ -37,7 +37,7 @@ pub struct OpenNode {
     pub contributing: usize,
     pub sought: Sought,
     pub told: Told,
-    /// A value in it is one of the table round it.
+    /// A value in it is one of the table around it.
     pub collects: bool,
 }
 
@@ -94,7 +94,7 @@ fn contributes(name: Name) -> bool
     )
 }
 
-/// Notes a child that exits: as the last contributing one of the node round it, or among the definitions.
+/// Notes a child that exits: as the last contributing one of the node around it, or among the definitions.
 #[inline(always)]
 fn note_child(
     contributing: &mut usize,
@@ -113,7 +113,7 @@ fn note_child(
     }
 }
 
-/// Goes on with a search behind a child, after that in it.
+/// Goes on with a search after a child, given that in it.
 #[inline(always)]
 fn search_behind(sought: &mut Sought, name: Name, entry: usize, own: Sought)
     ensures { sought.new ≡ spec.sought_behind name entry own sought.old }
@@ -159,6 +159,28 @@ fn fact_of(name: Name, exit: usize, table: usize, own: &OpenNode) -> Fact
     }
 }
 
+/// The same of a node that is common.
+#[inline(always)]
+fn common_fact(name: Name, exit: usize, own: &OpenNode) -> Fact
+    requires { spec.is_common name ≡ true }
+    ensures { (table : ℕ) → result ≡ spec.fact_of name exit table own.now.contributing own.now.sought own.now.told }
+{
+    let looseness = told_looseness(own.told);
+    if is_transparent(name) {
+        Fact {
+            looseness,
+            ..partner_alone(exit)
+        }
+    } else {
+        Fact {
+            partner: exit,
+            place: own.sought.place,
+            looseness,
+            has_resource: own.sought.has_resource,
+        }
+    }
+}
+
 /// What is known of an exit, and of an entry before its exit.
 fn partner_alone(partner: usize) -> Fact
     ensures { result ≡ spec.partner_alone partner }
@@ -181,7 +203,7 @@ fn fact_alone(name: Name, exit: usize, table: usize) -> Fact
     }
 }
 
-/// Goes on with a search behind a node without children.
+/// Goes on with a search after a node without children.
 #[inline(always)]
 fn search_leaf(sought: &mut Sought, name: Name, entry: usize)
     ensures { sought.new ≡ spec.sought_behind name entry (spec.sought_inside name sought.old) sought.old }
@@ -211,7 +233,7 @@ pub struct Pass {
     /// The document itself, around all open nodes.
     document: OpenNode,
     /// The open nodes, the innermost last.
-    open: Vec<OpenNode>,
+    open_nodes: Vec<OpenNode>,
 }
 
 /// What the nodes leave that have ended.
@@ -227,7 +249,7 @@ impl Model for Pass {
 
     ghost Value = { Passed };
 
-    ghost view = { λ p. record { facts = p.facts.items; columns = p.ended.columns; definitions = p.ended.definitions.items; here = next_round (opens p.open.items p.document); round = others_round (opens p.open.items p.document) } };
+    ghost view = { λ p. record { facts = p.facts.items; columns = p.ended.columns; definitions = p.ended.definitions.items; here = next_round (opens p.open_nodes.items p.document); round = others_round (opens p.open_nodes.items p.document) } };
 }
 
 impl Pass {
@@ -242,7 +264,7 @@ impl Pass {
                 definitions: Vec::new(alloc),
             },
             document: nowhere(),
-            open: Vec::new(alloc),
+            open_nodes: Vec::new(alloc),
         }
     }
 
@@ -256,8 +278,35 @@ impl Pass {
         }
     }
 
-    /// Finds what a node without children tells, which exits right behind its entry.
+    /// Finds what a node without children tells, which exits right after its entry.
     pub fn leaf(&mut self, alloc: Global, name: Name) -> Result<(), AllocError>
+        ensures { OnOk result (self.new ≡ spec.passed_exit name (spec.passed_entry name self.old)) }
+    {
+        if is_simple(name) {
+            self.simple_leaf(name)
+        } else {
+            self.other_leaf(alloc, name)
+        }
+    }
+
+    /// The same of a node that ends no table, no column and no definition, and that nothing seeks.
+    #[inline(always)]
+    fn simple_leaf(&mut self, name: Name) -> Result<(), AllocError>
+        requires { spec.is_simple name ≡ true }
+        ensures { OnOk result (self.new ≡ spec.passed_exit name (spec.passed_entry name self.old)) }
+    {
+        let entry = self.facts.len();
+        self.facts.push(partner_alone(entry + 1))?;
+        self.facts.push(partner_alone(entry))?;
+        match self.open_nodes.last_mut() {
+            Some(here) => follow_simple(here, name, entry),
+            None => follow_simple(&mut self.document, name, entry),
+        }
+        Ok(())
+    }
+
+    /// The same of any node.
+    fn other_leaf(&mut self, alloc: Global, name: Name) -> Result<(), AllocError>
         ensures { OnOk result (self.new ≡ spec.passed_exit name (spec.passed_entry name self.old)) }
     {
         let entry = self.facts.len();
@@ -265,7 +314,7 @@ impl Pass {
         let fact = fact_alone(name, entry + 1, self.ended.columns.count());
         self.facts.push(fact)?;
         self.facts.push(partner_alone(entry))?;
-        match self.open.last_mut() {
+        match self.open_nodes.last_mut() {
             Some(here) => follow_leaf(alloc, here, &mut self.ended, name, entry),
             None => follow_leaf(alloc, &mut self.document, &mut self.ended, name, entry),
         }
@@ -278,8 +327,8 @@ impl Pass {
         let entry = self.facts.len();
         self.facts.push(partner_alone(0))?;
         self.ended.columns.enter(name)?;
-        let inside = opened(entry, name, innermost(&self.open, &self.document));
-        self.open.push(inside)?;
+        let inside = opened(entry, name, innermost(&self.open_nodes, &self.document));
+        self.open_nodes.push(inside)?;
         Ok(())
     }
 
@@ -287,11 +336,40 @@ impl Pass {
     fn exit(&mut self, alloc: Global, name: Name) -> Result<(), AllocError>
         ensures { OnOk result (self.new ≡ spec.passed_exit name self.old) }
     {
-        let own = leave_innermost(&mut self.open, &mut self.document);
+        if is_common(name) {
+            self.exit_common(name)
+        } else {
+            self.exit_other(alloc, name)
+        }
+    }
+
+    /// The same of a node that ends no table, no column and no definition, and as a child is like most.
+    #[inline(always)]
+    fn exit_common(&mut self, name: Name) -> Result<(), AllocError>
+        requires { spec.is_common name ≡ true }
+        ensures { OnOk result (self.new ≡ spec.passed_exit name self.old) }
+    {
+        let own = leave_innermost(&mut self.open_nodes, &mut self.document);
+        let fact = common_fact(name, self.facts.len(), &own);
+        let entry = own.entry;
+        put(&mut self.facts, entry, fact);
+        self.facts.push(partner_alone(entry))?;
+        match self.open_nodes.last_mut() {
+            Some(here) => follow_common(here, name, &own),
+            None => follow_common(&mut self.document, name, &own),
+        }
+        Ok(())
+    }
+
+    /// The same of any node.
+    fn exit_other(&mut self, alloc: Global, name: Name) -> Result<(), AllocError>
+        ensures { OnOk result (self.new ≡ spec.passed_exit name self.old) }
+    {
+        let own = leave_innermost(&mut self.open_nodes, &mut self.document);
         let fact = fact_of(name, self.facts.len(), self.ended.columns.count(), &own);
         put(&mut self.facts, own.entry, fact);
         self.facts.push(partner_alone(own.entry))?;
-        match self.open.last_mut() {
+        match self.open_nodes.last_mut() {
             Some(here) => follow(alloc, here, &mut self.ended, name, &own),
             None => follow(alloc, &mut self.document, &mut self.ended, name, &own),
         }
@@ -309,7 +387,7 @@ impl Pass {
             facts,
             ended,
             document: _,
-            open: _,
+            open_nodes: _,
         } = self;
         let Ended {
             columns,
@@ -327,10 +405,10 @@ impl Pass {
 
 /// The innermost open node, or the document.
 #[inline(always)]
-fn innermost<'a>(open: &'a [OpenNode], document: &'a OpenNode) -> &'a OpenNode
-    ensures { result.now ≡ spec.next_round (spec.opens open.entry.now document.entry.now) }
+fn innermost<'a>(open_nodes: &'a [OpenNode], document: &'a OpenNode) -> &'a OpenNode
+    ensures { result.now ≡ spec.next_round (spec.opens open_nodes.entry.now document.entry.now) }
 {
-    match open.last() {
+    match open_nodes.last() {
         Some(here) => here,
         None => document,
     }
@@ -338,11 +416,11 @@ fn innermost<'a>(open: &'a [OpenNode], document: &'a OpenNode) -> &'a OpenNode
 
 /// Takes out the innermost open node; where none is left, the document begins anew.
 #[inline(always)]
-fn leave_innermost(open: &mut Vec<OpenNode>, document: &mut OpenNode) -> OpenNode
-    ensures own { result ≡ spec.next_round (spec.opens open.old.items document.old) }
-    ensures left { spec.opens open.new.items document.new ≡ spec.grounded (spec.others_round (spec.opens open.old.items document.old)) }
+fn leave_innermost(open_nodes: &mut Vec<OpenNode>, document: &mut OpenNode) -> OpenNode
+    ensures own { result ≡ spec.next_round (spec.opens open_nodes.old.items document.old) }
+    ensures left { spec.opens open_nodes.new.items document.new ≡ spec.grounded (spec.others_round (spec.opens open_nodes.old.items document.old)) }
 {
-    match open.pop() {
+    match open_nodes.pop() {
         Some(own) => own,
         None => {
             let own = *document;
@@ -377,6 +455,17 @@ fn follow(
     Ok(())
 }
 
+/// The same after a child that is common.
+#[inline(always)]
+fn follow_common(here: &mut OpenNode, name: Name, own: &OpenNode)
+    requires { spec.is_common name ≡ true }
+    ensures { here.new ≡ spec.followed name own.now here.old }
+{
+    here.contributing = own.entry;
+    search_behind(&mut here.sought, name, own.entry, own.sought);
+    here.told.last = Last::Plain;
+}
+
 /// The same after a child without children of its own.
 #[inline(always)]
 fn follow_leaf(
@@ -399,7 +488,56 @@ fn follow_leaf(
     Ok(())
 }
 
-/// The exit of the first line ending, blank or not, behind one more event.
+/// The same after one that is simple.
+#[inline(always)]
+fn follow_simple(here: &mut OpenNode, name: Name, entry: usize)
+    requires { spec.is_simple name ≡ true }
+    ensures { here.new ≡ spec.followed name (spec.opened entry name here.old) here.old }
+{
+    match name {
+        Name::SpaceOrTab => here.told.last = spaced(here.told.last),
+        Name::LineEnding => here.told.last = Last::Plain,
+        _ => {
+            here.contributing = entry;
+            here.told.last = Last::Plain;
+        }
+    }
+}
+
+/// Whether a node is as most are: it contributes, and is nothing that the node around it looks at.
+#[inline(always)]
+fn is_common(name: Name) -> bool
+    ensures { result ≡ spec.is_common name }
+{
+    match name {
+        Name::LineEnding
+        | Name::BlankLineEnding
+        | Name::BlockQuote
+        | Name::BlockQuotePrefix
+        | Name::ListItem
+        | Name::ListItemPrefix
+        | Name::GfmFootnoteDefinition
+        | Name::Definition
+        | Name::GfmTable
+        | Name::GfmTableDelimiterCellValue
+        | Name::GfmTableDelimiterMarker
+        | Name::SpaceOrTab => false,
+        _ => true,
+    }
+}
+
+/// Whether a node, where it has no children, tells no more than what the last child is.
+#[inline(always)]
+fn is_simple(name: Name) -> bool
+    ensures { result ≡ spec.is_simple name }
+{
+    matches!(
+        name,
+        Name::Data | Name::LineEnding | Name::SpaceOrTab | Name::Other(_)
+    )
+}
+
+/// The exit of the first line ending, blank or not, after one more event.
 pub fn ending_behind(found: Option<usize>, index: usize, event: &Event) -> Option<usize>
     ensures { result ≡ ending_behind found index event.now }
 {

@@ -178,7 +178,7 @@ pub fn is_idle(sought: Sought) -> bool
     matches!(sought.wanted, Wanted::Nothing)
 }
 
-/// A search behind a node that is entered here, and in which this was found.
+/// A search after a node that is entered here, and in which this was found.
 #[inline(always)]
 pub fn seen(sought: Sought, name: Name, entry: usize, inner: usize) -> Sought
     ensures { result ≡ spec.seen sought name entry inner }

@@ -25,13 +25,13 @@ pub enum Last {
     Plain,
     /// The prefix of an item.
     Prefix,
-    /// A space or tab behind the prefix of an item.
+    /// A space or tab after the prefix of an item.
     PrefixSpace,
     /// A block quote that ends in its prefix.
     Bare,
-    /// A space or tab behind such a block quote.
+    /// A space or tab after such a block quote.
     BareSpace,
-    /// An item in which nothing stands behind a marker.
+    /// An item in which nothing stands after a marker.
     BareItem,
     /// The prefix of a block quote.
     QuotePrefix,
@@ -69,8 +69,8 @@ pub const NOT_LOOSE: Looseness = Looseness {
     of_item: false,
 };
 
-/// What a space or tab is behind the last child.
-fn spaced(last: Last) -> Last
+/// What a space or tab is after the last child.
+pub fn spaced(last: Last) -> Last
     ensures { result ≡ spec.spaced last }
 {
     match last {
@@ -80,7 +80,7 @@ fn spaced(last: Last) -> Last
     }
 }
 
-/// Nothing stands behind a marker in the last child.
+/// Nothing stands after a marker in the last child.
 fn is_bare(last: Last) -> bool
     ensures { result ≡ spec.is_bare_last last }
 {
@@ -118,7 +118,7 @@ fn parts(last: Last) -> bool
     !matches!(last, Last::BareItem)
 }
 
-/// Whether a blank line ending behind the last child loosens the item round it.
+/// Whether a blank line ending after the last child loosens the item around it.
 fn loosens(last: Last) -> bool
     ensures { result ≡ spec.loosens last }
 {

@@ -102,11 +102,11 @@ indented_closing passed = when (passed.spine.has_chunk) (Needed ∷ []) ++ said 
 abbrev pub fence_closing : Left → List Piece
 fence_closing left = when (not left.spine.has_fence) (said (codes ">"))
 
--- one fence alone: the code runs to the end of what is round it
+-- one fence alone: the code runs to the end of what is around it
 abbrev pub is_unclosed : Passed → Bool
 is_unclosed passed = passed.spine.has_fence && not passed.spine.has_second_fence
 
--- code that isn't closed ends with what is round it, and its last line has more than the fence
+-- code that isn't closed ends with what is around it, and its last line has more than the fence
 abbrev pub runs_out : Surroundings → Passed → Bool
 runs_out around passed =
     is_unclosed passed && is_contained around.container && not (option_map_or is_fence passed.last false)

@@ -21,7 +21,7 @@ count_of (other ∷ others) wanted = (if bytes_eq other wanted then 1 else 0) + 
 abbrev pub tally : List (List ℕ) → List Called
 tally calls = map (λ identifier. record { identifier = identifier; count = count_of calls identifier }) (distinct calls)
 
--- the place of an identifier among some, from 1; behind them all where it isn't there
+-- the place of an identifier among some, from 1; after them all where it isn't there
 abbrev pub number_among : List Called → List ℕ → ℕ
 number_among [] identifier = 1
 number_among (called ∷ others) identifier = if bytes_eq called.identifier identifier then 1

@@ -40,11 +40,11 @@ attributes_of options = option_map_or string_bytes options.gfm_footnote_label_at
 abbrev pub occurrence_suffix : ℕ → List ℕ
 occurrence_suffix occurrence = if occurrence == 1 then [] else 45 ∷ decimal occurrence
 
--- `fn-` or `fnref-` behind the prefix, and the identifier as a URL
+-- `fn-` or `fnref-` after the prefix, and the identifier as a URL
 abbrev pub id_of : CompileOptions → List ℕ → List ℕ → List ℕ
 id_of options kind identifier = prefix_of options ++ (kind ++ sanitized identifier)
 
--- `fn-` or `fnref-` behind the prefix, and the number
+-- `fn-` or `fnref-` after the prefix, and the number
 abbrev pub numbered_id_of : CompileOptions → List ℕ → ℕ → List ℕ
 numbered_id_of options kind number = prefix_of options ++ (kind ++ decimal number)
 
@@ -70,7 +70,7 @@ call_tags options identifier number occurrence =
     ∷ Text (codes "\" data-footnote-ref=\"\" aria-describedby=\"footnote-label\">") ∷ Text (decimal number)
     ∷ Text (codes "</a></sup>") ∷ []
 
--- a call, numbered behind those that ended before it: nothing in an image
+-- a call, numbered after those that ended before it: nothing in an image
 abbrev pub call_pieces : Given → Surroundings → Left → Ahead → List Piece
 call_pieces given around left ahead =
     let identifier = identifier_at given.bytes ahead.label in
@@ -113,7 +113,7 @@ paragraph_end text = length (without_endings text) - 4
 abbrev pub ends_in_paragraph : List ℕ → Bool
 ends_in_paragraph text = bytes_eq (drop (paragraph_end text) (without_endings text)) (codes "</p>")
 
--- a footnote's text and the ways back: before a `</p>` at its end, else behind it
+-- a footnote's text and the ways back: before a `</p>` at its end, else after it
 abbrev pub body_pieces : List ℕ → List ℕ → List Piece
 body_pieces text back =
     if ends_in_paragraph text

@@ -59,7 +59,7 @@ image_start options destination label =
     Text (codes "<img src=\"") ∷ Text (src_of options destination) ∷ Text (codes "\" alt=\"") ∷ Text label
     ∷ Text (codes "\"") ∷ []
 
--- a link round its label, which leads to a target
+-- a link around its label, which leads to a target
 abbrev pub link_to : CompileOptions → Target → List ℕ → List Piece
 link_to options target label = link_start options target.destination ++ (title_pieces target.title ++ link_end label)
 

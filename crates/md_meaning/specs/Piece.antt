@@ -6,7 +6,7 @@ pub record Target : Type 0 where
   pub destination : List ℕ
   pub title : Option (List ℕ)
 
--- a text that is noted where it stands, and printed by a later node or by the one round it
+-- a text that is noted where it stands, and printed by a later node or by the one around it
 pub data Note : Type 0 where
   Heading : (text : List ℕ) → Note
   Destination : (text : List ℕ) → Note

@@ -84,8 +84,8 @@ calls_of bytes (Node name start end children rest) =
     ++ ((if is_call name then identifier_at bytes (ahead_of children).label ∷ [] else [])
     ++ calls_of bytes rest)
 
--- what stands before a node and round it: the footnote calls; the marks, the latest first; its previous sibling;
--- the names on its spine; the alignments of the table round it
+-- what stands before a node and around it: the footnote calls; the marks, the latest first; its previous sibling;
+-- the names on its spine; the alignments of the table around it
 pub record Before : Type 0 where
   pub calls : List (List ℕ)
   pub marks : List Mark
@@ -97,7 +97,7 @@ pub record Before : Type 0 where
 abbrev pub nothing_before : Before
 nothing_before = record { calls = []; marks = []; previous = None; spine = []; columns = [] }
 
--- the alignments of the table round a node's children
+-- the alignments of the table around a node's children
 abbrev pub columns_inside : Name → Forest → List AlignKind → List AlignKind
 columns_inside name children columns = if is_table name then alignments children else columns
 
@@ -126,7 +126,7 @@ before_next given around name start end children before = record {
 }
 
 -- what children tell at their end: the last one's name, the last contributing one's, and their spine, which
--- begins behind some names where their parent is transparent
+-- begins after some names where their parent is transparent
 abbrev pub passed_over : List Name → Forest → Passed
 passed_over spine children =
     record {
@@ -135,7 +135,7 @@ passed_over spine children =
       spine = told_by (spine ++ spine_names children);
     }
 
--- what a node learns from what stands before it and round it, and of footnote calls before its end
+-- what a node learns from what stands before it and around it, and of footnote calls before its end
 pub record Left : Type 0 where
   pub called : List Called
   pub is_slurping : Bool

@@ -1,5 +1,5 @@
--- What a node knows of the nodes round it and before it. The machine's of it are `told_by`, and the marks by its record
--- of a spine: the meaning has marks of its own.
+-- What a node knows of the nodes around it and before it. The machine's of it are `told_by`, and the marks by its
+-- record of a spine: the meaning has marks of its own.
 use Rattle.std.specs.Prelude.{Bool, true, false, not, ◌&&◌, ◌||◌, if◌then◌else◌, List, [], ◌∷◌, ◌++◌, Option, Some, None, unwrap_or, count_by}
 use Rattle.std.specs.List.{list_any}
 use Rattle.md_base.specs.declared.event.Name.{Name}
@@ -87,7 +87,7 @@ abbrev pub paragraph_marks : Container → List Mark
 paragraph_marks TightList = Sets ∷ []
 paragraph_marks _ = []
 
--- the mark at the exit of a node outside definitions, behind what its spine tells
+-- the mark at the exit of a node outside definitions, after what its spine tells
 abbrev pub exit_marks : Surroundings → Spine → Name → List Mark
 exit_marks around spine CodeFencedFence = fence_marks spine.has_fence
 exit_marks around spine MathFlowFence = fence_marks spine.has_fence
@@ -107,11 +107,11 @@ exit_marks around spine _ = []
 abbrev pub own_marks : Surroundings → Spine → Name → List Mark
 own_marks around spine name = if around.in_definition then [] else exit_marks around spine name
 
--- the names on the spine that a node's children begin behind
+-- the names on the spine that a node's children begin after
 abbrev pub spine_inside : Name → List Name → List Name
 spine_inside name spine = if is_transparent name then spine else []
 
--- the names on the spine behind a node
+-- the names on the spine after a node
 abbrev pub spine_behind : Name → Forest → List Name → List Name
 spine_behind name children spine = spine ++ (if is_transparent name then spine_names children else name ∷ [])
 

@@ -50,7 +50,7 @@ reference_pieces given around left start end =
 abbrev pub is_slurped : Surroundings → Left → Bool
 is_slurped around left = not around.in_definition && left.is_slurping
 
--- a line ending that isn't printed: it is slurped, or stands behind a definition
+-- a line ending that isn't printed: it is slurped, or stands after a definition
 abbrev pub is_dropped : Surroundings → Left → Bool
 is_dropped around left = is_slurped around left || option_map_or is_definition left.previous false
 

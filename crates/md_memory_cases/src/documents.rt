@@ -4,7 +4,7 @@ use crate::log::{Log, again};
 use crate::plain;
 use crate::rows::{NAMED, NAMES, ROWS, Row, Wanted};
 use md_html::{
-    AlignKind, Checked, CompileError, CompileOptions, Name, SafeError, check, compile,
+    AlignKind, Checked, CompileError, CompileOptions, Name, SafeError, SafeHtml, check, compile,
     compile_checked, compile_counted, compile_safe, gfm_table_align,
 };
 use md_script::{RunError, run};
@@ -39,14 +39,22 @@ fn ask<R: Print + AllocGlobal>(
     let is_right = counts(rt.alloc(), log, row, names);
     log.tell(rt, is_right, "compile_counted", row.name)?;
     match checked_of(rt.alloc(), log, row, names) {
-        Ok(checked) => {
-            let is_right = compiles_checked(rt.alloc(), log, row, &checked);
-            log.tell(rt, is_right, "compile_checked", row.name)?;
-            let is_right = aligns(rt.alloc(), log, &checked);
-            log.tell(rt, is_right, "gfm_table_align", row.name)
-        }
+        Ok(checked) => ask_checked(rt, log, row, &checked),
         Err(cause) => log.tell(rt, is_refusal(&cause, &row.wanted), "check", row.name),
     }
+}
+
+/// Makes the calls over what was checked.
+fn ask_checked<R: Print + AllocGlobal>(
+    rt: &R,
+    log: &mut Log,
+    row: &Row,
+    checked: &Checked,
+) -> io::Result<()> {
+    let is_right = compiles_checked(rt.alloc(), log, row, checked);
+    log.tell(rt, is_right, "compile_checked", row.name)?;
+    let is_right = aligns(rt.alloc(), log, checked);
+    log.tell(rt, is_right, "gfm_table_align", row.name)
 }
 
 /// Checks each document and compiles it as safe; then, where asked, makes the calls that read what these answered.
@@ -67,27 +75,40 @@ fn check_rows<R: Print + AllocGlobal>(
 ) -> io::Result<()> {
     for row in rows {
         let checked = checked_of(rt.alloc(), log, row, &[]);
-        let safe = again!(
-            log,
-            Err(SafeError::Compile(CompileError::Memory)),
-            compile_safe(
-                rt.alloc(),
-                row.events,
-                row.document.as_bytes(),
-                &CompileOptions::default(),
-                &[]
-            )
-        );
+        let safe = safe_of(rt.alloc(), log, row);
         if asks_methods {
-            if let Ok(checked) = &checked {
-                plain::ask_of_checked(rt, log, row, checked)?;
-            }
-            if let Ok(html) = &safe {
-                log.tell(rt, is_text(html.as_str(), &row.wanted), "as_str", row.name)?;
-            }
+            ask_methods(rt, log, row, checked.as_ref().ok(), safe.as_ref().ok())?;
         }
     }
     Ok(())
+}
+
+/// Makes the calls that read what was checked and what was compiled as safe.
+fn ask_methods<R: Print>(
+    rt: &R,
+    log: &Log,
+    row: &Row,
+    checked: Option<&Checked>,
+    safe: Option<&SafeHtml>,
+) -> io::Result<()> {
+    if let Some(checked) = checked {
+        plain::ask_of_checked(rt, log, row, checked)?;
+    }
+    match safe {
+        Some(html) => log.tell(rt, is_text(html.as_str(), &row.wanted), "as_str", row.name),
+        None => Ok(()),
+    }
+}
+
+/// The answer of `compile_safe`.
+fn safe_of(alloc: Global, log: &mut Log, row: &Row) -> Result<SafeHtml, SafeError> {
+    let options = CompileOptions::default();
+    let bytes = row.document.as_bytes();
+    again!(
+        log,
+        Err(SafeError::Compile(CompileError::Memory)),
+        compile_safe(alloc, row.events, bytes, &options, &[])
+    )
 }
 
 /// The answer of `check`.

@@ -2,7 +2,7 @@
 
 use std::io;
 
-/// A call's answer; where it is the want of memory, that of the same call made again.
+/// A call's answer; where it is out of memory, that of the same call made again.
 macro_rules! again {
     ($log:expr, $want:pat, $call:expr) => {
         match $call {
@@ -17,14 +17,14 @@ macro_rules! again {
 
 pub(crate) use again;
 
-/// How often a call answered the want of memory.
+/// How often a call answered that it was out of memory.
 #[derive(Drop)]
 pub struct Log {
     pub refusals: usize,
 }
 
 impl Log {
-    /// A call answered the want of memory.
+    /// A call answered that it was out of memory.
     pub fn refuse(&mut self) {
         self.refusals = self.refusals.saturating_add(1);
     }

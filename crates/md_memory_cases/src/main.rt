@@ -1,6 +1,6 @@
 //! Makes each call that takes memory, and those that take none, and writes which of them answered wrong.
 //!
-//! A call that answers the want of memory is made once more, and the second answer counts: so where one request for
+//! A call that runs out of memory is made once more, and the second answer counts: so where one request for
 //! memory is refused the same is written. Standard input says what is asked: `plain` the calls that need nothing that
 //! takes memory, `checked` what is needed for the others that take none, `methods` this and those, else everything.
 #![tactic(auto)]

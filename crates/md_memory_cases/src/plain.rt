@@ -15,16 +15,27 @@ use std::str::FromStr;
 
 /// Makes the calls that ask for nothing that takes memory.
 pub fn ask_each<R: Print>(rt: &R, log: &Log) -> io::Result<()> {
-    let is_right = LineEnding::LineFeed.as_str() == "\n"
-        && LineEnding::from_str("\r\n") == Ok(LineEnding::CarriageReturnLineFeed)
-        && LineEnding::from_str("aaa").is_err();
-    log.tell(rt, is_right, "as_str and from_str", "line endings")?;
-    let options = CompileOptions::default();
-    let is_right = !options.gfm_tagfilter && CompileOptions::gfm().gfm_tagfilter;
-    log.tell(rt, is_right, "default and gfm", "options")?;
-    let is_right = RunError::Line(1).status() == 2 && ServeError::Input.status() == 4;
-    log.tell(rt, is_right, "status", "errors")?;
+    log.tell(rt, endings_answer(), "as_str and from_str", "line endings")?;
+    log.tell(rt, options_answer(), "default and gfm", "options")?;
+    log.tell(rt, errors_answer(), "status", "errors")?;
     log.tell(rt, slices_answer(), "each call but serialize", "slices")
+}
+
+/// Whether line endings have their texts.
+fn endings_answer() -> bool {
+    LineEnding::LineFeed.as_str() == "\n"
+        && LineEnding::from_str("\r\n") == Ok(LineEnding::CarriageReturnLineFeed)
+        && LineEnding::from_str("aaa").is_err()
+}
+
+/// Whether the tag filter is off by default, and on for GFM.
+fn options_answer() -> bool {
+    !CompileOptions::default().gfm_tagfilter && CompileOptions::gfm().gfm_tagfilter
+}
+
+/// Whether errors have their statuses.
+fn errors_answer() -> bool {
+    RunError::Line(1).status() == 2 && ServeError::Input.status() == 4
 }
 
 /// Whether the calls of slices answer over a chunk that is cut within a tab.
@@ -47,25 +58,17 @@ fn slices_answer() -> bool {
 
 /// Makes the calls that ask for what was checked.
 pub fn ask_of_checked<R: Print>(rt: &R, log: &Log, row: &Row, checked: &Checked) -> io::Result<()> {
-    let is_right = checked.events().len() == row.events.len()
-        && checked.visits() == row.events.len()
-        && checked.bytes() == row.document.as_bytes()
-        && checked.names().len() < 2;
+    let is_right = is_kept(row, checked);
     log.tell(rt, is_right, "events, visits, bytes and names", row.name)?;
     log.tell(rt, partners_answer(row, checked), "partner", row.name)?;
-    if checked.enters(0, Name::ListUnordered) {
-        let is_right = !list_loose(checked, 0, false) && !list_loose(checked, 0, true);
-        log.tell(rt, is_right, "list_loose", row.name)?;
-    }
-    if checked.enters(1, Name::ListItem) {
-        let is_right = !list_item_loose(checked, 1) && checked.last_contributing(1) == Some(10);
-        log.tell(
-            rt,
-            is_right,
-            "list_item_loose and last_contributing",
-            row.name,
-        )?;
-    }
+    log.tell(rt, list_answers(checked), "list_loose", row.name)?;
+    let is_right = item_answers(checked);
+    log.tell(
+        rt,
+        is_right,
+        "list_item_loose and last_contributing",
+        row.name,
+    )?;
     if checked.enters(1, Name::Link)
         && checked.exits(5, Name::Data)
         && checked.exits(6, Name::LabelText)
@@ -73,6 +76,30 @@ pub fn ask_of_checked<R: Print>(rt: &R, log: &Log, row: &Row, checked: &Checked)
         log.tell(rt, link_answers(checked), "the calls of a link", row.name)?;
     }
     Ok(())
+}
+
+/// Whether the events and the bytes are kept, with one visit of each event.
+fn is_kept(row: &Row, checked: &Checked) -> bool {
+    checked.events().len() == row.events.len()
+        && checked.visits() == row.events.len()
+        && checked.bytes() == row.document.as_bytes()
+        && checked.names().len() < 2
+}
+
+/// Whether a list that is the first node isn't loose.
+fn list_answers(checked: &Checked) -> bool {
+    if checked.enters(0, Name::ListUnordered) {
+        return !list_loose(checked, 0, false) && !list_loose(checked, 0, true);
+    }
+    true
+}
+
+/// Whether an item that is the second node isn't loose, and has the contributing child that it has.
+fn item_answers(checked: &Checked) -> bool {
+    if checked.enters(1, Name::ListItem) {
+        return !list_item_loose(checked, 1) && checked.last_contributing(1) == Some(10);
+    }
+    true
 }
 
 /// Whether each event's partner has it as its partner.

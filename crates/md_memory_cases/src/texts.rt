@@ -110,13 +110,24 @@ pub fn ask_each<R: Print + AllocGlobal>(rt: &R, log: &mut Log) -> io::Result<()>
 /// Makes each of these calls.
 fn ask_cases<R: Print + AllocGlobal>(rt: &R, log: &mut Log, cases: &[Case]) -> io::Result<()> {
     for (call, tool, text, wanted) in cases {
-        let is_right = match again!(log, Err(AllocError), answer(rt.alloc(), tool, text)) {
-            Ok(answer) => answer.as_ref().map(|text| text.as_str()) == *wanted,
-            Err(AllocError) => false,
-        };
+        let is_right = is_answered(rt.alloc(), log, tool, text, *wanted);
         log.tell(rt, is_right, call, text)?;
     }
     Ok(())
+}
+
+/// Whether a call answers what is wanted.
+fn is_answered(
+    alloc: Global,
+    log: &mut Log,
+    tool: &Tool,
+    text: &str,
+    wanted: Option<&str>,
+) -> bool {
+    match again!(log, Err(AllocError), answer(alloc, tool, text)) {
+        Ok(answer) => answer.as_ref().map(|text| text.as_str()) == wanted,
+        Err(AllocError) => false,
+    }
 }
 
 /// What a call answers.

@@ -44,7 +44,7 @@ pub record IsPageOf (title body text : List ℕ) : Type 0 where
   pub safe_links : IsTrue (all_attributes is_safe_link inside)
   pub safe_images : IsTrue (all_attributes is_safe_image inside)
 
--- the text that is given round a title and a body
+-- the text that is given around a title and a body
 abbrev pub page_text : List ℕ → List ℕ → List ℕ
 page_text title body =
     codes "<!doctype html>\n<html><head><meta charset=\"utf-8\" /><title>"

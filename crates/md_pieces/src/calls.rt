@@ -31,7 +31,7 @@ fn tags(
     put_tags(printer, target.as_str(), id.as_str(), number.as_str())
 }
 
-/// Prints the tags of a call round its number.
+/// Prints the tags of a call around its number.
 fn put_tags(printer: &mut Printer, footnote: &str, id: &str, number: &str) -> Result<(), AllocError>
     ensures { OnOk result (printer.new ≡ printing [] (Text (codes "<sup><a href=\"#") ∷ Text footnote.now ∷ Text (codes "\" id=\"") ∷ Text id.now
         ∷ Text (codes "\" data-footnote-ref=\"\" aria-describedby=\"footnote-label\">") ∷ Text number.now ∷ Text (codes "</a></sup>") ∷ []) printer.old) }
@@ -45,7 +45,7 @@ fn put_tags(printer: &mut Printer, footnote: &str, id: &str, number: &str) -> Re
     printer.put("</a></sup>")
 }
 
-/// Prints a call, numbered behind those that were seen: nothing in an image.
+/// Prints a call, numbered after those that were seen: nothing in an image.
 pub fn call(
     printer: &mut Printer,
     source: &Source,

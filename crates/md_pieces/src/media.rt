@@ -125,7 +125,7 @@ fn link_end(alloc: Global, printer: &mut Printer, label: Rope) -> Result<(), All
     printer.put("</a>")
 }
 
-/// Prints a link to a target round its label.
+/// Prints a link to a target around its label.
 fn link_to(
     alloc: Global,
     printer: &mut Printer,

@@ -63,7 +63,7 @@ fn is_dropped_when(in_definition: bool, slurping: bool, behind_definition: bool)
     !in_definition && slurping || behind_definition
 }
 
-/// A line ending that isn't printed: it is slurped, or stands behind a definition.
+/// A line ending that isn't printed: it is slurped, or stands after a definition.
 fn is_dropped(exit: &Exit) -> bool
     ensures { result ≡ texts.is_dropped exit.now.around (left_at exit.now [] []) }
 {

@@ -20,15 +20,6 @@ encoded-at html bs other i h plain same =
     ∙ sym (encoded-append html (take i bs) (get_or bs i 0 ∷ drop (i + 1) bs))
     ∙ ap (λ x. encoded html x) (split bs i h)
 
--- one more byte that stays
-pub plain-more : (html : Bool) (bs : List ℕ) (i : ℕ) → i < length bs → encoded html (take i bs) ≡ take i bs →
-    encoded_byte html (get_or bs i 0) ≡ get_or bs i 0 ∷ [] →
-    encoded html (take i bs ++ get_or bs i 0 ∷ []) ≡ take i bs ++ get_or bs i 0 ∷ []
-plain-more html bs i h plain same =
-    encoded-append html (take i bs) (get_or bs i 0 ∷ [])
-    ∙ ap (λ x. x ++ (encoded_byte html (get_or bs i 0) ++ [])) plain
-    ∙ ap (λ x. take i bs ++ (x ++ [])) same
-
 -- a text is printed in three parts
 pub printed-parts : (xs ys zs all : List ℕ) (state : State) → xs ++ (ys ++ zs) ≡ all →
     printing [] (said zs) (printing [] (said ys) (printing [] (said xs) state)) ≡ printing [] (said all) state

@@ -64,7 +64,7 @@ pub record Frame : Type 0 where
 
 -- the page, those below it (the newest first), what was seen, whether the last mark is a setting one, the innermost
 -- node
--- that is open, those round it (the innermost first), and the alignments of the tables that are open (the innermost
+-- that is open, those around it (the innermost first), and the alignments of the tables that are open (the innermost
 -- first)
 pub record State : Type 0 where
   pub page : Page
@@ -75,7 +75,7 @@ pub record State : Type 0 where
   pub frames : List Frame
   pub tables : List (List AlignKind)
 
--- the document round all nodes
+-- the document around all nodes
 abbrev pub document_frame : Frame
 document_frame = record {
   around = outermost;

@@ -26,7 +26,7 @@ pub struct Exit {
     pub around: Surroundings,
     /// The name of its previous sibling.
     pub previous: Option<Name>,
-    /// The spine that it stands behind.
+    /// The spine that it stands after.
     pub spine: Spine,
     /// Where it starts.
     pub start: Point,

@@ -394,7 +394,7 @@ impl Printer {
     }
 }
 
-/// The document round all nodes.
+/// The document around all nodes.
 const DOCUMENT_FRAME: Frame = Frame {
     around: Surroundings {
         container: Container::Nothing,

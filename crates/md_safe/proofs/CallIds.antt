@@ -1,16 +1,16 @@
--- The ids of footnote calls, in their order: those behind some calls, and those of calls one after another.
+-- The ids of footnote calls, in their order: those after some calls, and those of calls one after another.
 use Rattle.std.proofs.Common.{◌≡◌, ℕ, suc, List, [], ◌∷◌, ◌++◌, sym, ap, ◌∙◌, append_assoc, append-nil}
 use Rattle.md_text.specs.References.{read_back}
 use Rattle.md_meaning.specs.declared.options.CompileOptions.{CompileOptions}
 use Rattle.md_meaning.specs.Calls.{tally, number_among, count_among}
 use Rattle.md_meaning.specs.Footnotes.{call_id}
 
--- the id of a call behind others, its references read back
+-- the id of a call after others, its references read back
 abbrev pub id_behind : CompileOptions → List (List ℕ) → List ℕ → List ℕ
 id_behind options before identifier = read_back (call_id options identifier (number_among (tally before) identifier)
     (suc (count_among (tally before) identifier)))
 
--- the ids of some calls behind others
+-- the ids of some calls after others
 abbrev pub ids_behind : CompileOptions → List (List ℕ) → List (List ℕ) → List (List ℕ)
 ids_behind options before [] = []
 ids_behind options before (identifier ∷ calls) =

@@ -1,4 +1,4 @@
--- What holds of the text of each content, and what stands in a node and behind it: what the induction claims of each
+-- What holds of the text of each content, and what stands in a node and after it: what the induction claims of each
 -- spine.
 use Rattle.std.proofs.Common.{◌≡◌, ℕ, Bool, true, false, not, ◌||◌, cond, List, [], ◌∷◌, ◌++◌, refl, sym, ap, ◌∙◌, subst, inl, append_assoc, append-nil}
 use Rattle.std.specs.List.{list_any}
@@ -67,7 +67,7 @@ holds-nothing p escaping in_image MetaAlone h = refl
 holds-nothing p escaping in_image Done h = inl refl
 holds-nothing p escaping in_image Nothing h = refl
 
--- what stays behind each name stays behind nodes
+-- what stays after each name stays after nodes
 pub after : (Q : Content → Type 0) → ((content : Content) (name : Name) → Q content → Q (content_past content name)) →
     (content : Content) (forest : Forest) → Q content → Q (content_after content forest)
 after Q past content Empty h = h
@@ -359,7 +359,7 @@ later-math_fence _ = refl
 later-after : (content : Content) (forest : Forest) → IsLater content → IsLater (content_after content forest)
 later-after content forest h = after IsLater later-past content forest h
 
--- behind a fence no first one is to come
+-- after a fence no first one is to come
 later-fenced : (content : Content) (names : List Name) → Follows content names → list_any fence_name names ≡ true →
     IsLater content
 later-fenced FirstFence names f h = lie (sym f ∙ h)
@@ -379,7 +379,7 @@ fenced-after bytes content children built f h =
     later-fenced (content_after content children) (spine_names children)
     (follows-after bytes content [] children built f) (sym (same_fences (spine_names children)) ∙ h)
 
--- behind a node's children no first fence is to come
+-- after a node's children no first fence is to come
 pub later-inside : (bytes : List ℕ) (content : Content) (name : Name) (start end : Point) (children : Forest) →
     may_stand content name ≡ true → IsFit bytes name start end children →
     IsBuilt bytes (content_of name content) children
@@ -477,7 +477,7 @@ past-blocks MetaAlone name h = h
 past-blocks Done name h = h
 past-blocks Nothing name h = h
 
--- what is asked of blocks alone is asked behind nodes of no more
+-- what is asked of blocks alone is asked after nodes of no more
 pub asked-behind : (A : Type 0) (content : Content) (name : Name) (children : Forest) →
     (is_blocks content ≡ true → A) → is_blocks (content_behind content name children) ≡ true → A
 asked-behind A content name children asked =

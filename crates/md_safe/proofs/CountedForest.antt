@@ -82,7 +82,7 @@ node-spent d w t name waits m f = by (is_transparent name) refl
           escaping = f.escaping;
         }) f.underlined.0 b
 
--- what one node and what is behind it cost
+-- what one node and what is after it cost
 due-parts : (d : Document) (w : List ℕ) (t : Place) (name : Name) →
     due d w t.before (Node name t.start t.end t.children t.rest)
     ≡ cost_at d w t name + due d w (before_next d.given t.around name t.start t.end t.children t.before) t.rest

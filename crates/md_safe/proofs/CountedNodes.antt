@@ -60,7 +60,7 @@ counted_in d w n noted unnoted = record {
 abbrev pub due : Document → List ℕ → Before → Forest → ℕ
 due d w before forest = occurs w (ids_behind d.given.options before.calls (calls_of d.given.bytes forest))
 
--- what some nodes print has the id so often, a heading that waits behind them so often, and their footnotes so often:
+-- what some nodes print has the id so often, a heading that waits after them so often, and their footnotes so often:
 -- together at most so often as the heading that waits before them, and as their calls
 pub record Spent (d : Document) (w : List ℕ) (around : Surroundings) (before : Before) (waits : Bool) (m : ℕ)
     (forest : Forest) : Type 0 where
@@ -192,7 +192,7 @@ pub record Stands (d : Document) (t : Place) (name : Name) : Type 0 where
   pub built : IsBuilt d.given.bytes Blocks (Node name t.start t.end t.children t.rest)
   pub escaping : t.around.is_escaping ≡ true
 
--- no other name than these waits for an underline behind it, or keeps it waiting
+-- no other name than these waits for an underline after it, or keeps it waiting
 no_wait : (name : Name) → is_setext name ≡ false → is_blocks (content_of name Blocks) ≡ true → (waits : Bool) →
     waits_past waits name ≡ false
 no_wait HeadingSetextText other blocks waits = lie (sym other)

@@ -97,7 +97,7 @@ texts-for w n (footnote ∷ footnotes) identifiers apart h =
     for-more w (h.0 + h.1) n (footnote ∷ footnotes) identifiers h.2
     (for-one w h.0 h.1 footnote footnotes identifiers apart h.3 (texts-for w h.1 footnotes identifiers apart h.4))
 
--- an item's tags round a text
+-- an item's tags around a text
 item-turn : (d : Document) (w : List ℕ) (n : ℕ) (v : List ℕ) → Escaped v →
     Turns (counting w n (λ _. Unit {0}) tt) (counting w (occurs w (read_back v ∷ []) + n) (λ _. Unit {0}) tt)
     (codes "<li id=\"" ++ (v ++ (codes "\">" ++ []))) (codes "</li>")
@@ -139,7 +139,7 @@ items-counted d w footnotes number n (called ∷ others) texts =
     called.count (item-turn d w texts.0 id (footnote_id-escaped d.given.options called.identifier number)) texts.3)
     (items-counted d w footnotes (suc number) texts.1 others texts.4)
 
--- the heading, and the tags of the section round its items
+-- the heading, and the tags of the section around its items
 section-counted : (d : Document) (w : List ℕ) → KeepsGrammar d.given.options → (footnotes : List Footnote) (n : ℕ)
     (called : List Called) → TextsFor w n footnotes (map (λ called. called.identifier) called)
     → Prints (plain_setting d w 0)

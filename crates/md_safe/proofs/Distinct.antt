@@ -117,7 +117,7 @@ prefix-back options x = by (option_map string_bytes options.gfm_footnote_clobber
 
 -- ---- ids by number
 
--- what stands behind the prefix in the id of a footnote, and in that of a call
+-- what stands after the prefix in the id of a footnote, and in that of a call
 abbrev note_tail : ℕ → List ℕ
 note_tail number = codes "fn-" ++ decimal number
 

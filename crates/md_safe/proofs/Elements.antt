@@ -49,7 +49,7 @@ adds-setext p ending recalls h rank fits =
     (adds-weaker p ending p.noted p.holds (Recalled ∷ []) recalls (adds-recalled p ending))
     (framed-text p ending (heading_closing rank))
 
--- some texts behind pieces that add an escaped one
+-- some texts after pieces that add an escaped one
 pub adds-framed_flat : (p : Claim) (ending : List ℕ) (xs zs : List Piece) → are_texts zs ≡ true →
     Adds p ending Escaped xs → Adds p ending (IsFramed (flat zs)) (xs ++ zs)
 adds-framed_flat p ending xs zs texts a =

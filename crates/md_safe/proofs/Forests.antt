@@ -70,7 +70,7 @@ spot_of given around before start end name children rest = record {
   children = children;
 }
 
--- nodes print what may stand where they are, before what is printed behind them
+-- nodes print what may stand where they are, before what is printed after them
 pub forest-prints : (s : Setting) (forest : Forest) (around : Surroundings) (before : Before) (content : Content) →
     IsBuilt s.given.bytes content forest → Suits around.is_escaping around.in_image content →
     Follows content before.spine → (is_blocks content ≡ true → IsWhole s.p)

@@ -1,4 +1,4 @@
--- A node of any content, before what is printed behind it: the step of the induction in `Forests.antt`.
+-- A node of any content, before what is printed after it: the step of the induction in `Forests.antt`.
 use Rattle.std.proofs.Common.{◌≡◌, ℕ, Bool, true, false, not, ◌||◌, cond, List, [], ◌∷◌, ◌++◌, refl, sym, ap, ◌∙◌, subst, inl, inr, append_assoc, append-nil, codes}
 use Rattle.std.specs.List.{list_any}
 use Rattle.std.proofs.lemmas.Bool.{cond_both, or_cases}
@@ -169,7 +169,7 @@ pub not_part : (part : Bool) → cond part false true ≡ true → part ≡ fals
 not_part true h = lie h
 not_part false h = refl
 
--- a node that isn't transparent, and what is printed behind it
+-- a node that isn't transparent, and what is printed after it
 pub solid-node : (s : Setting) (t : Spot) (content : Content) (name : Name) (names : List Name) →
     t.left.spine.has_fence ≡ list_any fence_name names → is_transparent name ≡ false → may_stand content name ≡ true →
     IsFitAt s t name
@@ -235,7 +235,7 @@ inside-alone s t content name stands fit built inner a =
     (holds-nothing s.p around.is_escaping around.in_image (content_after (content_of name content) t.children)
     (later-inside s.given.bytes content name t.start t.end t.children stands fit built))))
 
--- a node, and what is printed behind it
+-- a node, and what is printed after it
 pub any-node : (s : Setting) (t : Spot) (content : Content) (name : Name) (names : List Name) →
     t.left.spine.has_fence ≡ list_any fence_name names → (is_transparent name || may_stand content name) ≡ true →
     IsFitAt s t name

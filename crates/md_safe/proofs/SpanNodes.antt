@@ -28,7 +28,7 @@ use Rattle.md_safe.proofs.Elements.{IsDone, bracket-plain, adds-code, adds-math,
 use Rattle.md_safe.proofs.Contents.{Holds}
 use Rattle.md_safe.proofs.Spot.{Setting, Spot, node_pieces, Here, Prints, Inside, IsWide, IsBeside, escaped-beside, PassesIds, encoded-escaped, prints-alone, prints-both, target-title}
 
--- tags outside images round what stands in a node
+-- tags outside images around what stands in a node
 pub prints-pair : (s : Setting) (in_image : Bool) (holds : List ℕ → Type 0) → IsWide s.p in_image holds →
     (o c : List ℕ) → Bracket s.p o c → (inner : List Piece) → Prints s holds inner
     → Prints s holds ((cond in_image [] (said o)) ++ (inner ++ ((cond in_image [] (said c)) ++ [])))

@@ -86,7 +86,7 @@ Inside s t content name inner =
     Adds s.p s.given.ending (Holds s.p (inside s.given.options (is_loose t.children) name t.around).is_escaping
     (inside s.given.options (is_loose t.children) name t.around).in_image (content_of name content)) inner
 
--- holds of a text that is escaped where that is asked for, and with one behind it
+-- holds of a text that is escaped where that is asked for, and with one after it
 pub record IsNarrow (escaping : Bool) (holds : List ℕ → Type 0) : Type 0 where
   pub own : (x : List ℕ) → (escaping ≡ true → Escaped x) → holds x
   pub both : (x y : List ℕ) → holds x → (escaping ≡ true → Escaped y) → holds (x ++ y)
@@ -95,7 +95,7 @@ pub record IsNarrow (escaping : Bool) (holds : List ℕ → Type 0) : Type 0 whe
 abbrev pub IsBeside : (Attribute → Bool) → Bool → List ℕ → Type 0
 IsBeside test in_image x = (in_image ≡ true → Escaped x) × (in_image ≡ false → HasReadingWith test x)
 
--- holds of escaped texts, with such a text behind, and outside images of what is claimed
+-- holds of escaped texts, with such a text after them, and outside images of what is claimed
 pub record IsWide (p : Claim) (in_image : Bool) (holds : List ℕ → Type 0) : Type 0 where
   pub own : (x : List ℕ) → Escaped x → holds x
   pub both : (x y : List ℕ) → holds x → IsBeside p.test in_image y → holds (x ++ y)
@@ -140,12 +140,12 @@ narrow-escaping escaping = record { own = λ x h. h; both = λ x y f g e. escape
 pub encoded-escaped : (escaping : Bool) (x : List ℕ) → escaping ≡ true → Escaped (encoded escaping x)
 encoded-escaped escaping x e = subst (λ b. Escaped (encoded b x)) (sym e) (is_escaped-encoded x)
 
--- with nothing behind it
+-- with nothing after it
 pub prints-alone : (s : Setting) (holds : List ℕ → Type 0) (xs : List Piece) → Prints s holds xs →
     Prints s holds (xs ++ [])
 prints-alone s holds xs a = subst (Prints s holds) (sym (append-nil xs)) a
 
--- what stands in a node, and what it prints behind that
+-- what stands in a node, and what it prints after that
 pub prints-both : (s : Setting) (holds beside : List ℕ → Type 0) →
     ((x y : List ℕ) → holds x → beside y → holds (x ++ y)) →
     (xs ys : List Piece) → Prints s holds xs → Prints s beside ys → Prints s holds (xs ++ (ys ++ []))

@@ -29,11 +29,11 @@ pub record IsTest (p : Attribute → Bool) (options : CompileOptions) : Type 0 w
   pub image : (destination : List ℕ) → p (attribute (codes "src") (src_of options destination)) ≡ true
   pub html : options.allow_dangerous_html ≡ false
 
--- two texts round one of which something is claimed, so that something is claimed of all
+-- two texts around one of which something is claimed, so that something is claimed of all
 abbrev pub Turns : Claim → Claim → List ℕ → List ℕ → Type 0
 Turns p q o c = (x : List ℕ) → p.holds x → q.holds (o ++ (x ++ c))
 
--- two texts that keep a claim round one of which it is made
+-- two texts that keep a claim around one of which it is made
 abbrev pub Bracket : Claim → List ℕ → List ℕ → Type 0
 Bracket p o c = Turns p p o c
 
@@ -148,7 +148,7 @@ pub framed-forced : (p : Claim) (ending c : List ℕ) → Escaped ending →
     Adds p ending (IsFramed c) (Forced ∷ Text c ∷ [])
 framed-forced p ending c h = adds-framed p ending c (Forced ∷ []) [] (adds-forced p ending h) (adds-nil p ending)
 
--- what is claimed before or behind what has a reading
+-- what is claimed before or after what has a reading
 pub adds-before : (p : Claim) (ending : List ℕ) (xs ys : List Piece) → Adds p ending (HasReadingWith p.test) xs →
     Adds p ending p.holds ys → Adds p ending p.holds (xs ++ ys)
 adds-before p ending xs ys a b = adds-append p ending (HasReadingWith p.test) p.holds p.holds xs ys p.before a b

@@ -87,7 +87,7 @@ ending-escaped : (options : CompileOptions) (bytes : List ℕ) (place : Option P
 ending-escaped options bytes None h = default-escaped options.default_line_ending
 ending-escaped options bytes (Some place) h = line_ends-escaped (text_of bytes place.start place.end) h
 
--- blocks stand behind blocks
+-- blocks stand after blocks
 blocks-stay : (forest : Forest) → content_after Blocks forest ≡ Blocks
 blocks-stay forest = after (λ content. content ≡ Blocks)
     (λ content name e. ap (λ content. content_past content name) e) Blocks forest refl

@@ -1,5 +1,5 @@
 -- Lines that say nothing, and lines cut from an input.
-use Rattle.std.proofs.Common.{◌≡◌, ℕ, ◌<◌, true, false, List, [], ◌∷◌, length, Option, Some, None, refl, sym, ap, ◌∙◌, arith}
+use Rattle.std.proofs.Common.{◌≡◌, ℕ, true, false, List, [], ◌∷◌, length, Option, Some, None, refl, sym, ap, ◌∙◌}
 use Rattle.std.specs.List.{before_first, after_first, list_any, onto_first, position_or_len}
 use Rattle.std.proofs.lemmas.Bool.{ltb-true, or_parts}
 use Rattle.std.proofs.lemmas.List.Splits.{slice_split_first, slice_split-cons_no}
@@ -26,16 +26,12 @@ unplaced (Some k) None point e = refl
 unplaced (Some k) (Some n) None e = refl
 unplaced (Some k) (Some n) (Some p) e = cc
 
--- a sign and a name with no space behind it
+-- a sign and a name with no space after it
 pub without_place : (line : List ℕ) (sign : ℕ) (rest : List ℕ) → line ≡ sign ∷ rest → after_first is_space rest ≡ [] →
     None ≡ event_of line
 without_place line sign rest e nothing =
     unplaced (kind_of sign) (name_of (before_first is_space rest)) (point_of (after_first is_space rest))
     (ap point_of nothing) ∙ ap event_of (sym e)
-
-pub event_line_has_bytes : (line : List ℕ) (event : Event) → Some event ≡ event_of line → 0 < length line
-event_line_has_bytes [] event e = cc
-event_line_has_bytes (sign ∷ rest) event e = omega arith
 
 -- ---- the first line
 

@@ -11,13 +11,10 @@ use Rattle.md_html.specs.declared.safe_html.SafeError.{SafeError}
 use Rattle.md_html.specs.declared.safe_html.SafeError.TheVariants as safe
 use Rattle.md_meaning.specs.declared.options.CompileOptions.{CompileOptions}
 use Rattle.md_script.specs.declared.error.RunError.{RunError}
-use Rattle.md_script.specs.declared.error.RunError.TheVariants as error
 use Rattle.md_script.specs.Error.{run_error_of}
-use Rattle.md_script.specs.Script.{StandsFor, Explains}
-use Rattle.md_script.specs.Run.{document_of, ExplainsEvents, ExplainsRun}
-use Rattle.md_script.specs.SafeRun.{ExplainsSafeEvents, ExplainsSafeRun, safe_run_error_of}
+use Rattle.md_script.specs.Run.{document_of, ExplainsEvents}
+use Rattle.md_script.specs.SafeRun.{ExplainsSafeEvents, safe_run_error_of}
 use Rattle.md_script.specs.declared.error.SafeRunError.{SafeRunError}
-use Rattle.md_script.specs.declared.error.SafeRunError.TheVariants as unsafe_run
 
 pub refused : (events : List Event) (bytes : List ℕ) (why : CompileError) → IsRefusal (document_of events bytes) why →
     ExplainsEvents events bytes (run_error_of why)
@@ -32,20 +29,6 @@ told (Ok x) why given events bytes same h refusal = tt
 told (Err made) why given events bytes same h refusal =
     subst (λ es. ExplainsEvents es bytes made) same (subst (λ error. ExplainsEvents given bytes error) (sym h)
     (refused given bytes why refusal))
-
--- a script that was read, with what the compiler answers
-pub explained : (input : List ℕ) (events : List Event) (bytes : List ℕ) (options : CompileOptions) (why : RunError) →
-    StandsFor input events bytes options → ExplainsEvents events bytes why → ExplainsRun input why
-explained input events bytes options error.Memory stands h = tt
-explained input events bytes options (error.Line number) stands h = absurd h
-explained input events bytes options (error.Event index rule) stands h =
-    record { events = events; bytes = bytes; options = options; stands = stands; refused = h }
-
--- a script that wasn't read
-pub unread : (input : List ℕ) (why : RunError) → Explains input why → ExplainsRun input why
-unread input error.Memory h = tt
-unread input (error.Line number) h = h
-unread input (error.Event index rule) h = absurd h
 
 -- what is said of a refusal in five claims is said in one
 pub refusal_of : (given : Document) (why : SafeError) → OfCompile (IsOrder given) why → OfCompile (IsMdx given) why →
@@ -71,20 +54,3 @@ told_safely (Err made) why given events bytes options same h refused_for refusal
     subst (λ es. ExplainsSafeEvents es bytes options made) same
     (subst (λ error. ExplainsSafeEvents given bytes options error) (sym h)
     (refused_safely given bytes options why refused_for refusal))
-
--- a script that was read, with what the safe compiler answers
-pub explained_safely : (input : List ℕ) (events : List Event) (bytes : List ℕ) (options : CompileOptions)
-    (why : SafeRunError) → StandsFor input events bytes options → ExplainsSafeEvents events bytes options why →
-    ExplainsSafeRun input why
-explained_safely input events bytes options unsafe_run.Options stands h =
-    record { events = events; bytes = bytes; options = options; stands = stands; unsafe = h }
-explained_safely input events bytes options (unsafe_run.Run error.Memory) stands h = tt
-explained_safely input events bytes options (unsafe_run.Run (error.Line number)) stands h = absurd h.1
-explained_safely input events bytes options (unsafe_run.Run (error.Event index rule)) stands h =
-    record { events = events; bytes = bytes; options = options; stands = stands; safe = h.0; refused = h.1 }
-
--- a script that wasn't read
-pub unread_safely : (input : List ℕ) (why : RunError) → Explains input why → ExplainsSafeRun input (unsafe_run.Run why)
-unread_safely input error.Memory h = tt
-unread_safely input (error.Line number) h = h
-unread_safely input (error.Event index rule) h = absurd h

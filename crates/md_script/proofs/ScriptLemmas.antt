@@ -28,17 +28,6 @@ pub record Progress (input : List ℕ) (number : ℕ) (events : List Event) (set
   pub counted : number ≡ length seen
   pub short : 2 * number + length rest ≤ length input
 
-pub at_start : (input : List ℕ) → Progress input 0 [] [] input
-at_start input = record {
-  seen = [];
-  whole = refl;
-  reads = tt;
-  says = refl;
-  sets = refl;
-  counted = refl;
-  short = omega arith;
-}
-
 reads_push : (earlier seen : List (List ℕ)) (line : List ℕ) → ReadsAfter earlier seen →
     is_readable_after (earlier ++ seen) line ≡ true → ReadsAfter earlier (seen ++ line ∷ [])
 reads_push earlier [] line reads readable = (
@@ -157,7 +146,7 @@ script_ends {settings} known line bytes document options cut ends joined has = r
   rest = joined;
 }
 
--- the document behind the line, or none
+-- the document after the line, or none
 pub script_ends_at : {input rest : List ℕ} {number : ℕ} {events : List Event} {settings : List (List ℕ)} →
     Progress input number events settings rest → (line : List ℕ) (following : Option (Bor (List ℕ)))
     (document empty : Bor (List ℕ)) (options : CompileOptions) →

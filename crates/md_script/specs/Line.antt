@@ -35,7 +35,7 @@ is_dot byte = byte == 46
 abbrev pub is_space : ℕ → Bool
 is_space byte = byte == 32
 
--- the columns behind a dot, none where there is no dot
+-- the columns after a dot, none where there is no dot
 abbrev pub columns_of : List ℕ → Option ℕ
 columns_of place = if list_any is_dot place then number_of 3 (after_first is_dot place) else Some 0
 

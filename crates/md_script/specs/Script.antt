@@ -19,11 +19,11 @@ lines_of input = slice_split is_line_feed input
 abbrev pub end_line : List ℕ
 end_line = codes "--"
 
--- a line is readable behind these: an event, or an option that none of them sets
+-- a line is readable after these: an event, or an option that none of them sets
 abbrev pub is_readable_after : List (List ℕ) → List ℕ → Bool
 is_readable_after earlier line = is_some (event_of line) || is_setting line && is_new earlier (option_name line)
 
--- each line is readable behind the earlier ones and those before it
+-- each line is readable after the earlier ones and those before it
 abbrev pub ReadsAfter : List (List ℕ) → List (List ℕ) → Type 0
 ReadsAfter earlier [] = Unit {0}
 ReadsAfter earlier (line ∷ lines) = IsTrue (is_readable_after earlier line) × ReadsAfter (earlier ++ line ∷ []) lines

@@ -42,7 +42,7 @@ pub record IsServed (left leaves held holds : Option (List ℕ)) : Type 0 where
 abbrev pub IsTold : Option (List ℕ) → Option (List ℕ) → RunError → Type 0
 IsTold left leaves cause = (input : List ℕ) × IsReadWhole left leaves input × ExplainsRun input cause
 
--- why a script was not served; of want of memory and of failing reads nothing is claimed
+-- why a script was not served; nothing is claimed where it is out of memory or a read fails
 abbrev pub ExplainsServe : Option (List ℕ) → Option (List ℕ) → ServeError → Type 0
 ExplainsServe left leaves (Run Memory) = Unit {0}
 ExplainsServe left leaves (Run (Line number)) = IsTold left leaves (Line number)

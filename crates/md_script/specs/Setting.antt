@@ -42,7 +42,7 @@ is_among names text = list_any (λ name. bytes_eq name text) names
 abbrev pub is_equals : ℕ → Bool
 is_equals byte = byte == 61
 
--- a name and a value that may stand round the first `=`
+-- a name and a value that may stand around the first `=`
 abbrev pub is_assignment : List ℕ → List ℕ → Bool
 is_assignment name value = if bytes_eq name ending_name then is_some (ending_named value)
     else is_among text_names name && is_utf8 value
@@ -55,7 +55,7 @@ is_setting (sign ∷ rest) =
     && (if list_any is_equals rest then is_assignment (before_first is_equals rest) (after_first is_equals rest)
     else is_among flag_names rest)
 
--- the name behind `!`
+-- the name after `!`
 abbrev pub option_name : List ℕ → Option (List ℕ)
 option_name [] = None
 option_name (sign ∷ rest) = if sign == 33 then Some (before_first is_equals rest) else None
@@ -68,7 +68,7 @@ is_name name (Some other) = bytes_eq other name
 abbrev pub is_given : List (List ℕ) → List ℕ → Bool
 is_given lines name = list_any (λ line. is_name name (option_name line)) lines
 
--- what stands behind the first `=`, which is UTF-8 in a readable line
+-- what stands after the first `=`, which is UTF-8 in a readable line
 abbrev pub value_of : List ℕ → Option (List ℕ)
 value_of line = text_when true (after_first is_equals line)
 

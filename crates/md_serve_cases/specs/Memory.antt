@@ -4,13 +4,13 @@ use Rattle.md_script.specs.Run.{IsTextOf, ExplainsRun}
 use Rattle.md_script.specs.declared.serving.ServeError.{ServeError}
 use Rattle.md_script.specs.declared.serving.ServeError.TheVariants.{Run, Input, Output}
 
--- the script has a text, and behind what was there stands this text
+-- the script has a text, and after what was there stands this text
 pub record IsAppended (script before behind : List ℕ) : Type 0 where
   pub text : List ℕ
   pub compiled : IsTextOf script text
   pub written : behind ≡ before ++ text
 
--- the script has a text, and behind what was there stands the front of it
+-- the script has a text, and after what was there stands the front of it
 pub record IsPartAppended (script before behind : List ℕ) : Type 0 where
   pub front : List ℕ
   pub others : List ℕ

@@ -19,7 +19,7 @@ use Rattle.md_pattern.specs.Spine.{IsTail, IsGrouped, Matches}
 use Rattle.md_shape.specs.Built.{Content, Blocks, Spans, Strings, FirstFence, FirstMathFence, Chunks, InfoAndMeta, MetaAlone, Done, Nothing}
 use Rattle.md_shape.proofs.Symbols.{may_show, past, admits, same_content, item_admits, pattern_admits}
 
--- what may stand at the beginning may stand behind others
+-- what may stand at the beginning may stand after others
 may_show-behind : (content : Content) (symbol : Symbol) → may_show false content symbol ≡ true →
     may_show true content symbol ≡ true
 may_show-behind Chunks symbol h = lie h
@@ -70,11 +70,11 @@ taken test (member ∷ symbols) symbol seen h =
     by true e seen here later = subst (λ s. test s ≡ true) (same_true the_type tt member symbol e) here
     by false e seen here later = later seen
 
--- one symbol of an item, and what is left behind it
+-- one symbol of an item, and what is left after it
 abbrev pub one_admits : (Bool → Content → Bool) → Bool → Content → Symbol → Bool
 one_admits left behind content member = may_show behind content member && left true (past content member)
 
--- the rest may stand behind what is left
+-- the rest may stand after what is left
 abbrev Admits : (Bool → Content → Bool) → List Symbol → Type 0
 Admits left others = (behind : Bool) (content : Content) → left behind content ≡ true →
     admits behind content others ≡ true
@@ -131,7 +131,7 @@ fits (item ∷ items) firsts fit behind content h =
     (item_fits item.times item.class (λ b c. pattern_admits items b c) fit.1 fit.0
     (λ b c left. fits items fit.1 fit.5 b c left) fit.4 fit.3 behind content h)
 
--- what follows in a group may stand behind its first symbol
+-- what follows in a group may stand after its first symbol
 endings_admit : (endings : ℕ) (others : List Symbol) → admits true Blocks others ≡ true →
     admits true Blocks ((replicate endings LineEnding ++ SetextUnderline ∷ []) ++ others) ≡ true
 endings_admit zero others h = h

@@ -235,7 +235,7 @@ inner-decodes bytes names behind (Solid seen usual reading) n children around be
     refl)
 inner-decodes bytes names behind Mdx n children around before says is all well e again = absurd is
 
--- the last symbol behind a node is that of the last name there
+-- the last symbol after a node is that of the last name there
 behind-node : (n : Name) (start end : Point) (children : Forest) (around : Role) (before : Option Symbol)
     (behind : List Name) → AreShaped (Node n start end children Empty) around before →
     before ≡ symbol_of (last_of behind) →

@@ -395,7 +395,7 @@ lone-tail symbol.ReferenceMarker tail h is = lie h
 lone-tail symbol.SetextText tail h is = lie h
 lone-tail _ tail h is = is
 
--- a spine behind a symbol that stands alone
+-- a spine after a symbol that stands alone
 record Follows (first : Symbol) (firsts spine : List Symbol) : Type 0 where
   others : List Symbol
   are : spine ≡ first ∷ others
@@ -568,7 +568,7 @@ media-refers children shaped match =
 
 -- ---- what definitions are referred to by
 
--- nodes that begin with a symbol, behind which nothing leaves a target
+-- nodes that begin with a symbol, after which nothing leaves a target
 behind-neutral : (seen : Symbol) (start end : Point) (children : Forest) (rest : List Stand) (others : List Symbol) →
     seen_of rest ≡ others → list_all is_neutral others ≡ true → (found : Target) → sought rest found ≡ found
 behind-neutral seen start end children rest others e h found =

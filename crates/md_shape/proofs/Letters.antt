@@ -39,7 +39,7 @@ fits-all test (item ∷ items) firsts fit h =
     (list_all-append test fit.0 fit.1 ∙ and_from (list_all test fit.0) (list_all test fit.1)
     (own-all test item.class fit.0 fit.3 parts.0) (fits-all test items fit.1 fit.5 parts.1))
 
--- what a group has behind its first symbol
+-- what a group has after its first symbol
 abbrev pub followers : List Symbol
 followers = ReferenceNumeric ∷ ReferenceHexadecimal ∷ ReferenceValue ∷ LineEnding ∷ SetextUnderline ∷ []
 

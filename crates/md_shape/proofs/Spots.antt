@@ -1,4 +1,4 @@
--- A node, what stands in it and what stands behind it: what may stand there, from the spine that it is on.
+-- A node, what stands in it and what stands after it: what may stand there, from the spine that it is on.
 use Rattle.std.proofs.Common.{◌≡◌, Bool, true, false, ◌&&◌, ◌||◌, cond, Option, Some, None, is_some, List, [], ◌∷◌, ◌++◌, refl, sym, ap, ◌∙◌, subst}
 use Rattle.std.specs.List.{list_all}
 use Rattle.std.proofs.lemmas.Bool.{and_parts}
@@ -18,7 +18,7 @@ use Rattle.md_shape.specs.Built.{Content, may_stand, content_of, content_inside,
 use Rattle.md_shape.proofs.Symbols.{may_by, past_by, may_by-names, past_by-names, may_show, past, admits, pattern_admits, each_content, roles_for, implies, holds_patterns, Told, told}
 use Rattle.md_shape.proofs.Admitted.{shown_behind, matches_admitted}
 
--- what may stand behind some symbols
+-- what may stand after some symbols
 abbrev pub run : Content → List Symbol → Content
 run content [] = content
 run content (symbol ∷ symbols) = run (past content symbol) symbols
@@ -53,7 +53,7 @@ node_behind (Solid symbol usual reading) name children around before content say
     ∙ (sym (past_by-names content name) ∙ ap (past_by content) says.1)
 node_behind Mdx name children around before content says stands again = absurd stands
 
--- what may stand behind nodes is what may stand behind their spine
+-- what may stand after nodes is what may stand after their spine
 pub after_spine : (forest : Forest) (around : Role) (before : Option Symbol) (content : Content) →
     AreShaped forest around before → content_after content forest ≡ run content (spine forest)
 after_spine Empty around before content shaped = refl
@@ -93,7 +93,7 @@ role_listed test around (Some symbol) role.MathFence h = (and_parts (test role.M
 role_listed test around None usual h = (and_parts (test usual) true h).0
 role_listed test around (Some symbol) usual h = (and_parts (test usual) true h).0
 
--- a node may stand there, its children in it, and others behind it
+-- a node may stand there, its children in it, and others after it
 pub record Spot (standing : Standing) (name : Name) (children : Forest) (before : Option Symbol) (content : Content)
     (others : List Symbol) : Type 0 where
   pub stands : (is_transparent name || may_stand content name) ≡ true

@@ -66,7 +66,7 @@ spine-stands (Node name start end children rest) =
     ∙ ap (λ symbols. seen_of here ++ symbols) (spine-stands rest)
     ∙ sym (map-append (λ (node : Stand). node.seen) here (stands rest))
 
--- what a node leaves as the target of the node round it, by its symbol
+-- what a node leaves as the target of the node around it, by its symbol
 abbrev pub target_by : Symbol → Target → Target → Position → Target
 target_by symbol.LabelText found inner there = Label there
 target_by symbol.ReferenceString found inner there = Label there

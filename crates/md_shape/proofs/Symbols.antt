@@ -135,7 +135,7 @@ may_by MetaAlone tests = tests.meta
 may_by Done tests = tests.done
 may_by Nothing tests = false
 
--- what may stand behind what passes these tests
+-- what may stand after what passes these tests
 abbrev pub past_by : Content → Tests → Content
 past_by FirstFence tests = Chunks
 past_by FirstMathFence tests = Chunks
@@ -168,7 +168,7 @@ past_by-names MetaAlone name = refl
 past_by-names Done name = refl
 past_by-names Nothing name = refl
 
--- a symbol may stand there, behind others or at the beginning: lines begin with no fence
+-- a symbol may stand there, after others or at the beginning: lines begin with no fence
 abbrev pub may_show : Bool → Content → Symbol → Bool
 may_show false Chunks symbol = false
 may_show behind content symbol = may_by content (tests_for symbol)
@@ -194,7 +194,7 @@ same_content Done Done = true
 same_content Nothing Nothing = true
 same_content _ _ = false
 
--- symbols of an item may stand there, so many as it has, and what is left behind them
+-- symbols of an item may stand there, so many as it has, and what is left after them
 abbrev pub item_admits : Times → List Symbol → (Bool → Content → Bool) → Bool → Content → Bool
 item_admits Once members left behind content = list_all (λ member. may_show behind content member
     && left true (past content member)) members
@@ -241,7 +241,7 @@ each_content test h content =
       | Nothing ↦ nothing.1
     ]
 
--- the roles that a name with this usual one may have, behind others or at the beginning
+-- the roles that a name with this usual one may have, after others or at the beginning
 abbrev pub roles_for : Bool → Role → List Role
 roles_for behind role.Item = role.Item ∷ role.OrderedItem ∷ role.FirstOrderedItem ∷ []
 roles_for behind role.Prefix = role.Prefix ∷ role.OrderedPrefix ∷ role.FirstOrderedPrefix ∷ []

@@ -25,7 +25,7 @@ use Rattle.md_pattern.specs.declared.kinds.Standing.{Standing}
 use Rattle.md_pattern.specs.declared.kinds.Standing.TheVariants.{Through, Space, Solid, Mdx}
 use Rattle.md_shape.proofs.Letters.{letters, fits-all}
 
--- a heading waits for its underline, behind a symbol
+-- a heading waits for its underline, after a symbol
 abbrev pub next_waits : Bool → Symbol → Bool
 next_waits waits LineEnding = waits
 next_waits waits SetextText = true
@@ -95,13 +95,13 @@ unfolding no_underline
 role-no_underline role.Flow = refl
 role-no_underline _ = refl
 
--- on each spine of the grammar underlines stand behind their headings
+-- on each spine of the grammar underlines stand after their headings
 pub matches-underlined : (r : Role) (spine : List Symbol) → Matches r spine → (waits : Bool) →
     underlined waits spine ≡ true
 matches-underlined r spine m waits = grouped-underlined m.0 spine m.1
     (fits-all no_underline (pattern_of r) m.0 m.2 (role-no_underline r)) waits
 
--- a heading waits behind a node as behind what it shows
+-- a heading waits after a node as after what it shows
 node-waits : (name : Name) (children : Forest) (around : Role) (before : Option Symbol) (waits : Bool) →
     IsStanding (standing_of name) around before children →
     waits_after waits children ≡ waits_behind waits (spine children)
@@ -117,7 +117,7 @@ node-waits MdxJsxFlowTag children around before waits is same = absurd is
 node-waits MdxJsxTextTag children around before waits is same = absurd is
 node-waits _ children around before waits is same = refl
 
--- and behind some nodes as behind their spine
+-- and after some nodes as after their spine
 same-waits : (forest : Forest) (around : Role) (before : Option Symbol) (waits : Bool) →
     AreShaped forest around before → waits_after waits forest ≡ waits_behind waits (spine forest)
 same-waits Empty around before waits all = refl

@@ -167,7 +167,7 @@ content_of _ content = content
 abbrev pub content_inside : Content → Name → Content
 content_inside content name = if is_transparent name then content else content_of name content
 
--- what may stand behind a name that isn't transparent
+-- what may stand after a name that isn't transparent
 abbrev pub content_past : Content → Name → Content
 content_past FirstFence name = Chunks
 content_past FirstMathFence name = Chunks
@@ -176,7 +176,7 @@ content_past MetaAlone name = Nothing
 content_past Done name = Nothing
 content_past content name = content
 
--- what may stand behind some nodes
+-- what may stand after some nodes
 abbrev pub content_after : Content → Forest → Content
 content_after content Empty = content
 content_after content (Node name start end children rest) =

@@ -11,11 +11,11 @@ use Rattle.md_base.specs.Children.{spine_names}
 abbrev pub is_underline : Name → Bool
 is_underline name = elim name [ HeadingSetextUnderlineSequence ↦ true | _ ↦ false ]
 
--- a heading waits for its underline behind a name that isn't transparent
+-- a heading waits for its underline after a name that isn't transparent
 abbrev pub waits_past : Bool → Name → Bool
 waits_past waits name = elim name [ HeadingSetextText ↦ true | LineEnding ↦ waits | _ ↦ false ]
 
--- and behind some nodes
+-- and after some nodes
 abbrev pub waits_after : Bool → Forest → Bool
 waits_after waits Empty = waits
 waits_after waits (Node name start end children rest) =

@@ -38,7 +38,7 @@ without-break (x ∷ xs) b h =
     ∙ ap (λ t. is_line_ends (x ∷ xs) && t) h ∙ and_yes (is_line_ends (x ∷ xs)))
     ∙ ap (λ ys. if is_line_ends (x ∷ xs) then [] else x ∷ ys) (without-break xs b h)
 
--- behind another byte nothing goes
+-- nothing goes after another byte
 pub without-other : (xs : List ℕ) (b : ℕ) → is_break b ≡ false → without_endings (xs ++ b ∷ []) ≡ xs ++ b ∷ []
 without-other [] b h = ap (λ t. if t && true then [] else b ∷ []) h
 without-other (x ∷ xs) b h =
@@ -57,7 +57,7 @@ without-prefix (x ∷ xs) =
       | false ↦ (later.0, ap (λ ys. x ∷ ys) later.1)
     ]
 
--- the byte behind some bytes
+-- the byte after some bytes
 get-at : (xs : List ℕ) (y : ℕ) (ys : List ℕ) → get_or (xs ++ y ∷ ys) (length xs) 0 ≡ y
 get-at [] y ys = refl
 get-at (x ∷ xs) y ys = get-at xs y ys

@@ -1,4 +1,4 @@
--- The rest of a list behind an index, and pages laid on in parts.
+-- The rest of a list after an index, and pages laid on in parts.
 use Rattle.std.proofs.Common.{◌≡◌, ℕ, ◌+◌, zero, suc, List, [], ◌∷◌, ◌++◌, Some, None, is_some, drop, refl, ap, sym, ◌∙◌, arith, unwrap_or}
 use Rattle.std.specs.Prelude.{slice_get}
 use Rattle.std.proofs.lemmas.Bool.{true≢false}

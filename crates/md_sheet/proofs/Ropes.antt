@@ -1,5 +1,5 @@
 -- The parts of a rope, and its last byte.
-use Rattle.std.proofs.Common.{◌≡◌, ℕ, suc, ◌+◌, ◌-◌, ◌^◌, List, [], ◌∷◌, ◌++◌, length, slice_get, Option, Some, None, ap, sym, ◌∙◌, append_assoc, append-nil, arith, String, Global, string_bytes}
+use Rattle.std.proofs.Common.{◌≡◌, ℕ, suc, ◌+◌, ◌-◌, ◌^◌, List, [], ◌∷◌, ◌++◌, length, slice_get, Option, Some, ap, sym, ◌∙◌, append_assoc, append-nil, arith, String, Global, string_bytes}
 use Rattle.std.specs.Prelude.{min}
 use Rattle.std.proofs.lemmas.Option.{none-some}
 use Rattle.std.proofs.lemmas.List.{length-append}
@@ -29,22 +29,13 @@ last-cons first next bytes =
     one_less : (n : ℕ) → n ≡ suc n - 1
     one_less n = omega arith
 
--- a list with a byte has a last one
-last-some : (byte : ℕ) (bytes : List ℕ) → last (byte ∷ bytes) ≡ None → ⊥
-last-some byte [] h = absurd (none-some byte (sym h))
-last-some byte (next ∷ bytes) h = last-some next bytes (sym (last-cons byte next bytes) ∙ h)
-
 pub last-behind : (front back : List ℕ) (byte : ℕ) → last back ≡ Some byte → last (front ++ back) ≡ Some byte
 last-behind [] back byte h = h
 last-behind (b ∷ []) (c ∷ back) byte h = last-cons b c back ∙ h
 last-behind (b ∷ []) [] byte h = absurd (none-some byte h)
 last-behind (b ∷ c ∷ front) back byte h = last-cons b c (front ++ back) ∙ last-behind (c ∷ front) back byte h
 
-pub last-before : (front back : List ℕ) → last back ≡ None → last (front ++ back) ≡ last front
-last-before front [] h = ap (λ t. last t) (append-nil front)
-last-before front (byte ∷ back) h = absurd (last-some byte back h)
-
--- how long a text is behind another, as far as 64 bits count
+-- how long a text is after another, as far as 64 bits count
 pub counted_up-append : (own rest : List ℕ) (n : ℕ) → n ≡ counted_up rest →
     min (n + length own) (2 ^ 64 - 1) ≡ counted_up (own ++ rest)
 counted_up-append own rest n h =

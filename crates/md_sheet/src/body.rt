@@ -1,4 +1,4 @@
-//! A footnote's text with the ways back put into it or behind it.
+//! A footnote's text with the ways back put into it or after it.
 
 ghost use Rattle.std.specs.Prelude.{◌≡◌, ◌==◌, ◌||◌, ◌<◌, MatchOption, IfSome, OnOk, Some, None, if◌then◌else◌, length};
 ghost use Rattle.std.specs.Str.{IsCharBoundary};
@@ -36,7 +36,7 @@ fn without_endings(text: &[u8]) -> &[u8]
     kept
 }
 
-/// Where a `</p>` begins that ends a text, CR and LF behind it aside.
+/// Where a `</p>` begins that ends a text, CR and LF after it aside.
 fn paragraph_end(text: &str) -> Option<usize>
     ensures place { result ≡ (if notes.ends_in_paragraph text.now then Some (notes.paragraph_end text.now) else None) }
     ensures cut { IfSome result (λ place. IsCharBoundary text.now place) }
@@ -49,7 +49,7 @@ fn paragraph_end(text: &str) -> Option<usize>
     }
 }
 
-/// Lays a footnote's text and the ways back: before a `</p>` at its end, else behind it.
+/// Lays a footnote's text and the ways back: before a `</p>` at its end, else after it.
 ///
 /// # Errors
 ///

@@ -103,7 +103,7 @@ impl Calls {
         self.counts.len() == 0
     }
 
-    /// The identifier with the number behind an index, and how often it is called.
+    /// The identifier with the number after an index, and how often it is called.
     pub fn at(&self, index: usize) -> Option<(&str, usize)>
         ensures call { option_map (λ c. record { identifier = c.0.now; count = c.1 }) result ≡ slice_get self.now index }
         ensures within { IfSome result (λ c. index < length self.now) }

@@ -35,7 +35,7 @@ pub fn escaped_option(
     }
 }
 
-/// `fn-` or `fnref-` behind the prefix, and the identifier as a URL.
+/// `fn-` or `fnref-` after the prefix, and the identifier as a URL.
 fn id_of(
     alloc: Global,
     options: &CompileOptions,
@@ -50,7 +50,7 @@ fn id_of(
     Ok(id)
 }
 
-/// `fn-` or `fnref-` behind the prefix, and the number.
+/// `fn-` or `fnref-` after the prefix, and the number.
 fn numbered_id_of(
     alloc: Global,
     options: &CompileOptions,

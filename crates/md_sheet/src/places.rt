@@ -17,7 +17,7 @@ pub fn place_of(places: &Places, identifier: &str) -> Option<usize>
     places.get(identifier).copied()
 }
 
-/// Puts an entry with a new identifier behind all others.
+/// Puts an entry with a new identifier after all others.
 ///
 /// # Errors
 ///

@@ -1,12 +1,12 @@
-//! A text in parts, behind which another is put without copying the longer of the two.
+//! A text in parts, after which another is put without copying the longer of the two.
 
 ghost use Rattle.std.specs.Prelude.{◌≡◌, [], ◌++◌, ◌-◌, OnOk, IfOk, string_bytes, slice_get, length};
 
 use std::alloc::{AllocError, Global};
 use std::marker::Model;
 
-/// A text in parts, behind which another is put without copying the longer of the two: so a text that is put behind
-/// others, and they behind others, is not copied each time.
+/// A text in parts, after which another is put without copying the longer of the two: so a text that is put after
+/// others, and they after others, is not copied each time.
 #[derive(Drop)]
 pub struct Rope {
     /// The parts before the last one, the last of them first.

@@ -152,7 +152,7 @@ impl Sheet {
     }
 }
 
-/// A line begins behind this byte: it is CR or LF, or there is none.
+/// A line begins after this byte: it is CR or LF, or there is none.
 fn ends_line(byte: Option<u8>) -> bool
     ensures { result ≡ ends_line byte }
 {

@@ -43,7 +43,7 @@ fn push_label(alloc: Global, text: &mut String, options: &CompileOptions) -> Res
     text.push_str(label.as_str())
 }
 
-/// Adds the rest of a way back, from behind its label on.
+/// Adds the rest of a way back, from the end of its label on.
 fn push_arrow(alloc: Global, text: &mut String, occurrence: usize) -> Result<(), AllocError>
     ensures { OnOk result (string_bytes text.new ≡ string_bytes text.old ++ (codes "\" class=\"data-footnote-backref\">" ++ (notes.arrow ++ (notes.occurrence_mark occurrence ++ codes "</a>")))) }
 {

@@ -123,7 +123,7 @@ nil_not : (before : List ℕ) (m : List ℕ) → [] ≡ before ++ (60 ∷ m) →
 nil_not [] m e = cc
 nil_not (b ∷ before) m e = cc
 
--- what is made of a forest where a text is inserted behind the children of one of its elements
+-- what is made of a forest where a text is inserted after the children of one of its elements
 pub record IsMade (x : List ℕ) (made : Forest → List ℕ → Type 0) : Type 0 where
   pub texts : (bytes : List ℕ) (rest : Forest) (y : List ℕ) → is_escaped bytes ≡ true → made rest y →
       made (Text bytes rest) (bytes ++ y)

@@ -48,7 +48,7 @@ upto-others y x (z ∷ zs) h =
           ]
     ] refl
 
--- before its first call behind others, an identifier has the same ones before it
+-- before its first call after others, an identifier has the same ones before it
 upto-distinct : (xs later : List (List ℕ)) (x : List ℕ) → upto x (distinct (xs ++ x ∷ later)) ≡ upto x (distinct xs)
 unfolding upto
 upto-distinct [] later x = ap (λ b. if b then [] else x ∷ upto x (others_than x (distinct later))) (itself x)
@@ -97,7 +97,7 @@ abbrev pub Numbered : List (List ℕ) → ℕ → List (List ℕ) → Type 0
 Numbered xs number [] = Unit {0}
 Numbered xs number (y ∷ ys) = (place_among xs y ≡ number) × Numbered xs (suc number) ys
 
--- behind one more, places are one further
+-- after one more, places are one further
 numbered-behind : (x : List ℕ) (xs : List (List ℕ)) (number : ℕ) (ys : List (List ℕ)) → is_in x ys ≡ false →
     Numbered xs number ys → Numbered (x ∷ xs) (suc number) ys
 numbered-behind x xs number [] h are = tt

@@ -214,7 +214,7 @@ one_footnote : (is : Bool) (identifier text other : List ℕ) → (is ≡ true �
 one_footnote true identifier text other h = ap (λ t. footnote_where true identifier t) (h refl)
 one_footnote false identifier text other h = refl
 
--- calls before, in and behind a node
+-- calls before, in and after a node
 calls_inside : (before inner own rest later : List (List ℕ)) →
     before ++ ((inner ++ (own ++ rest)) ++ later) ≡ before ++ (inner ++ ((own ++ rest) ++ later))
 calls_inside before inner own rest later = ap (λ cs. before ++ cs) (append_assoc inner (own ++ rest) later)

@@ -69,7 +69,7 @@ on_page given before waits inner pieces found agree =
           ∙ ap (λ t. Made (unwrap_or found.destination []) t) (agree.title ∙ or_none found.title);
     }
 
--- a heading that waits behind a node that isn't transparent is what it found, or waited before
+-- a heading that waits after a node that isn't transparent is what it found, or waited before
 waiting : (given : Given) (at : At) (name : Name) (inner : List Piece) (waits : Bool) (symbols : List Symbol) →
     is_transparent name ≡ false →
     waits_behind waits (shown (standing_of name) symbols) ≡ true → (found_at given at name inner).heading ≡ None →

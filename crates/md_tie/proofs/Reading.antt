@@ -16,7 +16,7 @@ read notes (Added ∷ pieces) = Forced ∷ read notes pieces
 read notes (Noted note ∷ pieces) = read (with_note note notes) pieces
 read notes (Recalled ∷ pieces) = Text notes.heading ∷ read notes pieces
 
--- what is noted behind some pieces
+-- what is noted after some pieces
 abbrev pub noted_after : Notes → List Printed → Notes
 noted_after notes [] = notes
 noted_after notes (Noted note ∷ pieces) = noted_after (with_note note notes) pieces

@@ -29,7 +29,7 @@ there_with None true index e = refl
 there_with None false index e = refl
 there_with (Some last) here index e = e
 
--- an index that is found behind another isn't zero
+-- an index that is found after another isn't zero
 there : (forest : Forest) (index : ℕ) → index_if (unwrap_or (last_contributing_at (suc index) forest) 0)
     ≡ last_contributing_at (suc index) forest
 there Empty index = refl

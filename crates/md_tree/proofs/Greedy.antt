@@ -35,7 +35,7 @@ is_many _ = false
 abbrev pub apart : Class → Class → Bool
 apart class other = list_all (λ member. not (takes other member)) (members class)
 
--- behind an item that may be left out, each later item that takes one of its symbols may be there any number of times
+-- after an item that may be left out, each later item that takes one of its symbols may be there any number of times
 abbrev pub leaves_order : Item → Item → Bool
 leaves_order item later = is_many later.times || apart item.class later.class
 

@@ -13,8 +13,7 @@ use Rattle.md_pattern.specs.declared.kinds.Role.TheVariants as role
 use Rattle.md_pattern.specs.declared.kinds.Reading.{Reading}
 use Rattle.md_pattern.specs.declared.kinds.Reading.TheVariants as reads
 use Rattle.md_pattern.specs.declared.kinds.Reading.TheVariants.{Free}
-use Rattle.md_pattern.specs.declared.kinds.Standing.{Standing}
-use Rattle.md_pattern.specs.declared.kinds.Standing.TheVariants.{Through, Space, Solid, Mdx}
+use Rattle.md_pattern.specs.declared.kinds.Standing.TheVariants.{Through, Space, Solid}
 use Rattle.md_pattern.specs.Standing.{standing_of}
 use Rattle.md_pattern.specs.Shape.{role_for}
 use Rattle.md_tree.specs.declared.mention.Target.{Target}
@@ -24,7 +23,7 @@ use Rattle.md_tree.specs.Rules.{place, target_at, broken_rule}
 use Rattle.md_tree.specs.declared.mention.Mention.TheVariants.{Nothing}
 use Rattle.md_tree.specs.Mentions.{mention_of, mentions_with}
 use Rattle.md_tree.specs.Machine.{Reads, Outer, Entry, Course, start_of, may_hold, advance, entered, after_entry, after_through, after_exit, is_complete, Enters, ExitsWhere}
-use Rattle.md_tree.specs.Walk.{Passes, Unbroken, misplaced, misplaced_where, StopsAtEntry, IsStopAtLeaf, IsStopInside}
+use Rattle.md_tree.specs.Walk.{Passes, Unbroken, IsStopAtLeaf, IsStopInside}
 use Rattle.md_tree.proofs.Breaks.{IsStop-inside, IsStopInside-same, StopsInside-broken}
 
 -- the course inside such a node, without the node among the open ones
@@ -58,38 +57,6 @@ module _ (name : Name) (state : State) (target : Target) (holds : may_hold state
         outer = Some (record { state = next; before = state.before; target = target; reading = reading });
       })
   entered-solid symbol usual reading next stands moves = rw (stands, holds, moves) refl
-
-  pub entered-unmoved : (symbol : Symbol) (usual : Role) (reading : Reading) →
-      standing_of name ≡ Solid symbol usual reading → advance state symbol ≡ None →
-      entered (standing_of name) state target ≡ None
-  entered-unmoved symbol usual reading stands stays = rw (stands, holds, stays) refl
-
--- a node that may not stand here
-pub not-entered : (name : Name) (start : Point) (from next : Course) →
-    entered (standing_of name) from.state from.target ≡ None → Enters name start from next → ⊥
-not-entered name start from next nowhere enters =
-    subst (λ o. MatchOption o ⊥ (λ e. next ≡ after_entry e name start from)) nowhere enters
-
--- no node may stand here
-misplaced-stops : (standing : Standing) (name : Name) (start : Point) (from : Course) → standing_of name ≡ standing →
-    ((next : Course) → Enters name start from next → ⊥) → StopsAtEntry (misplaced_where standing) name start from
-misplaced-stops Mdx name start from stands never = stands
-misplaced-stops Through name start from stands never = never
-misplaced-stops Space name start from stands never = never
-misplaced-stops (Solid symbol usual reading) name start from stands never = never
-
-pub StopsAtEntry-misplaced : (name : Name) (start : Point) (from : Course) → may_hold from.state.role ≡ false →
-    StopsAtEntry (misplaced name) name start from
-StopsAtEntry-misplaced name start from childless =
-    misplaced-stops (standing_of name) name start from refl
-    (λ next. not-entered name start from next (rw childless refl))
-
--- a node that is entered where its children begin
-pub Enters-by : (name : Name) (start : Point) (from to : Course) (entry : Entry) →
-    entered (standing_of name) from.state from.target ≡ Some entry → to ≡ after_entry entry name start from →
-    Enters name start from to
-Enters-by name start from to entry stands same =
-    subst (λ o. MatchOption o ⊥ (λ e. to ≡ after_entry e name start from)) (sym stands) same
 
 module _ (name : Name) (start end : Point) (from : Course) (entry : Entry)
     (stands : entered (standing_of name) from.state from.target ≡ Some entry) where

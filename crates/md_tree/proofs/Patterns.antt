@@ -19,7 +19,7 @@ after_within Once position left = omega arith
 after_within Maybe position left = omega arith
 after_within Many position left = omega arith
 
--- the symbol is taken by one of the items, or behind the last
+-- the symbol is taken by one of the items, or after the last
 within : (item : Item) (position left found : ℕ) (symbol : Symbol) (taken optional : Bool) (rest : Option ℕ) →
     (rest ≡ Some found → found ≤ (position + 1) + left) →
     cond taken (Some (after_item item.times position)) (cond optional rest None) ≡ Some found →

@@ -19,7 +19,7 @@ use Rattle.md_infer.proofs.Passing.{length_one, length_facts, regrouped, facts-f
 use Rattle.md_tree.proofs.Entering.{Row, entry_row, exit_row, rows_of, get_at, numbered_rows, numbered_get, past_row, inside_rows, children_there}
 use Rattle.md_tree.proofs.Searching.{AllAt}
 
--- a list with a node's part in it, split at the entry, behind it, at the exit and behind that
+-- a list with a node's part in it, split at the entry, after it, at the exit and after that
 module _ {A : Type 0} (xs before inner rest later : List A) (entry exit : A) (is : xs ≡ before
     ++ ((entry ∷ (inner ++ (exit ∷ rest))) ++ later)) where
   pub at_entry : xs ≡ before ++ (entry ∷ (inner ++ (exit ∷ (rest ++ later))))

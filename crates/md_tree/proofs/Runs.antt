@@ -30,7 +30,7 @@ text_when-some readable bytes part holds same utf8 = rw (holds, ← same, is_utf
 pub readable-ordered : (start end n : ℕ) → start ≤ end → end ≤ n → (nat_le start end && nat_le end n) ≡ true
 readable-ordered start end n ordered within = search rules
 
--- a run and what lies behind it, up to the next
+-- a run and what lies after it, up to the next
 pub IsRun-chunk : (bytes text behind rest : List ℕ) (start : ℕ) → start ≤ length bytes →
     drop start bytes ≡ text ++ (behind ++ rest) → (start + (length text + length behind) ≤ length bytes)
     × (drop (start + (length text + length behind)) bytes ≡ rest) × (start + length text ≤ length bytes)

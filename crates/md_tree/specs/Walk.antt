@@ -137,7 +137,7 @@ abbrev pub StopsBy : List ℕ → List (List ℕ × List ℕ) → Kind → Rule 
 StopsBy bytes names Enter broken name point course = StopsAtEntry broken name point course
 StopsBy bytes names Exit broken name point course = StopsAtExit bytes names broken name point course
 
--- want of memory, or a rule at this event
+-- out of memory, or a rule at this event
 abbrev pub IsStop : List ℕ → List (List ℕ × List ℕ) → ℕ → Kind → Name → Point → Course → CompileError → Type 0
 IsStop bytes names index kind name point course error.Memory = Unit {0}
 IsStop bytes names index kind name point course (error.Event named broken) =

@@ -91,6 +91,13 @@ impl<'a> Checked<'a> {
     }
 
     /// The events.
+    ///
+    /// # Examples
+    ///
+    /// ```
+    /// let checked = check(alloc, &events, bytes, names)?;
+    /// assert_eq!(checked.events(), events.as_slice());
+    /// ```
     pub fn events(&self) -> &'a [Event]
         ensures events { result.now ≡ self.now.events }
         ensures grammatical { IsChecked self.now }
@@ -99,6 +106,13 @@ impl<'a> Checked<'a> {
     }
 
     /// The document's bytes.
+    ///
+    /// # Examples
+    ///
+    /// ```
+    /// let checked = check(alloc, &events, b"***", names)?;
+    /// assert_eq!(checked.bytes(), b"***".as_slice());
+    /// ```
     pub fn bytes(&self) -> &'a [u8]
         ensures { result.now ≡ self.now.bytes }
     {
@@ -106,6 +120,14 @@ impl<'a> Checked<'a> {
     }
 
     /// The names of character references, each with its text.
+    ///
+    /// # Examples
+    ///
+    /// ```
+    /// let names = [("amp", "&")];
+    /// let checked = check(alloc, &events, bytes, &names)?;
+    /// assert_eq!(checked.names(), names.as_slice());
+    /// ```
     pub fn names(&self) -> &'a [(&'a str, &'a str)]
         ensures { name_table result.now ≡ self.now.names }
     {
@@ -113,6 +135,15 @@ impl<'a> Checked<'a> {
     }
 
     /// Whether the event at the index is there and enters a node of this name.
+    ///
+    /// # Examples
+    ///
+    /// ```
+    /// // Where the first event enters a thematic break, which the second exits:
+    /// assert!(checked.enters(0, Name::ThematicBreak));
+    /// assert!(!checked.enters(1, Name::ThematicBreak));
+    /// assert!(!checked.enters(2, Name::ThematicBreak));
+    /// ```
     pub fn enters(&self, index: usize, name: Name) -> bool
         ensures { IsTrue result ↔ EntersAt self.now.events index name }
     {
@@ -120,6 +151,15 @@ impl<'a> Checked<'a> {
     }
 
     /// Whether the event at the index is there and exits a node of this name.
+    ///
+    /// # Examples
+    ///
+    /// ```
+    /// // Where the first event enters a thematic break, which the second exits:
+    /// assert!(checked.exits(1, Name::ThematicBreak));
+    /// assert!(!checked.exits(0, Name::ThematicBreak));
+    /// assert!(!checked.exits(2, Name::ThematicBreak));
+    /// ```
     pub fn exits(&self, index: usize, name: Name) -> bool
         ensures { IsTrue result ↔ ExitsAt self.now.events index name }
     {
@@ -144,6 +184,13 @@ impl<'a> Checked<'a> {
     }
 
     /// The index of the event that exits the first line ending, blank or not; None where there is none.
+    ///
+    /// # Examples
+    ///
+    /// ```
+    /// // Where two events are a thematic break, and the next two a line ending:
+    /// assert_eq!(checked.first_ending(), Some(3));
+    /// ```
     pub fn first_ending(&self) -> Option<usize>
         ensures index { result ≡ first_index self.now.events }
         ensures grammatical { IsChecked self.now }
@@ -152,6 +199,13 @@ impl<'a> Checked<'a> {
     }
 
     /// How many events the check visited: each one once.
+    ///
+    /// # Examples
+    ///
+    /// ```
+    /// // Where two events are a thematic break:
+    /// assert_eq!(checked.visits(), 2);
+    /// ```
     pub fn visits(&self) -> usize
         ensures { result ≡ length self.now.events }
     {
@@ -159,6 +213,13 @@ impl<'a> Checked<'a> {
     }
 
     /// The indices of the events that enter definitions, in the order of their exits.
+    ///
+    /// # Examples
+    ///
+    /// ```
+    /// // Of `[a]: b`, where the first event enters the definition:
+    /// assert_eq!(checked.definitions(), [0].as_slice());
+    /// ```
     pub fn definitions(&self) -> &[usize]
         ensures definitions { AreDefinitions self.now result.now }
         ensures entered { All (λ index. EntersAt self.now.events index name.Definition) result.now }
@@ -169,6 +230,13 @@ impl<'a> Checked<'a> {
     /// The index of the event that enters the last contributing child of the item that the event at
     /// the index enters; None where there is none. Line endings, spaces or tabs, prefixes of block
     /// quotes, and definitions don't contribute.
+    ///
+    /// # Examples
+    ///
+    /// ```
+    /// // Of `* a`, where 0 enters the list, 1 its item, 2 the prefix of that, and 6 the paragraph:
+    /// assert_eq!(checked.last_contributing(1), Some(6));
+    /// ```
     pub fn last_contributing(&self, index: usize) -> Option<usize>
         requires { EntersAt self.now.events index name.ListItem }
         ensures entered { EntersNode self.now index }
@@ -182,6 +250,14 @@ impl<'a> Checked<'a> {
     /// first mark, of an ordered list its number, of a link, an image or a footnote call the label
     /// or reference by which it refers, of a definition the label by which it is referred to. None
     /// where there is none. Of a node of another name nothing is promised.
+    ///
+    /// # Examples
+    ///
+    /// ```
+    /// // Of `## a`, where 0 enters the heading:
+    /// let mark = checked.reads(0).map(|place| (place.start.index, place.end.index));
+    /// assert_eq!(mark, Some((0, 2)));
+    /// ```
     pub fn reads(&self, index: usize) -> Option<Position>
         requires { EntersSome self.now.events index }
         ensures entered { EntersNode self.now index }
@@ -191,6 +267,13 @@ impl<'a> Checked<'a> {
     }
 
     /// Whether the link or the image that the event at the index enters has a resource.
+    ///
+    /// # Examples
+    ///
+    /// ```
+    /// // Of `[a](b)`, where 0 enters the link:
+    /// assert!(checked.has_resource(0));
+    /// ```
     pub fn has_resource(&self, index: usize) -> bool
         requires { EntersAt self.now.events index name.Link ⊎ EntersAt self.now.events index name.Image }
         ensures entered { EntersNode self.now index }
@@ -220,6 +303,13 @@ impl<'a> Checked<'a> {
     }
 
     /// The text of the node that ends with the event at the index: its bytes alone.
+    ///
+    /// # Examples
+    ///
+    /// ```
+    /// // Of `a`, where 0 enters a paragraph, 1 its data, and 2 exits the data:
+    /// assert_eq!(checked.text(2), "a");
+    /// ```
     pub fn text(&self, index: usize) -> &'a str
         requires { ExitsText self.now.events index }
         ensures { IsTextAt self.now index result.now }
@@ -229,6 +319,13 @@ impl<'a> Checked<'a> {
     }
 
     /// The text between the indices of the node that ends with the event at the index.
+    ///
+    /// # Examples
+    ///
+    /// ```
+    /// // Of `[a]: b`, where 0 enters the definition, 1 its label, 2 the data in that, and 4 exits the label:
+    /// assert_eq!(checked.identifier(4), "a");
+    /// ```
     pub fn identifier(&self, index: usize) -> &'a str
         requires { ExitsIdentifier self.now.events index }
         ensures { IsIdentifierAt self.now index result.now }

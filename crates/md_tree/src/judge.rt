@@ -174,19 +174,6 @@ fn broken_target(target: Aim) -> Option<Rule>
     }
 }
 
-/// Goes on with the target of a node behind a child, which is entered and exited at these indices, and has a target.
-#[inline(always)]
-pub fn retarget(found: &mut Aim, reading: Reading, inner: Aim, entry: usize, exit: usize)
-    ensures { (events : List Event) → target_seen events found.new ≡ target_at reading (target_seen events found.old) (target_seen events inner) (place_at events entry exit) }
-{
-    match reading {
-        Reading::Identifier => *found = Aim::Label(entry, exit),
-        Reading::Holder => *found = inner,
-        Reading::Resource => *found = Aim::Resource,
-        _ => {}
-    }
-}
-
 /// What a node mentions that has a label.
 pub fn mention(reading: Reading, label: Position) -> Mention
     ensures { result ≡ mention_of reading (Label label) }
@@ -243,55 +230,62 @@ pub struct Spot {
     /// The symbol before it.
     pub before: Option<Symbol>,
     pub reading: Reading,
+    /// The indices of its events.
+    pub entry: usize,
+    pub exit: usize,
 }
 
-/// The rule that a node breaks, by what is read of it, the role around it, the symbol before it,
-/// its place and its target.
+/// Reads a node whose own target is this one: answers the rule that it breaks, if it breaks one, and goes on with the
+/// target of the spine around it.
 #[inline(always)]
-pub fn broken(
+pub fn read_node(
     source: Source,
     spot: Spot,
-    entry: usize,
-    exit: usize,
-    target: Aim,
+    inner: Aim,
+    target: &mut Aim,
 ) -> Result<Option<Rule>, AllocError>
-    ensures { IfOk result
-        (λ broken. broken ≡ broken_rule source.entry.bytes.now (name_table source.entry.names.now) spot.reading spot.around spot.before (point_at source.entry.events.now entry) (point_at source.entry.events.now exit) (target_seen source.entry.events.now target)) }
+    ensures broken { IfOk result
+        (λ broken. broken ≡ broken_rule source.entry.bytes.now (name_table source.entry.names.now) spot.reading spot.around spot.before (point_at source.entry.events.now spot.entry) (point_at source.entry.events.now spot.exit) (target_seen source.entry.events.now inner)) }
+    ensures target { (events : List Event) → target_seen events target.new ≡ target_at spot.reading (target_seen events target.old) (target_seen events inner) (place_at events spot.entry spot.exit) }
 {
     let Spot {
         around,
         before,
         reading,
+        entry,
+        exit,
     } = spot;
     let bytes = source.bytes.bytes();
-    match reading {
-        Reading::Text => Ok(broken_text(text_of(source, entry, exit))),
-        Reading::LineEnding => Ok(broken_ending(text_of(source, entry, exit))),
-        Reading::Number => {
-            let text = text_of(source, entry, exit);
-            Ok(broken_number(around, before, text))
-        }
+    let rule = match reading {
+        Reading::Text => broken_text(text_of(source, entry, exit)),
+        Reading::LineEnding => broken_ending(text_of(source, entry, exit)),
+        Reading::Number => broken_number(around, before, text_of(source, entry, exit)),
         Reading::Value => {
             let text = text_of(source, entry, exit);
-            broken_value(source.alloc, source.names, before, text)
+            broken_value(source.alloc, source.names, before, text)?
         }
         Reading::Mark => {
             let position = place_at(source.events, entry, exit);
-            Ok(broken_mark(bytes, around, before, &position))
+            broken_mark(bytes, around, before, &position)
         }
-        Reading::Underline => Ok(broken_underline(bytes, point_at(source.events, entry))),
+        Reading::Underline => broken_underline(bytes, point_at(source.events, entry)),
         Reading::Identifier => {
+            *target = Aim::Label(entry, exit);
             let position = place_at(source.events, entry, exit);
-            Ok(broken_text(source.bytes.label_at(&position)))
+            broken_text(source.bytes.label_at(&position))
         }
-        Reading::Media => Ok(broken_target(target)),
-        Reading::Free
-        | Reading::Holder
-        | Reading::Resource
-        | Reading::Call
-        | Reading::Definition
-        | Reading::FootnoteDefinition => Ok(None),
-    }
+        Reading::Media => broken_target(inner),
+        Reading::Holder => {
+            *target = inner;
+            None
+        }
+        Reading::Resource => {
+            *target = Aim::Resource;
+            None
+        }
+        Reading::Free | Reading::Call | Reading::Definition | Reading::FootnoteDefinition => None,
+    };
+    Ok(rule)
 }
 
 /// The text of a node that is entered and exited at two indices.

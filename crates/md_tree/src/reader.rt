@@ -109,7 +109,7 @@ fn note_ending(first: &mut Option<usize>, index: usize, event: &Event)
     }
 }
 
-/// The event behind the one at an index, where both enter and exit a node without children.
+/// The event after the one at an index, where both enter and exit a node without children.
 fn own_exit<'a>(events: &'a [Event], index: usize, event: &Event) -> Option<&'a Event>
     requires { index < length events.now }
     ensures behind { IfSome result (λ exit. slice_get events.entry.now (suc index) ≡ Some exit.now) }

@@ -52,7 +52,7 @@ impl fmt::Display for Rule {
 /// Why `check` answers nothing.
 #[derive(Debug, PartialEq, Eq, Drop)]
 pub enum CompileError {
-    /// Want of memory.
+    /// It is out of memory.
     Memory,
     /// An event breaks a rule; the index is the number of events where something is open at the
     /// end.

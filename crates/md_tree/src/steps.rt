@@ -2,9 +2,10 @@ ghost use Rattle.std.specs.Prelude.{◌≡◌, ◌<◌, ◌+◌, ◌^◌, Some, 
 ghost use Rattle.std.specs.List.{list_all};
 ghost use Rattle.md_tree.specs.Machine.{begun_by, continued, is_optional, after_item, seek, advance, is_complete, start_of, may_hold, is_full_list_part, is_full};
 ghost use Rattle.md_pattern.specs.Pattern.{pattern_of};
+ghost use Rattle.md_pattern.specs.Shape.{role_for};
 
 use crate::state::{Stage, State};
-use md_pattern::{Class, Item, Role, Symbol, Times, pattern, takes};
+use md_pattern::{Class, Item, Role, Symbol, Times, pattern, role_of, takes};
 
 /// The group that a symbol begins.
 fn begun(symbol: Symbol) -> Stage
@@ -164,10 +165,22 @@ pub fn start(role: Role) -> State
 
 /// Whether the spine of a node of this role may end where it begins.
 #[inline(always)]
-pub fn can_be_empty(role: Role) -> bool
+fn can_be_empty(role: Role) -> bool
     ensures { result ≡ is_complete (start_of role) }
 {
     !is_full_list_part(role) && !is_full(role)
+}
+
+/// Whether the spine of a node with this usual role may end where it begins, in a node of a role, after a symbol.
+#[inline(always)]
+pub fn can_be_leaf(around: Role, before: Option<Symbol>, usual: Role) -> bool
+    ensures { result ≡ is_complete (start_of (role_for around before usual)) }
+{
+    match usual {
+        // That of most nodes without children.
+        Role::Childless => true,
+        _ => can_be_empty(role_of(around, before, usual)),
+    }
 }
 
 /// Whether a node of this role is a list or a part of one that holds a node whatever it holds.

@@ -3,11 +3,11 @@ ghost use Rattle.md_tree.specs.declared.rule.CompileError.TheVariants as error;
 ghost use Rattle.md_tree.specs.Mentions.{mention_of, mentions_with};
 ghost use Rattle.md_tree.specs.Walk.{target_seen, misplaced};
 
-use crate::judge::{Source, Spot, broken, mention, place_at, retarget};
+use crate::judge::{Source, Spot, mention, place_at, read_node};
 use crate::mention::{Mention, Mentioned};
 use crate::rule::{CompileError, Rule};
 use crate::state::{Aim, Entry, Open, Outer, State};
-use crate::steps::{advanced, can_be_empty, can_end, can_hold, start};
+use crate::steps::{advanced, can_be_leaf, can_end, can_hold, start};
 use md_base::{Event, Kind, Name, is_same_name};
 use md_pattern::{Reading, Role, Standing, role_of, standing};
 use std::alloc::{AllocError, Global};
@@ -154,18 +154,19 @@ impl Walk {
                 let Some(state) = advanced(self.state, symbol) else {
                     return refuse(index, Rule::Order);
                 };
-                if !can_be_empty(role_of(self.state.role, self.state.before, usual)) {
+                if !can_be_leaf(self.state.role, self.state.before, usual) {
                     return refuse(index + 1, Rule::Order);
                 }
                 let spot = Spot {
                     around: state.role,
                     before: self.state.before,
                     reading,
+                    entry: index,
+                    exit: index + 1,
                 };
-                if let Some(rule) = broken(source, spot, index, index + 1, Aim::Missing)? {
+                if let Some(rule) = read_node(source, spot, Aim::Missing, &mut self.target)? {
                     return refuse(index + 1, rule);
                 }
-                retarget(&mut self.target, reading, Aim::Missing, index, index + 1);
                 self.state = state;
                 Ok(())
             }
@@ -208,13 +209,16 @@ impl Walk {
         if !can_end(self.state) {
             return refuse(index, Rule::Order);
         }
-        let inner = self.target;
         let spot = Spot {
             around: outer.state.role,
             before: outer.before,
             reading: outer.reading,
+            entry,
+            exit: index,
         };
-        if let Some(rule) = broken(source, spot, entry, index, inner)? {
+        let inner = self.target;
+        self.target = outer.target;
+        if let Some(rule) = read_node(source, spot, inner, &mut self.target)? {
             return refuse(index, rule);
         }
         keep(
@@ -224,8 +228,6 @@ impl Walk {
             outer.reading,
             inner,
         )?;
-        self.target = outer.target;
-        retarget(&mut self.target, outer.reading, inner, entry, index);
         self.state = outer.state;
         Ok(())
     }

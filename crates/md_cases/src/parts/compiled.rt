@@ -18,15 +18,23 @@ pub(super) fn answer(
         "compile" => said_of(alloc, by_compile(alloc, asked)),
         "compile_checked" => said_of(alloc, by_checked(alloc, asked)),
         "compile_counted" => said_of(alloc, by_counted(alloc, asked)),
-        "compile_safe" => match by_safe(alloc, asked) {
-            Ok(html) => String::from_str(alloc, html.as_str()),
-            Err(error) => format!(in alloc; "! {error}"),
-        },
+        "compile_safe" => said_safe(alloc, by_safe(alloc, asked)),
         "page" => page_titled(alloc, asked, call.argument),
-        "default" => format!(in alloc; "{:?}", CompileOptions::default()),
-        "gfm" => format!(in alloc; "{:?}", CompileOptions::gfm()),
+        "default" => listed(alloc, &CompileOptions::default()),
+        "gfm" => listed(alloc, &CompileOptions::gfm()),
         _ => no_such_call(alloc),
     }
+}
+
+fn said_safe(alloc: Global, answer: Result<SafeHtml, SafeError>) -> Result<String, AllocError> {
+    match answer {
+        Ok(html) => String::from_str(alloc, html.as_str()),
+        Err(error) => format!(in alloc; "! {error}"),
+    }
+}
+
+fn listed(alloc: Global, options: &CompileOptions) -> Result<String, AllocError> {
+    format!(in alloc; "{options:?}")
 }
 
 fn said_of(alloc: Global, answer: Result<String, CompileError>) -> Result<String, AllocError> {

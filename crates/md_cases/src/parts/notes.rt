@@ -16,15 +16,22 @@ pub(super) fn answer(
 ) -> Result<String, AllocError> {
     let argument = call.argument;
     match call.name {
-        "number" => format!(in alloc; "{}", calls(alloc, asked)?.number(argument)),
-        "count_of" => format!(in alloc; "{}", calls(alloc, asked)?.count_of(argument)),
-        "is_empty" => format!(in alloc; "{}", calls(alloc, asked)?.is_empty()),
-        "at" => call_at(alloc, &calls(alloc, asked)?, argument),
         "text_of" => text_of(alloc, asked, argument),
         "target" => target(alloc, asked, argument),
         "section" => section(alloc, asked, argument),
         "footnote_id" => own_id(alloc, asked, argument),
         "call_id" => id_of_call(alloc, asked, argument),
+        _ => answer_of_calls(alloc, &calls(alloc, asked)?, call),
+    }
+}
+
+/// What a call answers of the calls of the names.
+fn answer_of_calls(alloc: Global, calls: &Calls, call: Call<'_>) -> Result<String, AllocError> {
+    match call.name {
+        "number" => format!(in alloc; "{}", calls.number(call.argument)),
+        "count_of" => format!(in alloc; "{}", calls.count_of(call.argument)),
+        "is_empty" => format!(in alloc; "{}", calls.is_empty()),
+        "at" => call_at(alloc, calls, call.argument),
         _ => no_such_call(alloc),
     }
 }
@@ -50,10 +57,20 @@ fn call_at(alloc: Global, calls: &Calls, index: &str) -> Result<String, AllocErr
 fn footnotes(alloc: Global, asked: &Asked<'_>) -> Result<Footnotes, AllocError> {
     let mut footnotes = Footnotes::new(alloc);
     for (identifier, text) in &asked.names {
-        let identifier = String::from_str(alloc, identifier)?;
-        footnotes.note(identifier, with_line_feeds(alloc, text)?)?;
+        note(alloc, &mut footnotes, identifier, text)?;
     }
     Ok(footnotes)
+}
+
+/// Notes a footnote with its text.
+fn note(
+    alloc: Global,
+    footnotes: &mut Footnotes,
+    identifier: &str,
+    text: &str,
+) -> Result<(), AllocError> {
+    let identifier = String::from_str(alloc, identifier)?;
+    footnotes.note(identifier, with_line_feeds(alloc, text)?)
 }
 
 /// The text of a footnote.
@@ -69,15 +86,20 @@ fn definitions(alloc: Global, asked: &Asked<'_>) -> Result<Definitions, AllocErr
     }
     let mut list = Vec::new(alloc);
     for (identifier, destination) in &asked.names {
-        list.push(Defined {
-            identifier: String::from_str(alloc, identifier)?,
-            target: Target {
-                destination: String::from_str(alloc, destination)?,
-                title: None,
-            },
-        })?;
+        list.push(defined(alloc, identifier, destination)?)?;
     }
     Definitions::first_of(alloc, list)
+}
+
+/// A definition with a destination and no title.
+fn defined(alloc: Global, identifier: &str, destination: &str) -> Result<Defined, AllocError> {
+    Ok(Defined {
+        identifier: String::from_str(alloc, identifier)?,
+        target: Target {
+            destination: String::from_str(alloc, destination)?,
+            title: None,
+        },
+    })
 }
 
 /// The destination of a definition.
@@ -89,22 +111,39 @@ fn target(alloc: Global, asked: &Asked<'_>, identifier: &str) -> Result<String, 
     }
 }
 
-/// The document with the section of footnotes behind it, where the argument's words are called.
+/// The document with the section of footnotes after it, where the argument's words are called.
 fn section(alloc: Global, asked: &Asked<'_>, called: &str) -> Result<String, AllocError> {
+    let calls = calls_of_words(alloc, called)?;
+    let footnotes = footnotes(alloc, asked)?;
+    let mut sheet = Sheet::new(alloc);
+    lay_behind(alloc, &mut sheet, document(asked), &calls, &footnotes)?;
+    sheet.into_text(alloc)
+}
+
+/// Calls of the words of a text.
+fn calls_of_words(alloc: Global, words: &str) -> Result<Calls, AllocError> {
     let mut calls = Calls::new(alloc);
-    for identifier in called.split_whitespace() {
+    for identifier in words.split_whitespace() {
         calls.count(String::from_str(alloc, identifier)?)?;
     }
-    let footnotes = footnotes(alloc, asked)?;
+    Ok(calls)
+}
+
+/// Puts a text, and lays the section of footnotes behind it under the default options.
+fn lay_behind(
+    alloc: Global,
+    sheet: &mut Sheet,
+    text: &str,
+    calls: &Calls,
+    footnotes: &Footnotes,
+) -> Result<(), AllocError> {
+    sheet.put(text)?;
     let settings = Settings {
         alloc,
         options: &CompileOptions::default(),
         ending: "\n",
     };
-    let mut sheet = Sheet::new(alloc);
-    sheet.put(document(asked))?;
-    lay_section(&settings, &mut sheet, &calls, &footnotes)?;
-    sheet.into_text(alloc)
+    lay_section(&settings, sheet, calls, footnotes)
 }
 
 /// The id of a footnote whose identifier is the document, by its number.

@@ -30,17 +30,23 @@ fn laid_out(alloc: Global, asked: &Asked<'_>) -> Result<Sheet, AllocError> {
 
 /// Takes a step; a line ending is a line feed.
 fn take_step(alloc: Global, sheet: &mut Sheet, step: &str, text: &str) -> Result<(), AllocError> {
-    let own = String::from_str(alloc, text)?;
     match step {
-        "put" => sheet.put(text)?,
-        "need" => sheet.need("\n")?,
-        "recall" => sheet.recall()?,
-        "append" => sheet.append(alloc, Rope::from_string(alloc, own))?,
-        "note_heading" => sheet.note_heading(own),
-        "note_destination" => sheet.note_destination(own),
-        "note_title" => sheet.note_title(own),
+        "put" => sheet.put(text),
+        "need" => sheet.need("\n"),
+        "recall" => sheet.recall(),
+        _ => take(alloc, sheet, step, String::from_str(alloc, text)?),
+    }
+}
+
+/// Takes a step that keeps its text.
+fn take(alloc: Global, sheet: &mut Sheet, step: &str, text: String) -> Result<(), AllocError> {
+    match step {
+        "append" => sheet.append(alloc, Rope::from_string(alloc, text))?,
+        "note_heading" => sheet.note_heading(text),
+        "note_destination" => sheet.note_destination(text),
+        "note_title" => sheet.note_title(text),
         _ => sheet.note_resource(Target {
-            destination: own,
+            destination: text,
             title: None,
         }),
     }
@@ -72,21 +78,43 @@ fn target(alloc: Global, sheet: Sheet) -> Result<String, AllocError> {
     }
 }
 
-/// The last byte of a text in parts, at first and after each line of the document, which goes behind it between `<` and
-/// `>`, and the text at last.
+/// The last byte of a text in parts, at first and after each line of the document, which is put after it between `<`
+/// and `>`, and the text at last.
 fn rope(alloc: Global, document: &str) -> Result<String, AllocError> {
     let mut text = Rope::new(alloc);
-    let mut said = format!(in alloc; "{:?}", text.last_byte())?;
-    for part in document.split('\n') {
-        let mut next = Rope::new(alloc);
-        next.push_str("<")?;
-        next.push_str(part)?;
-        text.append(alloc, next)?;
-        text.push_str(">")?;
-        write!(said, " {:?}", text.last_byte())?;
-    }
+    let mut said = String::new(alloc);
+    append_parts(alloc, &mut text, &mut said, document)?;
     text.append(alloc, Rope::new(alloc))?;
     let text = text.into_string(alloc)?;
-    write!(said, " {text}")?;
+    said.push_str(&text)?;
     Ok(said)
+}
+
+/// Appends each line of the document, and says the last byte at first and after each of them.
+fn append_parts(
+    alloc: Global,
+    text: &mut Rope,
+    said: &mut String,
+    document: &str,
+) -> Result<(), AllocError> {
+    write!(said, "{:?} ", text.last_byte())?;
+    for part in document.split('\n') {
+        append_part(alloc, text, part)?;
+        write!(said, "{:?} ", text.last_byte())?;
+    }
+    Ok(())
+}
+
+/// Appends a line between `<` and `>`.
+fn append_part(alloc: Global, text: &mut Rope, part: &str) -> Result<(), AllocError> {
+    text.append(alloc, opened(alloc, part)?)?;
+    text.push_str(">")
+}
+
+/// A text behind `<`, in parts.
+fn opened(alloc: Global, text: &str) -> Result<Rope, AllocError> {
+    let mut rope = Rope::new(alloc);
+    rope.push_str("<")?;
+    rope.push_str(text)?;
+    Ok(rope)
 }

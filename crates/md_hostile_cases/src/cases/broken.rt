@@ -23,7 +23,7 @@ enum Break {
     Remove,
     /// It comes twice.
     Double,
-    /// It comes behind the next one.
+    /// It comes after the next one.
     Swap,
     /// It has another name.
     Rename,
@@ -172,6 +172,13 @@ struct Breaking {
     to: (usize, usize),
 }
 
+/// Where a tree is broken in a way.
+fn way_to_break(tree: &Tree, change: Break, random: &mut Random) -> Breaking {
+    let place = random.below(tree.events.len().saturating_sub(1));
+    let to = random.pick(&PLACES).unwrap_or((0, 0));
+    Breaking { place, change, to }
+}
+
 /// Breaks a tree at one place, and mends it.
 fn break_once(
     rt: &(impl Abort + AllocGlobal),
@@ -222,9 +229,7 @@ fn break_tree(
     let whole = text_of(rt, tree.events.as_slice(), tree.bytes.as_slice())?;
     for change in BREAKS {
         for _ in 0..TIMES {
-            let place = random.below(tree.events.len().saturating_sub(1));
-            let to = random.pick(&PLACES).unwrap_or((0, 0));
-            break_once(rt, tree, &whole, Breaking { place, change, to })?;
+            break_once(rt, tree, &whole, way_to_break(tree, change, random))?;
         }
     }
     Ok(())

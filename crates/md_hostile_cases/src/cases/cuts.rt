@@ -2,6 +2,7 @@
 
 use md_script::{RunError, run};
 use std::alloc::{AllocError, Global};
+use std::fmt::Write;
 use std::process::Abort;
 use std::test::Fail;
 
@@ -16,30 +17,40 @@ fn table(alloc: Global, place: usize, times: usize) -> Result<String, AllocError
     let mut script = String::new(alloc);
     for (index, line) in TABLE.split('\n').enumerate() {
         let count = if index == place { times } else { 1 };
-        let line = format!(in alloc; "{line}\n")?;
-        script.push_str(&line.repeat(alloc, count)?)?;
+        push_line(&mut script, line, count)?;
     }
     script.push_str("--\n")?;
     script.push_str(TABLE_DOCUMENT)?;
     Ok(script)
 }
 
-/// An odd number of events is no document: one is refused, and not before the line that is wrong.
-fn is_refused_from(rt: &(impl Abort + AllocGlobal), script: &str, place: usize) {
-    match run(rt.alloc(), script.as_bytes()) {
-        Err(RunError::Event { index, rule }) => {
-            assert!(rt; place <= index, "line {place}: event {index}: {rule}");
-        }
-        answer => assert!(rt; false, "line {place}: {answer:?}"),
+/// Puts a line behind a script so many times.
+fn push_line(script: &mut String, line: &str, times: usize) -> Result<(), AllocError> {
+    for _ in 0..times {
+        writeln!(script, "{line}")?;
     }
+    Ok(())
+}
+
+/// An odd number of events is no document: one is refused, and not before the line that is wrong.
+fn is_refused_from(
+    rt: &(impl Abort + AllocGlobal),
+    place: usize,
+    times: usize,
+) -> Result<(), AllocError> {
+    let script = table(rt.alloc(), place, times)?;
+    let answer = run(rt.alloc(), script.as_bytes());
+    let is_refused = matches!(&answer, Err(RunError::Event { index, .. }) if place <= *index);
+    assert!(rt; is_refused, "line {place}: {answer:?}");
+    Ok(())
 }
 
 #[test]
 fn lines_are_left_out_and_doubled(rt: HostRuntime) -> Result<(), Fail> {
     let count = TABLE.split('\n').count();
     for place in 0..count {
-        is_refused_from(&rt, &table(rt.alloc(), place, 0)?, place);
-        is_refused_from(&rt, &table(rt.alloc(), place, 2)?, place);
+        is_refused_from(&rt, place, 0)?;
+        is_refused_from(&rt, place, 2)?;
     }
     run(rt.alloc(), table(rt.alloc(), count, 0)?.as_bytes())?;
     Ok(())

@@ -1,17 +1,18 @@
 //! Nodes in nodes, at many depths.
 //!
-//! A body that answers want of memory past some depth fails here.
+//! A body that says that it is out of memory past some depth fails here.
 
 use super::{answers, event, point};
 use md_html::{Event, Kind, Name};
-use std::alloc::AllocError;
+use std::alloc::{AllocError, Global};
 use std::process::Abort;
 use std::test::Fail;
 
 /// An event of a level.
 type Step = (Kind, Name);
 
-/// How each level opens and closes, and the text that it should give: before the levels inside, in the innermost, and behind.
+/// How each level opens and closes, and the text that it should give: before the levels inside, in the innermost, and
+/// after them.
 struct Shape {
     opening: &'static [Step],
     closing: &'static [Step],
@@ -70,10 +71,16 @@ fn shape_answers(rt: &(impl Abort + AllocGlobal), shape: &Shape, depth: usize) -
     let mut events = Vec::new(rt.alloc());
     add_levels(&mut events, shape.opening, depth)?;
     add_levels(&mut events, shape.closing, depth)?;
-    let mut text = shape.before.repeat(rt.alloc(), depth)?;
-    text.push_str(shape.innermost)?;
-    text.push_str(&shape.after.repeat(rt.alloc(), depth)?)?;
+    let text = text_of(rt.alloc(), shape, depth)?;
     answers(rt, events.as_slice(), text.trim_end_matches('\n'))
+}
+
+/// The text that a shape should give.
+fn text_of(alloc: Global, shape: &Shape, depth: usize) -> Result<String, AllocError> {
+    let mut text = shape.before.repeat(alloc, depth)?;
+    text.push_str(shape.innermost)?;
+    text.push_str(&shape.after.repeat(alloc, depth)?)?;
+    Ok(text)
 }
 
 /// The powers of two below the greatest depth, and then that.

@@ -75,19 +75,20 @@ fn has_text(rt: &(impl Abort + AllocGlobal), events: &[Event]) -> Result<bool, F
         bytes: &[],
         names: &SCRIPT_NAMES,
     };
-    match (compiled_as_script(rt, &given), fault(rt.alloc(), events)?) {
-        (Ok(_), None) => Ok(true),
+    let fault = fault(rt.alloc(), events)?;
+    let answer = compiled_as_script(rt, &given);
+    assert!(rt; is_right(&answer, fault), "{answer:?} at {events:?}");
+    Ok(answer.is_ok())
+}
+
+/// Whether a list with a fault, if it has one, may give this answer.
+fn is_right(answer: &Result<String, CompileError>, fault: Option<usize>) -> bool {
+    match (answer, fault) {
+        (Ok(_), None) => true,
         (Err(CompileError::Event { index, rule }), Some(first)) => {
-            assert!(rt;
-                first <= index && rule == Rule::Order,
-                "event {index}: {rule}"
-            );
-            Ok(false)
+            first <= *index && *rule == Rule::Order
         }
-        (answer, _) => {
-            assert!(rt; false, "{answer:?} at {events:?}");
-            Ok(false)
-        }
+        _ => false,
     }
 }
 

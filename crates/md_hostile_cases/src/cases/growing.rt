@@ -121,7 +121,7 @@ impl Grower {
         Ok(())
     }
 
-    /// Puts a node that is passed over before a part, round it, or round it and the next one.
+    /// Puts a node that is passed over before a part, around it, or around it and the next one.
     fn wrap(&mut self, part: Part) -> Result<(), AllocError> {
         let name = self.random.pick(&WRAPPERS).unwrap_or(Name::Other(1));
         let (start, end) = (self.free_point(), self.free_point());
@@ -134,7 +134,7 @@ impl Grower {
         }
     }
 
-    /// Plans an end behind a part and the next one, or before the next one where that is an end too.
+    /// Plans an end after a part and the next one, or before the next one where that is an end too.
     fn wrap_two(&mut self, part: Part, end: Part) -> Result<(), AllocError> {
         match self.parts.pop() {
             None => self.put(&[part, end]),

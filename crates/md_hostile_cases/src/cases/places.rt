@@ -145,24 +145,24 @@ fn is_wanted(answer: &Result<String, CompileError>, wanted: Wanted) -> bool {
 }
 
 /// Whether a document gives what it should, as a script too where a script can tell of it.
-fn is_answered(rt: &(impl Abort + AllocGlobal), given: &Given<'_>, wanted: Wanted) -> bool {
-    let answer = match wanted {
-        Far(_) => compiled(rt, given, &CompileOptions::default()),
-        _ => compiled_as_script(rt, given),
+fn is_answered(rt: &(impl Abort + AllocGlobal), case: &Case) -> Result<bool, AllocError> {
+    let events = listed(rt.alloc(), case.events)?;
+    let given = Given {
+        events: events.as_slice(),
+        bytes: case.text.as_bytes(),
+        names: &SCRIPT_NAMES,
     };
-    is_wanted(&answer, wanted)
+    let answer = match case.wanted {
+        Far(_) => compiled(rt, &given, &CompileOptions::default()),
+        _ => compiled_as_script(rt, &given),
+    };
+    Ok(is_wanted(&answer, case.wanted))
 }
 
 #[test]
 fn places_and_mdx(rt: HostRuntime) -> Result<(), Fail> {
     for (place, case) in CASES.iter().enumerate() {
-        let events = listed(rt.alloc(), case.events)?;
-        let given = Given {
-            events: events.as_slice(),
-            bytes: case.text.as_bytes(),
-            names: &SCRIPT_NAMES,
-        };
-        let is_right = is_answered(&rt, &given, case.wanted);
+        let is_right = is_answered(&rt, case)?;
         assert!(rt; is_right, "case {place}");
     }
     Ok(())

@@ -23,19 +23,39 @@ fn options(alloc: Global, seed: u64, is_safe: bool) -> Result<CompileOptions, Al
         gfm_tagfilter: random.once_in(2),
         gfm_footnote_number_ids: random.once_in(2),
         default_line_ending: ending(random.below(3)),
-        gfm_footnote_back_label: text(alloc, &mut random)?,
-        gfm_footnote_clobber_prefix: text(alloc, &mut random)?,
-        gfm_footnote_label: text(alloc, &mut random)?,
         ..CompileOptions::default()
     };
+    set_texts(alloc, &mut options, &mut random)?;
     if !is_safe {
-        options.allow_any_img_src = random.once_in(2);
-        options.allow_dangerous_html = random.once_in(2);
-        options.allow_dangerous_protocol = random.once_in(2);
-        options.gfm_footnote_label_attributes = text(alloc, &mut random)?;
-        options.gfm_footnote_label_tag_name = text(alloc, &mut random)?;
+        set_unsafe(alloc, &mut options, &mut random)?;
     }
     Ok(options)
+}
+
+/// Sets the texts that are safe.
+fn set_texts(
+    alloc: Global,
+    options: &mut CompileOptions,
+    random: &mut Random,
+) -> Result<(), AllocError> {
+    options.gfm_footnote_back_label = text(alloc, random)?;
+    options.gfm_footnote_clobber_prefix = text(alloc, random)?;
+    options.gfm_footnote_label = text(alloc, random)?;
+    Ok(())
+}
+
+/// Sets the options that are not safe.
+fn set_unsafe(
+    alloc: Global,
+    options: &mut CompileOptions,
+    random: &mut Random,
+) -> Result<(), AllocError> {
+    options.allow_any_img_src = random.once_in(2);
+    options.allow_dangerous_html = random.once_in(2);
+    options.allow_dangerous_protocol = random.once_in(2);
+    options.gfm_footnote_label_attributes = text(alloc, random)?;
+    options.gfm_footnote_label_tag_name = text(alloc, random)?;
+    Ok(())
 }
 
 fn ending(number: usize) -> LineEnding {

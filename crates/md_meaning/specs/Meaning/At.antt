@@ -34,7 +34,7 @@ pub record Found : Type 0 where
 abbrev pub nothing_found : Found
 nothing_found = record { heading = None; destination = None; title = None; resource = None }
 
--- what is found behind other things: of each kind the last
+-- what is found after other things: of each kind the last
 abbrev pub found_behind : Found → Found → Found
 found_behind first later = record {
   heading = or_else later.heading first.heading;
@@ -48,7 +48,7 @@ abbrev pub target_in : Found → Target
 target_in found = record { destination = unwrap_or found.destination []; title = found.title }
 
 -- what stands before a node: the calls that have ended, the marks, the latest first, its previous sibling, the names
--- on its spine and what is found there; and the alignments of the table round it
+-- on its spine and what is found there; and the alignments of the table around it
 pub record Before : Type 0 where
   pub calls : List (List ℕ)
   pub marks : List Mark
@@ -57,8 +57,8 @@ pub record Before : Type 0 where
   pub found : Found
   pub columns : List AlignKind
 
--- a node: what stands round it and before it, its children and what is found on their spine, where it starts and ends,
--- and whether nothing follows it in the document
+-- a node: what stands around it and before it, its children and what is found on their spine, where it starts and
+-- ends, and whether nothing follows it in the document
 pub record At : Type 0 where
   pub around : Surroundings
   pub before : Before

@@ -18,7 +18,7 @@ use Rattle.md_meaning.specs.Meaning.At.{Given, Found, nothing_found, found_behin
 abbrev pub is_first_fence : List Name → Bool
 is_first_fence spine = not (list_any is_fence spine)
 
--- the mark that the exit of a node outside definitions is, behind the names on its spine
+-- the mark that the exit of a node outside definitions is, after the names on its spine
 abbrev pub exit_marks : Surroundings → List Name → Name → List Mark
 exit_marks around spine CodeFencedFence = if is_first_fence spine then Sets ∷ [] else []
 exit_marks around spine MathFlowFence = if is_first_fence spine then Sets ∷ [] else []

@@ -85,7 +85,7 @@ unended_length [] = 0
 unended_length (byte ∷ bytes) =
     if ((byte == 13) || (byte == 10)) && (unended_length bytes == 0) then 0 else suc (unended_length bytes)
 
--- a footnote's text and the ways back: before the `</p>` in which it ends, but for CR and LF, else behind it
+-- a footnote's text and the ways back: before the `</p>` in which it ends, but for CR and LF, else after it
 abbrev pub body : List ℕ → List ℕ → List Piece
 body text back =
     let end = unended_length text - 4 in

@@ -12,7 +12,7 @@ pub data Piece : Type 0 where
 abbrev pub begins_line : List ℕ → Bool
 begins_line text = option_map_or (λ byte. byte == 13 || byte == 10) (slice_get text (length text - 1)) true
 
--- some pieces behind a text, where lines end in `ending`
+-- some pieces after a text, where lines end in `ending`
 abbrev pub behind : List ℕ → List ℕ → List Piece → List ℕ
 behind ending text [] = text
 behind ending text (Text more ∷ pieces) = behind ending (text ++ more) pieces

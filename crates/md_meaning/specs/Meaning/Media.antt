@@ -53,7 +53,7 @@ link given at label = if at.around.in_image then said label else anchor given.op
 abbrev pub image : Given → At → List ℕ → List Piece
 image given at label = if at.around.in_image then said label else picture given.options (leads_to given at) label
 
--- an autolink: its text, which leads to itself behind a prefix unless it is plain
+-- an autolink: its text, which leads to itself after a prefix unless it is plain
 abbrev pub autolink : Given → At → Bool → List ℕ → List Piece
 autolink given at plain prefix = if plain then said (encoded true (text_at given at)) else anchor given.options
     (record { destination = prefix ++ text_at given at; title = None }) (encoded true (text_at given at))

@@ -58,13 +58,13 @@ node given at name inner = record {
   });
 }
 
--- a node, whose children mean this, and what later nodes mean behind it
+-- a node, whose children mean this, and what later nodes mean after it
 abbrev pub followed : Given → At → Name → Meant → (Before → Meant) → Meant
 followed given at name inner later =
     let here = record at { found = inner.found } in
     both (node given here name inner) (later (before_next given here name (found_at given here name inner.pieces)))
 
--- what some nodes mean, by what stands round them and before them
+-- what some nodes mean, by what stands around them and before them
 abbrev pub meant : Given → Surroundings → Before → Forest → Meant
 meant given around before Empty = record { pieces = []; found = nothing_found; definitions = []; footnotes = [] }
 meant given around before (Node name start end children rest) =

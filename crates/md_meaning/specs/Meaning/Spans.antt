@@ -25,7 +25,7 @@ abbrev pub reference : Given → At → List ℕ
 reference given at =
     unwrap_or (decoded given.names (option_map_or marker (last_of at.before.spine) 38) (text_at given at)) []
 
--- a line ending is dropped where the last mark before it is a setting one, but in a definition, and behind a definition
+-- a line ending is dropped where the last mark before it is a setting one, but in a definition, and after a definition
 abbrev pub is_dropped : At → Bool
 is_dropped at =
     not at.around.in_definition && is_slurping at.before.marks || option_map_or is_definition at.before.previous false

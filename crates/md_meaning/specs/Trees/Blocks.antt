@@ -150,7 +150,7 @@ filtered_html_bytes = codes "<xmp><i>"
 abbrev pub filtered_html_text : List ℕ
 filtered_html_text = codes "&lt;xmp><i>"
 
--- setext heading behind two endings: the tree, its bytes and its text
+-- setext heading after two endings: the tree, its bytes and its text
 abbrev pub setext_heading_behind_two_endings : Forest
 setext_heading_behind_two_endings =
     Node HeadingSetextText (at 0) (at 1) (Node Data (at 0) (at 1) (Empty) (Empty))

@@ -7,7 +7,7 @@ use Rattle.md_meaning.specs.Defaults.{default_options}
 use Rattle.md_meaning.specs.declared.options.CompileOptions.{CompileOptions}
 use Rattle.md_meaning.specs.Trees.{at}
 
--- two endings behind a definition: the tree, its bytes and its text
+-- two endings after a definition: the tree, its bytes and its text
 abbrev pub two_endings_behind_a_definition : Forest
 two_endings_behind_a_definition =
     Node ListUnordered (at 0) (at 12) (Node ListItem (at 0) (at 12)
@@ -25,7 +25,7 @@ abbrev pub two_endings_behind_a_definition_text : List ℕ
 two_endings_behind_a_definition_text = codes "<ul>" ++ (10 ∷ []) ++ codes "<li>a" ++ (10 ∷ []) ++ codes "b</li>"
     ++ (10 ∷ []) ++ codes "</ul>"
 
--- two line endings behind a footnote definition, of which the first is dropped: the tree, its bytes and its text
+-- two line endings after a footnote definition, of which the first is dropped: the tree, its bytes and its text
 abbrev pub endings_behind_a_footnote_definition : Forest
 endings_behind_a_footnote_definition =
     Node GfmFootnoteDefinition (at 0) (at 6) (Node GfmFootnoteDefinitionPrefix (at 0) (at 5)
@@ -42,7 +42,7 @@ abbrev pub endings_behind_a_footnote_definition_text : List ℕ
 endings_behind_a_footnote_definition_text = (10 ∷ []) ++ codes
     "<p><sup><a href=\"#user-content-fn-b\" id=\"user-content-fnref-b\" data-footnote-ref=\"\" aria-describedby=\"footnote-label\">1</a></sup></p>" ++ (10 ∷ []) ++ codes "<section data-footnotes=\"\" class=\"footnotes\"><h2 id=\"footnote-label\" class=\"sr-only\">Footnotes</h2>" ++ (10 ∷ []) ++ codes "<ol>" ++ (10 ∷ []) ++ codes "<li id=\"user-content-fn-b\">" ++ (10 ∷ []) ++ codes "<p>c <a href=\"#user-content-fnref-b\" data-footnote-backref=\"\" aria-label=\"Back to content\" class=\"data-footnote-backref\">" ++ (226 ∷ []) ++ (134 ∷ []) ++ (169 ∷ []) ++ codes "</a></p>" ++ (10 ∷ []) ++ codes "</li>" ++ (10 ∷ []) ++ codes "</ol>" ++ (10 ∷ []) ++ codes "</section>" ++ (10 ∷ [])
 
--- a thematic break behind frontmatter, whose line ending is slurped: the tree, its bytes and its text
+-- a thematic break after frontmatter, whose line ending is slurped: the tree, its bytes and its text
 abbrev pub break_behind_frontmatter : Forest
 break_behind_frontmatter =
     Node Frontmatter (at 0) (at 7) (Node LineEnding (at 3) (at 4) (Empty) (Empty))
@@ -101,7 +101,7 @@ abbrev pub line_ending_in_a_definition_text : List ℕ
 line_ending_in_a_definition_text = codes "<ul>" ++ (13 ∷ []) ++ (10 ∷ []) ++ codes "<li>a</li>" ++ (13 ∷ [])
     ++ (10 ∷ []) ++ codes "</ul>"
 
--- a line ending behind frontmatter and a blank line, which clears: the tree, its bytes and its text
+-- a line ending after frontmatter and a blank line, which clears: the tree, its bytes and its text
 abbrev pub ending_behind_a_blank_line : Forest
 ending_behind_a_blank_line =
     Node Frontmatter (at 0) (at 0) (Empty) (Node BlankLineEnding (at 0) (at 1) (Empty)
@@ -113,7 +113,7 @@ ending_behind_a_blank_line_bytes = (10 ∷ []) ++ (10 ∷ [])
 abbrev pub ending_behind_a_blank_line_text : List ℕ
 ending_behind_a_blank_line_text = (10 ∷ [])
 
--- a line ending behind frontmatter and a block quote, which clears: the tree, its bytes and its text
+-- a line ending after frontmatter and a block quote, which clears: the tree, its bytes and its text
 abbrev pub ending_behind_a_quote : Forest
 ending_behind_a_quote =
     Node Frontmatter (at 0) (at 0) (Empty) (Node BlockQuote (at 0) (at 0) (Empty)
@@ -125,7 +125,7 @@ ending_behind_a_quote_bytes = (10 ∷ [])
 abbrev pub ending_behind_a_quote_text : List ℕ
 ending_behind_a_quote_text = codes "<blockquote>" ++ (10 ∷ []) ++ codes "</blockquote>" ++ (10 ∷ [])
 
--- a line ending behind frontmatter and indented code, which clears: the tree, its bytes and its text
+-- a line ending after frontmatter and indented code, which clears: the tree, its bytes and its text
 abbrev pub ending_behind_indented_code : Forest
 ending_behind_indented_code =
     Node Frontmatter (at 0) (at 0) (Empty) (Node CodeIndented (at 0) (at 0) (Empty)
@@ -137,7 +137,7 @@ ending_behind_indented_code_bytes = (10 ∷ [])
 abbrev pub ending_behind_indented_code_text : List ℕ
 ending_behind_indented_code_text = codes "<pre><code></code></pre>" ++ (10 ∷ [])
 
--- a line ending behind fenced code, which clears what its fence sets: the tree, its bytes and its text
+-- a line ending after fenced code, which clears what its fence sets: the tree, its bytes and its text
 abbrev pub ending_behind_fenced_code : Forest
 ending_behind_fenced_code =
     Node CodeFenced (at 0) (at 6) (Node CodeFencedFence (at 0) (at 3) (Empty)
@@ -149,7 +149,7 @@ ending_behind_fenced_code_bytes = codes "``````" ++ (10 ∷ [])
 abbrev pub ending_behind_fenced_code_text : List ℕ
 ending_behind_fenced_code_text = codes "<pre><code></code></pre>" ++ (10 ∷ [])
 
--- a line ending behind math, which clears what its fence sets: the tree, its bytes and its text
+-- a line ending after math, which clears what its fence sets: the tree, its bytes and its text
 abbrev pub ending_behind_math : Forest
 ending_behind_math =
     Node MathFlow (at 0) (at 4) (Node MathFlowFence (at 0) (at 2) (Empty)
@@ -161,7 +161,7 @@ ending_behind_math_bytes = codes "$$$$" ++ (10 ∷ [])
 abbrev pub ending_behind_math_text : List ℕ
 ending_behind_math_text = codes "<pre><code class=\"language-math math-display\"></code></pre>" ++ (10 ∷ [])
 
--- a line ending behind a tight list, whose item clears what its paragraph sets: the tree, its bytes and its text
+-- a line ending after a tight list, whose item clears what its paragraph sets: the tree, its bytes and its text
 abbrev pub ending_behind_a_tight_list : Forest
 ending_behind_a_tight_list =
     Node ListUnordered (at 0) (at 3) (Node ListItem (at 0) (at 3)
@@ -176,7 +176,7 @@ abbrev pub ending_behind_a_tight_list_text : List ℕ
 ending_behind_a_tight_list_text = codes "<ul>" ++ (10 ∷ []) ++ codes "<li>a</li>" ++ (10 ∷ []) ++ codes "</ul>"
     ++ (10 ∷ [])
 
--- a line ending behind frontmatter and code with a line ending, which is no mark: the tree, its bytes and its text
+-- a line ending after frontmatter and code with a line ending, which is no mark: the tree, its bytes and its text
 abbrev pub ending_behind_code_with_an_ending : Forest
 ending_behind_code_with_an_ending =
     Node Frontmatter (at 0) (at 0) (Empty) (Node CodeText (at 0) (at 3)
@@ -188,7 +188,7 @@ ending_behind_code_with_an_ending_bytes = codes "`" ++ (10 ∷ []) ++ codes "`" 
 abbrev pub ending_behind_code_with_an_ending_text : List ℕ
 ending_behind_code_with_an_ending_text = codes "<code> </code>"
 
--- a line ending behind frontmatter and a definition with a line ending, which is no mark: the tree, its bytes and
+-- a line ending after frontmatter and a definition with a line ending, which is no mark: the tree, its bytes and
 -- its text
 abbrev pub ending_behind_a_definition_with_an_ending : Forest
 ending_behind_a_definition_with_an_ending =
@@ -204,7 +204,7 @@ ending_behind_a_definition_with_an_ending_bytes = codes "[a]:" ++ (10 ∷ []) ++
 abbrev pub ending_behind_a_definition_with_an_ending_text : List ℕ
 ending_behind_a_definition_with_an_ending_text = []
 
--- a title with a line ending behind frontmatter, which is not slurped in a definition: the tree, its bytes and its text
+-- a title with a line ending after frontmatter, which is not slurped in a definition: the tree, its bytes and its text
 abbrev pub title_on_two_lines : Forest
 title_on_two_lines =
     Node Frontmatter (at 0) (at 0) (Empty) (Node Definition (at 0) (at 12)
@@ -222,7 +222,7 @@ title_on_two_lines_bytes = codes "[a]: b \"c" ++ (10 ∷ []) ++ codes "d\"[a]"
 abbrev pub title_on_two_lines_text : List ℕ
 title_on_two_lines_text = codes "<p><a href=\"b\" title=\"c" ++ (10 ∷ []) ++ codes "d\">a</a></p>"
 
--- a line ending behind a transparent node that holds a definition: the tree, its bytes and its text
+-- a line ending after a transparent node that holds a definition: the tree, its bytes and its text
 abbrev pub definition_in_another_name : Forest
 definition_in_another_name =
     Node (Other 1) (at 0) (at 6) (Node Definition (at 0) (at 6)

@@ -206,7 +206,7 @@ abbrev pub footnote_that_ends_in_a_quote_text : List ℕ
 footnote_that_ends_in_a_quote_text =
     codes "<p><sup><a href=\"#user-content-fn-b\" id=\"user-content-fnref-b\" data-footnote-ref=\"\" aria-describedby=\"footnote-label\">1</a></sup></p>" ++ (10 ∷ []) ++ codes "<section data-footnotes=\"\" class=\"footnotes\"><h2 id=\"footnote-label\" class=\"sr-only\">Footnotes</h2>" ++ (10 ∷ []) ++ codes "<ol>" ++ (10 ∷ []) ++ codes "<li id=\"user-content-fn-b\">" ++ (10 ∷ []) ++ codes "<blockquote>" ++ (10 ∷ []) ++ codes "<p>c</p>" ++ (10 ∷ []) ++ codes "</blockquote>" ++ (10 ∷ []) ++ codes "<a href=\"#user-content-fnref-b\" data-footnote-backref=\"\" aria-label=\"Back to content\" class=\"data-footnote-backref\">" ++ (226 ∷ []) ++ (134 ∷ []) ++ (169 ∷ []) ++ codes "</a>" ++ (10 ∷ []) ++ codes "</li>" ++ (10 ∷ []) ++ codes "</ol>" ++ (10 ∷ []) ++ codes "</section>" ++ (10 ∷ [])
 
--- a footnote with CR and LF behind its last paragraph: the tree, its bytes and its text
+-- a footnote with CR and LF after its last paragraph: the tree, its bytes and its text
 abbrev pub footnote_that_ends_in_line_endings : Forest
 footnote_that_ends_in_line_endings =
     Node Paragraph (at 0) (at 4) (Node GfmFootnoteCall (at 0) (at 4)

@@ -1,4 +1,4 @@
--- Behind a space a text may be cut.
+-- After a space a text may be cut.
 use Rattle.std.proofs.Common.{◌≡◌, ℕ, Bool, true, false, List, [], ◌∷◌, length, sym, ap, ◌∙◌, arith, zero-lt-suc}
 use Rattle.std.specs.Prelude.{slice_get}
 use Rattle.std.specs.Bool.{OnTrue}

@@ -4,7 +4,7 @@ use Rattle.md_printer.specs.Machine.{printing}
 use Rattle.md_around.specs.Steps.{first_or}
 use Rattle.md_pieces.proofs.tables.empty_cells.Given as goal
 
--- the columns stay, and what is left comes behind what is printed
+-- the columns stay, and what is left comes after what is printed
 abbrev pub invariant-loop-kind : goal.invariant-loop-kind
 invariant-loop-kind l =
     (l.printer.tables ≡ l.fn.printer.tables)

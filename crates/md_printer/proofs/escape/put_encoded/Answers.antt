@@ -1,4 +1,4 @@
--- Behind an ASCII byte a text may be cut.
+-- After an ASCII byte a text may be cut.
 use Rattle.std.proofs.Common.{◌≡◌, ◌+◌, ◌-◌, ℕ, List, slice_range, [], take, drop, ap, ◌∙◌, arith}
 use Rattle.std.proofs.lemmas.Str.{IsCharBoundary-after_ascii}
 use Rattle.md_text.specs.Encode.{encoded}

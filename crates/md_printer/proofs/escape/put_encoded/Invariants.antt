@@ -1,4 +1,4 @@
--- What is printed, and behind it the rest escaped, is the whole.
+-- What is printed, and after it the rest escaped, is the whole.
 use Rattle.std.proofs.Common.{◌≡◌, [], length}
 use denote.Text.{Utf8}
 use denote.Shadow.{shadow}

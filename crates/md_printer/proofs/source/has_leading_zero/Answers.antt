@@ -1,4 +1,4 @@
--- Behind an ASCII digit a text may be cut.
+-- After an ASCII digit a text may be cut.
 use Rattle.std.proofs.Common.{◌≡◌, ℕ, ◌<◌, Bool, true, false, nat_eq, List, length, get_or, arith, refl}
 use Rattle.std.proofs.lemmas.Bool.{eqb-true}
 use Rattle.std.specs.Bool.{OnTrue}

@@ -1,4 +1,4 @@
--- A chunk takes its text and the bytes behind it off the front: the text is a run, and what is left is from the
+-- A chunk takes its text and the bytes after it off the front: the text is a run, and what is left is from the
 -- next start on.
 use Rattle.std.proofs.Common.{◌≡◌, ◌++◌, drop, ◌∙◌}
 use Rattle.std.specs.Str.Chunks.{utf8_chunks_rest}

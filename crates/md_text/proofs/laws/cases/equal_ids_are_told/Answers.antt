@@ -44,7 +44,7 @@ returns-clause-nested c =
     equal-by _ (item (codes "a") (with (codes "a") (codes "id") (codes "a") Empty Empty) Empty)
     (record { in_grammar = refl; written_so = refl }) refl
 
--- a link to a place, with an id behind that
+-- a link to a place, with an id after that
 link : List ℕ → List ℕ → Forest → Forest
 link place value rest = Element (codes "a") (record { name = codes "href"; value = place }
     ∷ record { name = codes "id"; value = value } ∷ []) Empty rest

@@ -1,11 +1,10 @@
-use Rattle.std.proofs.Common.{◌≡◌, ◌⊎◌, Some, None, ap, sym, ◌∙◌, subst, add-one, suc}
+use Rattle.std.proofs.Common.{◌≡◌, ◌⊎◌, Some, None, sym, ◌∙◌, subst, add-one, suc}
 use Rattle.md_base.specs.Reference.{name_table}
 use Rattle.md_pattern.specs.declared.kinds.Standing.TheVariants.{Through, Space}
 use Rattle.md_tree.specs.declared.rule.Rule.TheVariants as rule
 use Rattle.md_tree.specs.declared.rule.CompileError.TheVariants as error
 use Rattle.md_tree.specs.declared.mention.Target.TheVariants.{Missing}
 use Rattle.md_tree.specs.Rules.{target_at, broken_rule}
-use Rattle.md_tree.specs.Machine.{start_of, is_complete}
 use Rattle.md_tree.specs.Walk.{point_at, place_at, target_seen, course_of, IsStopAtLeaf}
 use Rattle.md_tree.proofs.Leaves.{passes-over, Passes-solid, IsStopAtLeaf-open, IsStopAtLeaf-broken}
 use Rattle.md_tree.proofs.walk.Walk.leaf.Goals as goal
@@ -20,16 +19,15 @@ returns-in-Through-clause-ok c =
     (sym c.can_hold.ensures ∙ c.if-not-can_hold.false)
     (subst (λ s. (s ≡ Through) ⊎ (s ≡ Space)) c.standing.ensures over)
 
-pub returns-then-not-can_be_empty-clause-refused : goal.returns-then-not-can_be_empty-clause-refused
-returns-then-not-can_be_empty-clause-refused c =
+pub returns-then-not-can_be_leaf-clause-refused : goal.returns-then-not-can_be_leaf-clause-refused
+returns-then-not-can_be_leaf-clause-refused c =
     let events = c.args.source.events.now in
     let self = c.args.self.now in
     let bytes = c.args.source.bytes.now in
     let names = name_table c.args.source.names.now in
     let index = c.args.index in
-    let unfinished = ap (λ r. is_complete (start_of r)) (sym c.role_of.ensures) ∙ sym c.can_be_empty.ensures
-    ∙ c.if-not-can_be_empty.true in
-    rw c.refuse-then-not-can_be_empty.ensures (subst (λ n. IsStopAtLeaf bytes names index c.args.name
+    let unfinished = sym c.can_be_leaf.ensures ∙ c.if-not-can_be_leaf.true in
+    rw c.refuse-then-not-can_be_leaf.ensures (subst (λ n. IsStopAtLeaf bytes names index c.args.name
     (point_at events index) (point_at events (suc index)) (course_of events index self) (error.Event n rule.Order))
     (sym (add-one index)) (IsStopAtLeaf-open c.args.name c.in-Solid.symbol c.in-Solid.usual c.in-Solid.reading
     c.in-Some.state (point_at events index) (point_at events (suc index)) (course_of events index self)
@@ -44,11 +42,10 @@ returns-in-Some-2-clause-refused c =
     let names = name_table c.args.source.names.now in
     let index = c.args.index in
     let broken = c.in-Some-2.rule in
-    let complete = ap (λ r. is_complete (start_of r)) (sym c.role_of.ensures) ∙ sym c.can_be_empty.ensures
-    ∙ c.if-not-can_be_empty.false in
+    let complete = sym c.can_be_leaf.ensures ∙ c.if-not-can_be_leaf.false in
     let breaks = subst (λ exit. broken_rule bytes names c.in-Solid.reading c.in-Some.state.role self.state.before
     (point_at events index) (point_at events exit) Missing ≡ Some broken) (add-one index)
-    (sym c.in_ok-rule-in-Solid.ensures ∙ c.in-Some-2.is) in
+    (sym c.in_ok-rule-in-Solid.ensures.broken ∙ c.in-Some-2.is) in
     rw c.refuse-in-Some-2.ensures (subst (λ n. IsStopAtLeaf bytes names index c.args.name
     (point_at events index) (point_at events (suc index)) (course_of events index self) (error.Event n broken))
     (sym (add-one index)) (IsStopAtLeaf-broken c.args.name c.in-Solid.symbol c.in-Solid.usual c.in-Solid.reading
@@ -64,14 +61,13 @@ returns-in_default-2-clause-ok c =
     let names = name_table c.args.source.names.now in
     let index = c.args.index in
     let reading = c.in-Solid.reading in
-    let complete = ap (λ r. is_complete (start_of r)) (sym c.role_of.ensures) ∙ sym c.can_be_empty.ensures
-    ∙ c.if-not-can_be_empty.false in
+    let complete = sym c.can_be_leaf.ensures ∙ c.if-not-can_be_leaf.false in
     let sound = subst (λ exit. broken_rule bytes names reading c.in-Some.state.role self.state.before
     (point_at events index) (point_at events exit) Missing ≡ None) (add-one index)
-    (sym c.in_ok-rule-in-Solid.ensures ∙ c.in_default-2.is) in
-    let target_is = subst (λ exit. target_seen events c.retarget.new.found
+    (sym c.in_ok-rule-in-Solid.ensures.broken ∙ c.in_default-2.is) in
+    let target_is = subst (λ exit. target_seen events c.read_node.new.target
     ≡ target_at reading (target_seen events self.target) Missing (place_at events index exit)) (add-one index)
-    (c.retarget.ensures events) in
+    (c.in_ok-rule-in-Solid.ensures.target events) in
     Passes-solid c.args.name c.in-Solid.symbol c.in-Solid.usual reading
     c.in-Some.state (point_at events index) (point_at events (suc index)) (course_of events index self)
     (sym c.can_hold.ensures ∙ c.if-not-can_hold.false) (sym c.standing.ensures ∙ c.in-Solid.is)

@@ -12,5 +12,5 @@ returns-in-Some-clause-refused c =
       StopsInside-broken c.args.source.bytes.now (name_table c.args.source.names.now) c.in-Some.rule
           (outer_seen events c.args.outer) (point_at events c.args.entry) (point_at events c.args.index)
           (course_of events c.args.index c.args.self.now) (sym c.can_end.ensures
-          ∙ c.if-not-can_end.false) (sym c.in_ok-rule.ensures ∙ c.in-Some.is),
+          ∙ c.if-not-can_end.false) (sym c.in_ok-rule.ensures.broken ∙ c.in-Some.is),
     )

@@ -4,19 +4,19 @@ use Rattle.md_infer.specs.contracts.facts.Pass.{the_view}
 use Rattle.md_infer.specs.Facts.{opens, fact_of, partner_alone}
 use Rattle.md_infer.specs.Columns.{Collected}
 use Rattle.md_infer.proofs.Opens.{on_answer, opens-set, opens-last, opens-alone, put_then_pushed, passed_exit-by}
-use Rattle.md_infer.proofs.facts.Pass.exit.Goals as goal
+use Rattle.md_infer.proofs.facts.Pass.exit_other.Goals as goal
 
 pub returns-in-Some : goal.returns-in-Some
 returns-in-Some c =
     let pass = the_view c.self.inside in
     let name = c.args.name in
     let own = c.leave_innermost-own.result in
-    let items = c.leave_innermost-own.new.open.items in
+    let items = c.leave_innermost-own.new.open_nodes.items in
     let document = c.leave_innermost-own.new.document in
     let left = opens items document in
     let here = c.in-Some.here.now in
     let after = c.follow.new.here in
-    let counted = c.leave_innermost-own.new.open.ok.0 in
+    let counted = c.leave_innermost-own.new.open_nodes.ok.0 in
     let some : 0 < length items = subst (λ n. 0 < n) counted (search rules) in
     let fact_is : c.fact_of-fact.result ≡ fact_of name (length pass.facts) (length (Collected.tables pass.columns))
     own.contributing own.sought own.told = search rules in
@@ -38,10 +38,10 @@ returns-in-None c =
     let pass = the_view c.self.inside in
     let name = c.args.name in
     let own = c.leave_innermost-own.result in
-    let items = c.leave_innermost-own.new.open.items in
+    let items = c.leave_innermost-own.new.open_nodes.items in
     let document = c.leave_innermost-own.new.document in
     let after = c.follow-in-None.new.here in
-    let none : length items ≡ 0 = subst (λ n. n ≡ 0) c.leave_innermost-own.new.open.ok.0 (search rules) in
+    let none : length items ≡ 0 = subst (λ n. n ≡ 0) c.leave_innermost-own.new.open_nodes.ok.0 (search rules) in
     let fact_is : c.fact_of-fact.result ≡ fact_of name (length pass.facts) (length (Collected.tables pass.columns))
     own.contributing own.sought own.told = search rules in
     let put_is : c.put.new.facts ≡ set pass.facts own.entry c.fact_of-fact.result = search rules in

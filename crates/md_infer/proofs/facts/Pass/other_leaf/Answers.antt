@@ -4,18 +4,18 @@ use Rattle.md_infer.specs.Columns.{Collected}
 use Rattle.md_infer.specs.contracts.facts.Pass.{the_view}
 use Rattle.md_infer.specs.Facts.{opens, next_round, others_round, fact_alone, partner_alone}
 use Rattle.md_infer.proofs.Opens.{on_answer, opens-set, opens-last, opens-alone, passed_leaf-by}
-use Rattle.md_infer.proofs.facts.Pass.leaf.Goals as goal
+use Rattle.md_infer.proofs.facts.Pass.other_leaf.Goals as goal
 
 pub returns-in-Some : goal.returns-in-Some
 returns-in-Some c =
     let pass = the_view c.self.inside in
     let name = c.args.name in
     let entry = c.len-entry.result in
-    let items = c.self.inside.open.items in
+    let items = c.self.inside.open_nodes.items in
     let document = c.self.inside.document in
     let here = c.in-Some.here.now in
     let after = c.follow_leaf.new.here in
-    let counted = c.self.inside.open.ok.0 in
+    let counted = c.self.inside.open_nodes.ok.0 in
     let some : 0 < length items = subst (λ n. 0 < n) counted (search rules) in
     let entry_is : entry ≡ length pass.facts = search rules in
     let fact_is : c.fact_alone-fact.result ≡ fact_alone name (entry + 1) (length (Collected.tables c.enter.new.self))
@@ -36,10 +36,10 @@ returns-in-None c =
     let pass = the_view c.self.inside in
     let name = c.args.name in
     let entry = c.len-entry.result in
-    let items = c.self.inside.open.items in
+    let items = c.self.inside.open_nodes.items in
     let document = c.self.inside.document in
     let after = c.follow_leaf-in-None.new.here in
-    let none : length items ≡ 0 = subst (λ n. n ≡ 0) c.self.inside.open.ok.0 (search rules) in
+    let none : length items ≡ 0 = subst (λ n. n ≡ 0) c.self.inside.open_nodes.ok.0 (search rules) in
     let entry_is : entry ≡ length pass.facts = search rules in
     let fact_is : c.fact_alone-fact.result ≡ fact_alone name (entry + 1) (length (Collected.tables c.enter.new.self))
     = cc in

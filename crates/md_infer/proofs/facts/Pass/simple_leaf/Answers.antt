@@ -1,0 +1,55 @@
+use Rattle.std.proofs.Common.{rules, ◌≡◌, ◌<◌, ◌+◌, ◌-◌, ◌++◌, ◌∷◌, [], length, get_or, sym, ap, ◌∙◌, subst}
+use Rattle.std.specs.Prelude.{set}
+use Rattle.md_infer.specs.Columns.{Collected}
+use Rattle.md_infer.specs.contracts.facts.Pass.{the_view}
+use Rattle.md_infer.specs.declared.facts.OpenNode.{OpenNode}
+use Rattle.md_infer.specs.Facts.{opens, next_round, others_round, partner_alone}
+use Rattle.md_infer.proofs.Leaves.{simple-entered, simple-exited, simple-definitions, simple-fact}
+use Rattle.md_infer.proofs.Opens.{opens-set, opens-last, opens-alone, passed_leaf-by}
+use Rattle.md_infer.proofs.facts.Pass.simple_leaf.Goals as goal
+
+pub returns-in-Some : goal.returns-in-Some
+returns-in-Some c =
+    let pass = the_view c.self.inside in
+    let name = c.args.name in
+    let entry = c.len-entry.result in
+    let items = c.self.inside.open_nodes.items in
+    let document = c.self.inside.document in
+    let here = c.in-Some.here.now in
+    let after = c.follow_simple.new.here in
+    let counted = c.self.inside.open_nodes.ok.0 in
+    let some : 0 < length items = subst (λ n. 0 < n) counted (search rules) in
+    let entry_is : entry ≡ length pass.facts = search rules in
+    let once_is : c.push.new.self.items ≡ pass.facts ++ partner_alone (entry + 1) ∷ [] = search rules in
+    let twice_is : c.push-2.new.self.items ≡ c.push.new.self.items ++ partner_alone entry ∷ [] = search rules in
+    let here_is = c.in-Some.ensures.value ∙ ap (λ n. get_or items (n - 1) here) counted
+    ∙ opens-last items document here some in
+    let stack_is = ap (λ n. opens (set items (n - 1) after) document) counted ∙ opens-set items document after some in
+    rw (← c.self.view_is) (passed_leaf-by name pass entry here after pass.columns pass.columns (partner_alone (entry + 1))
+    c.push.new.self.items c.push-2.new.self.items pass.definitions _ entry_is
+    (simple-entered name pass.columns c.requires)
+    (simple-fact name (entry + 1) (length (Collected.tables pass.columns)) c.requires) once_is twice_is here_is stack_is
+    (simple-exited name (OpenNode.collects here) pass.columns c.requires)
+    (simple-definitions name entry pass.definitions c.requires) c.follow_simple.ensures)
+
+pub returns-in-None : goal.returns-in-None
+returns-in-None c =
+    let pass = the_view c.self.inside in
+    let name = c.args.name in
+    let entry = c.len-entry.result in
+    let items = c.self.inside.open_nodes.items in
+    let document = c.self.inside.document in
+    let after = c.follow_simple-in-None.new.here in
+    let none : length items ≡ 0 = subst (λ n. n ≡ 0) c.self.inside.open_nodes.ok.0 (search rules) in
+    let entry_is : entry ≡ length pass.facts = search rules in
+    let once_is : c.push.new.self.items ≡ pass.facts ++ partner_alone (entry + 1) ∷ [] = search rules in
+    let twice_is : c.push-2.new.self.items ≡ c.push.new.self.items ++ partner_alone entry ∷ [] = search rules in
+    let alone = opens-alone items document none in
+    let here_is = ap next_round (sym alone) in
+    let stack_is = opens-alone items after none ∙ ap (λ o. after ∷ others_round o) (sym alone) in
+    rw (← c.self.view_is) (passed_leaf-by name pass entry document after pass.columns pass.columns
+    (partner_alone (entry + 1)) c.push.new.self.items c.push-2.new.self.items pass.definitions _ entry_is
+    (simple-entered name pass.columns c.requires)
+    (simple-fact name (entry + 1) (length (Collected.tables pass.columns)) c.requires) once_is twice_is here_is stack_is
+    (simple-exited name document.collects pass.columns c.requires)
+    (simple-definitions name entry pass.definitions c.requires) c.follow_simple-in-None.ensures)
