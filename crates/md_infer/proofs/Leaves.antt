@@ -2,10 +2,8 @@
 use Rattle.std.proofs.Common.{◌≡◌, ℕ, ◌+◌, Bool, true, false, not, ◌&&◌, cond, List, [], ◌∷◌, ◌++◌, length, refl, ap, sym, ◌∙◌}
 use Rattle.std.specs.Prelude.{set}
 use Rattle.std.proofs.Math.Seq.{set-append_seam}
-use Rattle.std.proofs.lemmas.List.{length-append, append-nil}
+use Rattle.std.proofs.lemmas.List.{length-append}
 use Rattle.md_base.specs.declared.event.Name.{Name}
-use Rattle.md_base.specs.declared.event.Name.TheVariants.{Data, LineEnding, SpaceOrTab, Other}
-use Rattle.md_base.proofs.Lies.{lie}
 use Rattle.md_infer.specs.declared.seeking.Sought.{Sought}
 use Rattle.md_infer.specs.declared.facts.Fact.{Fact}
 use Rattle.md_infer.specs.declared.facts.OpenNode.{OpenNode}
@@ -13,7 +11,7 @@ use Rattle.md_base.specs.NameTests.{is_transparent, is_item, is_table}
 use Rattle.md_infer.specs.Told.{nothing_told}
 use Rattle.md_infer.specs.Seeking.{search_of}
 use Rattle.md_infer.specs.Columns.{Collected, columns_entered, columns_exited}
-use Rattle.md_infer.specs.Facts.{Passed, is_simple, sought_inside, opened, followed, fact_of, fact_alone, partner_alone, definitions_with, passed_entry, passed_exit}
+use Rattle.md_infer.specs.Facts.{Passed, sought_inside, opened, followed, fact_of, fact_alone, partner_alone, definitions_with, passed_entry, passed_exit}
 
 -- nothing is sought in such a node
 alone_where : (table item transparent : Bool) (count : ℕ) (name : Name) (around : Sought) →
@@ -79,35 +77,3 @@ passed-leaf_by name pass entry here entered columns fact once twice definitions 
       facts = (pass.facts ++ f ∷ []) ++ partner_alone (length pass.facts) ∷ [];
     }) (fact_of-alone name (length pass.facts + 1) (length (Collected.tables (columns_entered name pass.columns)))
     (OpenNode.sought pass.here)) ∙ passed-leaf name pass)
-
--- one that is simple changes no columns and no definitions, and is none of what a fact reads
-pub simple-entered : (name : Name) (columns : Collected) → is_simple name ≡ true → columns ≡ columns_entered name columns
-simple-entered Data columns is = refl
-simple-entered LineEnding columns is = refl
-simple-entered SpaceOrTab columns is = refl
-simple-entered (Other number) columns is = refl
-simple-entered _ columns is = lie is
-
-pub simple-exited : (name : Name) (collects : Bool) (columns : Collected) → is_simple name ≡ true →
-    columns ≡ columns_exited name nothing_told collects columns
-simple-exited Data collects columns is = refl
-simple-exited LineEnding collects columns is = refl
-simple-exited SpaceOrTab collects columns is = refl
-simple-exited (Other number) collects columns is = refl
-simple-exited _ collects columns is = lie is
-
-pub simple-definitions : (name : Name) (entry : ℕ) (definitions : List ℕ) → is_simple name ≡ true →
-    definitions ≡ definitions_with name entry definitions
-simple-definitions Data entry definitions is = sym (append-nil definitions)
-simple-definitions LineEnding entry definitions is = sym (append-nil definitions)
-simple-definitions SpaceOrTab entry definitions is = sym (append-nil definitions)
-simple-definitions (Other number) entry definitions is = sym (append-nil definitions)
-simple-definitions _ entry definitions is = lie is
-
-pub simple-fact : (name : Name) (exit table : ℕ) → is_simple name ≡ true →
-    partner_alone exit ≡ fact_alone name exit table
-simple-fact Data exit table is = refl
-simple-fact LineEnding exit table is = refl
-simple-fact SpaceOrTab exit table is = refl
-simple-fact (Other number) exit table is = refl
-simple-fact _ exit table is = lie is

@@ -3,4 +3,3 @@ pub mod Opens
 pub mod Passing
 pub mod FirstIndex
 pub mod Leaves
-pub mod Common

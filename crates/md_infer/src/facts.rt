@@ -1,6 +1,6 @@
 //! The pass over the events from the first to the last, which finds what is read or inferred of each node.
 
-ghost use Rattle.std.specs.Prelude.{◌≡◌, ℕ, true, OnOk, map, set, not, ◌&&◌};
+ghost use Rattle.std.specs.Prelude.{◌≡◌, ℕ, true, OnOk, map, set, not, ◌&&◌, IfOk};
 ghost use Rattle.md_base.specs.NameTests.{is_transparent, contributes};
 ghost use Rattle.md_infer.specs.Facts as spec;
 ghost use Rattle.md_infer.specs.Ending.{ends_line, ending_behind};
@@ -66,15 +66,36 @@ fn sought_inside(name: Name, around: Sought) -> Sought
 }
 
 /// A node that has been entered at an index, in one that is open.
+#[inline(always)]
 fn opened(entry: usize, name: Name, around: &OpenNode) -> OpenNode
     ensures { result ≡ spec.opened entry name around.now }
 {
-    OpenNode {
-        entry,
-        contributing: 0,
-        collects: collects_in(name, around.collects),
-        sought: sought_inside(name, around.sought),
-        told: NOTHING_TOLD,
+    match name {
+        Name::BlockQuotePrefix
+        | Name::Definition
+        | Name::GfmFootnoteCall
+        | Name::GfmFootnoteDefinition
+        | Name::GfmFootnoteDefinitionPrefix
+        | Name::GfmTable
+        | Name::GfmTableDelimiterRow
+        | Name::GfmTableHead
+        | Name::HeadingAtx
+        | Name::Image
+        | Name::Label
+        | Name::Link
+        | Name::ListItem
+        | Name::ListItemPrefix
+        | Name::ListOrdered
+        | Name::SpaceOrTab
+        | Name::Other(_) => OpenNode {
+            entry,
+            contributing: 0,
+            collects: collects_in(name, around.collects),
+            sought: sought_inside(name, around.sought),
+            told: NOTHING_TOLD,
+        },
+        // Nothing is sought or collected in any other.
+        _ => OpenNode { entry, ..nowhere() },
     }
 }
 
@@ -159,28 +180,6 @@ fn fact_of(name: Name, exit: usize, table: usize, own: &OpenNode) -> Fact
     }
 }
 
-/// The same of a node that is common.
-#[inline(always)]
-fn common_fact(name: Name, exit: usize, own: &OpenNode) -> Fact
-    requires { spec.is_common name ≡ true }
-    ensures { (table : ℕ) → result ≡ spec.fact_of name exit table own.now.contributing own.now.sought own.now.told }
-{
-    let looseness = told_looseness(own.told);
-    if is_transparent(name) {
-        Fact {
-            looseness,
-            ..partner_alone(exit)
-        }
-    } else {
-        Fact {
-            partner: exit,
-            place: own.sought.place,
-            looseness,
-            has_resource: own.sought.has_resource,
-        }
-    }
-}
-
 /// What is known of an exit, and of an entry before its exit.
 fn partner_alone(partner: usize) -> Fact
     ensures { result ≡ spec.partner_alone partner }
@@ -253,19 +252,19 @@ impl Model for Pass {
 }
 
 impl Pass {
-    /// Before any event.
-    pub fn new(alloc: Global) -> Pass
-        ensures { result ≡ spec.nothing_passed }
+    /// Before any of so many events.
+    pub fn new(alloc: Global, events: usize) -> Result<Pass, AllocError>
+        ensures { IfOk result (λ pass. pass ≡ spec.nothing_passed) }
     {
-        Pass {
-            facts: Vec::new(alloc),
+        Ok(Pass {
+            facts: Vec::with_capacity(alloc, events)?,
             ended: Ended {
                 columns: Columns::new(alloc),
                 definitions: Vec::new(alloc),
             },
             document: nowhere(),
             open_nodes: Vec::new(alloc),
-        }
+        })
     }
 
     /// Finds what the next event tells.
@@ -280,33 +279,6 @@ impl Pass {
 
     /// Finds what a node without children tells, which exits right after its entry.
     pub fn leaf(&mut self, alloc: Global, name: Name) -> Result<(), AllocError>
-        ensures { OnOk result (self.new ≡ spec.passed_exit name (spec.passed_entry name self.old)) }
-    {
-        if is_simple(name) {
-            self.simple_leaf(name)
-        } else {
-            self.other_leaf(alloc, name)
-        }
-    }
-
-    /// The same of a node that ends no table, no column and no definition, and that nothing seeks.
-    #[inline(always)]
-    fn simple_leaf(&mut self, name: Name) -> Result<(), AllocError>
-        requires { spec.is_simple name ≡ true }
-        ensures { OnOk result (self.new ≡ spec.passed_exit name (spec.passed_entry name self.old)) }
-    {
-        let entry = self.facts.len();
-        self.facts.push(partner_alone(entry + 1))?;
-        self.facts.push(partner_alone(entry))?;
-        match self.open_nodes.last_mut() {
-            Some(here) => follow_simple(here, name, entry),
-            None => follow_simple(&mut self.document, name, entry),
-        }
-        Ok(())
-    }
-
-    /// The same of any node.
-    fn other_leaf(&mut self, alloc: Global, name: Name) -> Result<(), AllocError>
         ensures { OnOk result (self.new ≡ spec.passed_exit name (spec.passed_entry name self.old)) }
     {
         let entry = self.facts.len();
@@ -334,35 +306,6 @@ impl Pass {
 
     /// The exit of a node.
     fn exit(&mut self, alloc: Global, name: Name) -> Result<(), AllocError>
-        ensures { OnOk result (self.new ≡ spec.passed_exit name self.old) }
-    {
-        if is_common(name) {
-            self.exit_common(name)
-        } else {
-            self.exit_other(alloc, name)
-        }
-    }
-
-    /// The same of a node that ends no table, no column and no definition, and as a child is like most.
-    #[inline(always)]
-    fn exit_common(&mut self, name: Name) -> Result<(), AllocError>
-        requires { spec.is_common name ≡ true }
-        ensures { OnOk result (self.new ≡ spec.passed_exit name self.old) }
-    {
-        let own = leave_innermost(&mut self.open_nodes, &mut self.document);
-        let fact = common_fact(name, self.facts.len(), &own);
-        let entry = own.entry;
-        put(&mut self.facts, entry, fact);
-        self.facts.push(partner_alone(entry))?;
-        match self.open_nodes.last_mut() {
-            Some(here) => follow_common(here, name, &own),
-            None => follow_common(&mut self.document, name, &own),
-        }
-        Ok(())
-    }
-
-    /// The same of any node.
-    fn exit_other(&mut self, alloc: Global, name: Name) -> Result<(), AllocError>
         ensures { OnOk result (self.new ≡ spec.passed_exit name self.old) }
     {
         let own = leave_innermost(&mut self.open_nodes, &mut self.document);
@@ -443,6 +386,12 @@ fn follow(
     ensures columns { OnOk result (ended.new.columns ≡ columns_exited name own.now.told here.old.collects ended.old.columns) }
     ensures definitions { OnOk result (ended.new.definitions.items ≡ spec.definitions_with name own.now.entry ended.old.definitions.items) }
 {
+    search_behind(&mut here.sought, name, own.entry, own.sought);
+    if is_common(name) {
+        here.contributing = own.entry;
+        here.told.last = Last::Plain;
+        return Ok(());
+    }
     ended.columns.exit(alloc, name, own.told, here.collects)?;
     note_child(
         &mut here.contributing,
@@ -450,20 +399,8 @@ fn follow(
         name,
         own.entry,
     )?;
-    search_behind(&mut here.sought, name, own.entry, own.sought);
     tell(&mut here.told, name, own.told);
     Ok(())
-}
-
-/// The same after a child that is common.
-#[inline(always)]
-fn follow_common(here: &mut OpenNode, name: Name, own: &OpenNode)
-    requires { spec.is_common name ≡ true }
-    ensures { here.new ≡ spec.followed name own.now here.old }
-{
-    here.contributing = own.entry;
-    search_behind(&mut here.sought, name, own.entry, own.sought);
-    here.told.last = Last::Plain;
 }
 
 /// The same after a child without children of its own.
@@ -479,6 +416,10 @@ fn follow_leaf(
     ensures columns { OnOk result (ended.new.columns ≡ columns_exited name nothing_told here.old.collects ended.old.columns) }
     ensures definitions { OnOk result (ended.new.definitions.items ≡ spec.definitions_with name entry ended.old.definitions.items) }
 {
+    if is_simple(name) {
+        follow_simple(here, name, entry);
+        return Ok(());
+    }
     ended
         .columns
         .exit(alloc, name, NOTHING_TOLD, here.collects)?;

@@ -1,6 +1,5 @@
--- Worked trees by what they are about, each with the bytes that it lies over, the options where some are set, and
--- the text
--- that is its meaning.
+-- Worked trees by what they are about, each with the bytes that it lies over, the options where some are set, and the
+-- text that is its meaning. What texts with footnotes have in common has names.
 pub mod Blocks
 pub mod Lists
 pub mod Spans
@@ -9,7 +8,8 @@ pub mod Options
 pub mod Tables
 pub mod Footnotes
 pub mod Endings
-use Rattle.std.specs.Prelude.{◌≡◌, ℕ, List, []}
+use Prim.Native.String.{String}
+use Rattle.std.specs.Prelude.{◌≡◌, ℕ, List, [], ◌∷◌, ◌++◌, codes}
 use Rattle.md_base.specs.declared.event.Point.{Point}
 use Rattle.md_base.specs.Tree.{Forest}
 use Rattle.md_meaning.specs.Defaults.{default_options}
@@ -22,6 +22,31 @@ at index = record { line = 1; column = 1; index = index; vs = 0 }
 
 abbrev pub at_column : ℕ → ℕ → Point
 at_column index columns = record { line = 1; column = 1; index = index; vs = columns }
+
+-- the call of a footnote, by the ids of both and the footnote's number
+abbrev pub call_tag : (footnote call number : String) → List ℕ
+call_tag footnote call number =
+    codes "<sup><a href=\"#user-content-fn-" ++ codes footnote ++ codes "\" id=\"user-content-fnref-" ++ codes call
+    ++ codes "\" data-footnote-ref=\"\" aria-describedby=\"footnote-label\">" ++ codes number ++ codes "</a></sup>"
+
+-- the head of the section of footnotes
+abbrev pub section_head : List ℕ
+section_head = codes "<section data-footnotes=\"\" class=\"footnotes\">"
+    ++ codes "<h2 id=\"footnote-label\" class=\"sr-only\">Footnotes</h2>"
+
+-- the tag of the way back to a call
+abbrev pub way_back_tag : String → List ℕ
+way_back_tag call = codes "<a href=\"#user-content-fnref-" ++ codes call ++ codes "\" data-footnote-backref=\"\""
+    ++ codes " aria-label=\"Back to content\" class=\"data-footnote-backref\">"
+
+-- the way back to the first call of a footnote, with its arrow (U+21A9)
+abbrev pub way_back : String → List ℕ
+way_back call = way_back_tag call ++ (226 ∷ 134 ∷ 169 ∷ []) ++ codes "</a>"
+
+-- the way back to a later one, with the number of it among the calls of the footnote
+abbrev pub numbered_way_back : (call number : String) → List ℕ
+numbered_way_back call number =
+    way_back_tag call ++ (226 ∷ 134 ∷ 169 ∷ []) ++ codes "<sup>" ++ codes number ++ codes "</sup></a>"
 
 -- under these options and no names of references, the meaning of the tree over the bytes is this text
 abbrev pub MeansWith : CompileOptions → List ℕ → Forest → List ℕ → Type 0

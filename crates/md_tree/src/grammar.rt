@@ -114,7 +114,7 @@ fn read_events(source: Source) -> Result<Read, CompileError>
     ensures visits { IfOk result (λ read. read.found.visits ≡ length source.entry.events.now) }
     ensures refused { IfErr result (IsRefusal (handed source.entry.events.now source.entry.bytes.now source.entry.names.now)) }
 {
-    let mut reader = Reader::new(source);
+    let mut reader = Reader::new(source)?;
     let mut visits = 0;
     // Each turn visits an event, or an entry and its own exit.
     while let Some(event) = source.events.get(visits) {

@@ -293,5 +293,5 @@ pub fn read_node(
 fn text_of<'a>(source: Source<'_, 'a>, entry: usize, exit: usize) -> Option<&'a str>
     ensures { option_copied result ≡ text_between source.entry.bytes.now (point_at source.entry.events.now entry) (point_at source.entry.events.now exit) }
 {
-    text_at(source.bytes.bytes(), &place_at(source.events, entry, exit))
+    source.bytes.text_at(&place_at(source.events, entry, exit))
 }

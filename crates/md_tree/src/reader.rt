@@ -13,6 +13,7 @@ use crate::rule::CompileError;
 use crate::walk::Walk;
 use md_base::{Event, Kind, is_same_name};
 use md_infer::{Pass, ending_behind};
+use std::alloc::AllocError;
 
 /// What is known of the events that have been read.
 #[derive(Drop)]
@@ -25,14 +26,15 @@ pub struct Reader {
 
 impl Reader {
     /// Before any event.
-    pub fn new(source: Source) -> Reader
-        ensures { HasRead source.entry.bytes.now (name_table source.entry.names.now) source.entry.events.now 0 result }
+    pub fn new(source: Source) -> Result<Reader, AllocError>
+        ensures { IfOk result
+            (λ reader. HasRead source.entry.bytes.now (name_table source.entry.names.now) source.entry.events.now 0 reader) }
     {
-        Reader {
+        Ok(Reader {
             walk: Walk::new(source.alloc),
-            pass: Pass::new(source.alloc),
+            pass: Pass::new(source.alloc, source.events.len())?,
             first_ending: None,
-        }
+        })
     }
 
     /// Reads the event at an index, and the next one with it where both enter and exit a node without children; answers

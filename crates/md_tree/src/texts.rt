@@ -1,10 +1,10 @@
 //! A document's bytes, of which the parts that are texts are found once.
 
 ghost use Rattle.std.specs.Prelude.{◌≡◌, ℕ, List, Some, length, nat_le, ◌&&◌, option_copied, slice_range, IfOk, IfSome};
-ghost use Rattle.md_base.specs.Place.{text_when, label_between};
+ghost use Rattle.md_base.specs.Place.{text_when, text_between, label_between};
 ghost use Rattle.md_tree.specs.Runs.{IsRun, AreRuns};
 
-use crate::judge::label_at;
+use crate::judge::{label_at, text_at};
 use md_base::Position;
 use std::alloc::{AllocError, Global};
 use std::marker::Model;
@@ -19,6 +19,7 @@ struct Run<'a> {
 
 impl<'a> Run<'a> {
     /// The text between two indices of the bytes, where it lies in this part.
+    #[inline(always)]
     fn text_between(&self, start: usize, end: usize) -> Option<&'a str>
         ensures { IfSome result
             (λ text. (bytes : List ℕ) → IsRun bytes self.now → text_when (nat_le start end && nat_le end (length bytes)) (slice_range bytes start end) ≡ Some text.now) }
@@ -67,6 +68,22 @@ impl<'a> Texts<'a> {
         self.bytes
     }
 
+    /// The text of a node, where its place fits the bytes and is one.
+    ///
+    /// A text is not read again, however long it is, unless it begins or ends in a tab.
+    #[inline(always)]
+    pub fn text_at(&self, position: &Position) -> Option<&'a str>
+        ensures { option_copied result ≡ text_between self.now position.now.start position.now.end }
+    {
+        if position.start.vs == 0 && position.end.vs == 0 {
+            if let Some(text) = self.text_in_run(position.start.index, position.end.index) {
+                return Some(text);
+            }
+        }
+        // What is no text, or begins or ends in a tab.
+        text_at(self.bytes, position)
+    }
+
     /// The text between the indices of a node's points, where they fit the bytes and it is one.
     ///
     /// A text is not read again, however long it is.
@@ -81,15 +98,35 @@ impl<'a> Texts<'a> {
     }
 
     /// The text between two indices, where it lies in the last run that starts no later.
+    #[inline(always)]
     fn text_in_run(&self, start: usize, end: usize) -> Option<&'a str>
         ensures { IfSome result
             (λ text. text_when (nat_le start end && nat_le end (length self.now)) (slice_range self.now start end) ≡ Some text.now) }
     {
+        self.run_at(start)?.text_between(start, end)
+    }
+
+    /// The last run that starts no later than an index, or the only one.
+    #[inline(always)]
+    fn run_at(&self, index: usize) -> Option<&Run<'a>>
+        ensures { IfSome result (λ run. IsRun self.entry.now run.now) }
+    {
+        // Few documents have a byte that is in no character.
+        if self.runs.len() == 1 {
+            self.runs.first()
+        } else {
+            self.run_before(index)
+        }
+    }
+
+    /// The last run that starts no later than an index.
+    fn run_before(&self, index: usize) -> Option<&Run<'a>>
+        ensures { IfSome result (λ run. IsRun self.entry.now run.now) }
+    {
         let behind = self
             .runs
-            .partition_point(|run: &Run| -> bool { run.start <= start });
-        let run = self.runs.get(behind.checked_sub(1)?)?;
-        run.text_between(start, end)
+            .partition_point(|run: &Run| -> bool { run.start <= index });
+        self.runs.get(behind.checked_sub(1)?)
     }
 }
 

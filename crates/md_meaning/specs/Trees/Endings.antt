@@ -5,7 +5,7 @@ use Rattle.md_base.specs.Tree.{Forest, Empty, Node}
 use Rattle.md_text.specs.declared.line_ending.LineEnding.TheVariants.{CarriageReturn}
 use Rattle.md_meaning.specs.Defaults.{default_options}
 use Rattle.md_meaning.specs.declared.options.CompileOptions.{CompileOptions}
-use Rattle.md_meaning.specs.Trees.{at}
+use Rattle.md_meaning.specs.Trees.{at, call_tag, section_head, way_back}
 
 -- two endings after a definition: the tree, its bytes and its text
 abbrev pub two_endings_behind_a_definition : Forest
@@ -39,8 +39,11 @@ abbrev pub endings_behind_a_footnote_definition_bytes : List ℕ
 endings_behind_a_footnote_definition_bytes = codes "[^b]:c" ++ (10 ∷ []) ++ (10 ∷ []) ++ codes "[^b]"
 
 abbrev pub endings_behind_a_footnote_definition_text : List ℕ
-endings_behind_a_footnote_definition_text = (10 ∷ []) ++ codes
-    "<p><sup><a href=\"#user-content-fn-b\" id=\"user-content-fnref-b\" data-footnote-ref=\"\" aria-describedby=\"footnote-label\">1</a></sup></p>" ++ (10 ∷ []) ++ codes "<section data-footnotes=\"\" class=\"footnotes\"><h2 id=\"footnote-label\" class=\"sr-only\">Footnotes</h2>" ++ (10 ∷ []) ++ codes "<ol>" ++ (10 ∷ []) ++ codes "<li id=\"user-content-fn-b\">" ++ (10 ∷ []) ++ codes "<p>c <a href=\"#user-content-fnref-b\" data-footnote-backref=\"\" aria-label=\"Back to content\" class=\"data-footnote-backref\">" ++ (226 ∷ []) ++ (134 ∷ []) ++ (169 ∷ []) ++ codes "</a></p>" ++ (10 ∷ []) ++ codes "</li>" ++ (10 ∷ []) ++ codes "</ol>" ++ (10 ∷ []) ++ codes "</section>" ++ (10 ∷ [])
+endings_behind_a_footnote_definition_text =
+    (10 ∷ []) ++ codes "<p>" ++ call_tag "b" "b" "1" ++ codes "</p>" ++ (10 ∷ []) ++ section_head ++ (10 ∷ [])
+    ++ codes "<ol>" ++ (10 ∷ []) ++ codes "<li id=\"user-content-fn-b\">" ++ (10 ∷ []) ++ codes "<p>c "
+    ++ way_back "b" ++ codes "</p>" ++ (10 ∷ []) ++ codes "</li>" ++ (10 ∷ []) ++ codes "</ol>" ++ (10 ∷ [])
+    ++ codes "</section>" ++ (10 ∷ [])
 
 -- a thematic break after frontmatter, whose line ending is slurped: the tree, its bytes and its text
 abbrev pub break_behind_frontmatter : Forest

@@ -4,7 +4,7 @@ use Rattle.md_base.specs.declared.event.Name.TheVariants.{BlankLineEnding, Block
 use Rattle.md_base.specs.Tree.{Forest, Empty, Node}
 use Rattle.md_meaning.specs.Defaults.{default_options}
 use Rattle.md_meaning.specs.declared.options.CompileOptions.{CompileOptions}
-use Rattle.md_meaning.specs.Trees.{at}
+use Rattle.md_meaning.specs.Trees.{at, call_tag, section_head, way_back, numbered_way_back}
 
 -- footnote: the tree, its bytes and its text
 abbrev pub footnote : Forest
@@ -21,8 +21,11 @@ abbrev pub footnote_bytes : List ℕ
 footnote_bytes = codes "a[^b]" ++ (10 ∷ []) ++ (10 ∷ []) ++ codes "[^b]: c"
 
 abbrev pub footnote_text : List ℕ
-footnote_text = codes
-    "<p>a<sup><a href=\"#user-content-fn-b\" id=\"user-content-fnref-b\" data-footnote-ref=\"\" aria-describedby=\"footnote-label\">1</a></sup></p>" ++ (10 ∷ []) ++ codes "<section data-footnotes=\"\" class=\"footnotes\"><h2 id=\"footnote-label\" class=\"sr-only\">Footnotes</h2>" ++ (10 ∷ []) ++ codes "<ol>" ++ (10 ∷ []) ++ codes "<li id=\"user-content-fn-b\">" ++ (10 ∷ []) ++ codes "<p>c <a href=\"#user-content-fnref-b\" data-footnote-backref=\"\" aria-label=\"Back to content\" class=\"data-footnote-backref\">" ++ (226 ∷ []) ++ (134 ∷ []) ++ (169 ∷ []) ++ codes "</a></p>" ++ (10 ∷ []) ++ codes "</li>" ++ (10 ∷ []) ++ codes "</ol>" ++ (10 ∷ []) ++ codes "</section>" ++ (10 ∷ [])
+footnote_text =
+    codes "<p>a" ++ call_tag "b" "b" "1" ++ codes "</p>" ++ (10 ∷ []) ++ section_head ++ (10 ∷ []) ++ codes "<ol>"
+    ++ (10 ∷ []) ++ codes "<li id=\"user-content-fn-b\">" ++ (10 ∷ []) ++ codes "<p>c " ++ way_back "b"
+    ++ codes "</p>" ++ (10 ∷ []) ++ codes "</li>" ++ (10 ∷ []) ++ codes "</ol>" ++ (10 ∷ []) ++ codes "</section>"
+    ++ (10 ∷ [])
 
 -- two references to one footnote: the tree, its bytes and its text
 abbrev pub two_references_to_one_footnote : Forest
@@ -39,7 +42,10 @@ two_references_to_one_footnote_bytes = codes "[^b][^b][^b]:c"
 
 abbrev pub two_references_to_one_footnote_text : List ℕ
 two_references_to_one_footnote_text =
-    codes "<p><sup><a href=\"#user-content-fn-b\" id=\"user-content-fnref-b\" data-footnote-ref=\"\" aria-describedby=\"footnote-label\">1</a></sup><sup><a href=\"#user-content-fn-b\" id=\"user-content-fnref-b-2\" data-footnote-ref=\"\" aria-describedby=\"footnote-label\">1</a></sup></p>" ++ (10 ∷ []) ++ codes "<section data-footnotes=\"\" class=\"footnotes\"><h2 id=\"footnote-label\" class=\"sr-only\">Footnotes</h2>" ++ (10 ∷ []) ++ codes "<ol>" ++ (10 ∷ []) ++ codes "<li id=\"user-content-fn-b\">" ++ (10 ∷ []) ++ codes "<p>c <a href=\"#user-content-fnref-b\" data-footnote-backref=\"\" aria-label=\"Back to content\" class=\"data-footnote-backref\">" ++ (226 ∷ []) ++ (134 ∷ []) ++ (169 ∷ []) ++ codes "</a> <a href=\"#user-content-fnref-b-2\" data-footnote-backref=\"\" aria-label=\"Back to content\" class=\"data-footnote-backref\">" ++ (226 ∷ []) ++ (134 ∷ []) ++ (169 ∷ []) ++ codes "<sup>2</sup></a></p>" ++ (10 ∷ []) ++ codes "</li>" ++ (10 ∷ []) ++ codes "</ol>" ++ (10 ∷ []) ++ codes "</section>" ++ (10 ∷ [])
+    codes "<p>" ++ call_tag "b" "b" "1" ++ call_tag "b" "b-2" "1" ++ codes "</p>" ++ (10 ∷ []) ++ section_head
+    ++ (10 ∷ []) ++ codes "<ol>" ++ (10 ∷ []) ++ codes "<li id=\"user-content-fn-b\">" ++ (10 ∷ []) ++ codes "<p>c "
+    ++ way_back "b" ++ codes " " ++ numbered_way_back "b-2" "2" ++ codes "</p>" ++ (10 ∷ []) ++ codes "</li>"
+    ++ (10 ∷ []) ++ codes "</ol>" ++ (10 ∷ []) ++ codes "</section>" ++ (10 ∷ [])
 
 -- nested footnote definition: the tree, its bytes and its text
 abbrev pub nested_footnote_definition : Forest
@@ -58,7 +64,10 @@ nested_footnote_definition_bytes = codes "[^a][^a]:x[^a]:y"
 
 abbrev pub nested_footnote_definition_text : List ℕ
 nested_footnote_definition_text =
-    codes "<p><sup><a href=\"#user-content-fn-a\" id=\"user-content-fnref-a\" data-footnote-ref=\"\" aria-describedby=\"footnote-label\">1</a></sup></p>" ++ (10 ∷ []) ++ codes "<section data-footnotes=\"\" class=\"footnotes\"><h2 id=\"footnote-label\" class=\"sr-only\">Footnotes</h2>" ++ (10 ∷ []) ++ codes "<ol>" ++ (10 ∷ []) ++ codes "<li id=\"user-content-fn-a\">" ++ (10 ∷ []) ++ codes "<p>y <a href=\"#user-content-fnref-a\" data-footnote-backref=\"\" aria-label=\"Back to content\" class=\"data-footnote-backref\">" ++ (226 ∷ []) ++ (134 ∷ []) ++ (169 ∷ []) ++ codes "</a></p>" ++ (10 ∷ []) ++ codes "</li>" ++ (10 ∷ []) ++ codes "</ol>" ++ (10 ∷ []) ++ codes "</section>" ++ (10 ∷ [])
+    codes "<p>" ++ call_tag "a" "a" "1" ++ codes "</p>" ++ (10 ∷ []) ++ section_head ++ (10 ∷ []) ++ codes "<ol>"
+    ++ (10 ∷ []) ++ codes "<li id=\"user-content-fn-a\">" ++ (10 ∷ []) ++ codes "<p>y " ++ way_back "a"
+    ++ codes "</p>" ++ (10 ∷ []) ++ codes "</li>" ++ (10 ∷ []) ++ codes "</ol>" ++ (10 ∷ []) ++ codes "</section>"
+    ++ (10 ∷ [])
 
 -- footnote without a paragraph: the tree, its bytes and its text
 abbrev pub footnote_without_a_paragraph : Forest
@@ -74,7 +83,10 @@ footnote_without_a_paragraph_bytes = codes "[^a][^a]:***"
 
 abbrev pub footnote_without_a_paragraph_text : List ℕ
 footnote_without_a_paragraph_text =
-    codes "<p><sup><a href=\"#user-content-fn-a\" id=\"user-content-fnref-a\" data-footnote-ref=\"\" aria-describedby=\"footnote-label\">1</a></sup></p>" ++ (10 ∷ []) ++ codes "<section data-footnotes=\"\" class=\"footnotes\"><h2 id=\"footnote-label\" class=\"sr-only\">Footnotes</h2>" ++ (10 ∷ []) ++ codes "<ol>" ++ (10 ∷ []) ++ codes "<li id=\"user-content-fn-a\">" ++ (10 ∷ []) ++ codes "<hr />" ++ (10 ∷ []) ++ codes "<a href=\"#user-content-fnref-a\" data-footnote-backref=\"\" aria-label=\"Back to content\" class=\"data-footnote-backref\">" ++ (226 ∷ []) ++ (134 ∷ []) ++ (169 ∷ []) ++ codes "</a>" ++ (10 ∷ []) ++ codes "</li>" ++ (10 ∷ []) ++ codes "</ol>" ++ (10 ∷ []) ++ codes "</section>" ++ (10 ∷ [])
+    codes "<p>" ++ call_tag "a" "a" "1" ++ codes "</p>" ++ (10 ∷ []) ++ section_head ++ (10 ∷ []) ++ codes "<ol>"
+    ++ (10 ∷ []) ++ codes "<li id=\"user-content-fn-a\">" ++ (10 ∷ []) ++ codes "<hr />" ++ (10 ∷ [])
+    ++ way_back "a" ++ (10 ∷ []) ++ codes "</li>" ++ (10 ∷ []) ++ codes "</ol>" ++ (10 ∷ []) ++ codes "</section>"
+    ++ (10 ∷ [])
 
 -- footnotes in the order of their calls: the tree, its bytes and its text
 abbrev pub footnotes_in_the_order_of_their_calls : Forest
@@ -94,7 +106,11 @@ footnotes_in_the_order_of_their_calls_bytes = codes "[^b][^a][^a]:x[^b]:y"
 
 abbrev pub footnotes_in_the_order_of_their_calls_text : List ℕ
 footnotes_in_the_order_of_their_calls_text =
-    codes "<p><sup><a href=\"#user-content-fn-b\" id=\"user-content-fnref-b\" data-footnote-ref=\"\" aria-describedby=\"footnote-label\">1</a></sup><sup><a href=\"#user-content-fn-a\" id=\"user-content-fnref-a\" data-footnote-ref=\"\" aria-describedby=\"footnote-label\">2</a></sup></p>" ++ (10 ∷ []) ++ codes "<section data-footnotes=\"\" class=\"footnotes\"><h2 id=\"footnote-label\" class=\"sr-only\">Footnotes</h2>" ++ (10 ∷ []) ++ codes "<ol>" ++ (10 ∷ []) ++ codes "<li id=\"user-content-fn-b\">" ++ (10 ∷ []) ++ codes "<p>y <a href=\"#user-content-fnref-b\" data-footnote-backref=\"\" aria-label=\"Back to content\" class=\"data-footnote-backref\">" ++ (226 ∷ []) ++ (134 ∷ []) ++ (169 ∷ []) ++ codes "</a></p>" ++ (10 ∷ []) ++ codes "</li>" ++ (10 ∷ []) ++ codes "<li id=\"user-content-fn-a\">" ++ (10 ∷ []) ++ codes "<p>x <a href=\"#user-content-fnref-a\" data-footnote-backref=\"\" aria-label=\"Back to content\" class=\"data-footnote-backref\">" ++ (226 ∷ []) ++ (134 ∷ []) ++ (169 ∷ []) ++ codes "</a></p>" ++ (10 ∷ []) ++ codes "</li>" ++ (10 ∷ []) ++ codes "</ol>" ++ (10 ∷ []) ++ codes "</section>" ++ (10 ∷ [])
+    codes "<p>" ++ call_tag "b" "b" "1" ++ call_tag "a" "a" "2" ++ codes "</p>" ++ (10 ∷ []) ++ section_head
+    ++ (10 ∷ []) ++ codes "<ol>" ++ (10 ∷ []) ++ codes "<li id=\"user-content-fn-b\">" ++ (10 ∷ []) ++ codes "<p>y "
+    ++ way_back "b" ++ codes "</p>" ++ (10 ∷ []) ++ codes "</li>" ++ (10 ∷ [])
+    ++ codes "<li id=\"user-content-fn-a\">" ++ (10 ∷ []) ++ codes "<p>x " ++ way_back "a" ++ codes "</p>"
+    ++ (10 ∷ []) ++ codes "</li>" ++ (10 ∷ []) ++ codes "</ol>" ++ (10 ∷ []) ++ codes "</section>" ++ (10 ∷ [])
 
 -- a call in the label of a call, which has the lower number and prints nothing: the tree, its bytes and its text
 abbrev pub call_in_a_call : Forest
@@ -115,7 +131,11 @@ call_in_a_call_bytes = codes "[^[^b]a][^a]:x[^b]:y"
 
 abbrev pub call_in_a_call_text : List ℕ
 call_in_a_call_text =
-    codes "<p><sup><a href=\"#user-content-fn-a\" id=\"user-content-fnref-a\" data-footnote-ref=\"\" aria-describedby=\"footnote-label\">2</a></sup></p>" ++ (10 ∷ []) ++ codes "<section data-footnotes=\"\" class=\"footnotes\"><h2 id=\"footnote-label\" class=\"sr-only\">Footnotes</h2>" ++ (10 ∷ []) ++ codes "<ol>" ++ (10 ∷ []) ++ codes "<li id=\"user-content-fn-b\">" ++ (10 ∷ []) ++ codes "<p>y <a href=\"#user-content-fnref-b\" data-footnote-backref=\"\" aria-label=\"Back to content\" class=\"data-footnote-backref\">" ++ (226 ∷ []) ++ (134 ∷ []) ++ (169 ∷ []) ++ codes "</a></p>" ++ (10 ∷ []) ++ codes "</li>" ++ (10 ∷ []) ++ codes "<li id=\"user-content-fn-a\">" ++ (10 ∷ []) ++ codes "<p>x <a href=\"#user-content-fnref-a\" data-footnote-backref=\"\" aria-label=\"Back to content\" class=\"data-footnote-backref\">" ++ (226 ∷ []) ++ (134 ∷ []) ++ (169 ∷ []) ++ codes "</a></p>" ++ (10 ∷ []) ++ codes "</li>" ++ (10 ∷ []) ++ codes "</ol>" ++ (10 ∷ []) ++ codes "</section>" ++ (10 ∷ [])
+    codes "<p>" ++ call_tag "a" "a" "2" ++ codes "</p>" ++ (10 ∷ []) ++ section_head ++ (10 ∷ []) ++ codes "<ol>"
+    ++ (10 ∷ []) ++ codes "<li id=\"user-content-fn-b\">" ++ (10 ∷ []) ++ codes "<p>y " ++ way_back "b"
+    ++ codes "</p>" ++ (10 ∷ []) ++ codes "</li>" ++ (10 ∷ []) ++ codes "<li id=\"user-content-fn-a\">" ++ (10 ∷ [])
+    ++ codes "<p>x " ++ way_back "a" ++ codes "</p>" ++ (10 ∷ []) ++ codes "</li>" ++ (10 ∷ []) ++ codes "</ol>"
+    ++ (10 ∷ []) ++ codes "</section>" ++ (10 ∷ [])
 
 -- a call in the label of an image, which is counted and prints nothing: the tree, its bytes and its text
 abbrev pub call_in_an_image : Forest
@@ -140,7 +160,11 @@ call_in_an_image_bytes = codes "![i[^b]](u)[^c][^b]:x[^c]:y"
 
 abbrev pub call_in_an_image_text : List ℕ
 call_in_an_image_text =
-    codes "<p><img src=\"u\" alt=\"i\" /><sup><a href=\"#user-content-fn-c\" id=\"user-content-fnref-c\" data-footnote-ref=\"\" aria-describedby=\"footnote-label\">2</a></sup></p>" ++ (10 ∷ []) ++ codes "<section data-footnotes=\"\" class=\"footnotes\"><h2 id=\"footnote-label\" class=\"sr-only\">Footnotes</h2>" ++ (10 ∷ []) ++ codes "<ol>" ++ (10 ∷ []) ++ codes "<li id=\"user-content-fn-b\">" ++ (10 ∷ []) ++ codes "<p>x <a href=\"#user-content-fnref-b\" data-footnote-backref=\"\" aria-label=\"Back to content\" class=\"data-footnote-backref\">" ++ (226 ∷ []) ++ (134 ∷ []) ++ (169 ∷ []) ++ codes "</a></p>" ++ (10 ∷ []) ++ codes "</li>" ++ (10 ∷ []) ++ codes "<li id=\"user-content-fn-c\">" ++ (10 ∷ []) ++ codes "<p>y <a href=\"#user-content-fnref-c\" data-footnote-backref=\"\" aria-label=\"Back to content\" class=\"data-footnote-backref\">" ++ (226 ∷ []) ++ (134 ∷ []) ++ (169 ∷ []) ++ codes "</a></p>" ++ (10 ∷ []) ++ codes "</li>" ++ (10 ∷ []) ++ codes "</ol>" ++ (10 ∷ []) ++ codes "</section>" ++ (10 ∷ [])
+    codes "<p><img src=\"u\" alt=\"i\" />" ++ call_tag "c" "c" "2" ++ codes "</p>" ++ (10 ∷ []) ++ section_head
+    ++ (10 ∷ []) ++ codes "<ol>" ++ (10 ∷ []) ++ codes "<li id=\"user-content-fn-b\">" ++ (10 ∷ []) ++ codes "<p>x "
+    ++ way_back "b" ++ codes "</p>" ++ (10 ∷ []) ++ codes "</li>" ++ (10 ∷ [])
+    ++ codes "<li id=\"user-content-fn-c\">" ++ (10 ∷ []) ++ codes "<p>y " ++ way_back "c" ++ codes "</p>"
+    ++ (10 ∷ []) ++ codes "</li>" ++ (10 ∷ []) ++ codes "</ol>" ++ (10 ∷ []) ++ codes "</section>" ++ (10 ∷ [])
 
 -- call in its own footnote: the tree, its bytes and its text
 abbrev pub call_in_its_own_footnote : Forest
@@ -158,7 +182,10 @@ call_in_its_own_footnote_bytes = codes "[^a][^a]:x[^a]"
 
 abbrev pub call_in_its_own_footnote_text : List ℕ
 call_in_its_own_footnote_text =
-    codes "<p><sup><a href=\"#user-content-fn-a\" id=\"user-content-fnref-a\" data-footnote-ref=\"\" aria-describedby=\"footnote-label\">1</a></sup></p>" ++ (10 ∷ []) ++ codes "<section data-footnotes=\"\" class=\"footnotes\"><h2 id=\"footnote-label\" class=\"sr-only\">Footnotes</h2>" ++ (10 ∷ []) ++ codes "<ol>" ++ (10 ∷ []) ++ codes "<li id=\"user-content-fn-a\">" ++ (10 ∷ []) ++ codes "<p>x<sup><a href=\"#user-content-fn-a\" id=\"user-content-fnref-a-2\" data-footnote-ref=\"\" aria-describedby=\"footnote-label\">1</a></sup> <a href=\"#user-content-fnref-a\" data-footnote-backref=\"\" aria-label=\"Back to content\" class=\"data-footnote-backref\">" ++ (226 ∷ []) ++ (134 ∷ []) ++ (169 ∷ []) ++ codes "</a> <a href=\"#user-content-fnref-a-2\" data-footnote-backref=\"\" aria-label=\"Back to content\" class=\"data-footnote-backref\">" ++ (226 ∷ []) ++ (134 ∷ []) ++ (169 ∷ []) ++ codes "<sup>2</sup></a></p>" ++ (10 ∷ []) ++ codes "</li>" ++ (10 ∷ []) ++ codes "</ol>" ++ (10 ∷ []) ++ codes "</section>" ++ (10 ∷ [])
+    codes "<p>" ++ call_tag "a" "a" "1" ++ codes "</p>" ++ (10 ∷ []) ++ section_head ++ (10 ∷ []) ++ codes "<ol>"
+    ++ (10 ∷ []) ++ codes "<li id=\"user-content-fn-a\">" ++ (10 ∷ []) ++ codes "<p>x" ++ call_tag "a" "a-2" "1"
+    ++ codes " " ++ way_back "a" ++ codes " " ++ numbered_way_back "a-2" "2" ++ codes "</p>" ++ (10 ∷ [])
+    ++ codes "</li>" ++ (10 ∷ []) ++ codes "</ol>" ++ (10 ∷ []) ++ codes "</section>" ++ (10 ∷ [])
 
 -- an identifier with a capital letter and white space: the tree, its bytes and its text
 abbrev pub folded_identifier : Forest
@@ -174,7 +201,10 @@ folded_identifier_bytes = codes "[^B  c][^b" ++ (9 ∷ []) ++ codes "c]:x"
 
 abbrev pub folded_identifier_text : List ℕ
 folded_identifier_text =
-    codes "<p><sup><a href=\"#user-content-fn-b%20c\" id=\"user-content-fnref-b%20c\" data-footnote-ref=\"\" aria-describedby=\"footnote-label\">1</a></sup></p>" ++ (10 ∷ []) ++ codes "<section data-footnotes=\"\" class=\"footnotes\"><h2 id=\"footnote-label\" class=\"sr-only\">Footnotes</h2>" ++ (10 ∷ []) ++ codes "<ol>" ++ (10 ∷ []) ++ codes "<li id=\"user-content-fn-b%20c\">" ++ (10 ∷ []) ++ codes "<p>x <a href=\"#user-content-fnref-b%20c\" data-footnote-backref=\"\" aria-label=\"Back to content\" class=\"data-footnote-backref\">" ++ (226 ∷ []) ++ (134 ∷ []) ++ (169 ∷ []) ++ codes "</a></p>" ++ (10 ∷ []) ++ codes "</li>" ++ (10 ∷ []) ++ codes "</ol>" ++ (10 ∷ []) ++ codes "</section>" ++ (10 ∷ [])
+    codes "<p>" ++ call_tag "b%20c" "b%20c" "1" ++ codes "</p>" ++ (10 ∷ []) ++ section_head ++ (10 ∷ [])
+    ++ codes "<ol>" ++ (10 ∷ []) ++ codes "<li id=\"user-content-fn-b%20c\">" ++ (10 ∷ []) ++ codes "<p>x "
+    ++ way_back "b%20c" ++ codes "</p>" ++ (10 ∷ []) ++ codes "</li>" ++ (10 ∷ []) ++ codes "</ol>" ++ (10 ∷ [])
+    ++ codes "</section>" ++ (10 ∷ [])
 
 -- footnote without a call: the tree, its bytes and its text
 abbrev pub footnote_without_a_call : Forest
@@ -204,7 +234,10 @@ footnote_that_ends_in_a_quote_bytes = codes "[^b][^b]:>c"
 
 abbrev pub footnote_that_ends_in_a_quote_text : List ℕ
 footnote_that_ends_in_a_quote_text =
-    codes "<p><sup><a href=\"#user-content-fn-b\" id=\"user-content-fnref-b\" data-footnote-ref=\"\" aria-describedby=\"footnote-label\">1</a></sup></p>" ++ (10 ∷ []) ++ codes "<section data-footnotes=\"\" class=\"footnotes\"><h2 id=\"footnote-label\" class=\"sr-only\">Footnotes</h2>" ++ (10 ∷ []) ++ codes "<ol>" ++ (10 ∷ []) ++ codes "<li id=\"user-content-fn-b\">" ++ (10 ∷ []) ++ codes "<blockquote>" ++ (10 ∷ []) ++ codes "<p>c</p>" ++ (10 ∷ []) ++ codes "</blockquote>" ++ (10 ∷ []) ++ codes "<a href=\"#user-content-fnref-b\" data-footnote-backref=\"\" aria-label=\"Back to content\" class=\"data-footnote-backref\">" ++ (226 ∷ []) ++ (134 ∷ []) ++ (169 ∷ []) ++ codes "</a>" ++ (10 ∷ []) ++ codes "</li>" ++ (10 ∷ []) ++ codes "</ol>" ++ (10 ∷ []) ++ codes "</section>" ++ (10 ∷ [])
+    codes "<p>" ++ call_tag "b" "b" "1" ++ codes "</p>" ++ (10 ∷ []) ++ section_head ++ (10 ∷ []) ++ codes "<ol>"
+    ++ (10 ∷ []) ++ codes "<li id=\"user-content-fn-b\">" ++ (10 ∷ []) ++ codes "<blockquote>" ++ (10 ∷ [])
+    ++ codes "<p>c</p>" ++ (10 ∷ []) ++ codes "</blockquote>" ++ (10 ∷ []) ++ way_back "b" ++ (10 ∷ [])
+    ++ codes "</li>" ++ (10 ∷ []) ++ codes "</ol>" ++ (10 ∷ []) ++ codes "</section>" ++ (10 ∷ [])
 
 -- a footnote with CR and LF after its last paragraph: the tree, its bytes and its text
 abbrev pub footnote_that_ends_in_line_endings : Forest
@@ -221,7 +254,11 @@ footnote_that_ends_in_line_endings_bytes = codes "[^b][^b]:c" ++ (13 ∷ []) ++ 
 
 abbrev pub footnote_that_ends_in_line_endings_text : List ℕ
 footnote_that_ends_in_line_endings_text =
-    codes "<p><sup><a href=\"#user-content-fn-b\" id=\"user-content-fnref-b\" data-footnote-ref=\"\" aria-describedby=\"footnote-label\">1</a></sup></p>" ++ (13 ∷ []) ++ (10 ∷ []) ++ codes "<section data-footnotes=\"\" class=\"footnotes\"><h2 id=\"footnote-label\" class=\"sr-only\">Footnotes</h2>" ++ (13 ∷ []) ++ (10 ∷ []) ++ codes "<ol>" ++ (13 ∷ []) ++ (10 ∷ []) ++ codes "<li id=\"user-content-fn-b\">" ++ (13 ∷ []) ++ (10 ∷ []) ++ codes "<p>c <a href=\"#user-content-fnref-b\" data-footnote-backref=\"\" aria-label=\"Back to content\" class=\"data-footnote-backref\">" ++ (226 ∷ []) ++ (134 ∷ []) ++ (169 ∷ []) ++ codes "</a></p>" ++ (13 ∷ []) ++ (10 ∷ []) ++ (10 ∷ []) ++ codes "</li>" ++ (13 ∷ []) ++ (10 ∷ []) ++ codes "</ol>" ++ (13 ∷ []) ++ (10 ∷ []) ++ codes "</section>" ++ (13 ∷ []) ++ (10 ∷ [])
+    codes "<p>" ++ call_tag "b" "b" "1" ++ codes "</p>" ++ (13 ∷ []) ++ (10 ∷ []) ++ section_head ++ (13 ∷ [])
+    ++ (10 ∷ []) ++ codes "<ol>" ++ (13 ∷ []) ++ (10 ∷ []) ++ codes "<li id=\"user-content-fn-b\">" ++ (13 ∷ [])
+    ++ (10 ∷ []) ++ codes "<p>c " ++ way_back "b" ++ codes "</p>" ++ (13 ∷ []) ++ (10 ∷ []) ++ (10 ∷ [])
+    ++ codes "</li>" ++ (13 ∷ []) ++ (10 ∷ []) ++ codes "</ol>" ++ (13 ∷ []) ++ (10 ∷ []) ++ codes "</section>"
+    ++ (13 ∷ []) ++ (10 ∷ [])
 
 -- empty footnote: the tree, its bytes and its text
 abbrev pub empty_footnote : Forest
@@ -236,7 +273,9 @@ empty_footnote_bytes = codes "[^b][^b]:"
 
 abbrev pub empty_footnote_text : List ℕ
 empty_footnote_text =
-    codes "<p><sup><a href=\"#user-content-fn-b\" id=\"user-content-fnref-b\" data-footnote-ref=\"\" aria-describedby=\"footnote-label\">1</a></sup></p>" ++ (10 ∷ []) ++ codes "<section data-footnotes=\"\" class=\"footnotes\"><h2 id=\"footnote-label\" class=\"sr-only\">Footnotes</h2>" ++ (10 ∷ []) ++ codes "<ol>" ++ (10 ∷ []) ++ codes "<li id=\"user-content-fn-b\">" ++ (10 ∷ []) ++ codes "<a href=\"#user-content-fnref-b\" data-footnote-backref=\"\" aria-label=\"Back to content\" class=\"data-footnote-backref\">" ++ (226 ∷ []) ++ (134 ∷ []) ++ (169 ∷ []) ++ codes "</a>" ++ (10 ∷ []) ++ codes "</li>" ++ (10 ∷ []) ++ codes "</ol>" ++ (10 ∷ []) ++ codes "</section>" ++ (10 ∷ [])
+    codes "<p>" ++ call_tag "b" "b" "1" ++ codes "</p>" ++ (10 ∷ []) ++ section_head ++ (10 ∷ []) ++ codes "<ol>"
+    ++ (10 ∷ []) ++ codes "<li id=\"user-content-fn-b\">" ++ (10 ∷ []) ++ way_back "b" ++ (10 ∷ []) ++ codes "</li>"
+    ++ (10 ∷ []) ++ codes "</ol>" ++ (10 ∷ []) ++ codes "</section>" ++ (10 ∷ [])
 
 -- empty identifier: the tree, its bytes and its text
 abbrev pub empty_identifier : Forest
@@ -252,7 +291,10 @@ empty_identifier_bytes = codes "[^][^]:x"
 
 abbrev pub empty_identifier_text : List ℕ
 empty_identifier_text =
-    codes "<p><sup><a href=\"#user-content-fn-\" id=\"user-content-fnref-\" data-footnote-ref=\"\" aria-describedby=\"footnote-label\">1</a></sup></p>" ++ (10 ∷ []) ++ codes "<section data-footnotes=\"\" class=\"footnotes\"><h2 id=\"footnote-label\" class=\"sr-only\">Footnotes</h2>" ++ (10 ∷ []) ++ codes "<ol>" ++ (10 ∷ []) ++ codes "<li id=\"user-content-fn-\">" ++ (10 ∷ []) ++ codes "<p>x <a href=\"#user-content-fnref-\" data-footnote-backref=\"\" aria-label=\"Back to content\" class=\"data-footnote-backref\">" ++ (226 ∷ []) ++ (134 ∷ []) ++ (169 ∷ []) ++ codes "</a></p>" ++ (10 ∷ []) ++ codes "</li>" ++ (10 ∷ []) ++ codes "</ol>" ++ (10 ∷ []) ++ codes "</section>" ++ (10 ∷ [])
+    codes "<p>" ++ call_tag "" "" "1" ++ codes "</p>" ++ (10 ∷ []) ++ section_head ++ (10 ∷ []) ++ codes "<ol>"
+    ++ (10 ∷ []) ++ codes "<li id=\"user-content-fn-\">" ++ (10 ∷ []) ++ codes "<p>x " ++ way_back ""
+    ++ codes "</p>" ++ (10 ∷ []) ++ codes "</li>" ++ (10 ∷ []) ++ codes "</ol>" ++ (10 ∷ []) ++ codes "</section>"
+    ++ (10 ∷ [])
 
 -- a footnote that ends in a paragraph of HTML: the options, the tree, its bytes and its text
 abbrev pub footnote_that_ends_in_html_options : CompileOptions
@@ -271,7 +313,10 @@ footnote_that_ends_in_html_bytes = codes "[^b][^b]:<p>c</p>"
 
 abbrev pub footnote_that_ends_in_html_text : List ℕ
 footnote_that_ends_in_html_text =
-    codes "<p><sup><a href=\"#user-content-fn-b\" id=\"user-content-fnref-b\" data-footnote-ref=\"\" aria-describedby=\"footnote-label\">1</a></sup></p>" ++ (10 ∷ []) ++ codes "<section data-footnotes=\"\" class=\"footnotes\"><h2 id=\"footnote-label\" class=\"sr-only\">Footnotes</h2>" ++ (10 ∷ []) ++ codes "<ol>" ++ (10 ∷ []) ++ codes "<li id=\"user-content-fn-b\">" ++ (10 ∷ []) ++ codes "<p>c <a href=\"#user-content-fnref-b\" data-footnote-backref=\"\" aria-label=\"Back to content\" class=\"data-footnote-backref\">" ++ (226 ∷ []) ++ (134 ∷ []) ++ (169 ∷ []) ++ codes "</a></p>" ++ (10 ∷ []) ++ codes "</li>" ++ (10 ∷ []) ++ codes "</ol>" ++ (10 ∷ []) ++ codes "</section>" ++ (10 ∷ [])
+    codes "<p>" ++ call_tag "b" "b" "1" ++ codes "</p>" ++ (10 ∷ []) ++ section_head ++ (10 ∷ []) ++ codes "<ol>"
+    ++ (10 ∷ []) ++ codes "<li id=\"user-content-fn-b\">" ++ (10 ∷ []) ++ codes "<p>c " ++ way_back "b"
+    ++ codes "</p>" ++ (10 ∷ []) ++ codes "</li>" ++ (10 ∷ []) ++ codes "</ol>" ++ (10 ∷ []) ++ codes "</section>"
+    ++ (10 ∷ [])
 
 -- ids by number: the options
 abbrev pub ids_by_number : CompileOptions
@@ -280,7 +325,10 @@ ids_by_number = record default_options { gfm_footnote_number_ids = true }
 -- a footnote with its ids by number: its text
 abbrev pub footnote_by_number_text : List ℕ
 footnote_by_number_text =
-    codes "<p>a<sup><a href=\"#user-content-fn-1\" id=\"user-content-fnref-1-1\" data-footnote-ref=\"\" aria-describedby=\"footnote-label\">1</a></sup></p>" ++ (10 ∷ []) ++ codes "<section data-footnotes=\"\" class=\"footnotes\"><h2 id=\"footnote-label\" class=\"sr-only\">Footnotes</h2>" ++ (10 ∷ []) ++ codes "<ol>" ++ (10 ∷ []) ++ codes "<li id=\"user-content-fn-1\">" ++ (10 ∷ []) ++ codes "<p>c <a href=\"#user-content-fnref-1-1\" data-footnote-backref=\"\" aria-label=\"Back to content\" class=\"data-footnote-backref\">" ++ (226 ∷ []) ++ (134 ∷ []) ++ (169 ∷ []) ++ codes "</a></p>" ++ (10 ∷ []) ++ codes "</li>" ++ (10 ∷ []) ++ codes "</ol>" ++ (10 ∷ []) ++ codes "</section>" ++ (10 ∷ [])
+    codes "<p>a" ++ call_tag "1" "1-1" "1" ++ codes "</p>" ++ (10 ∷ []) ++ section_head ++ (10 ∷ []) ++ codes "<ol>"
+    ++ (10 ∷ []) ++ codes "<li id=\"user-content-fn-1\">" ++ (10 ∷ []) ++ codes "<p>c " ++ way_back "1-1"
+    ++ codes "</p>" ++ (10 ∷ []) ++ codes "</li>" ++ (10 ∷ []) ++ codes "</ol>" ++ (10 ∷ []) ++ codes "</section>"
+    ++ (10 ∷ [])
 
 -- a second call whose identifier's id is that of another footnote's first call: the tree, its bytes, its text, and its
 -- text with ids by number, where no two ids are equal
@@ -303,8 +351,18 @@ identifiers_that_meet_bytes = codes "[^a][^a][^a-2][^a]:x[^a-2]:y"
 
 abbrev pub identifiers_that_meet_text : List ℕ
 identifiers_that_meet_text =
-    codes "<p><sup><a href=\"#user-content-fn-a\" id=\"user-content-fnref-a\" data-footnote-ref=\"\" aria-describedby=\"footnote-label\">1</a></sup><sup><a href=\"#user-content-fn-a\" id=\"user-content-fnref-a-2\" data-footnote-ref=\"\" aria-describedby=\"footnote-label\">1</a></sup><sup><a href=\"#user-content-fn-a-2\" id=\"user-content-fnref-a-2\" data-footnote-ref=\"\" aria-describedby=\"footnote-label\">2</a></sup></p>" ++ (10 ∷ []) ++ codes "<section data-footnotes=\"\" class=\"footnotes\"><h2 id=\"footnote-label\" class=\"sr-only\">Footnotes</h2>" ++ (10 ∷ []) ++ codes "<ol>" ++ (10 ∷ []) ++ codes "<li id=\"user-content-fn-a\">" ++ (10 ∷ []) ++ codes "<p>x <a href=\"#user-content-fnref-a\" data-footnote-backref=\"\" aria-label=\"Back to content\" class=\"data-footnote-backref\">" ++ (226 ∷ []) ++ (134 ∷ []) ++ (169 ∷ []) ++ codes "</a> <a href=\"#user-content-fnref-a-2\" data-footnote-backref=\"\" aria-label=\"Back to content\" class=\"data-footnote-backref\">" ++ (226 ∷ []) ++ (134 ∷ []) ++ (169 ∷ []) ++ codes "<sup>2</sup></a></p>" ++ (10 ∷ []) ++ codes "</li>" ++ (10 ∷ []) ++ codes "<li id=\"user-content-fn-a-2\">" ++ (10 ∷ []) ++ codes "<p>y <a href=\"#user-content-fnref-a-2\" data-footnote-backref=\"\" aria-label=\"Back to content\" class=\"data-footnote-backref\">" ++ (226 ∷ []) ++ (134 ∷ []) ++ (169 ∷ []) ++ codes "</a></p>" ++ (10 ∷ []) ++ codes "</li>" ++ (10 ∷ []) ++ codes "</ol>" ++ (10 ∷ []) ++ codes "</section>" ++ (10 ∷ [])
+    codes "<p>" ++ call_tag "a" "a" "1" ++ call_tag "a" "a-2" "1" ++ call_tag "a-2" "a-2" "2" ++ codes "</p>"
+    ++ (10 ∷ []) ++ section_head ++ (10 ∷ []) ++ codes "<ol>" ++ (10 ∷ []) ++ codes "<li id=\"user-content-fn-a\">"
+    ++ (10 ∷ []) ++ codes "<p>x " ++ way_back "a" ++ codes " " ++ numbered_way_back "a-2" "2" ++ codes "</p>"
+    ++ (10 ∷ []) ++ codes "</li>" ++ (10 ∷ []) ++ codes "<li id=\"user-content-fn-a-2\">" ++ (10 ∷ [])
+    ++ codes "<p>y " ++ way_back "a-2" ++ codes "</p>" ++ (10 ∷ []) ++ codes "</li>" ++ (10 ∷ []) ++ codes "</ol>"
+    ++ (10 ∷ []) ++ codes "</section>" ++ (10 ∷ [])
 
 abbrev pub identifiers_that_meet_by_number_text : List ℕ
 identifiers_that_meet_by_number_text =
-    codes "<p><sup><a href=\"#user-content-fn-1\" id=\"user-content-fnref-1-1\" data-footnote-ref=\"\" aria-describedby=\"footnote-label\">1</a></sup><sup><a href=\"#user-content-fn-1\" id=\"user-content-fnref-1-2\" data-footnote-ref=\"\" aria-describedby=\"footnote-label\">1</a></sup><sup><a href=\"#user-content-fn-2\" id=\"user-content-fnref-2-1\" data-footnote-ref=\"\" aria-describedby=\"footnote-label\">2</a></sup></p>" ++ (10 ∷ []) ++ codes "<section data-footnotes=\"\" class=\"footnotes\"><h2 id=\"footnote-label\" class=\"sr-only\">Footnotes</h2>" ++ (10 ∷ []) ++ codes "<ol>" ++ (10 ∷ []) ++ codes "<li id=\"user-content-fn-1\">" ++ (10 ∷ []) ++ codes "<p>x <a href=\"#user-content-fnref-1-1\" data-footnote-backref=\"\" aria-label=\"Back to content\" class=\"data-footnote-backref\">" ++ (226 ∷ []) ++ (134 ∷ []) ++ (169 ∷ []) ++ codes "</a> <a href=\"#user-content-fnref-1-2\" data-footnote-backref=\"\" aria-label=\"Back to content\" class=\"data-footnote-backref\">" ++ (226 ∷ []) ++ (134 ∷ []) ++ (169 ∷ []) ++ codes "<sup>2</sup></a></p>" ++ (10 ∷ []) ++ codes "</li>" ++ (10 ∷ []) ++ codes "<li id=\"user-content-fn-2\">" ++ (10 ∷ []) ++ codes "<p>y <a href=\"#user-content-fnref-2-1\" data-footnote-backref=\"\" aria-label=\"Back to content\" class=\"data-footnote-backref\">" ++ (226 ∷ []) ++ (134 ∷ []) ++ (169 ∷ []) ++ codes "</a></p>" ++ (10 ∷ []) ++ codes "</li>" ++ (10 ∷ []) ++ codes "</ol>" ++ (10 ∷ []) ++ codes "</section>" ++ (10 ∷ [])
+    codes "<p>" ++ call_tag "1" "1-1" "1" ++ call_tag "1" "1-2" "1" ++ call_tag "2" "2-1" "2" ++ codes "</p>"
+    ++ (10 ∷ []) ++ section_head ++ (10 ∷ []) ++ codes "<ol>" ++ (10 ∷ []) ++ codes "<li id=\"user-content-fn-1\">"
+    ++ (10 ∷ []) ++ codes "<p>x " ++ way_back "1-1" ++ codes " " ++ numbered_way_back "1-2" "2" ++ codes "</p>"
+    ++ (10 ∷ []) ++ codes "</li>" ++ (10 ∷ []) ++ codes "<li id=\"user-content-fn-2\">" ++ (10 ∷ [])
+    ++ codes "<p>y " ++ way_back "2-1" ++ codes "</p>" ++ (10 ∷ []) ++ codes "</li>" ++ (10 ∷ []) ++ codes "</ol>"
+    ++ (10 ∷ []) ++ codes "</section>" ++ (10 ∷ [])

@@ -156,7 +156,9 @@ literal_autolinks_bytes = codes "a@bwww.c[http://d](e)f@gxmpp:hmailto:ijavascrip
 
 abbrev pub literal_autolinks_text : List ℕ
 literal_autolinks_text =
-    codes "<p><a href=\"mailto:a@b\">a@b</a><a href=\"http://www.c\">www.c</a><a href=\"e\">http://d</a><a href=\"mailto:f@g\">f@g</a><a href=\"xmpp:h\">xmpp:h</a><a href=\"mailto:i\">mailto:i</a><a href=\"\">javascript:j</a></p>"
+    codes "<p><a href=\"mailto:a@b\">a@b</a><a href=\"http://www.c\">www.c</a><a href=\"e\">http://d</a>"
+    ++ codes "<a href=\"mailto:f@g\">f@g</a>"
+    ++ codes "<a href=\"xmpp:h\">xmpp:h</a><a href=\"mailto:i\">mailto:i</a><a href=\"\">javascript:j</a></p>"
 
 -- links and images of any protocol, where the options let them: the options, the tree, its bytes and its text
 abbrev pub any_protocol_options : CompileOptions

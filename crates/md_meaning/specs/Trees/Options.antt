@@ -42,8 +42,8 @@ each_name =
 abbrev pub each_name_bytes : List ℕ
 each_name_bytes = codes "[a](x:b)![a](x:c)<x:d>&<xmp>[ ][^e]<title>[^e]:f"
 
--- its text by what options change: the ids of the footnote and its call, the addresses of the link, the autolink and the
--- image, the HTML in the text and the one by itself, what a task says, the line ending
+-- its text by what options change: the ids of the footnote and its call, the addresses of the link, the autolink and
+-- the image, the HTML in the text and the one by itself, what a task says, the line ending
 abbrev pub each_name_text_by : (footnote call link autolink image span block task ending : List ℕ) → List ℕ
 each_name_text_by footnote call link autolink image span block task ending =
     codes "<p><a href=\"" ++ link ++ codes "\">a</a><img src=\"" ++ image ++ codes "\" alt=\"a\" />"

@@ -2,7 +2,7 @@
 use Rattle.std.specs.Prelude.{ℕ, List, [], ◌∷◌, ◌++◌, codes}
 use Rattle.md_base.specs.declared.event.Name.TheVariants.{BlankLineEnding, CodeText, CodeTextData, Data, GfmFootnoteCall, GfmFootnoteDefinition, GfmFootnoteDefinitionLabelString, GfmFootnoteDefinitionPrefix, GfmTable, GfmTableBody, GfmTableCell, GfmTableDelimiterCellValue, GfmTableDelimiterMarker, GfmTableDelimiterRow, GfmTableHead, GfmTableRow, Label, LabelText, LineEnding, Other, Paragraph}
 use Rattle.md_base.specs.Tree.{Forest, Empty, Node}
-use Rattle.md_meaning.specs.Trees.{at}
+use Rattle.md_meaning.specs.Trees.{at, call_tag, section_head, way_back}
 
 -- short table row: the tree, its bytes and its text
 abbrev pub short_table_row : Forest
@@ -47,11 +47,14 @@ call_in_a_dropped_cell_bytes = codes "|a|" ++ (10 ∷ []) ++ codes "|-|" ++ (10 
     ++ (10 ∷ []) ++ codes "[^c]: d"
 
 abbrev pub call_in_a_dropped_cell_text : List ℕ
-call_in_a_dropped_cell_text = codes "<table>" ++ (10 ∷ []) ++ codes "<thead>" ++ (10 ∷ []) ++ codes "<tr>"
-    ++ (10 ∷ []) ++ codes "<th>a</th>" ++ (10 ∷ []) ++ codes "</tr>" ++ (10 ∷ []) ++ codes "</thead>" ++ (10 ∷ [])
-    ++ codes "<tbody>" ++ (10 ∷ []) ++ codes "<tr>" ++ (10 ∷ []) ++ codes "<td>b</td>" ++ (10 ∷ []) ++ codes "</tr>"
-    ++ (10 ∷ []) ++ codes "</tbody>" ++ (10 ∷ []) ++ codes "</table>" ++ (10 ∷ [])
-    ++ codes "<section data-footnotes=\"\" class=\"footnotes\"><h2 id=\"footnote-label\" class=\"sr-only\">Footnotes</h2>" ++ (10 ∷ []) ++ codes "<ol>" ++ (10 ∷ []) ++ codes "<li id=\"user-content-fn-c\">" ++ (10 ∷ []) ++ codes "<p>d <a href=\"#user-content-fnref-c\" data-footnote-backref=\"\" aria-label=\"Back to content\" class=\"data-footnote-backref\">" ++ (226 ∷ []) ++ (134 ∷ []) ++ (169 ∷ []) ++ codes "</a></p>" ++ (10 ∷ []) ++ codes "</li>" ++ (10 ∷ []) ++ codes "</ol>" ++ (10 ∷ []) ++ codes "</section>" ++ (10 ∷ [])
+call_in_a_dropped_cell_text =
+    codes "<table>" ++ (10 ∷ []) ++ codes "<thead>" ++ (10 ∷ []) ++ codes "<tr>" ++ (10 ∷ []) ++ codes "<th>a</th>"
+    ++ (10 ∷ []) ++ codes "</tr>" ++ (10 ∷ []) ++ codes "</thead>" ++ (10 ∷ []) ++ codes "<tbody>" ++ (10 ∷ [])
+    ++ codes "<tr>" ++ (10 ∷ []) ++ codes "<td>b</td>" ++ (10 ∷ []) ++ codes "</tr>" ++ (10 ∷ [])
+    ++ codes "</tbody>" ++ (10 ∷ []) ++ codes "</table>" ++ (10 ∷ []) ++ section_head ++ (10 ∷ []) ++ codes "<ol>"
+    ++ (10 ∷ []) ++ codes "<li id=\"user-content-fn-c\">" ++ (10 ∷ []) ++ codes "<p>d " ++ way_back "c"
+    ++ codes "</p>" ++ (10 ∷ []) ++ codes "</li>" ++ (10 ∷ []) ++ codes "</ol>" ++ (10 ∷ []) ++ codes "</section>"
+    ++ (10 ∷ [])
 
 -- code with a pipe in a table: the tree, its bytes and its text
 abbrev pub code_with_a_pipe_in_a_table : Forest
@@ -194,8 +197,13 @@ abbrev pub call_in_a_head_bytes : List ℕ
 call_in_a_head_bytes = codes "|[^b]" ++ (10 ∷ []) ++ codes "|-:[^b]:c"
 
 abbrev pub call_in_a_head_text : List ℕ
-call_in_a_head_text = codes "<table>" ++ (10 ∷ []) ++ codes "<thead>" ++ (10 ∷ []) ++ codes "<tr>" ++ (10 ∷ [])
-    ++ codes "<th align=\"right\"><sup><a href=\"#user-content-fn-b\" id=\"user-content-fnref-b\" data-footnote-ref=\"\" aria-describedby=\"footnote-label\">1</a></sup></th>" ++ (10 ∷ []) ++ codes "</tr>" ++ (10 ∷ []) ++ codes "</thead>" ++ (10 ∷ []) ++ codes "</table>" ++ (10 ∷ []) ++ codes "<section data-footnotes=\"\" class=\"footnotes\"><h2 id=\"footnote-label\" class=\"sr-only\">Footnotes</h2>" ++ (10 ∷ []) ++ codes "<ol>" ++ (10 ∷ []) ++ codes "<li id=\"user-content-fn-b\">" ++ (10 ∷ []) ++ codes "<p>c <a href=\"#user-content-fnref-b\" data-footnote-backref=\"\" aria-label=\"Back to content\" class=\"data-footnote-backref\">" ++ (226 ∷ []) ++ (134 ∷ []) ++ (169 ∷ []) ++ codes "</a></p>" ++ (10 ∷ []) ++ codes "</li>" ++ (10 ∷ []) ++ codes "</ol>" ++ (10 ∷ []) ++ codes "</section>" ++ (10 ∷ [])
+call_in_a_head_text =
+    codes "<table>" ++ (10 ∷ []) ++ codes "<thead>" ++ (10 ∷ []) ++ codes "<tr>" ++ (10 ∷ [])
+    ++ codes "<th align=\"right\">" ++ call_tag "b" "b" "1" ++ codes "</th>" ++ (10 ∷ []) ++ codes "</tr>"
+    ++ (10 ∷ []) ++ codes "</thead>" ++ (10 ∷ []) ++ codes "</table>" ++ (10 ∷ []) ++ section_head ++ (10 ∷ [])
+    ++ codes "<ol>" ++ (10 ∷ []) ++ codes "<li id=\"user-content-fn-b\">" ++ (10 ∷ []) ++ codes "<p>c "
+    ++ way_back "b" ++ codes "</p>" ++ (10 ∷ []) ++ codes "</li>" ++ (10 ∷ []) ++ codes "</ol>" ++ (10 ∷ [])
+    ++ codes "</section>" ++ (10 ∷ [])
 
 -- table in a footnote: the tree, its bytes and its text
 abbrev pub table_in_a_footnote : Forest
@@ -215,4 +223,8 @@ table_in_a_footnote_bytes = codes "[^b][^b]:|a" ++ (10 ∷ []) ++ codes "|-"
 
 abbrev pub table_in_a_footnote_text : List ℕ
 table_in_a_footnote_text =
-    codes "<p><sup><a href=\"#user-content-fn-b\" id=\"user-content-fnref-b\" data-footnote-ref=\"\" aria-describedby=\"footnote-label\">1</a></sup></p>" ++ (10 ∷ []) ++ codes "<section data-footnotes=\"\" class=\"footnotes\"><h2 id=\"footnote-label\" class=\"sr-only\">Footnotes</h2>" ++ (10 ∷ []) ++ codes "<ol>" ++ (10 ∷ []) ++ codes "<li id=\"user-content-fn-b\">" ++ (10 ∷ []) ++ codes "<table>" ++ (10 ∷ []) ++ codes "<thead>" ++ (10 ∷ []) ++ codes "<tr>" ++ (10 ∷ []) ++ codes "<th>a</th>" ++ (10 ∷ []) ++ codes "</tr>" ++ (10 ∷ []) ++ codes "</thead>" ++ (10 ∷ []) ++ codes "</table>" ++ (10 ∷ []) ++ codes "<a href=\"#user-content-fnref-b\" data-footnote-backref=\"\" aria-label=\"Back to content\" class=\"data-footnote-backref\">" ++ (226 ∷ []) ++ (134 ∷ []) ++ (169 ∷ []) ++ codes "</a>" ++ (10 ∷ []) ++ codes "</li>" ++ (10 ∷ []) ++ codes "</ol>" ++ (10 ∷ []) ++ codes "</section>" ++ (10 ∷ [])
+    codes "<p>" ++ call_tag "b" "b" "1" ++ codes "</p>" ++ (10 ∷ []) ++ section_head ++ (10 ∷ []) ++ codes "<ol>"
+    ++ (10 ∷ []) ++ codes "<li id=\"user-content-fn-b\">" ++ (10 ∷ []) ++ codes "<table>" ++ (10 ∷ [])
+    ++ codes "<thead>" ++ (10 ∷ []) ++ codes "<tr>" ++ (10 ∷ []) ++ codes "<th>a</th>" ++ (10 ∷ []) ++ codes "</tr>"
+    ++ (10 ∷ []) ++ codes "</thead>" ++ (10 ∷ []) ++ codes "</table>" ++ (10 ∷ []) ++ way_back "b" ++ (10 ∷ [])
+    ++ codes "</li>" ++ (10 ∷ []) ++ codes "</ol>" ++ (10 ∷ []) ++ codes "</section>" ++ (10 ∷ [])

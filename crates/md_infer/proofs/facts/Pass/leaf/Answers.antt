@@ -4,7 +4,7 @@ use Rattle.md_infer.specs.Columns.{Collected}
 use Rattle.md_infer.specs.contracts.facts.Pass.{the_view}
 use Rattle.md_infer.specs.Facts.{opens, next_round, others_round, fact_alone, partner_alone}
 use Rattle.md_infer.proofs.Opens.{on_answer, opens-set, opens-last, opens-alone, passed_leaf-by}
-use Rattle.md_infer.proofs.facts.Pass.other_leaf.Goals as goal
+use Rattle.md_infer.proofs.facts.Pass.leaf.Goals as goal
 
 pub returns-in-Some : goal.returns-in-Some
 returns-in-Some c =
