@@ -19,6 +19,7 @@ pub fn is_paragraph(name: Name) -> bool
 }
 
 /// A node after which a line ending is dropped.
+#[inline(always)]
 pub fn is_definition(name: Name) -> bool
     ensures { result ≡ tests.is_definition name }
 {
@@ -26,6 +27,7 @@ pub fn is_definition(name: Name) -> bool
 }
 
 /// A child that an item's end looks at.
+#[inline(always)]
 pub fn contributes(name: Name) -> bool
     ensures { result ≡ tests.contributes name }
 {
@@ -40,12 +42,14 @@ pub fn contributes(name: Name) -> bool
     )
 }
 
+#[inline(always)]
 pub fn is_fence(name: Name) -> bool
     ensures { result ≡ tests.is_fence name }
 {
     matches!(name, Name::CodeFencedFence | Name::MathFlowFence)
 }
 
+#[inline(always)]
 pub fn is_chunk(name: Name) -> bool
     ensures { result ≡ tests.is_chunk name }
 {
@@ -53,6 +57,7 @@ pub fn is_chunk(name: Name) -> bool
 }
 
 /// A node whose children are laid out on a page of their own.
+#[inline(always)]
 pub fn is_captured(name: Name) -> bool
     ensures { result ≡ printed.is_captured name }
 {
@@ -82,6 +87,7 @@ pub fn is_captured(name: Name) -> bool
     )
 }
 
+#[inline(always)]
 pub fn is_cell(name: Name) -> bool
     ensures { result ≡ tests.is_cell name }
 {

@@ -82,6 +82,7 @@ pub fn inside(
 }
 
 /// Whether the last mark is a setting one after the exit of a node, which stands after a spine.
+#[inline(always)]
 pub fn slurps_behind(around: Surroundings, spine: Spine, name: Name, slurping: bool) -> bool
     ensures { result ≡ machine.slurps_behind (spec.own_marks around spine name) slurping }
 {
@@ -116,6 +117,7 @@ pub const NO_SPINE: Spine = Spine {
 };
 
 /// How many cells there are after one more name; more than memory can hold are refused.
+#[inline(always)]
 fn cells_behind(name: Name, cells: usize) -> Result<usize, AllocError>
     ensures { IfOk result (λ sum. sum ≡ cells + (if is_cell name then 1 else 0)) }
 {
@@ -127,6 +129,7 @@ fn cells_behind(name: Name, cells: usize) -> Result<usize, AllocError>
 }
 
 /// Adds a name to a spine.
+#[inline(always)]
 fn add_name(spine: &mut Spine, name: Name) -> Result<(), AllocError>
     ensures { OnOk result (spine.new ≡ machine.with_name name spine.old) }
 {
@@ -140,6 +143,7 @@ fn add_name(spine: &mut Spine, name: Name) -> Result<(), AllocError>
 }
 
 /// The last child that an item's end looks at, after one more.
+#[inline(always)]
 fn contributing_behind(name: Name, before: Option<Name>) -> Option<Name>
     ensures { result ≡ (if contributes name then Some name else before) }
 {
@@ -155,6 +159,7 @@ fn contributing_behind(name: Name, before: Option<Name>) -> Option<Name>
 /// # Errors
 ///
 /// Only where a count passes what memory can hold.
+#[inline(always)]
 pub fn pass(passed: &mut Passed, name: Name, inner: Spine) -> Result<(), AllocError>
     ensures { OnOk result (passed.new ≡ machine.passing name inner passed.old) }
 {
@@ -169,6 +174,7 @@ pub fn pass(passed: &mut Passed, name: Name, inner: Spine) -> Result<(), AllocEr
 }
 
 /// The spine that a node's children begin after.
+#[inline(always)]
 pub fn spine_inside(name: Name, spine: Spine) -> Spine
     ensures { result ≡ (if is_transparent name then spine else machine.no_spine) }
 {

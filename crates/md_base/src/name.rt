@@ -6,5 +6,8 @@ use crate::event::Name;
 pub fn is_same_name(a: Name, b: Name) -> bool
     ensures { IsTrue result ↔ (a ≡ b) }
 {
-    a == b
+    match a {
+        Name::Other(number) => matches!(b, Name::Other(other) if other == number),
+        _ => a == b,
+    }
 }

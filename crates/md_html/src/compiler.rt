@@ -3,6 +3,7 @@
 ghost use Rattle.std.specs.Prelude.{◌≡◌, ◌∷◌, ◌+◌, ◌≤◌, ◌<◌, ◌^◌, drop, Bool, [], OnOk, IfOk, IfErr, List, string_bytes, length, ◌*◌, unwrap_or, option_copied, slice_get, Option, Some, true, false};
 ghost use Rattle.md_base.specs.Reference.{name_table};
 ghost use Rattle.md_base.specs.Tree.{Forest, flatten};
+ghost use Rattle.md_base.specs.declared.event.Kind.TheVariants.{Enter};
 ghost use Rattle.md_tree.specs.Grammar.{IsChecked, handed};
 ghost use Rattle.md_tree.specs.Texts.{EntersAt};
 ghost use Rattle.md_tree.specs.Reads.{is_reader};
@@ -396,24 +397,38 @@ pub(crate) fn step(
     ensures { OnOk result ((told : Option Forest) → IsToldAt checked.now visit.entry.index told → printer.new
         ≡ machine.stepped (given_of source.now) visit.entry.event.now.kind visit.entry.event.now.name visit.entry.event.now.point told (machine.is_nil visit.entry.later.now) printer.old) }
 {
-    let event = *visit.event;
+    let event = visit.event;
     match event.kind {
-        Kind::Enter => {
-            let place = place_read(checked, visit.index, event.name);
-            let loose = is_loose(checked, visit.index, event.name);
-            let columns = columns_of(source.alloc, checked, visit.index, event.name)?;
-            let told = Told {
-                place,
-                loose,
-                columns,
-            };
-            enter(printer, source, told, event.name, event.point)
-        }
+        Kind::Enter => enter_visited(printer, source, checked, visit),
         Kind::Exit => {
             let is_last = visit.later.is_empty();
             exit(printer, source, is_last, event.name, event.point)
         }
     }
+}
+
+/// Enters the node whose entry is visited.
+#[inline(always)]
+fn enter_visited(
+    printer: &mut Printer,
+    source: &Source,
+    checked: &Checked,
+    visit: Visit,
+) -> Result<(), AllocError>
+    requires { EntersAt checked.now.events visit.index visit.event.now.name }
+    ensures { OnOk result ((told : Option Forest) → IsToldAt checked.now visit.entry.index told → printer.new
+        ≡ machine.stepped (given_of source.now) Enter visit.entry.event.now.name visit.entry.event.now.point told (machine.is_nil visit.entry.later.now) printer.old) }
+{
+    let event = visit.event;
+    let place = place_read(checked, visit.index, event.name);
+    let loose = is_loose(checked, visit.index, event.name);
+    let columns = columns_of(source.alloc, checked, visit.index, event.name)?;
+    let told = Told {
+        place,
+        loose,
+        columns,
+    };
+    enter(printer, source, told, event.name, event.point)
 }
 
 /// Goes over a node without children that prints at its exit alone, if at all.

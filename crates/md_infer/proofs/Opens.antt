@@ -1,14 +1,15 @@
 -- The open nodes, of which the vector has the innermost last: what they are where that one changes.
-use Rattle.std.proofs.Common.{◌≡◌, ℕ, ◌+◌, ◌-◌, ◌<◌, List, [], ◌∷◌, ◌++◌, length, get_or, take, drop, Result, Ok, Err, refl, sym, ap, subst, ◌∙◌, arith}
+use Rattle.std.proofs.Common.{◌≡◌, ℕ, false, ◌+◌, ◌-◌, ◌<◌, List, [], ◌∷◌, ◌++◌, length, get_or, take, drop, Result, Ok, Err, refl, sym, ap, subst, ◌∙◌, arith}
 use Rattle.std.specs.Prelude.{set, reverse, OnOk}
 use Rattle.std.proofs.Math.Seq.{set-append_seam, take-append_seam, get_or-append_seam}
 use Rattle.std.proofs.lemmas.List.{length-set, length-append, reverse-append, reverse-reverse}
 use Rattle.md_base.specs.declared.event.Name.{Name}
 use Rattle.md_infer.specs.declared.facts.Fact.{Fact}
 use Rattle.md_infer.specs.declared.facts.OpenNode.{OpenNode}
-use Rattle.md_infer.specs.Columns.{Collected, columns_entered, columns_exited}
+use Rattle.md_infer.specs.Columns.{Collected, columns_exited}
 use Rattle.md_infer.specs.Told.{nothing_told}
-use Rattle.md_infer.specs.Facts.{Passed, opens, next_round, others_round, grounded, opened, followed, fact_of, fact_alone, partner_alone, definitions_with, passed_entry, passed_exit}
+use Rattle.md_base.specs.NameTests.{is_table}
+use Rattle.md_infer.specs.Facts.{Passed, opens, next_round, others_round, grounded, opened, followed, fact_of, partner_alone, definitions_with, passed_entry, passed_exit}
 use Rattle.md_infer.proofs.Leaves.{passed-leaf_by}
 
 -- an answer of a call of which three things are known
@@ -109,12 +110,11 @@ passed_exit-by name pass own here after facts columns definitions left stack own
     ) refl
 
 -- a node without children, by what each step gave
-pub passed_leaf-by : (name : Name) (pass : Passed) (entry : ℕ) (here after : OpenNode) (entered columns : Collected)
-    (fact : Fact) (once twice : List Fact) (definitions : List ℕ) (stack : List OpenNode) → entry ≡ length pass.facts →
-    entered ≡ columns_entered name pass.columns →
-    fact ≡ fact_alone name (entry + 1) (length (Collected.tables entered)) →
-    once ≡ pass.facts ++ fact ∷ [] → twice ≡ once ++ partner_alone entry ∷ [] → here ≡ pass.here →
-    stack ≡ after ∷ pass.round → columns ≡ columns_exited name nothing_told here.collects entered →
+pub passed_leaf-by : (name : Name) (pass : Passed) (entry : ℕ) (here after : OpenNode) (columns : Collected)
+    (once twice : List Fact) (definitions : List ℕ) (stack : List OpenNode) → is_table name ≡ false →
+    entry ≡ length pass.facts → once ≡ pass.facts ++ partner_alone (entry + 1) ∷ [] →
+    twice ≡ once ++ partner_alone entry ∷ [] → here ≡ pass.here → stack ≡ after ∷ pass.round →
+    columns ≡ columns_exited name nothing_told here.collects pass.columns →
     definitions ≡ definitions_with name entry pass.definitions → after ≡ followed name (opened entry name here) here →
     record {
       facts = twice;
@@ -123,8 +123,8 @@ pub passed_leaf-by : (name : Name) (pass : Passed) (entry : ℕ) (here after : O
       here = next_round stack;
       round = others_round stack;
     } ≡ passed_exit name (passed_entry name pass)
-passed_leaf-by name pass entry here after entered columns fact once twice definitions stack entry_is entered_is fact_is
-    once_is twice_is here_is stack_is columns_is definitions_is after_is =
-    rw stack_is (passed-leaf_by name pass entry after entered columns fact once twice definitions entry_is entered_is
-    fact_is once_is twice_is (columns_is ∙ ap (λ h. columns_exited name nothing_told (OpenNode.collects h) entered)
-    here_is) definitions_is (after_is ∙ ap (λ h. followed name (opened entry name h) h) here_is))
+passed_leaf-by name pass entry here after columns once twice definitions stack plain entry_is once_is twice_is here_is
+    stack_is columns_is definitions_is after_is =
+    rw stack_is (passed-leaf_by name pass entry after columns once twice definitions plain entry_is once_is twice_is
+    (columns_is ∙ ap (λ h. columns_exited name nothing_told (OpenNode.collects h) pass.columns) here_is) definitions_is
+    (after_is ∙ ap (λ h. followed name (opened entry name h) h) here_is))

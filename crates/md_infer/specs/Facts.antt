@@ -100,10 +100,6 @@ partner_alone partner = record {
   has_resource = false;
 }
 
--- what is found of a node without children that exits at an index
-abbrev pub fact_alone : Name → ℕ → ℕ → Fact
-fact_alone name exit table = record (partner_alone exit) { place = if is_table name then table else 0 }
-
 -- what is found at the events so far, the entries of the definitions that have ended, the innermost open node, and
 -- those around it, the next one first
 pub record Passed : Type 0 where

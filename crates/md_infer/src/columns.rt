@@ -36,6 +36,7 @@ fn part_of(name: Name) -> Part
 }
 
 /// Whether a value in a node is one of the table around it.
+#[inline(always)]
 pub fn collects_in(name: Name, around: bool) -> bool
     ensures { result ≡ spec.collects_in name around }
 {

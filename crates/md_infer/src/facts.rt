@@ -8,7 +8,7 @@ ghost use Rattle.md_infer.specs.Columns.{columns_exited};
 ghost use Rattle.md_infer.specs.Told.{nothing_told};
 
 use crate::columns::{Columns, collects_in};
-use crate::names::{is_item, is_link_definition, is_table, is_transparent};
+use crate::names::{is_link_definition, is_table, is_transparent};
 use crate::seeking::{Sought, is_idle, search_of, seen};
 use crate::told::{Last, Looseness, NOT_LOOSE, NOTHING_TOLD, Told, spaced, tell, told_looseness};
 use md_base::{AlignKind, Event, Kind, Name};
@@ -55,6 +55,7 @@ fn nowhere() -> OpenNode
 }
 
 /// A spine on which a search begins, or goes on where the node is transparent.
+#[inline(always)]
 fn sought_inside(name: Name, around: Sought) -> Sought
     ensures { result ≡ spec.sought_inside name around }
 {
@@ -136,47 +137,49 @@ fn note_child(
 
 /// Goes on with a search after a child, given that in it.
 #[inline(always)]
-fn search_behind(sought: &mut Sought, name: Name, entry: usize, own: Sought)
-    ensures { sought.new ≡ spec.sought_behind name entry own sought.old }
+fn search_behind(sought: &mut Sought, name: Name, entry: usize, own: &Sought)
+    ensures { sought.new ≡ spec.sought_behind name entry own.now sought.old }
 {
     if is_transparent(name) {
-        *sought = own;
+        // Each field by itself, for then what lies between them isn't copied.
+        *sought = Sought {
+            place: own.place,
+            wanted: own.wanted,
+            found: own.found,
+            has_resource: own.has_resource,
+        };
     } else if !is_idle(*sought) {
         *sought = seen(*sought, name, entry, own.place);
     }
 }
 
-/// Which place a fact has: which table it is, the last contributing child, or what was sought.
-fn place_of(name: Name, table: usize, own: &OpenNode) -> usize
-    ensures { result ≡ spec.place_of name table own.now.contributing own.now.sought }
+/// Which place a fact has, which table it is, the last contributing child, or what was sought; and whether a resource
+/// was found on the node's own spine.
+#[inline(always)]
+fn place_of(name: Name, table: usize, own: &OpenNode) -> (usize, bool)
+    ensures place { result.0 ≡ spec.place_of name table own.now.contributing own.now.sought }
+    ensures resource { result.1 ≡ (not (is_transparent name) && own.now.sought.has_resource) }
 {
-    if is_table(name) {
-        table
-    } else if is_item(name) {
-        own.contributing
-    } else if is_transparent(name) {
-        0
-    } else {
-        own.sought.place
+    let sought = own.sought;
+    match name {
+        Name::GfmTable => (table, sought.has_resource),
+        Name::ListItem => (own.contributing, sought.has_resource),
+        Name::BlockQuotePrefix | Name::SpaceOrTab | Name::Other(_) => (0, false),
+        _ => (sought.place, sought.has_resource),
     }
 }
 
-/// Whether a resource was found on a node's own spine.
-fn has_resource(name: Name, own: Sought) -> bool
-    ensures { result ≡ (not (is_transparent name) && own.has_resource) }
-{
-    !is_transparent(name) && own.has_resource
-}
-
 /// What is found of a node that exits at an index.
+#[inline(always)]
 fn fact_of(name: Name, exit: usize, table: usize, own: &OpenNode) -> Fact
     ensures { result ≡ spec.fact_of name exit table own.now.contributing own.now.sought own.now.told }
 {
+    let (place, has_resource) = place_of(name, table, own);
     Fact {
         partner: exit,
-        place: place_of(name, table, own),
+        place,
         looseness: told_looseness(own.told),
-        has_resource: has_resource(name, own.sought),
+        has_resource,
     }
 }
 
@@ -189,16 +192,6 @@ fn partner_alone(partner: usize) -> Fact
         place: 0,
         looseness: NOT_LOOSE,
         has_resource: false,
-    }
-}
-
-/// What is found of a node without children that exits at an index.
-fn fact_alone(name: Name, exit: usize, table: usize) -> Fact
-    ensures { result ≡ spec.fact_alone name exit table }
-{
-    Fact {
-        place: if is_table(name) { table } else { 0 },
-        ..partner_alone(exit)
     }
 }
 
@@ -281,10 +274,11 @@ impl Pass {
     pub fn leaf(&mut self, alloc: Global, name: Name) -> Result<(), AllocError>
         ensures { OnOk result (self.new ≡ spec.passed_exit name (spec.passed_entry name self.old)) }
     {
+        if is_table(name) {
+            return self.leaf_table(alloc, name);
+        }
         let entry = self.facts.len();
-        self.ended.columns.enter(name)?;
-        let fact = fact_alone(name, entry + 1, self.ended.columns.count());
-        self.facts.push(fact)?;
+        self.facts.push(partner_alone(entry + 1))?;
         self.facts.push(partner_alone(entry))?;
         match self.open_nodes.last_mut() {
             Some(here) => follow_leaf(alloc, here, &mut self.ended, name, entry),
@@ -292,7 +286,17 @@ impl Pass {
         }
     }
 
+    /// The same of a table.
+    #[inline(never)]
+    fn leaf_table(&mut self, alloc: Global, name: Name) -> Result<(), AllocError>
+        ensures { OnOk result (self.new ≡ spec.passed_exit name (spec.passed_entry name self.old)) }
+    {
+        self.enter(name)?;
+        self.exit(alloc, name)
+    }
+
     /// The entry of a node.
+    #[inline(always)]
     fn enter(&mut self, name: Name) -> Result<(), AllocError>
         ensures { OnOk result (self.new ≡ spec.passed_entry name self.old) }
     {
@@ -305,6 +309,7 @@ impl Pass {
     }
 
     /// The exit of a node.
+    #[inline(always)]
     fn exit(&mut self, alloc: Global, name: Name) -> Result<(), AllocError>
         ensures { OnOk result (self.new ≡ spec.passed_exit name self.old) }
     {
@@ -386,7 +391,7 @@ fn follow(
     ensures columns { OnOk result (ended.new.columns ≡ columns_exited name own.now.told here.old.collects ended.old.columns) }
     ensures definitions { OnOk result (ended.new.definitions.items ≡ spec.definitions_with name own.now.entry ended.old.definitions.items) }
 {
-    search_behind(&mut here.sought, name, own.entry, own.sought);
+    search_behind(&mut here.sought, name, own.entry, &own.sought);
     if is_common(name) {
         here.contributing = own.entry;
         here.told.last = Last::Plain;

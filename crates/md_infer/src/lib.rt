@@ -8,6 +8,6 @@ mod seeking;
 mod told;
 
 pub use facts::{Fact, Facts, OpenNode, Pass, ending_behind};
-pub use names::{is_item, is_link_definition, is_table, is_transparent};
+pub use names::{is_link_definition, is_table, is_transparent};
 pub use seeking::{Found, Sight, Sought, Wanted};
 pub use told::{Last, Looseness, Told};

@@ -16,12 +16,6 @@ pub fn is_transparent(name: Name) -> bool
     )
 }
 
-pub fn is_item(name: Name) -> bool
-    ensures { result ≡ tests.is_item name }
-{
-    matches!(name, Name::ListItem)
-}
-
 /// What a link or an image refers to.
 pub fn is_link_definition(name: Name) -> bool
     ensures { result ≡ tests.is_link_definition name }

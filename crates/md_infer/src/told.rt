@@ -165,7 +165,7 @@ pub fn told_looseness(own: Told) -> Looseness
 {
     Looseness {
         without_items: own.without_items,
-        with_items: own.without_items || own.has_loose_item,
+        with_items: own.without_items | own.has_loose_item,
         of_item: own.of_item,
     }
 }

@@ -281,18 +281,16 @@ impl Printer {
     ) -> Result<(), AllocError>
         ensures { OnOk result (self.new ≡ machine.opening_frame options.now (machine.ahead_by told.now.place) told.now.loose name start self.old) }
     {
-        let parent = self.frame;
-        self.frames.push(parent)?;
-        self.frame = Frame {
-            around: inside(options, told.loose, name, parent.around),
-            start,
-            is_slurping: self.is_slurping,
-            place: told.place,
-            passed: Passed {
-                last: None,
-                contributing: None,
-                spine: spine_inside(name, parent.passed.spine),
-            },
+        self.frames.push(self.frame)?;
+        let frame = &mut self.frame;
+        frame.around = inside(options, told.loose, name, frame.around);
+        frame.start = start;
+        frame.is_slurping = self.is_slurping;
+        frame.place = told.place;
+        frame.passed = Passed {
+            last: None,
+            contributing: None,
+            spine: spine_inside(name, frame.passed.spine),
         };
         Ok(())
     }
@@ -318,6 +316,7 @@ impl Printer {
     }
 
     /// Passes a child of the innermost node, which has passed its own children.
+    #[inline(always)]
     fn pass_child(&mut self, name: Name, inner: Spine) -> Result<(), AllocError>
         ensures { OnOk result (self.new ≡ machine.passing_child name inner self.old) }
     {

@@ -1,6 +1,6 @@
 -- Runs of bytes that are texts: a part of a run is that part of the bytes.
-use Rattle.std.proofs.Common.{rules, ◌≡◌, ℕ, ◌+◌, ◌-◌, ◌≤◌, Bool, true, ◌&&◌, nat_le, Some, List, ◌++◌, length, take, drop, refl, sym, ap, ◌∙◌, arith}
-use Rattle.std.specs.Prelude.{slice_range}
+use Rattle.std.proofs.Common.{rules, ◌≡◌, ℕ, ◌+◌, ◌-◌, ◌≤◌, Bool, true, ◌&&◌, nat_le, Option, None, Some, List, ◌++◌, length, take, drop, refl, sym, ap, ◌∙◌, arith}
+use Rattle.std.specs.Prelude.{slice_range, IfSome}
 use Rattle.std.specs.Str.{IsUtf8}
 use Rattle.std.proofs.lemmas.Str.{is_utf8-from_IsUtf8}
 use Rattle.std.proofs.lemmas.List.{take-take, take_at, drop-drop, drop_at, drop-take, length-drop, length-append}
@@ -29,6 +29,21 @@ text_when-some readable bytes part holds same utf8 = rw (holds, ← same, is_utf
 -- indices in order, within the bytes
 pub readable-ordered : (start end n : ℕ) → start ≤ end → end ≤ n → (nat_le start end && nat_le end n) ≡ true
 readable-ordered start end n ordered within = search rules
+
+-- a part of a run's text is a text of the bytes
+pub run-part : (bytes text part : List ℕ) (s start end : ℕ) → s + length text ≤ length bytes →
+    take (length text) (drop s bytes) ≡ text → s ≤ start → s ≤ end → start - s ≤ end - s → end - s ≤ length text →
+    part ≡ slice_range text (start - s) (end - s) → IsUtf8 part →
+    text_when (nat_le start end && nat_le end (length bytes)) (slice_range bytes start end) ≡ Some part
+run-part bytes text part s start end within is low low_end ordered high same utf8 =
+    let in_order : start ≤ end = omega (arith, ordered, low, low_end) in
+    text_when-some _ _ _ (readable-ordered start end (length bytes) in_order (omega (arith, within, high, low_end)))
+    (same ∙ slice_range-run bytes text s start end is low in_order high) utf8
+
+-- what holds of an answer, where there is one
+pub some-weaken : {A : Type 0} (P Q : A → Type 0) → ((a : A) → P a → Q a) → (o : Option A) → IfSome o P → IfSome o Q
+some-weaken P Q weaken None holds = holds
+some-weaken P Q weaken (Some a) holds = weaken a holds
 
 -- a run and what lies after it, up to the next
 pub IsRun-chunk : (bytes text behind rest : List ℕ) (start : ℕ) → start ≤ length bytes →

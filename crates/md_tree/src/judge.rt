@@ -40,6 +40,7 @@ pub fn rule_unless(condition: bool, rule: Rule) -> Option<Rule>
 }
 
 /// A place that is a text.
+#[inline(always)]
 fn broken_text(text: Option<&str>) -> Option<Rule>
     ensures { result ≡ broken_by (option_copied text.entry) (λ _. None) }
 {
@@ -50,6 +51,7 @@ fn broken_text(text: Option<&str>) -> Option<Rule>
 }
 
 /// The text of a line ending.
+#[inline(always)]
 fn broken_ending(text: Option<&str>) -> Option<Rule>
     ensures { result ≡ broken_by (option_copied text.entry) (λ t. unless (is_line_ending t) rule.LineEnding) }
 {
@@ -67,6 +69,7 @@ fn is_ending(text: &str) -> bool
 }
 
 /// The value of an item, which is a number in the first one of an ordered list.
+#[inline(always)]
 fn broken_number(around: Role, before: Option<Symbol>, text: Option<&str>) -> Option<Rule>
     ensures { result ≡ broken_by (option_copied text.entry) (λ t. unless (is_list_number around before t) rule.ListNumber) }
 {
@@ -98,14 +101,14 @@ fn is_decimal(text: &str) -> bool
 }
 
 /// The value of a character reference.
+#[inline(always)]
 fn broken_value(
-    alloc: Global,
-    names: &[(&str, &str)],
+    source: Source,
     before: Option<Symbol>,
     text: Option<&str>,
 ) -> Result<Option<Rule>, AllocError>
     ensures { IfOk result
-        (λ broken. broken ≡ broken_by (option_copied text.entry) (λ t. unless (is_decodable (name_table names.now) before t) rule.CharacterReference)) }
+        (λ broken. broken ≡ broken_by (option_copied text.entry) (λ t. unless (is_decodable (name_table source.entry.names.now) before t) rule.CharacterReference)) }
 {
     let Some(text) = text else {
         return Ok(Some(Rule::Place));
@@ -113,7 +116,7 @@ fn broken_value(
     let Some(marker) = marker(before) else {
         return Ok(None);
     };
-    let value = decode_character_reference(alloc, text, marker, names)?;
+    let value = decode_character_reference(source.alloc, text, marker, source.names)?;
     Ok(rule_unless(value.is_some(), Rule::CharacterReference))
 }
 
@@ -129,22 +132,35 @@ fn marker(before: Option<Symbol>) -> Option<u8>
     }
 }
 
-/// A mark of a heading, the first of which is its rank.
+/// A mark of a heading that is entered and exited at two indices: the first one is its rank.
+#[inline(always)]
 fn broken_mark(
-    bytes: &[u8],
+    source: Source,
     around: Role,
     before: Option<Symbol>,
-    position: &Position,
+    entry: usize,
+    exit: usize,
 ) -> Option<Rule>
-    ensures { result ≡ (if fits bytes.now position.now.start position.now.end then unless (is_rank around before (columns position.now.start position.now.end)) rule.HeadingMark else Some rule.Place) }
+    ensures { (start end : Point) → start ≡ point_at source.entry.events.now entry → end ≡ point_at source.entry.events.now exit
+        → result ≡ (if fits source.entry.bytes.now start end then unless (is_rank around before (columns start end)) rule.HeadingMark else Some rule.Place) }
 {
-    match Slice::from_position(bytes, position) {
+    let position = place_at(source.events, entry, exit);
+    match Slice::from_position(source.bytes.bytes(), &position) {
         None => Some(Rule::Place),
         Some(slice) => rule_unless(
             is_right_mark(around, before, slice.len()),
             Rule::HeadingMark,
         ),
     }
+}
+
+/// What identifies a link, an image, a footnote call or a definition, and is entered and exited at two indices.
+#[inline(always)]
+fn broken_identifier(source: Source, entry: usize, exit: usize) -> Option<Rule>
+    ensures { result ≡ broken_by (label_between source.entry.bytes.now (point_at source.entry.events.now entry) (point_at source.entry.events.now exit)) (λ _. None) }
+{
+    let position = place_at(source.events, entry, exit);
+    broken_text(source.bytes.label_at(&position))
 }
 
 /// Whether a mark of this length may stand in a node of this role, after a symbol.
@@ -158,6 +174,7 @@ fn is_right_mark(around: Role, before: Option<Symbol>, length: usize) -> bool
 }
 
 /// The first byte of an underline.
+#[inline(always)]
 fn broken_underline(bytes: &[u8], start: Point) -> Option<Rule>
     ensures { result ≡ unless (nat_lt start.index (length bytes.now)) rule.Place }
 {
@@ -260,19 +277,12 @@ pub fn read_node(
         Reading::Text => broken_text(text_of(source, entry, exit)),
         Reading::LineEnding => broken_ending(text_of(source, entry, exit)),
         Reading::Number => broken_number(around, before, text_of(source, entry, exit)),
-        Reading::Value => {
-            let text = text_of(source, entry, exit);
-            broken_value(source.alloc, source.names, before, text)?
-        }
-        Reading::Mark => {
-            let position = place_at(source.events, entry, exit);
-            broken_mark(bytes, around, before, &position)
-        }
+        Reading::Value => broken_value(source, before, text_of(source, entry, exit))?,
+        Reading::Mark => broken_mark(source, around, before, entry, exit),
         Reading::Underline => broken_underline(bytes, point_at(source.events, entry)),
         Reading::Identifier => {
             *target = Aim::Label(entry, exit);
-            let position = place_at(source.events, entry, exit);
-            broken_text(source.bytes.label_at(&position))
+            broken_identifier(source, entry, exit)
         }
         Reading::Media => broken_target(inner),
         Reading::Holder => {

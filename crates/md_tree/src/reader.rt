@@ -1,7 +1,8 @@
 //! Reads events, each by the walk and by the pass that finds what is read or inferred.
 
-ghost use Rattle.std.specs.Prelude.{◌≡◌, ◌<◌, ◌≤◌, ◌+◌, true, suc, Some, slice_get, length, IfOk, OnOk, IfErr, IfSome};
+ghost use Rattle.std.specs.Prelude.{◌≡◌, ◌<◌, ◌≤◌, ◌+◌, true, suc, None, Some, slice_get, length, IfOk, OnOk, IfErr, IfSome};
 ghost use Rattle.md_base.specs.Reference.{name_table};
+ghost use Rattle.md_base.specs.declared.event.Event.{Event};
 ghost use Rattle.md_base.specs.declared.event.Kind.TheVariants as kind;
 ghost use Rattle.md_infer.specs.Ending.{ending_behind};
 ghost use Rattle.md_tree.specs.Grammar.{handed};
@@ -75,7 +76,7 @@ impl Reader {
     {
         self.walk.step(source, index, &event)?;
         self.pass.find(source.alloc, &event)?;
-        note_ending(&mut self.first_ending, index, &event);
+        note_ending(&mut self.first_ending, source.events, index);
         Ok(())
     }
 
@@ -97,18 +98,27 @@ impl Reader {
     {
         self.walk.leaf(source, index, event.name)?;
         self.pass.leaf(source.alloc, event.name)?;
-        note_ending(&mut self.first_ending, index + 1, exit);
+        note_ending(&mut self.first_ending, source.events, index + 1);
         Ok(())
     }
 }
 
-/// Notes the first line ending, if it is this event.
-fn note_ending(first: &mut Option<usize>, index: usize, event: &Event)
-    ensures { first.new ≡ ending_behind first.old index event.now }
+/// Notes the first line ending, if it is the event at an index.
+#[inline(always)]
+fn note_ending(first: &mut Option<usize>, events: &[Event], index: usize)
+    ensures { (event : Event) → slice_get events.now index ≡ Some event → first.new ≡ ending_behind first.old index event }
 {
     if first.is_none() {
-        *first = ending_behind(*first, index, event);
+        *first = ending_at(events, index);
     }
+}
+
+/// An index, where its event is a line ending's exit.
+#[inline(never)]
+fn ending_at(events: &[Event], index: usize) -> Option<usize>
+    ensures { (event : Event) → slice_get events.now index ≡ Some event → result ≡ ending_behind None index event }
+{
+    ending_behind(None, index, events.get(index)?)
 }
 
 /// The event after the one at an index, where both enter and exit a node without children.

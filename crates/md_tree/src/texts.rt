@@ -1,6 +1,7 @@
 //! A document's bytes, of which the parts that are texts are found once.
 
-ghost use Rattle.std.specs.Prelude.{◌≡◌, ℕ, List, Some, length, nat_le, ◌&&◌, option_copied, slice_range, IfOk, IfSome};
+ghost use Rattle.std.specs.Prelude.{◌≡◌, ◌≤◌, ℕ, List, Some, length, nat_le, ◌&&◌, option_copied, slice_range, IfOk, IfSome};
+ghost use Rattle.std.specs.Str.{IsUtf8};
 ghost use Rattle.md_base.specs.Place.{text_when, text_between, label_between};
 ghost use Rattle.md_tree.specs.Runs.{IsRun, AreRuns};
 
@@ -19,18 +20,26 @@ struct Run<'a> {
 
 impl<'a> Run<'a> {
     /// The text between two indices of the bytes, where it lies in this part.
-    #[inline(always)]
     fn text_between(&self, start: usize, end: usize) -> Option<&'a str>
         ensures { IfSome result
             (λ text. (bytes : List ℕ) → IsRun bytes self.now → text_when (nat_le start end && nat_le end (length bytes)) (slice_range bytes start end) ≡ Some text.now) }
     {
         let from = start.checked_sub(self.start)?;
         let to = end.checked_sub(self.start)?;
-        if from <= to && self.text.is_char_boundary(from) && self.text.is_char_boundary(to) {
-            Some(&self.text[from..to])
-        } else {
-            None
-        }
+        part(self.text, from, to)
+    }
+}
+
+/// The part of a text between two of its bytes, where it begins and ends with a character.
+#[inline(always)]
+fn part(text: &str, from: usize, to: usize) -> Option<&str>
+    ensures { IfSome result
+        (λ part. (from ≤ to) × (to ≤ length text.now) × (part.now ≡ slice_range text.now from to) × IsUtf8 part.now) }
+{
+    if from <= to && text.is_char_boundary(from) && text.is_char_boundary(to) {
+        Some(&text[from..to])
+    } else {
+        None
     }
 }
 
@@ -38,18 +47,20 @@ impl<'a> Run<'a> {
 #[derive(Drop)]
 pub struct Texts<'a> {
     bytes: &'a [u8],
+    /// The text that they begin with: mostly all of them.
+    front: &'a str,
     runs: Vec<Run<'a>>,
 }
 
 impl<'a> Model for Texts<'a> {
     ghost use Rattle.std.specs.Prelude.{List, ℕ};
-    ghost use Rattle.md_tree.specs.Runs.{AreRuns};
+    ghost use Rattle.md_tree.specs.Runs.{IsRun, AreRuns};
 
     ghost Value = { List ℕ };
 
     ghost view = { λ t. t.bytes.now };
 
-    ghost invariant = { λ t. AreRuns t.bytes.now t.runs.items };
+    ghost invariant = { λ t. IsRun t.bytes.now (record { start = 0; text = t.front }) × AreRuns t.bytes.now t.runs.items };
 }
 
 impl<'a> Texts<'a> {
@@ -58,7 +69,11 @@ impl<'a> Texts<'a> {
         ensures { IfOk result (λ texts. texts ≡ bytes.now) }
     {
         let runs = runs(alloc, bytes)?;
-        Ok(Texts { bytes, runs })
+        Ok(Texts {
+            bytes,
+            front: front(&runs),
+            runs,
+        })
     }
 
     /// All bytes.
@@ -76,7 +91,7 @@ impl<'a> Texts<'a> {
         ensures { option_copied result ≡ text_between self.now position.now.start position.now.end }
     {
         if position.start.vs == 0 && position.end.vs == 0 {
-            if let Some(text) = self.text_in_run(position.start.index, position.end.index) {
+            if let Some(text) = self.text_between(position.start.index, position.end.index) {
                 return Some(text);
             }
         }
@@ -90,32 +105,23 @@ impl<'a> Texts<'a> {
     pub fn label_at(&self, position: &Position) -> Option<&'a str>
         ensures { option_copied result ≡ label_between self.now position.now.start position.now.end }
     {
-        match self.text_in_run(position.start.index, position.end.index) {
+        match self.text_between(position.start.index, position.end.index) {
             Some(text) => Some(text),
             // What is no text, or an empty one among other bytes.
             None => label_at(self.bytes, position),
         }
     }
 
-    /// The text between two indices, where it lies in the last run that starts no later.
+    /// The text between two indices, where it lies in a run.
     #[inline(always)]
-    fn text_in_run(&self, start: usize, end: usize) -> Option<&'a str>
+    fn text_between(&self, start: usize, end: usize) -> Option<&'a str>
         ensures { IfSome result
             (λ text. text_when (nat_le start end && nat_le end (length self.now)) (slice_range self.now start end) ≡ Some text.now) }
     {
-        self.run_at(start)?.text_between(start, end)
-    }
-
-    /// The last run that starts no later than an index, or the only one.
-    #[inline(always)]
-    fn run_at(&self, index: usize) -> Option<&Run<'a>>
-        ensures { IfSome result (λ run. IsRun self.entry.now run.now) }
-    {
         // Few documents have a byte that is in no character.
-        if self.runs.len() == 1 {
-            self.runs.first()
-        } else {
-            self.run_before(index)
+        match part(self.front, start, end) {
+            Some(text) => Some(text),
+            None => self.run_before(start)?.text_between(start, end),
         }
     }
 
@@ -127,6 +133,16 @@ impl<'a> Texts<'a> {
             .runs
             .partition_point(|run: &Run| -> bool { run.start <= index });
         self.runs.get(behind.checked_sub(1)?)
+    }
+}
+
+/// The text that bytes begin with which have these runs.
+fn front<'a>(runs: &[Run<'a>]) -> &'a str
+    ensures { (bytes : List ℕ) → AreRuns bytes runs.now → IsRun bytes (record { start = 0; text = result }) }
+{
+    match runs.first() {
+        Some(run) if run.start == 0 => run.text,
+        _ => "",
     }
 }
 

@@ -1,4 +1,5 @@
--- The derived `==` goes by the variants in turn, and by the number under the one that has one.
+-- Where the first name is none of those with a number: the derived `==` goes by the variants in turn, and by the number
+-- under the one that has one.
 use Rattle.std.proofs.Common.{eqb, sym, ◌∙◌}
 use Rattle.std.proofs.lemmas.Bool.Decides.{Decides-eqb, Decides-like}
 use Rattle.md_base.specs.contracts.event.Name.{enum}
@@ -15,8 +16,8 @@ number_test = (
   tt,
 )
 
-pub returns : goal.returns
+pub returns-in_default : goal.returns-in_default
 unfolding number_test
-returns c =
+returns-in_default c =
     let decides = same_decides enum number_test c.args.a c.args.b in
     (λ same. decides.0 (sym c.eq.ensures ∙ same), λ same. c.eq.ensures ∙ decides.1 same)

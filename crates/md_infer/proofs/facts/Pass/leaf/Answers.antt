@@ -1,8 +1,7 @@
 use Rattle.std.proofs.Common.{rules, ◌≡◌, ◌<◌, ◌+◌, ◌-◌, ◌++◌, ◌∷◌, [], length, get_or, sym, ap, ◌∙◌, subst}
 use Rattle.std.specs.Prelude.{set}
-use Rattle.md_infer.specs.Columns.{Collected}
 use Rattle.md_infer.specs.contracts.facts.Pass.{the_view}
-use Rattle.md_infer.specs.Facts.{opens, next_round, others_round, fact_alone, partner_alone}
+use Rattle.md_infer.specs.Facts.{opens, next_round, others_round, partner_alone}
 use Rattle.md_infer.proofs.Opens.{on_answer, opens-set, opens-last, opens-alone, passed_leaf-by}
 use Rattle.md_infer.proofs.facts.Pass.leaf.Goals as goal
 
@@ -18,17 +17,16 @@ returns-in-Some c =
     let counted = c.self.inside.open_nodes.ok.0 in
     let some : 0 < length items = subst (λ n. 0 < n) counted (search rules) in
     let entry_is : entry ≡ length pass.facts = search rules in
-    let fact_is : c.fact_alone-fact.result ≡ fact_alone name (entry + 1) (length (Collected.tables c.enter.new.self))
-    = cc in
-    let once_is : c.push.new.self.items ≡ pass.facts ++ c.fact_alone-fact.result ∷ [] = search rules in
+    let plain = sym c.is_table.ensures ∙ c.if-is_table.false in
+    let once_is : c.push.new.self.items ≡ pass.facts ++ partner_alone (entry + 1) ∷ [] = search rules in
     let twice_is : c.push-2.new.self.items ≡ c.push.new.self.items ++ partner_alone entry ∷ [] = search rules in
     let here_is = c.in-Some.ensures.value ∙ ap (λ n. get_or items (n - 1) here) counted
     ∙ opens-last items document here some in
     let stack_is = ap (λ n. opens (set items (n - 1) after) document) counted ∙ opens-set items document after some in
     rw (← c.self.view_is) (on_answer _ _ _ _ (λ after_is columns_is definitions_is.
-    passed_leaf-by name pass entry here after c.enter.new.self c.follow_leaf.new.ended.columns c.fact_alone-fact.result
-    c.push.new.self.items c.push-2.new.self.items c.follow_leaf.new.ended.definitions.items _ entry_is
-    c.in_ok-enter.ensures fact_is once_is twice_is here_is stack_is columns_is definitions_is after_is)
+    passed_leaf-by name pass entry here after c.follow_leaf.new.ended.columns c.push.new.self.items
+    c.push-2.new.self.items c.follow_leaf.new.ended.definitions.items _ plain entry_is once_is twice_is here_is stack_is
+    columns_is definitions_is after_is)
     c.follow_leaf.result c.follow_leaf.ensures.here c.follow_leaf.ensures.columns c.follow_leaf.ensures.definitions)
 
 pub returns-in-None : goal.returns-in-None
@@ -41,16 +39,14 @@ returns-in-None c =
     let after = c.follow_leaf-in-None.new.here in
     let none : length items ≡ 0 = subst (λ n. n ≡ 0) c.self.inside.open_nodes.ok.0 (search rules) in
     let entry_is : entry ≡ length pass.facts = search rules in
-    let fact_is : c.fact_alone-fact.result ≡ fact_alone name (entry + 1) (length (Collected.tables c.enter.new.self))
-    = cc in
-    let once_is : c.push.new.self.items ≡ pass.facts ++ c.fact_alone-fact.result ∷ [] = search rules in
+    let plain = sym c.is_table.ensures ∙ c.if-is_table.false in
+    let once_is : c.push.new.self.items ≡ pass.facts ++ partner_alone (entry + 1) ∷ [] = search rules in
     let twice_is : c.push-2.new.self.items ≡ c.push.new.self.items ++ partner_alone entry ∷ [] = search rules in
     let alone = opens-alone items document none in
     let here_is = ap next_round (sym alone) in
     let stack_is = opens-alone items after none ∙ ap (λ o. after ∷ others_round o) (sym alone) in
     rw (← c.self.view_is) (on_answer _ _ _ _ (λ after_is columns_is definitions_is.
-    passed_leaf-by name pass entry document after c.enter.new.self c.follow_leaf-in-None.new.ended.columns
-    c.fact_alone-fact.result c.push.new.self.items c.push-2.new.self.items
-    c.follow_leaf-in-None.new.ended.definitions.items _ entry_is c.in_ok-enter.ensures fact_is once_is twice_is here_is
+    passed_leaf-by name pass entry document after c.follow_leaf-in-None.new.ended.columns c.push.new.self.items
+    c.push-2.new.self.items c.follow_leaf-in-None.new.ended.definitions.items _ plain entry_is once_is twice_is here_is
     stack_is columns_is definitions_is after_is) c.follow_leaf-in-None.result c.follow_leaf-in-None.ensures.here
     c.follow_leaf-in-None.ensures.columns c.follow_leaf-in-None.ensures.definitions)

@@ -37,7 +37,7 @@ returns-clause-read c =
           (course_of events (suc (suc index)) c.leaf.new.self) c.in_ok-leaf.ensures.ok;
       passed = passed-leaf_more given index entry exit c.requires.leaf c.requires.here c.requires.behind self.pass
           c.leaf-2.new.self c.requires.before.passed c.in_ok-leaf-2.ensures;
-      first_ending = c.note_ending.ensures
+      first_ending = c.note_ending.ensures exit (rw (add-one index) c.requires.behind)
           ∙ ap (λ n. ending_behind self.first_ending n exit) (add-one index)
           ∙ first_index-leaf given index entry exit c.requires.leaf c.requires.here c.requires.behind self.first_ending
           c.requires.before.first_ending;
