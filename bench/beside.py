@@ -12,6 +12,7 @@ the least of some runs, in ms. The picture shows the times of the shapes, and is
 
 import argparse
 import os
+import re
 import subprocess
 import sys
 import tempfile
@@ -20,6 +21,7 @@ TOP = os.path.dirname(os.path.dirname(os.path.abspath(__file__)))
 SHARED = os.path.join(os.path.dirname(TOP), "shared", "speed")
 SIZES = (5000, 10000, 20000, 40000)
 SLOW = 3.0  # seconds; no greater size of a shape is run after a run that took longer
+CHECK = "md_tree::grammar::read_events"  # the function of the program that reads all events
 
 
 def beside():
@@ -68,6 +70,14 @@ def whole_and_reader(measure, path, lines, document, compare):
     return whole, measure(path)
 
 
+def of_check(command, path):
+    """The instructions of the check, with what it calls."""
+    words = ["valgrind", "--tool=callgrind", "--callgrind-out-file=/dev/null", f"--toggle-collect={CHECK}", *command]
+    with open(path, "rb") as file:
+        ran = subprocess.run(words, stdin=file, stdout=subprocess.DEVNULL, stderr=subprocess.PIPE)
+    return int(re.search(rb"Collected\s*:\s*(\d+)", ran.stderr).group(1))
+
+
 def instructions_table(compare, commands, path):
     lines, document = compare.realistic(10)
 
@@ -84,6 +94,8 @@ def instructions_table(compare, commands, path):
     row("---", "---", "---", "---")
     for name, (ours, theirs) in (("check, compile, write", rest), ("reading the script", reader), ("the whole program", whole)):
         row(name, f"{theirs:.0f}", f"{ours:.0f}", ratio(ours, theirs))
+    put(path, compare.written(lines, document))
+    row("of these the check", "–", f"{of_check(commands[0], path) / len(lines):.0f}", "–")
     print()
 
 
