@@ -16,11 +16,12 @@ use Rattle.md_tree.specs.declared.rule.CompileError.{CompileError}
 use Rattle.md_tree.specs.declared.rule.CompileError.TheVariants as error
 use Rattle.md_base.specs.declared.event.Position.{Position}
 use Rattle.md_tree.specs.declared.mention.Mentioned.{Mentioned}
-use Rattle.md_tree.specs.declared.state.State.{State}
+use Rattle.md_pattern.specs.declared.state.State.{State}
 use Rattle.md_tree.specs.Machine.{Open}
 use Rattle.md_tree.specs.Machine.{Outer}
 use Rattle.md_tree.specs.Rules.{place, is_line_ending, is_decodable, is_list_number, is_rank, columns, unless, broken_by, broken_by_target, broken_rule}
-use Rattle.md_tree.specs.Machine.{Course, Exits, ExitsWhere, is_complete}
+use Rattle.md_pattern.specs.Steps.{is_complete}
+use Rattle.md_tree.specs.Machine.{Course, Exits, ExitsWhere}
 use Rattle.md_tree.specs.Walk.{Anything, BreaksWhere, BreaksAtExit, StopsAtExit, IsStop, StopsInside, IsStopInside}
 
 -- a rule that is judged when a node ends

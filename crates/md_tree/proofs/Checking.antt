@@ -26,7 +26,8 @@ use Rattle.md_tree.specs.Mentions.{mentions_of, mentions_among, IsResolved}
 use Rattle.md_tree.specs.Grammar.{Document, IsGrammatical, IsReadAs, IsChecked}
 use Rattle.md_tree.specs.Refusal.{BeginNoTree, EndsBroken, EndsUnresolved, IsOrder, IsMdx, IsBroken, IsLost, IsRefusal}
 use Rattle.md_tree.specs.Refusal as refusal
-use Rattle.md_tree.specs.Machine.{Reads, Course, Runs, Steps, StepsBy, is_complete, beginning}
+use Rattle.md_pattern.specs.Steps.{is_complete}
+use Rattle.md_tree.specs.Machine.{Reads, Course, Runs, Steps, StepsBy, beginning}
 use Rattle.md_tree.specs.Walk.{Anything, Unbroken, BreaksWhere, BreaksAtExit, StopsBy, IsStop}
 use Rattle.md_tree.specs.Resolve.{LeadsNowhere, IsUnresolvedBy, IsUnresolved}
 use Rattle.md_tree.proofs.Indexed.{flatten_one}

@@ -12,7 +12,7 @@ use Rattle.md_tree.specs.declared.mention.Target.{Target}
 use Rattle.md_tree.specs.declared.mention.Target.TheVariants.{Missing}
 use Rattle.md_tree.specs.declared.mention.Mentioned.{Mentioned}
 use Rattle.md_tree.specs.declared.rule.Rule.{Rule}
-use Rattle.md_tree.specs.declared.state.State.{State}
+use Rattle.md_pattern.specs.declared.state.State.{State}
 use Rattle.md_tree.specs.Machine.{Open}
 use Rattle.md_tree.specs.Machine.{Outer}
 use Rattle.md_base.specs.Tree.{Forest, Empty, Node, flatten, entering, exiting}
@@ -23,7 +23,8 @@ use Rattle.md_pattern.specs.Shape.{EachNode, IsShaped, AreShaped, inner_role, in
 use Rattle.md_tree.specs.Rules.{broken_rule, reading_of, MeetRules, target_of}
 use Rattle.md_tree.specs.Grammar.{Document, IsGrammatical, IsReadAs, IsChecked}
 use Rattle.md_tree.specs.Refusal.{Level, opening, role_in, before_in, symbol_after, Begins, LeaveOpen, EndsBroken}
-use Rattle.md_tree.specs.Machine.{Reads, Course, Runs, Exits, ExitsWhere, after_exit, entered_on, is_complete, is_whole, is_optional, items_of, start_of, beginning}
+use Rattle.md_pattern.specs.Steps.{is_complete, is_whole, is_optional, items_of, start_of}
+use Rattle.md_tree.specs.Machine.{Reads, Course, Runs, Exits, ExitsWhere, after_exit, entered_on, beginning}
 use Rattle.md_tree.specs.Walk.{Unbroken, Broken, BreaksWhere, BreaksAtExit}
 use Rattle.md_tree.specs.Mentions.{mentions_of}
 use Rattle.md_tree.proofs.Listing.{listed, mentions_over-listed}

@@ -12,7 +12,7 @@ use Rattle.md_pattern.specs.declared.kinds.Times.TheVariants.{Once, Maybe, Many}
 use Rattle.md_pattern.specs.declared.kinds.Class.{Class}
 use Rattle.md_pattern.specs.declared.kinds.Item.{Item}
 use Rattle.md_pattern.specs.Pattern.{members, takes, pattern_of, Fits, IsCount}
-use Rattle.md_tree.specs.Machine.{is_optional}
+use Rattle.md_pattern.specs.Steps.{is_optional}
 
 pub and_left : (a b : Bool) → (a && b) ≡ true → a ≡ true
 and_left true b e = refl

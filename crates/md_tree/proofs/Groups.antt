@@ -8,13 +8,13 @@ use Rattle.md_pattern.specs.declared.kinds.Role.{Role}
 use Rattle.md_pattern.specs.declared.kinds.Times.{Times}
 use Rattle.md_pattern.specs.declared.kinds.Times.TheVariants.{Once, Maybe, Many}
 use Rattle.md_pattern.specs.declared.kinds.Item.{Item}
-use Rattle.md_tree.specs.declared.state.Stage.{Stage}
-use Rattle.md_tree.specs.declared.state.Stage.TheVariants.{Whole, Marker, Numeric, Hexadecimal, Setext}
-use Rattle.md_tree.specs.declared.state.State.{State}
+use Rattle.md_pattern.specs.declared.state.Stage.{Stage}
+use Rattle.md_pattern.specs.declared.state.Stage.TheVariants.{Whole, Marker, Numeric, Hexadecimal, Setext}
+use Rattle.md_pattern.specs.declared.state.State.{State}
 use Rattle.md_pattern.specs.Pattern.{takes, pattern_of, Fits}
 use Rattle.md_pattern.specs.Spine.{IsTail, IsGrouped, Matches, IsBegunGroup}
 use Rattle.md_tree.specs.Refusal.{EndsInGroup}
-use Rattle.md_tree.specs.Machine.{begun_by, continued, is_optional, after_item, seek, moved, items_of, advance, is_whole, is_complete, start_of}
+use Rattle.md_pattern.specs.Steps.{begun_by, continued, is_optional, after_item, seek, moved, items_of, advance, is_whole, is_complete, start_of}
 use Rattle.md_tree.proofs.Greedy.{and_left, and_right, and_both, settled, pattern_settled, kept, left_after, fits_nothing, fits_back, fits_on, nothing_fits}
 
 -- the items that are left and the stage of a group

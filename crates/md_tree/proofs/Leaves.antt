@@ -18,11 +18,12 @@ use Rattle.md_pattern.specs.Standing.{standing_of}
 use Rattle.md_pattern.specs.Shape.{role_for}
 use Rattle.md_tree.specs.declared.mention.Target.{Target}
 use Rattle.md_tree.specs.declared.mention.Target.TheVariants.{Missing}
-use Rattle.md_tree.specs.declared.state.State.{State}
+use Rattle.md_pattern.specs.declared.state.State.{State}
 use Rattle.md_tree.specs.Rules.{place, target_at, broken_rule}
 use Rattle.md_tree.specs.declared.mention.Mention.TheVariants.{Nothing}
 use Rattle.md_tree.specs.Mentions.{mention_of, mentions_with}
-use Rattle.md_tree.specs.Machine.{Reads, Outer, Entry, Course, start_of, may_hold, advance, entered, after_entry, after_through, after_exit, is_complete, Enters, ExitsWhere}
+use Rattle.md_pattern.specs.Steps.{start_of, may_hold, advance, is_complete}
+use Rattle.md_tree.specs.Machine.{Reads, Outer, Entry, Course, entered, after_entry, after_through, after_exit, Enters, ExitsWhere}
 use Rattle.md_tree.specs.Walk.{Passes, Unbroken, IsStopAtLeaf, IsStopInside}
 use Rattle.md_tree.proofs.Breaks.{IsStop-inside, IsStopInside-same, StopsInside-broken}
 

@@ -15,7 +15,6 @@ pub mod LeafRuns
 pub mod Groups
 pub mod Listing
 pub mod Paths
-pub mod Patterns
 pub mod Resolving
 pub mod Runs
 pub mod Searching

@@ -12,7 +12,7 @@ use Rattle.md_pattern.specs.declared.kinds.Standing.{Standing}
 use Rattle.md_pattern.specs.declared.kinds.Standing.TheVariants.{Through, Space, Solid, Mdx}
 use Rattle.md_tree.specs.declared.mention.Target.{Target}
 use Rattle.md_tree.specs.declared.mention.Target.TheVariants.{Missing}
-use Rattle.md_tree.specs.declared.state.State.{State}
+use Rattle.md_pattern.specs.declared.state.State.{State}
 use Rattle.md_tree.specs.Machine.{Entry}
 use Rattle.md_tree.specs.Machine.{Open}
 use Rattle.md_tree.specs.Machine.{Outer}
@@ -22,7 +22,8 @@ use Rattle.md_pattern.specs.Spine.{spine, shown}
 use Rattle.md_pattern.specs.Shape.{Claim, EachNode, IsStanding, inner_role, inner_before, last_symbol, role_for}
 use Rattle.md_tree.specs.Rules.{place, target_at, target_after, target_of}
 use Rattle.md_tree.specs.Refusal.{Level, opening, role_in, before_in, symbol_after}
-use Rattle.md_tree.specs.Machine.{Reads, Course, Exits, ExitsWhere, after_entry, entered, entered_on, may_hold, start_of, advance, beginning}
+use Rattle.md_pattern.specs.Steps.{may_hold, start_of, advance}
+use Rattle.md_tree.specs.Machine.{Reads, Course, Exits, ExitsWhere, after_entry, entered, entered_on, beginning}
 use Rattle.md_tree.proofs.Groups.{Feeds, Feeds-append, matches_feeds, advance_role, option_map-some}
 use Rattle.md_tree.proofs.Trees.{IsReadWhere, IsFine, Feeds-context}
 

@@ -14,7 +14,7 @@ use Rattle.md_pattern.specs.declared.kinds.Standing.TheVariants.{Through, Space,
 use Rattle.md_tree.specs.declared.mention.Target.{Target}
 use Rattle.md_tree.specs.declared.mention.Target.TheVariants.{Missing}
 use Rattle.md_tree.specs.declared.mention.Mentioned.{Mentioned}
-use Rattle.md_tree.specs.declared.state.State.{State}
+use Rattle.md_pattern.specs.declared.state.State.{State}
 use Rattle.md_tree.specs.Machine.{Entry}
 use Rattle.md_base.specs.Tree.{Forest, Empty, Node, flatten, exiting}
 use Rattle.md_pattern.specs.Standing.{standing_of}
@@ -23,7 +23,8 @@ use Rattle.md_pattern.specs.Shape.{Claim, EachNode, IsShapedNode, IsStanding, in
 use Rattle.md_tree.specs.Rules.{reading_of, place, target_after, target_of}
 use Rattle.md_tree.specs.Mentions.{mention_of, mentions_with}
 use Rattle.md_infer.specs.Partners.{behind}
-use Rattle.md_tree.specs.Machine.{Reads, Course, Runs, Exits, after_entry, entered, entered_on, may_hold, start_of, advance, is_complete, beginning}
+use Rattle.md_pattern.specs.Steps.{may_hold, start_of, advance, is_complete}
+use Rattle.md_tree.specs.Machine.{Reads, Course, Runs, Exits, after_entry, entered, entered_on, beginning}
 use Rattle.md_tree.proofs.Groups.{Feeds, Feeds-split, Feeds-matches, advance_role}
 
 -- a claim about nodes that stand on a spine, of a node that stands so

@@ -14,7 +14,7 @@ use Rattle.md_tree.specs.declared.mention.Target.{Target}
 use Rattle.md_tree.specs.declared.mention.Target.TheVariants.{Missing}
 use Rattle.md_tree.specs.declared.rule.Rule.{Rule}
 use Rattle.md_tree.specs.declared.rule.Rule.TheVariants as rule
-use Rattle.md_tree.specs.declared.state.State.{State}
+use Rattle.md_pattern.specs.declared.state.State.{State}
 use Rattle.md_tree.specs.Machine.{Entry}
 use Rattle.md_tree.specs.Machine.{Open}
 use Rattle.md_tree.specs.Machine.{Outer}
@@ -25,7 +25,8 @@ use Rattle.md_pattern.specs.Shape.{Claim, EachNode, IsShapedNode, IsShaped, AreS
 use Rattle.md_tree.specs.Rules.{reading_of, broken_rule, MeetsRules, MeetRules, target_of}
 use Rattle.md_tree.specs.Grammar.{Document, IsGrammatical, IsReadAs, IsChecked}
 use Rattle.md_tree.specs.Refusal.{Level, role_in, before_in, IsShapedPath, BeginNoTree}
-use Rattle.md_tree.specs.Machine.{Reads, Course, Runs, Steps, StepsBy, Enters, Exits, ExitsWhere, after_entry, entered, entered_on, may_hold, is_complete, beginning}
+use Rattle.md_pattern.specs.Steps.{may_hold, is_complete}
+use Rattle.md_tree.specs.Machine.{Reads, Course, Runs, Steps, StepsBy, Enters, Exits, ExitsWhere, after_entry, entered, entered_on, beginning}
 use Rattle.md_tree.specs.Walk.{Anything, Unbroken, BreaksWhere, BreaksAtExit, StopsAtEntry, StopsAtExit, StopsBy}
 use Rattle.md_tree.proofs.Trees.{IsReadWhere, IsFine, AllowsFree, Runs-split, Runs-document, after_nodes, EachNode-map}
 use Rattle.md_tree.proofs.Paths.{IsFinePath, Reached, Reached-beginning, Reached-enter, Reached-exit}

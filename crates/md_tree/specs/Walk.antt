@@ -22,7 +22,8 @@ use Rattle.md_tree.specs.declared.state.Entry.{Entry as KeptEntry}
 use Rattle.md_tree.specs.declared.walk.Walk.{Walk}
 use Rattle.md_pattern.specs.Standing.{standing_of}
 use Rattle.md_tree.specs.Rules.{place, broken_rule}
-use Rattle.md_tree.specs.Machine.{Reads, Outer, Open, Entry, Course, Enters, Exits, is_complete}
+use Rattle.md_pattern.specs.Steps.{is_complete}
+use Rattle.md_tree.specs.Machine.{Reads, Outer, Open, Entry, Course, Enters, Exits}
 
 -- the point of the event at an index
 abbrev pub point_of : Option Event → Point

@@ -3,7 +3,8 @@ ghost use Rattle.md_base.specs.Reference.{name_table};
 ghost use Rattle.md_infer.specs.Ending.{first_index};
 ghost use Rattle.md_tree.specs.Grammar.{handed, IsChecked};
 ghost use Rattle.md_tree.specs.Refusal.{IsOrder, IsMdx, IsOfNode, IsLost, IsOutside, IsRefusal};
-ghost use Rattle.md_tree.specs.Machine.{Runs, beginning, is_complete};
+ghost use Rattle.md_pattern.specs.Steps.{is_complete};
+ghost use Rattle.md_tree.specs.Machine.{Runs, beginning};
 ghost use Rattle.md_tree.specs.Walk.{course_of, Unbroken};
 ghost use Rattle.md_infer.specs.Facts.{facts_at, tables_at, definitions_at};
 
@@ -12,11 +13,11 @@ use crate::judge::Source;
 use crate::reader::Reader;
 use crate::resolve::resolve;
 use crate::rule::{CompileError, Rule};
-use crate::steps::can_end;
 use crate::texts::Texts;
 use crate::walk::Walk;
 use md_base::Event;
 use md_infer::Facts;
+use md_pattern::can_end;
 use std::alloc::Global;
 
 /// Checks that events are the flattening of a document of the grammar over the document's bytes

@@ -11,7 +11,6 @@ mod reader;
 mod resolve;
 mod rule;
 mod state;
-mod steps;
 mod texts;
 mod walk;
 

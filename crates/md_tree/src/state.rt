@@ -1,32 +1,5 @@
 use md_base::Name;
-use md_pattern::{Reading, Role, Symbol};
-
-/// Which symbols of a group have been read.
-#[derive(Clone, Copy, Debug, PartialEq, Eq)]
-pub enum Stage {
-    /// No group is open.
-    Whole,
-    /// The marker of a reference.
-    Marker,
-    /// Its numeric marker.
-    Numeric,
-    /// Its hexadecimal marker.
-    Hexadecimal,
-    /// The text of a setext heading, and line endings.
-    Setext,
-}
-
-/// How much of a spine has been read.
-#[derive(Clone, Copy, Debug, PartialEq, Eq)]
-pub struct State {
-    /// The item of the pattern from which on the next symbol may be taken.
-    pub position: u8,
-    /// The role of the node whose spine it is.
-    pub role: Role,
-    /// The last symbol.
-    pub before: Option<Symbol>,
-    pub stage: Stage,
-}
+use md_pattern::{Reading, State, Symbol};
 
 /// What identifies a link, an image, a footnote call or a definition, as far as events have been read.
 #[derive(Clone, Copy, Debug, PartialEq, Eq)]

@@ -6,10 +6,12 @@ ghost use Rattle.md_tree.specs.Walk.{target_seen, misplaced};
 use crate::judge::{Source, Spot, mention, place_at, read_node};
 use crate::mention::{Mention, Mentioned};
 use crate::rule::{CompileError, Rule};
-use crate::state::{Aim, Entry, Open, Outer, State};
-use crate::steps::{advanced, can_be_leaf, can_end, can_hold, start};
+use crate::state::{Aim, Entry, Open, Outer};
 use md_base::{Event, Kind, Name, is_same_name};
-use md_pattern::{Reading, Role, Standing, role_of, standing};
+use md_pattern::{
+    Reading, Role, Standing, State, advanced, can_be_leaf, can_end, can_hold, role_of, standing,
+    start,
+};
 use std::alloc::{AllocError, Global};
 
 /// How far events have been read.
@@ -30,7 +32,8 @@ impl Walk {
     ghost use Rattle.md_base.specs.Reference.{name_table};
     ghost use Rattle.md_base.specs.declared.event.Event.{Event};
     ghost use Rattle.md_base.specs.declared.event.Kind.TheVariants as kind;
-    ghost use Rattle.md_tree.specs.Machine.{Steps, Enters, Exits, ExitsWhere, start_of, after_entry, beginning};
+    ghost use Rattle.md_pattern.specs.Steps.{start_of};
+    ghost use Rattle.md_tree.specs.Machine.{Steps, Enters, Exits, ExitsWhere, after_entry, beginning};
     ghost use Rattle.md_tree.specs.declared.state.Aim.TheVariants.{Missing};
     ghost use Rattle.md_tree.specs.declared.rule.CompileError.TheVariants.{Memory};
     ghost use Rattle.md_tree.specs.Walk.{point_at, place_at, outer_seen, opens_seen, entry_seen, course_of, Passes, Unbroken, IsStop, IsStopAtLeaf, IsStopInside};

@@ -1,6 +1,6 @@
 use Rattle.std.proofs.Common.{rules}
-use Rattle.md_tree.proofs.Patterns.{empty-complete}
-use Rattle.md_tree.proofs.steps.can_be_empty.Goals as goal
+use Rattle.md_pattern.proofs.Positions.{empty-complete}
+use Rattle.md_pattern.proofs.steps.can_be_empty.Goals as goal
 
 pub returns-then-not-is_full_list_part : goal.returns-then-not-is_full_list_part
 returns-then-not-is_full_list_part c =

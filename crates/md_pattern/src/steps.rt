@@ -1,11 +1,13 @@
 ghost use Rattle.std.specs.Prelude.{◌≡◌, ◌<◌, ◌+◌, ◌^◌, Some, None, if◌then◌else◌, drop};
 ghost use Rattle.std.specs.List.{list_all};
-ghost use Rattle.md_tree.specs.Machine.{begun_by, continued, is_optional, after_item, seek, advance, is_complete, start_of, may_hold, is_full_list_part, is_full};
+ghost use Rattle.md_pattern.specs.Steps.{begun_by, continued, is_optional, after_item, seek, advance, is_complete, start_of, may_hold, is_full_list_part, is_full};
 ghost use Rattle.md_pattern.specs.Pattern.{pattern_of};
 ghost use Rattle.md_pattern.specs.Shape.{role_for};
 
+use crate::kinds::{Class, Item, Role, Symbol, Times};
+use crate::patterns::{pattern, takes};
+use crate::shape::role_of;
 use crate::state::{Stage, State};
-use md_pattern::{Class, Item, Role, Symbol, Times, pattern, role_of, takes};
 
 /// The group that a symbol begins.
 fn begun(symbol: Symbol) -> Stage

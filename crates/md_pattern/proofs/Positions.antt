@@ -9,7 +9,7 @@ use Rattle.md_pattern.specs.declared.kinds.Item.{Item}
 use Rattle.md_pattern.specs.declared.kinds.Times.{Times}
 use Rattle.md_pattern.specs.declared.kinds.Times.TheVariants.{Once, Maybe, Many}
 use Rattle.md_pattern.specs.Pattern.{pattern_of, takes}
-use Rattle.md_tree.specs.Machine.{is_optional, after_item, seek, is_complete, start_of, is_full_list_part, is_full}
+use Rattle.md_pattern.specs.Steps.{is_optional, after_item, seek, is_complete, start_of, is_full_list_part, is_full}
 
 one_of : (n p : ℕ) → Some n ≡ Some p → n ≡ p
 one_of n p e = cc

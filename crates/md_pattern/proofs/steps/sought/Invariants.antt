@@ -1,6 +1,6 @@
 use Rattle.std.proofs.Common.{◌≡◌, drop}
-use Rattle.md_tree.specs.Machine.{seek}
-use Rattle.md_tree.proofs.steps.sought.Given as goal
+use Rattle.md_pattern.specs.Steps.{seek}
+use Rattle.md_pattern.proofs.steps.sought.Given as goal
 
 abbrev pub invariant-loop-position : goal.invariant-loop-position
 invariant-loop-position l =

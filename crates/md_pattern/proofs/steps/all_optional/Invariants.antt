@@ -1,7 +1,7 @@
 use Rattle.std.proofs.Common.{◌≡◌, drop}
 use Rattle.std.specs.List.{list_all}
-use Rattle.md_tree.specs.Machine.{is_optional}
-use Rattle.md_tree.proofs.steps.all_optional.Given as goal
+use Rattle.md_pattern.specs.Steps.{is_optional}
+use Rattle.md_pattern.proofs.steps.all_optional.Given as goal
 
 abbrev pub invariant-loop-position : goal.invariant-loop-position
 invariant-loop-position l =

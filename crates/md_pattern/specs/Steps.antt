@@ -1,0 +1,110 @@
+-- Reading a spine symbol by symbol.
+use Rattle.std.specs.Prelude.{ℕ, ◌+◌, Bool, true, false, ◌&&◌, if◌then◌else◌, Option, Some, None, option_map, List, [], ◌∷◌, drop}
+use Rattle.std.specs.List.{list_all}
+use Rattle.md_pattern.specs.declared.kinds.Symbol.{Symbol}
+use Rattle.md_pattern.specs.declared.kinds.Symbol.TheVariants.{ReferenceMarker, ReferenceNumeric, ReferenceHexadecimal, ReferenceValue, SetextText, SetextUnderline, LineEnding}
+use Rattle.md_pattern.specs.declared.kinds.Role.{Role}
+use Rattle.md_pattern.specs.declared.kinds.Role.TheVariants as role
+use Rattle.md_pattern.specs.declared.kinds.Times.{Times}
+use Rattle.md_pattern.specs.declared.kinds.Times.TheVariants.{Once, Many}
+use Rattle.md_pattern.specs.declared.kinds.Item.{Item}
+use Rattle.md_pattern.specs.declared.state.Stage.{Stage}
+use Rattle.md_pattern.specs.declared.state.Stage.TheVariants.{Whole, Marker, Numeric, Hexadecimal, Setext}
+use Rattle.md_pattern.specs.declared.state.State.{State}
+use Rattle.md_pattern.specs.Pattern.{pattern_of, takes}
+
+-- the group that a symbol begins
+abbrev pub begun_by : Symbol → Stage
+begun_by ReferenceMarker = Marker
+begun_by SetextText = Setext
+begun_by _ = Whole
+
+-- the next stage of a group that has begun
+abbrev pub continued : Stage → Symbol → Option Stage
+continued Marker ReferenceNumeric = Some Numeric
+continued Marker ReferenceValue = Some Whole
+continued Numeric ReferenceHexadecimal = Some Hexadecimal
+continued Numeric ReferenceValue = Some Whole
+continued Hexadecimal ReferenceValue = Some Whole
+continued Setext LineEnding = Some Setext
+continued Setext SetextUnderline = Some Whole
+continued _ _ = None
+
+-- an item may be left out
+abbrev pub is_optional : Item → Bool
+is_optional item = optional item.times
+  where
+    optional : Times → Bool
+    optional Once = false
+    optional _ = true
+
+-- the item from which on the next symbol is taken, where the first of these items that takes the symbol is this one
+abbrev pub after_item : Times → ℕ → ℕ
+after_item Many position = position
+after_item _ position = position + 1
+
+-- the same, of the first item that takes the symbol, where each before it may be left out
+abbrev pub seek : ℕ → List Item → Symbol → Option ℕ
+seek position [] symbol = None
+seek position (item ∷ items) symbol =
+    if takes item.class symbol then Some (after_item item.times position)
+    else (if is_optional item then seek (position + 1) items symbol else None)
+
+-- position and stage after a symbol
+abbrev pub moved : Stage → ℕ → List Item → Symbol → Option (ℕ × Stage)
+moved Whole position items symbol = option_map (λ next. (next, begun_by symbol)) (seek position items symbol)
+moved stage position items symbol = option_map (λ next. (position, next)) (continued stage symbol)
+
+-- the items that are left
+abbrev pub items_of : State → List Item
+items_of state = drop state.position (pattern_of state.role)
+
+-- the state after a symbol
+abbrev pub advance : State → Symbol → Option State
+advance state symbol =
+    option_map (λ next. record { role = state.role; before = Some symbol; position = next.0; stage = next.1 })
+    (moved state.stage state.position (items_of state) symbol)
+
+-- no group is open
+abbrev pub is_whole : Stage → Bool
+is_whole Whole = true
+is_whole _ = false
+
+-- the spine may end here
+abbrev pub is_complete : State → Bool
+is_complete state = is_whole state.stage && list_all is_optional (items_of state)
+
+-- a spine of which nothing has been read
+abbrev pub start_of : Role → State
+start_of role = record { role = role; before = None; position = 0; stage = Whole }
+
+-- a node of this role is a list or a part of one that holds a node whatever it holds, and another node does
+abbrev pub is_full_list_part : Role → Bool
+is_full_list_part role.OrderedList = true
+is_full_list_part role.UnorderedList = true
+is_full_list_part role.FirstOrderedItem = true
+is_full_list_part role.OrderedItem = true
+is_full_list_part role.Item = true
+is_full_list_part role.FirstOrderedPrefix = true
+is_full_list_part role.OrderedPrefix = true
+is_full_list_part role.Prefix = true
+is_full_list_part _ = false
+
+abbrev pub is_full : Role → Bool
+is_full role.FootnoteDefinition = true
+is_full role.FootnotePrefix = true
+is_full role.Heading = true
+is_full role.CodeFenced = true
+is_full role.Math = true
+is_full role.Media = true
+is_full role.FootnoteCall = true
+is_full role.CallLabel = true
+is_full role.Definition = true
+is_full role.Table = true
+is_full role.TableHead = true
+is_full _ = false
+
+-- a node of this role may have children
+abbrev pub may_hold : Role → Bool
+may_hold role.Childless = false
+may_hold _ = true
