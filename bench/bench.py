@@ -303,7 +303,7 @@ def nested_media(name, script, n):
 
 
 def uses_and_definitions(script, n, word, use, define):
-    """Uses of n identifiers in one paragraph, and behind it the definition of each."""
+    """Uses of n identifiers in one paragraph, and after it the definition of each."""
     identifiers = [f"{word} {number:06}" for number in range(n)]
     with script.node("Paragraph"):
         for identifier in identifiers:

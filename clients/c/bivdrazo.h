@@ -126,7 +126,7 @@ BIVDRAZO_ASSERT(offsetof(bivdrazo_options, gfm_footnote_label_tag_name) == 104, 
 /*
  * The HTML of a list of events over a document's bytes, written into the buffer. `names` are the character references
  * by name that a document may use; there may be none. The bytes need not be UTF-8 but where events read them as text.
- * Any status but BIVDRAZO_OK leaves the buffer as it was; under BIVDRAZO_OK what lies behind the text is as it was.
+ * Any status but BIVDRAZO_OK leaves the buffer as it was; under BIVDRAZO_OK what lies after the text is as it was.
  */
 bivdrazo_answer bivdrazo_compile(const bivdrazo_event *events, size_t events_length, const uint8_t *bytes,
                                  size_t bytes_length, const bivdrazo_options *options,

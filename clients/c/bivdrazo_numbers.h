@@ -7,7 +7,7 @@
 
 /* What became of a call. */
 enum {
-    /* The text stands in the buffer's first `length` bytes, with no NUL behind it. */
+    /* The text stands in the buffer's first `length` bytes, with no NUL after it. */
     BIVDRAZO_OK = 0,
     /* The buffer is too short: `length` is what the text needs. */
     BIVDRAZO_TOO_SHORT = 1,

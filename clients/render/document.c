@@ -13,7 +13,7 @@ void document_free(struct document *document) {
     *document = document_new();
 }
 
-/* Makes room for `more` elements behind `length`, at least doubling; whether there is room. */
+/* Makes room for `more` elements after `length`, at least doubling; whether there is room. */
 static bool make_room(void **elements, size_t *room, size_t length, size_t more, size_t size) {
     const size_t most = (size_t)PTRDIFF_MAX / size;
     if (more <= *room - length)
@@ -88,7 +88,7 @@ void document_utf8(struct document *document, const void *text, size_t length) {
     }
 }
 
-/* Adds an event behind the bytes so far. */
+/* Adds an event after the bytes so far. */
 static void add_event(struct document *document, uint8_t kind, uint16_t name) {
     void *room = document->events;
     const bivdrazo_event event = {document->bytes_length, name, 0, kind, 0};

@@ -29,10 +29,10 @@ void document_bytes(struct document *document, const void *bytes, size_t length)
 /* Adds a text of so many bytes: each byte that isn't part of a character of UTF-8 becomes U+FFFD. */
 void document_utf8(struct document *document, const void *text, size_t length);
 
-/* Begins a node behind the bytes so far. */
+/* Begins a node after the bytes so far. */
 void document_enter(struct document *document, uint16_t name);
 
-/* Ends a node behind the bytes so far. */
+/* Ends a node after the bytes so far. */
 void document_exit(struct document *document, uint16_t name);
 
 /* Adds a node without bytes or children. */

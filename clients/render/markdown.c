@@ -8,15 +8,15 @@
 #include <string.h>
 
 /*
- * What the walk over a tree knows: the document so far, and what is round the node.
+ * What the walk over a tree knows: the document so far, and what is around the node.
  *
  * The parser's texts are UTF-8 but for some that it cuts in the midst of a character (in brackets that begin with a
  * caret); so each text is looked at as it is added.
  */
 struct walk {
     struct document document;
-    size_t images; /* how many images are round the node */
-    size_t tables; /* how many tables are round the node */
+    size_t images; /* how many images are around the node */
+    size_t tables; /* how many tables are around the node */
 };
 
 cmark_parser *markdown_parser(void) {
@@ -89,7 +89,7 @@ static void add_list_value(struct walk *walk, cmark_node *list) {
 }
 
 /*
- * The box of a task, and a space behind it. They stand in a quote's prefix, which prints nothing itself and isn't
+ * The box of a task, and a space after it. They stand in a quote's prefix, which prints nothing itself and isn't
  * part of what an item holds: so an item that holds no more than its box ends on the same line.
  */
 static void add_task(struct walk *walk, cmark_node *item) {
@@ -114,7 +114,7 @@ static void enter_item(struct walk *walk, cmark_node *node) {
         add_task(walk, node);
 }
 
-/* Two blank line endings behind the first item make a list loose; one alone is excused where that item is empty. */
+/* Two blank line endings after the first item make a list loose; one alone is excused where that item is empty. */
 static void exit_item(struct walk *walk, cmark_node *node) {
     document_exit(&walk->document, BIVDRAZO_NAME_LIST_ITEM);
     if (cmark_node_previous(node) == NULL && !cmark_node_get_list_tight(cmark_node_parent(node))) {

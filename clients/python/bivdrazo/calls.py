@@ -111,7 +111,7 @@ def answered(room: int, call: Callable[[ctypes.Array[ctypes.c_char], int], CAnsw
 
 
 def events_of(events: Iterable[Event]) -> tuple[ctypes.Array[CEvent], int]:
-    """The events as C has them, with one more behind them, and how many they are."""
+    """The events as C has them, with one more after them, and how many they are."""
     packed = bytearray()
     for at, event in enumerate(events):
         try:
@@ -124,7 +124,7 @@ def events_of(events: Iterable[Event]) -> tuple[ctypes.Array[CEvent], int]:
 
 
 def references_of(names: Mapping[str, str] | Iterable[tuple[str, str]]) -> ctypes.Array[CReference]:
-    """The character references as C has them, with one more behind them."""
+    """The character references as C has them, with one more after them."""
     pairs = [*(names.items() if isinstance(names, Mapping) else names), ("", "")]
     coded = [(name.encode("utf-8"), text.encode("utf-8")) for name, text in pairs]
     return (CReference * len(coded))(*[CReference(name, len(name), text, len(text)) for name, text in coded])

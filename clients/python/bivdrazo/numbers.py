@@ -25,7 +25,7 @@ OPTIONS = (
 class Status(enum.IntEnum):
     """What became of a call."""
 
-    # The text stands in the buffer's first `length` bytes, with no NUL behind it.
+    # The text stands in the buffer's first `length` bytes, with no NUL after it.
     OK = 0
     # The buffer is too short: `length` is what the text needs.
     TOO_SHORT = 1

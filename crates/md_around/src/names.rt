@@ -6,12 +6,14 @@ ghost use Rattle.md_meaning.specs.Printed as printed;
 
 use md_base::Name;
 
+/// The prefix of a list's item.
 pub fn is_item_prefix(name: Name) -> bool
     ensures { result ≡ tests.is_item_prefix name }
 {
     matches!(name, Name::ListItemPrefix)
 }
 
+/// A paragraph.
 pub fn is_paragraph(name: Name) -> bool
     ensures { result ≡ tests.is_paragraph name }
 {
@@ -42,6 +44,7 @@ pub fn contributes(name: Name) -> bool
     )
 }
 
+/// A fence of code or of mathematics.
 #[inline(always)]
 pub fn is_fence(name: Name) -> bool
     ensures { result ≡ tests.is_fence name }
@@ -49,6 +52,7 @@ pub fn is_fence(name: Name) -> bool
     matches!(name, Name::CodeFencedFence | Name::MathFlowFence)
 }
 
+/// A line of code or of mathematics.
 #[inline(always)]
 pub fn is_chunk(name: Name) -> bool
     ensures { result ≡ tests.is_chunk name }
@@ -87,6 +91,7 @@ pub fn is_captured(name: Name) -> bool
     )
 }
 
+/// A cell of a table.
 #[inline(always)]
 pub fn is_cell(name: Name) -> bool
     ensures { result ≡ tests.is_cell name }

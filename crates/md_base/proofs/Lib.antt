@@ -1,3 +1,4 @@
+-- The lemmas on derived `==`, identifiers, references, padded slices and cases that can't be. Other crates use some.
 pub mod EnumLemmas
 pub mod IdentifierLemmas
 pub mod ReferenceLemmas

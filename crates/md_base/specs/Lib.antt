@@ -1,3 +1,4 @@
+-- What the definitions of all crates rest on: `Tree` and its events, `Place`, names, identifiers and references.
 pub mod Identifier
 pub mod Place
 pub mod Reference

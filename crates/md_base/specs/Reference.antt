@@ -6,7 +6,7 @@ use Rattle.std.specs.Char.{digit_value}
 use Rattle.std.specs.Int.{is_in_range}
 use Rattle.std.specs.Str.Parse.{digits_value}
 
--- the names and their texts behind a slice of pairs of texts
+-- the names and their texts that a slice of pairs of texts points to
 abbrev pub name_table : List (Bor (List ℕ) × Bor (List ℕ)) → List (List ℕ × List ℕ)
 name_table = map (λ entry. (entry.0.now, entry.1.now))
 

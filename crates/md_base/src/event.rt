@@ -1,3 +1,5 @@
+//! Events, with their kinds, names and points, and the alignments of tables' columns.
+
 /// Whether an event enters or exits a node.
 #[derive(Clone, Copy, Debug, PartialEq, Eq)]
 pub enum Kind {
@@ -125,8 +127,11 @@ pub struct Point {
 /// The start or the end of a node.
 #[derive(Clone, Copy, Debug, PartialEq, Eq)]
 pub struct Event {
+    /// Whether it enters a node or exits it.
     pub kind: Kind,
+    /// The name of that node.
     pub name: Name,
+    /// Where that node starts if it is entered, and where it ends if it is exited.
     pub point: Point,
 }
 

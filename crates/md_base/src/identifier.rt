@@ -1,3 +1,5 @@
+//! Identifiers in the form in which they are compared.
+
 ghost use Rattle.std.specs.Prelude.{◌≡◌, ◌++◌, [], ◌∷◌, if◌then◌else◌, encode_utf8, string_bytes, IfOk, OnOk};
 ghost use Rattle.md_base.specs.Identifier.{is_white, collapsed, normalized};
 
@@ -6,6 +8,10 @@ use std::alloc::{AllocError, Global};
 
 /// The form in which identifiers are compared: each run of white space is one space, none is left
 /// at the ends, and case is folded.
+///
+/// # Errors
+///
+/// `AllocError`, only where memory runs out.
 ///
 /// # Examples
 ///

@@ -1,3 +1,5 @@
+//! The protocols that links and images may have, and the tag names that the tag filter disarms.
+
 /// The protocols that a link's destination may have.
 pub const SAFE_PROTOCOL_HREF: [&str; 6] = ["http", "https", "irc", "ircs", "mailto", "xmpp"];
 

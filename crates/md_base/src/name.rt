@@ -1,8 +1,17 @@
+//! Whether two names are one.
+
 ghost use Rattle.std.specs.Prelude.{◌≡◌, ◌↔◌, IsTrue};
 
 use crate::event::Name;
 
 /// Whether two names are one: `==`, in a form that proofs can use.
+///
+/// # Examples
+///
+/// ```
+/// assert!(is_same_name(Name::Data, Name::Data));
+/// assert!(!is_same_name(Name::Other(1), Name::Other(2)));
+/// ```
 pub fn is_same_name(a: Name, b: Name) -> bool
     ensures { IsTrue result ↔ (a ≡ b) }
 {

@@ -1,3 +1,5 @@
+//! Character references: the text that a name or a number stands for.
+
 ghost use Rattle.std.specs.Prelude.{◌≡◌, ◌≤◌, encode_utf8, option_copied, option_map, string_bytes, IfOk};
 ghost use Rattle.md_base.specs.Reference as spec;
 ghost use Rattle.md_base.specs.Reference.{name_table, named, numbered, decoded};
@@ -9,6 +11,10 @@ use std::alloc::{AllocError, Global};
 ///
 /// `None` where the name isn't there, where the value isn't one or more such digits whose number
 /// fits a `u32`, and at another marker.
+///
+/// # Errors
+///
+/// `AllocError`, only where memory runs out: what stands for no text is `None`.
 ///
 /// # Examples
 ///

@@ -1,3 +1,5 @@
+//! The bytes between two points of a document, with the columns of the tabs that are cut there.
+
 ghost use Rattle.std.specs.Prelude.{◌≡◌, ◌+◌, ◌^◌, ◌<◌, ◌++◌, true, SomeIff, min, replicate, length, nat_le, ◌&&◌, is_some, option_copied, option_map, string_bytes, slice_range, IfSome, IfOk, OnOk};
 ghost use Rattle.md_base.specs.Place as spec;
 ghost use Rattle.md_base.specs.Place.{fits, bytes_between, spaces_before, spaces_after, text_when, text_between};
@@ -31,6 +33,19 @@ pub struct Slice<'a> {
 
 impl<'a> Slice<'a> {
     /// The slice between the points of a position; `None` where these don't fit the bytes.
+    ///
+    /// # Examples
+    ///
+    /// ```
+    /// // Two columns of the first tab are taken before the start, three of the second before the
+    /// // end.
+    /// let start = Point { line: 1, column: 3, index: 0, vs: 2 };
+    /// let end = Point { line: 1, column: 8, index: 2, vs: 3 };
+    /// if let Some(slice) = Slice::from_position(b"\ta\t", &Position { start, end }) {
+    ///     assert_eq!(slice.bytes, b"a\t".as_slice());
+    ///     assert_eq!((slice.before, slice.after), (2, 2));
+    /// }
+    /// ```
     #[inline(always)]
     pub fn from_position(bytes: &'a [u8], position: &Position) -> Option<Slice<'a>>
         ensures fits { is_some result ≡ fits bytes.now position.now.start position.now.end }
@@ -48,6 +63,15 @@ impl<'a> Slice<'a> {
     }
 
     /// The slice between two indices; `None` unless they are in order and within the bytes.
+    ///
+    /// # Examples
+    ///
+    /// ```
+    /// if let Some(slice) = Slice::from_indices(b"\ta\t", 1, 2) {
+    ///     assert_eq!(slice.bytes, b"a".as_slice());
+    /// }
+    /// assert!(Slice::from_indices(b"\ta\t", 2, 4).is_none());
+    /// ```
     #[inline(always)]
     pub fn from_indices(bytes: &'a [u8], start: usize, end: usize) -> Option<Slice<'a>>
         ensures fits { is_some result ≡ (nat_le start end && nat_le end (length bytes.now)) }
@@ -64,6 +88,14 @@ impl<'a> Slice<'a> {
 
     /// The text of the bytes between the points of a position, without the spaces at its ends; `None` where the points
     /// don't fit the bytes, or these aren't UTF-8.
+    ///
+    /// # Examples
+    ///
+    /// ```
+    /// let start = Point { line: 1, column: 2, index: 1, vs: 0 };
+    /// let end = Point { line: 1, column: 3, index: 2, vs: 0 };
+    /// assert_eq!(Slice::text_at(b"*a*", &Position { start, end }), Some("a"));
+    /// ```
     #[inline(always)]
     pub fn text_at(bytes: &'a [u8], position: &Position) -> Option<&'a str>
         ensures { option_copied result ≡ text_between bytes.now position.now.start position.now.end }
@@ -77,6 +109,13 @@ impl<'a> Slice<'a> {
     }
 
     /// How many bytes and spaces there are, or the greatest `usize` where there are more.
+    ///
+    /// # Examples
+    ///
+    /// ```
+    /// // Of two spaces, the bytes "a\t" and two spaces, as in the example of `Slice`:
+    /// assert_eq!(slice.len(), 6);
+    /// ```
     pub fn len(&self) -> usize
         ensures { result
             ≡ min (self.now.before + length self.now.bytes.now + self.now.after) usize.MAX }
@@ -87,6 +126,13 @@ impl<'a> Slice<'a> {
     }
 
     /// The bytes as a text; `None` where they aren't UTF-8.
+    ///
+    /// # Examples
+    ///
+    /// ```
+    /// // Of two spaces, the bytes "a\t" and two spaces, as in the example of `Slice`:
+    /// assert_eq!(slice.as_str(), Some("a\t"));
+    /// ```
     #[inline(always)]
     pub fn as_str(&self) -> Option<&'a str>
         ensures { option_copied result ≡ text_when true self.now.bytes.now }
@@ -95,6 +141,18 @@ impl<'a> Slice<'a> {
     }
 
     /// The bytes as a text between the spaces; `None` where they aren't UTF-8.
+    ///
+    /// # Errors
+    ///
+    /// `AllocError`, only where memory runs out: what isn't UTF-8 is `None`.
+    ///
+    /// # Examples
+    ///
+    /// ```
+    /// // Of two spaces, the bytes "a\t" and two spaces, as in the example of `Slice`:
+    /// let text = slice.serialize(alloc)?;
+    /// // Some("  a\t  ")
+    /// ```
     pub fn serialize(&self, alloc: Global) -> Result<Option<String>, AllocError>
         ensures { let spaced = replicate self.now.before 32 ++ self.now.bytes.now ++ replicate self.now.after 32 in
             IfOk result (λ text. option_map string_bytes text ≡ text_when true spaced) }

@@ -107,7 +107,7 @@ fn read_asked(alloc: Global, input: &[u8]) -> Result<Option<Asked<'_>>, AllocErr
     }
 }
 
-/// Reads the questions and the names, behind which the script is.
+/// Reads the questions and the names, after which the script is.
 fn read_head<'a>(
     questions: &mut Vec<&'a str>,
     names: &mut Vec<(&'a str, &'a str)>,

@@ -36,7 +36,7 @@ pub(crate) fn read(alloc: Global, input: &[u8]) -> Result<Script<'_>, RunError> 
     Ok(script)
 }
 
-/// Takes the lines before the document, which is what comes behind them.
+/// Takes the lines before the document, which is what comes after them.
 fn take_lines<'a>(
     alloc: Global,
     script: &mut Script<'_>,

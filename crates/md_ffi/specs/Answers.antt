@@ -3,7 +3,7 @@ use Rattle.std.specs.Prelude.{◌≡◌, ◌≢◌, ◌<◌, ◌≤◌}
 use Rattle.md_ffi.specs.Numbers.{too_short, refused, no_line, no_option, no_event, no_memory}
 use Rattle.md_ffi.specs.declared.answer.Answer.{Answer}
 
--- a rule is told of a refusal alone, an index of what is refused or unreadable, a length of a text
+-- a rule is told only of a refusal, an index of what is refused or unreadable, a length of a text
 pub record IsPlain (answer : Answer) : Type 0 where
   pub known : answer.status ≤ no_memory
   pub no_rule : answer.status ≢ refused → answer.rule ≡ 0

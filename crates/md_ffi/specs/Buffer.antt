@@ -22,7 +22,7 @@ pub record HandsOver (claim : List ℕ → Type 0) (old new : List ℕ) (answer 
 
 -- ---- what a text is handed over by; only contracts of private functions speak of it
 
--- the answer tells the length alone
+-- the answer tells only the length
 abbrev pub with_length : ℕ → ℕ → Answer
 with_length status size = record { status = status; rule = 0; index = 0; length = size }
 

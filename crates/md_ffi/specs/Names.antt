@@ -94,7 +94,7 @@ numbered_names =
     MdxJsxTextTag ∷
     []
 
--- the name under a number; the other number is read of `Other` alone
+-- the name under a number; the other number is read only of `Other`
 abbrev pub name_of : ℕ → ℕ → Option Name
 name_of number other =
     if number == 0 then None else if number == 65535 then Some (Other other) else slice_get numbered_names (number - 1)

@@ -12,6 +12,6 @@ reference_of given = do
   text ← text_when true given.text.now
   Some (name, text)
 
--- the pair behind two references to texts
+-- the pair of the texts that two references point to
 abbrev pub pair_of : Bor (List ℕ) × Bor (List ℕ) → List ℕ × List ℕ
 pair_of pair = (pair.0.now, pair.1.now)

@@ -26,6 +26,9 @@ const VERSION: u32 = 2;
 
 /// The HTML of a list of events over a document's bytes, into a buffer.
 ///
+/// Its six parameters are those of C's call, which has nine in the same order: none for `alloc`,
+/// one for `options`, and two for each of the four slices.
+///
 /// A C caller passes nothing for `alloc`, and for each slice a pointer, which isn't null, and a length.
 #[unsafe(no_mangle)]
 pub extern "C" fn bivdrazo_compile(

@@ -22,19 +22,31 @@ pub struct CText<'a> {
 /// The options, each as the one of `CompileOptions` with its name; a flag is 0 or 1.
 #[repr(C)]
 pub struct COptions<'a> {
+    /// 1 to let images have any source, else 0.
     pub allow_any_img_src: u8,
+    /// 1 to leave HTML in the document as it is, else 0.
     pub allow_dangerous_html: u8,
+    /// 1 to let links and images have any protocol, else 0.
     pub allow_dangerous_protocol: u8,
+    /// 1 to print tasks without `disabled`, else 0.
     pub gfm_task_list_item_checkable: u8,
+    /// 1 to disarm some tags of HTML that is left as it is, else 0.
     pub gfm_tagfilter: u8,
     /// 0 for a line feed, 1 for a carriage return, 2 for both.
     pub default_line_ending: u8,
+    /// 1 to make footnotes' ids of their numbers instead of their identifiers, else 0.
+    ///
     /// The last option by its number; it stands where two bytes were never read.
     pub gfm_footnote_number_ids: u8,
+    /// What `aria-label` says of a way back from a footnote; unset: `Back to content`.
     pub gfm_footnote_back_label: CText<'a>,
+    /// What footnotes' ids begin with; unset: `user-content-`.
     pub gfm_footnote_clobber_prefix: CText<'a>,
+    /// The heading of the footnotes; unset: `Footnotes`.
     pub gfm_footnote_label: CText<'a>,
+    /// The attributes of that heading; unset: `class="sr-only"`.
     pub gfm_footnote_label_attributes: CText<'a>,
+    /// The tag name of that heading; unset: `h2`.
     pub gfm_footnote_label_tag_name: CText<'a>,
 }
 

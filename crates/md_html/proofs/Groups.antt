@@ -1,4 +1,5 @@
--- What names are, by whether their children are captured.
+-- A name whose children are captured is no table, and nothing is logged of a node of another name.
+-- So each of the two ways to exit a node may leave out what the machine does for the other.
 use Rattle.std.proofs.Common.{◌≡◌, ℕ, true, false, List, refl, sym}
 use Rattle.std.proofs.lemmas.Bool.{false≢true}
 use Rattle.md_base.specs.declared.event.Name.{Name}

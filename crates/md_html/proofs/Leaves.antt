@@ -1,4 +1,4 @@
--- A node without children that prints at its exit alone: its entry and its exit in one step.
+-- A node without children that prints only at its exit: its entry and its exit in one step.
 use Rattle.std.proofs.Common.{◌≡◌, ℕ, ◌+◌, Bool, true, false, List, [], ◌∷◌, Option, Some, None, slice_get, get_or, drop, refl, sym, ap, ◌∙◌, arith}
 use Rattle.std.proofs.lemmas.Bool.{false≢true}
 use Rattle.md_base.specs.declared.event.AlignKind.{AlignKind}

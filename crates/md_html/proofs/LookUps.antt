@@ -1,4 +1,4 @@
--- What a document prints depends on its definitions by look-ups alone.
+-- What a document prints depends on its definitions only by look-ups.
 use Rattle.std.proofs.Common.{◌≡◌, ℕ, Bool, ◌&&◌, List, [], ◌∷◌, ◌++◌, refl, ap, ◌∙◌, unwrap_or}
 use Rattle.std.specs.Prelude.{if◌then◌else◌}
 use Rattle.md_base.specs.declared.event.Name.{Name}
@@ -55,7 +55,7 @@ gfm-alike : (known : List Defined) (given : Given) (around : Surroundings) (left
 gfm-alike known given around left ahead passed inner BlockQuote = refl
 gfm-alike known given around left ahead passed inner _ = refl
 
--- links and images alone look definitions up
+-- only links and images look definitions up
 media-alike : (known : List Defined) (given : Given) → FindAlike known given.definitions →
     (around : Surroundings) (ahead : Ahead) (start end : Point) (inner : Page) (name : Name) →
     media_closing (knowing known given) around ahead start end inner name

@@ -285,7 +285,7 @@ stands-run given document n stands =
     ∙ ap (λ ns. (run given (flatten (alone n)) ns beginning).log.definitions) stands.nodes
     ∙ definition-run given n.start n.end n.children stands.more stands.shaped stands.match
 
--- the machine over the events of one of a document's definitions logs that definition alone
+-- the machine over the events of one of a document's definitions logs only that definition
 pub own-run : (given : Given) (document : Forest) (place entry : ℕ) → IsShaped document →
     slice_get (entries_of 0 document) place ≡ Some entry →
     (defined : Defined) × (slice_get (own_definitions given document) place ≡ Some defined)

@@ -1,4 +1,5 @@
--- Running the events of some nodes prints what the nodes print.
+-- Running the events of some nodes leaves the state that the nodes' own pieces, notes and log make: by induction.
+-- So the text of a run over events is told of the tree, for a whole document and for each definition by itself.
 use Rattle.std.proofs.Common.{◌≡◌, ℕ, ◌+◌, Bool, true, false, ◌&&◌, ◌||◌, cond, List, [], ◌∷◌, ◌++◌, Option, Some, None, refl, ap, sym, ◌∙◌, append_assoc, append-nil, arith}
 use Rattle.std.specs.Prelude.{if◌then◌else◌, unwrap_or, count_by, fold}
 use Rattle.std.proofs.lemmas.List.Sums.{sum_by-append, fold-append}
@@ -420,7 +421,7 @@ node_step-captured given ahead before last name start end children state knows =
     (lay_two given.ending state.page opened (close (left_of given.bytes before children) (last_name children)
     (last_contributing children)))
 
--- what a node's children tell ahead decides by what its name reads alone
+-- what a node's children tell ahead decides only by what its name reads
 opening-told : (given : Given) (around : Surroundings) (name : Name) (children : Forest) →
     opening given around (ahead_told name (Some children)) name ≡ opening given around (ahead_of children) name
 opening-told given around HeadingAtx children = refl

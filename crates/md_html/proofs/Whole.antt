@@ -1,4 +1,5 @@
--- The run over a whole document gives its meaning.
+-- The run over a whole document, from its first event on, prints its nodes and the section of its footnotes.
+-- So `count_checked` answers what is printed for the document, which `md_tie` shows to be its meaning.
 use Rattle.std.proofs.Common.{◌≡◌, ℕ, suc, true, false, List, [], ◌∷◌, ◌++◌, Some, refl, ap, sym, ◌∙◌, append_assoc, append-nil, bytes_eq, fold}
 use Rattle.std.specs.Prelude.{if◌then◌else◌, find}
 use Rattle.std.specs.Option.{option_map_or}

@@ -1,4 +1,4 @@
--- Two events of a node without children that prints at its exit alone. Only contracts of private functions speak of it.
+-- Two events of a node without children that prints only at its exit. Only contracts inside the compiler speak of it.
 use Rattle.std.specs.Prelude.{◌≡◌, true}
 use Rattle.md_base.specs.declared.event.Event.{Event}
 use Rattle.md_base.specs.declared.event.Kind.TheVariants.{Enter, Exit}

@@ -1,3 +1,5 @@
+-- What is inferred of a node. `Looseness`, `Alignments`, `Partners` and `Ending` are as the rules say it; `Told`,
+-- `Columns`, `Seeking` and `Facts` event by event, as the pass finds it.
 pub mod Looseness
 pub mod Alignments
 pub mod Told

@@ -23,6 +23,7 @@ pub fn is_link_definition(name: Name) -> bool
     matches!(name, Name::Definition)
 }
 
+/// A table.
 pub fn is_table(name: Name) -> bool
     ensures { result ≡ tests.is_table name }
 {

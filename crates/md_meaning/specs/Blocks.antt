@@ -102,7 +102,7 @@ indented_closing passed = when (passed.spine.has_chunk) (Needed ∷ []) ++ said 
 abbrev pub fence_closing : Left → List Piece
 fence_closing left = when (not left.spine.has_fence) (said (codes ">"))
 
--- one fence alone: the code runs to the end of what is around it
+-- only one fence: the code runs to the end of what is around it
 abbrev pub is_unclosed : Passed → Bool
 is_unclosed passed = passed.spine.has_fence && not passed.spine.has_second_fence
 

@@ -68,12 +68,12 @@ abbrev pub image_of : CompileOptions → Target → List ℕ → List Piece
 image_of options target label = image_start options target.destination label
     ++ (title_pieces target.title ++ said (codes " />"))
 
--- a link: in an image its label alone
+-- a link: in an image only its label
 abbrev pub link_pieces : Given → Surroundings → Ahead → Page → List Piece
 link_pieces given around ahead inner =
     if around.in_image then said inner.text else link_to given.options (target_of given ahead inner.notes) inner.text
 
--- an image: in another its label alone
+-- an image: in another only its label
 abbrev pub image_pieces : Given → Surroundings → Ahead → Page → List Piece
 image_pieces given around ahead inner =
     if around.in_image then said inner.text else image_of given.options (target_of given ahead inner.notes) inner.text

@@ -1,4 +1,4 @@
--- The machine's: what nodes print as pieces and notes, and how it is laid out. The meaning reads `Target` alone.
+-- The machine's: what nodes print as pieces and notes, and how it is laid out. The meaning reads only `Target`.
 use Rattle.std.specs.Prelude.{ℕ, ◌-◌, Bool, true, ◌||◌, ◌==◌, if◌then◌else◌, List, [], ◌∷◌, ◌++◌, length, Option, Some, None, slice_get}
 
 -- where a link or an image leads, and its title

@@ -1,3 +1,5 @@
+//! How events are compiled to HTML: the options, and their defaults.
+
 use md_text::LineEnding;
 
 /// How events are compiled to HTML.

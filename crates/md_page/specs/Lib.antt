@@ -1,1 +1,2 @@
+-- What a page is, which a reader must believe.
 pub mod Page

@@ -1,3 +1,5 @@
+//! The pattern of each role, and the symbols that each class takes.
+
 ghost use Rattle.std.specs.Prelude.{◌≡◌};
 ghost use Rattle.md_pattern.specs.Pattern.{pattern_of, takes};
 ghost use Rattle.md_pattern.specs.declared.kinds.Class.TheVariants.{String};

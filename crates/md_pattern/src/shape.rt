@@ -1,3 +1,5 @@
+//! The role of a node, by the role of the node around it and the symbol before it.
+
 ghost use Rattle.std.specs.Prelude.{◌≡◌, false, Option};
 ghost use Rattle.md_pattern.specs.declared.kinds.Role.{Role};
 ghost use Rattle.md_pattern.specs.declared.kinds.Symbol.{Symbol};

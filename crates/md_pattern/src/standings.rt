@@ -1,3 +1,5 @@
+//! How each name stands among the nodes around it.
+
 ghost use Rattle.std.specs.Prelude.{◌≡◌};
 ghost use Rattle.md_pattern.specs.Standing.{standing_of};
 

@@ -1,3 +1,5 @@
+//! How much of a spine has been read.
+
 use crate::kinds::{Role, Symbol};
 
 /// Which symbols of a group have been read.

@@ -1,3 +1,5 @@
+//! A spine read symbol by symbol: how it begins, what may follow, and where it may end.
+
 ghost use Rattle.std.specs.Prelude.{◌≡◌, ◌<◌, ◌+◌, ◌^◌, Some, None, if◌then◌else◌, drop};
 ghost use Rattle.std.specs.List.{list_all};
 ghost use Rattle.md_pattern.specs.Steps.{begun_by, continued, is_optional, after_item, seek, advance, is_complete, start_of, may_hold, is_full_list_part, is_full};
@@ -203,7 +205,7 @@ fn is_full_list_part(role: Role) -> bool
     )
 }
 
-/// Whether another node of this role does.
+/// Whether a node of this role that is no list and no part of one holds a node whatever it holds.
 #[inline(always)]
 fn is_full(role: Role) -> bool
     ensures { result ≡ is_full role }

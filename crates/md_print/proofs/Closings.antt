@@ -1,4 +1,5 @@
--- Each name prints in its group alone.
+-- Each name that isn't captured prints at its exit what its group's table has for it; the others have nothing.
+-- So `close` asks one table, while the definition goes through all four.
 use Rattle.std.proofs.Common.{◌≡◌, ℕ, Bool, List, ◌++◌, refl, sym, ap, ◌∙◌}
 use Rattle.std.proofs.lemmas.List.{append-nil}
 use Rattle.md_base.specs.declared.event.Name.{Name}

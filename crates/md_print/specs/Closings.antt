@@ -1,4 +1,4 @@
--- Names by what prints their nodes after their children. Only contracts of private functions speak of them.
+-- Names by what prints their nodes after their children. Only contracts inside the compiler speak of them.
 use Rattle.std.specs.Prelude.{Bool, true, false, List, [], ◌++◌}
 use Rattle.md_base.specs.declared.event.Name.{Name}
 use Rattle.md_base.specs.declared.event.Name.TheVariants.{LineEnding, BlankLineEnding, Data, CharacterEscapeValue, CodeTextData, MathTextData, CharacterReferenceValue, HtmlFlowData, HtmlTextData, Emphasis, Strong, GfmStrikethrough, HardBreakEscape, HardBreakTrailing, GfmTaskListItemCheck, GfmTaskListItemValueChecked, BlockQuote, ListOrdered, ListUnordered, ListItem, Paragraph, ThematicBreak, HeadingAtx, HeadingSetextUnderlineSequence, CodeIndented, CodeFenced, MathFlow, CodeFencedFence, MathFlowFence, CodeFencedFenceInfo, CodeFlowChunk, MathFlowChunk, HtmlFlow, AutolinkEmail, AutolinkProtocol, GfmAutolinkLiteralEmail, GfmAutolinkLiteralMailto, GfmAutolinkLiteralProtocol, GfmAutolinkLiteralWww, GfmAutolinkLiteralXmpp, GfmTable, GfmTableHead, GfmTableBody, GfmTableRow, CodeText, MathText, HeadingSetextText, CodeFencedFenceMeta, MathFlowFenceMeta, Frontmatter, Definition, DefinitionLabelString, DefinitionDestinationString, DefinitionTitleString, GfmFootnoteDefinition, GfmFootnoteDefinitionLabelString, Link, Image, Resource, ResourceDestinationString, ResourceTitleString, ReferenceString, GfmFootnoteCall, GfmTableCell, GfmTableDelimiterRow}
@@ -80,7 +80,7 @@ abbrev pub is_captured_group : Group → Bool
 is_captured_group Captured = true
 is_captured_group _ = false
 
--- a group whose nodes print at their exits alone, if at all, and without a page of their own
+-- a group whose nodes print only at their exits, if at all, and without a sheet of their own
 abbrev pub is_light : Group → Bool
 is_light Silent = true
 is_light Text = true

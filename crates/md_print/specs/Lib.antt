@@ -1,1 +1,2 @@
+-- The groups in which the code prints names at their exits.
 pub mod Closings

@@ -1,4 +1,5 @@
--- A text's bytes, and what stands in their place.
+-- A text escaped is its front as it is, what stands for one byte, and the rest escaped; and so it may be printed.
+-- `put_encoded` prints these three, while its contract speaks of the whole text.
 use Rattle.std.proofs.Common.{◌≡◌, ℕ, ◌+◌, ◌<◌, Bool, List, [], ◌∷◌, ◌++◌, length, get_or, take, drop, refl, sym, ap, ◌∙◌, append_assoc, add-one, drop-cons}
 use Rattle.std.proofs.lemmas.List.{take-append-drop}
 use Rattle.md_text.specs.Encode.{encoded, encoded_byte}

@@ -1,2 +1,3 @@
+-- The lemmas on printing: in parts, and escaped byte by byte.
 pub mod Printing
 pub mod Escaping

@@ -1,4 +1,5 @@
--- What is printed in parts.
+-- To print some pieces and then others is to print both lists as one.
+-- Functions print in several calls what their contracts say of one list of pieces.
 use Rattle.std.proofs.Common.{◌≡◌, ℕ, List, ◌++◌, ap}
 use Rattle.md_meaning.specs.Piece.{Piece}
 use Rattle.md_printer.specs.Machine.{State, printing}

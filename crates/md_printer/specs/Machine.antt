@@ -1,5 +1,5 @@
--- The compiler's own steps over events. Only contracts of private functions speak of them: the text is
--- the meaning by a theorem of proofs/.
+-- The compiler's own steps over events. Only contracts inside the compiler speak of
+-- them: the text is the meaning by a theorem.
 use Rattle.std.specs.Prelude.{ℕ, Bool, true, false, if◌then◌else◌, List, [], ◌∷◌, ◌++◌, Option, None}
 use Rattle.std.specs.Option.{option_map_or}
 use Rattle.md_base.specs.declared.event.Name.{Name}

@@ -376,6 +376,7 @@ impl Printer {
         sheet.into_text(alloc)
     }
 
+    /// A printer that has printed nothing, and in which no node is open.
     pub fn new(alloc: Global) -> Printer
         ensures { result ≡ machine.beginning }
     {

@@ -85,7 +85,7 @@ is_tabular GfmTableRow = true
 is_tabular GfmTableCell = true
 is_tabular _ = false
 
--- what prints its children alone
+-- what prints only its children
 abbrev pub is_silent : Name → Bool
 is_silent ListItemPrefix = true
 is_silent ListItemValue = true

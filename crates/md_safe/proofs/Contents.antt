@@ -430,7 +430,7 @@ math_fence-blocks : (content : Content) → is_blocks (content_of MathFlowFence 
 math_fence-blocks FirstMathFence h = lie h
 math_fence-blocks _ h = lie h
 
--- blocks stand in blocks alone
+-- blocks stand only in blocks
 of-blocks : (name : Name) (content : Content) → is_blocks (content_of name content) ≡ true → is_blocks content ≡ true
 of-blocks CodeText content h = lie h
 of-blocks MathText content h = lie h

@@ -1,3 +1,4 @@
+-- The lemmas of two theorems, from texts and names up to documents: output has a reading, and no id stands twice.
 pub mod Texts
 pub mod Claim
 pub mod Laid

@@ -1,1 +1,2 @@
+-- Which options are safe, which a reader must believe.
 pub mod Options

@@ -1,3 +1,4 @@
+-- The lemmas of scripts: numbers, names, lines and settings, then a whole script, and what is answered of it.
 pub mod LineLemmas
 pub mod NameLemmas
 pub mod NumberLemmas

@@ -1,4 +1,5 @@
--- A script read line by line.
+-- A script read line by line: each line that can be read is one step of progress, and the others end the reading.
+-- `read_script` has its invariant and its answers from here, since what it says is of all lines together.
 use Rattle.std.proofs.Common.{◌≡◌, ℕ, ◌+◌, ◌*◌, ◌<◌, ◌≤◌, Bool, true, false, ◌&&◌, ◌||◌, cond, List, [], ◌∷◌, ◌++◌, length, Option, Some, None, refl, sym, ap, ◌∙◌, arith, subst, is_some, bytes_eq}
 use Rattle.std.specs.Prelude.{filter_map, filter, option_to_list, MatchOption, unwrap_or}
 use Rattle.std.specs.Borrow.{Bor}

@@ -1,3 +1,4 @@
+-- What scripts mean, which a reader must believe; only private contracts cite `NamesByLength` and `PlainLine`.
 pub mod Error
 pub mod EventNames
 pub mod Line

@@ -1,6 +1,5 @@
--- What `serve` does: it reads a script to its end, runs it, and writes its text. What a reader has left and what a
--- writer
--- holds is known or not; where it isn't, nothing is claimed of it.
+-- What `serve` does: it reads a script to its end, runs it, and writes its text. What a reader has left and what
+-- a writer holds is known or not; where it isn't, nothing is claimed of it.
 use Rattle.std.specs.Prelude.{◌≡◌, ℕ, List, ◌++◌, codes, Option}
 use Rattle.std.specs.Io.KnownBytes.{Keeps, Appends, Consumes, IsAtEnd}
 use Rattle.md_script.specs.declared.error.RunError.{RunError}

@@ -8,7 +8,7 @@ use Rattle.md_text.specs.declared.line_ending.LineEnding.{LineEnding}
 use Rattle.md_text.specs.declared.line_ending.LineEnding.TheVariants.{CarriageReturnLineFeed, CarriageReturn, LineFeed}
 use Rattle.md_meaning.specs.declared.options.CompileOptions.{CompileOptions}
 
--- the texts behind a slice of texts
+-- the texts that a slice of texts points to
 abbrev pub texts_of : List (Bor (List ℕ)) → List (List ℕ)
 texts_of = map (λ text. text.now)
 

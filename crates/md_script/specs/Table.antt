@@ -2,7 +2,7 @@
 use Rattle.std.specs.Prelude.{ℕ, List, map, Option, option_map, find, bytes_eq}
 use Rattle.std.specs.Borrow.{Bor}
 
--- the texts and values behind a slice of such pairs
+-- the texts and values that a slice of such pairs points to
 abbrev pub entries_of : {A : Type 0} → List (Bor (List ℕ) × A) → List (List ℕ × A)
 entries_of = map (λ entry. (entry.0.now, entry.1))
 

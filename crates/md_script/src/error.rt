@@ -1,3 +1,5 @@
+//! Why a script gives no text, or no safe one.
+
 use md_html::SafeError;
 use md_tree::{CompileError, Rule};
 use std::alloc::AllocError;
@@ -21,6 +23,14 @@ impl RunError {
     ghost use Rattle.md_script.specs.Error.{status_of};
 
     /// The status with which a program ends: 1 for an event, 2 for a line, 3 for memory.
+    ///
+    /// # Examples
+    ///
+    /// ```
+    /// assert_eq!(RunError::Event { index: 0, rule: Rule::Order }.status(), 1);
+    /// assert_eq!(RunError::Line(1).status(), 2);
+    /// assert_eq!(RunError::Memory.status(), 3);
+    /// ```
     pub fn status(&self) -> u8
         ensures { result ≡ status_of self.now }
     {

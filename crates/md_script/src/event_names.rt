@@ -1,3 +1,5 @@
+//! The table of the names of events as scripts write them.
+
 use md_base::Name;
 
 /// The names of events as scripts write them, by how many bytes they have; `Other` is followed by its number.

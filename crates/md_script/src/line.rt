@@ -1,3 +1,5 @@
+//! Lines of a script that write events.
+
 ghost use Rattle.std.specs.Prelude.{◌≡◌};
 ghost use Rattle.md_script.specs.Line.{kind_of, point_of, event_of};
 

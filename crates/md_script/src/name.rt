@@ -1,3 +1,5 @@
+//! Reads the names of events.
+
 ghost use Rattle.std.specs.Prelude.{◌≡◌, ◌++◌, codes, length, option_and_then};
 ghost use Rattle.std.specs.List.{slice_get};
 ghost use Rattle.md_script.specs.Line.{other_name, name_of};

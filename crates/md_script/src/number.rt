@@ -1,3 +1,5 @@
+//! Reads decimal numbers of a few digits.
+
 ghost use Rattle.std.specs.Prelude.{◌≡◌, ◌≤◌};
 ghost use Rattle.md_script.specs.Number.{number_of};
 

@@ -1,3 +1,5 @@
+//! Plain lines of events: a sign, a name, one space and an index.
+
 ghost use Rattle.std.specs.Prelude.{◌≡◌, ◌+◌, ◌*◌, ◌++◌, ◌∷◌, List, false, length, position, IfSome};
 ghost use Rattle.std.specs.List.{list_any};
 ghost use Rattle.md_script.specs.PlainLine.{is_break, BeginsWithEvent, BeginsWithIndex};

@@ -1,3 +1,5 @@
+//! Compiles what a script stands for.
+
 ghost use Rattle.std.specs.Prelude.{string_bytes, IfOk, IfErr};
 ghost use Rattle.md_script.specs.Run.{IsCompiled, ExplainsEvents, IsTextOf, ExplainsRun};
 ghost use Rattle.md_script.specs.SafeRun.{IsSafelyCompiled, ExplainsSafeEvents, IsSafeTextOf, ExplainsSafeRun};
@@ -61,6 +63,17 @@ fn compile_script(alloc: Global, script: &Script) -> Result<String, RunError>
 /// # Errors
 ///
 /// `SafeRunError::Options` where the script can be read and its options aren't safe; else as [`run`].
+///
+/// # Examples
+///
+/// ```
+/// let html = run_safe(alloc, b"+ThematicBreak 0\n-ThematicBreak 3\n--\n***\n")?;
+/// assert_eq!(html.as_str(), "<hr />");
+///
+/// // An option that isn't safe.
+/// let refused = run_safe(alloc, b"!allow_dangerous_html\n--\n");
+/// // Err(SafeRunError::Options)
+/// ```
 pub fn run_safe(alloc: Global, input: &[u8]) -> Result<SafeHtml, SafeRunError>
     ensures text { IfOk result (λ html. IsSafeTextOf input.now html) }
     ensures err { IfErr result (λ error. ExplainsSafeRun input.now error) }

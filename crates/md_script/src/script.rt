@@ -1,3 +1,5 @@
+//! Reads a script: its events, its options and its document.
+
 ghost use Rattle.std.specs.Prelude.{◌≡◌, bytes_eq, ◌+◌, ◌&&◌, ◌||◌, [], ◌∷◌, ◌++◌, true, if◌then◌else◌, is_some, option_to_list, length, MatchOption, IfOk, OnOk, IfErr};
 ghost use Rattle.md_script.specs.Line.{event_of};
 ghost use Rattle.md_script.specs.Setting.{texts_of, is_setting, option_name, is_new};

@@ -34,6 +34,13 @@ impl ServeError {
     ghost use Rattle.md_script.specs.Serve.{serve_status};
 
     /// The status with which a program ends: that of the script's error, 4 where reading or writing failed.
+    ///
+    /// # Examples
+    ///
+    /// ```
+    /// assert_eq!(ServeError::Run(RunError::Line(1)).status(), 2);
+    /// assert_eq!(ServeError::Input.status(), 4);
+    /// ```
     pub fn status(&self) -> u8
         ensures { result ≡ serve_status self.now }
     {
@@ -92,6 +99,15 @@ impl From<AllocError> for ServeError {
 /// `ServeError::Run` where the script gives no text, or memory runs out; `ServeError::Input` where a read fails, or none of
 /// 16,777,216 reads meets the end. With both nothing was written. `ServeError::Output` where a write fails; the front of
 /// the text was written then, or nothing.
+///
+/// # Examples
+///
+/// ```
+/// let mut reader = b"+ThematicBreak 0\n-ThematicBreak 3\n--\n***\n".as_slice();
+/// let mut text = Vec::new(alloc);
+/// serve(alloc, &mut reader, &mut text)?;
+/// assert_eq!(text.as_slice(), b"<hr />".as_slice());
+/// ```
 pub fn serve<R: Read, W: Write>(
     alloc: Global,
     reader: &mut R,
@@ -114,6 +130,14 @@ pub fn serve<R: Read, W: Write>(
 ///
 /// `ServeError::Input` where a read fails, or none of 16,777,216 reads meets the end, and `ServeError::Run` where memory
 /// runs out.
+///
+/// # Examples
+///
+/// ```
+/// let mut reader = b"--\n".as_slice();
+/// let input = read_input(alloc, &mut reader)?;
+/// assert_eq!(input.as_slice(), b"--\n".as_slice());
+/// ```
 pub fn read_input<R: Read>(alloc: Global, reader: &mut R) -> Result<Vec<u8>, ServeError>
     ensures ok { IfOk result (λ input. IsReadWhole (R.remaining reader.old) (R.remaining reader.new) input.items) }
     ensures err { IfErr result IsBeforeRun }

@@ -1,3 +1,5 @@
+//! Bytes that are split at the first separator.
+
 ghost use Rattle.std.specs.Prelude.{◌≡◌, ◌+◌, ◌==◌, [], length, is_some, position, IfSome, IfNone};
 ghost use Rattle.std.specs.List.{list_any, before_first, after_first};
 

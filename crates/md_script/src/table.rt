@@ -1,3 +1,5 @@
+//! Values that are looked up in a table by their texts.
+
 ghost use Rattle.std.specs.Prelude.{◌≡◌};
 ghost use Rattle.md_script.specs.Table as spec;
 

@@ -1,4 +1,4 @@
--- What `serve` does over bytes in memory: said of the bytes in and the bytes out alone.
+-- What `serve` does over bytes in memory: said only of the bytes in and the bytes out.
 use Rattle.std.specs.Prelude.{◌≡◌, ℕ, List, ◌++◌}
 use Rattle.md_script.specs.Run.{IsTextOf, ExplainsRun}
 use Rattle.md_script.specs.declared.serving.ServeError.{ServeError}

@@ -48,7 +48,7 @@ pub unless-holds : (condition : Bool) (broken : Rule) → unless condition broke
 unless-holds true broken e = refl
 unless-holds false broken e = cc
 
--- the text of a line ending has line ends alone
+-- the text of a line ending has only line ends
 ending-ends : (text : List ℕ) → is_line_ending text ≡ true → is_line_ends text ≡ true
 ending-ends text h =
     by (bytes_eq (13 ∷ 10 ∷ []) text) (bytes_eq (13 ∷ []) text) (bytes_eq (10 ∷ []) text)
@@ -131,7 +131,7 @@ number_digits text h =
     digits_fit text (and_parts (not (length text == 0)) tests
     (and_parts (not (length text == 0) && tests) (nat_lt (digits_value 10 text) (2 ^ 32)) h).0).1
 
--- the number at a place has digits alone
+-- the number at a place has only digits
 abbrev MayHaveDigits : List ℕ → Option Position → Type 0
 MayHaveDigits bytes number = option_map_or (λ place. list_all is_digit (text_of bytes place.start place.end)) number
     true ≡ true

@@ -1,3 +1,4 @@
+-- The lemmas on documents of the grammar, from patterns to spines to whole documents: what stands where in them.
 pub mod Symbols
 pub mod Admitted
 pub mod Spots

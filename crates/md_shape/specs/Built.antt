@@ -191,7 +191,7 @@ abbrev pub is_digit : ℕ → Bool
 is_digit byte = nat_le 48 byte && nat_le byte 57
 
 -- what else is asked of a node: the text of a line ending is one; a heading's rank is 1 to 6; a list's number has
--- digits alone; a raw flow has a fence
+-- only digits; a raw flow has a fence
 abbrev pub IsFit : List ℕ → Name → Point → Point → Forest → Type 0
 IsFit bytes LineEnding start end children = IsTrue (is_line_ends (text_of bytes start end))
 IsFit bytes BlankLineEnding start end children = IsTrue (is_line_ends (text_of bytes start end))

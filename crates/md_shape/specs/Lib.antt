@@ -1,3 +1,4 @@
+-- What the laws say of documents of the grammar: what stands where, and what leads to what.
 pub mod Built
 pub mod Leads
 pub mod Underlined

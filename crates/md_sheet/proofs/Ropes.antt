@@ -1,4 +1,5 @@
--- The parts of a rope, and its last byte.
+-- A rope's parts as one text: with a part more, its last byte, and how long it is.
+-- The rope's functions go over a list of parts, while their contracts speak of the text.
 use Rattle.std.proofs.Common.{◌≡◌, ℕ, suc, ◌+◌, ◌-◌, ◌^◌, List, [], ◌∷◌, ◌++◌, length, slice_get, Option, Some, ap, sym, ◌∙◌, append_assoc, append-nil, arith, String, Global, string_bytes}
 use Rattle.std.specs.Prelude.{min}
 use Rattle.std.proofs.lemmas.Option.{none-some}

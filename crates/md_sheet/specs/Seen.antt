@@ -1,4 +1,4 @@
--- What is seen of footnotes, one exit after another. Only contracts of the compiler speak of it.
+-- What is seen of footnotes, one exit after another. Only contracts inside the compiler speak of it.
 use Rattle.std.specs.Prelude.{◌≡◌, ℕ, zero, suc, if◌then◌else◌, List, [], ◌∷◌, map, Option, Some, None, option_map, bytes_eq, String, string_bytes}
 use Rattle.std.specs.BTreeMap.{BTreeMap, get_by_text}
 use Rattle.std.specs.declared.alloc.Global.{Global}

@@ -28,7 +28,7 @@ abbrev pub are_tidy : List Attribute → Bool
 are_tidy [] = true
 are_tidy (a ∷ rest) = is_name a.name && (list_all no_quote a.value && (list_all no_angle a.value && are_tidy rest))
 
--- the tables hold names alone
+-- the tables hold only names
 abbrev pub rules_hold_names : List (List ℕ × List (List ℕ)) → Bool
 rules_hold_names [] = true
 rules_hold_names (rule ∷ rules) = is_name rule.0 && (list_all is_name rule.1 && rules_hold_names rules)

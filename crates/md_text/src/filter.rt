@@ -1,3 +1,5 @@
+//! The tag filter of GitHub flavored Markdown.
+
 ghost use Rattle.std.specs.Prelude.{◌≡◌, ◌≤◌, ◌++◌, ◌==◌, ◌&&◌, IfOk, OnOk, length, encode_utf8};
 ghost use Rattle.std.specs.String.{string_bytes};
 ghost use Rattle.std.specs.List.{prefix_len};

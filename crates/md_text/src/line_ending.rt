@@ -1,3 +1,5 @@
+//! The three line endings, and their texts.
+
 use serde::{Deserialize, Serialize};
 use std::str::FromStr;
 use thiserror::Error;

@@ -1,3 +1,5 @@
+//! Names that are looked up with their ASCII letters lowered.
+
 ghost use Rattle.std.specs.Str.{bytes_eq};
 ghost use Rattle.std.specs.Prelude.{◌≡◌, map};
 ghost use Rattle.md_text.specs.Bytes.{lowered, is_one_of};

@@ -1,3 +1,5 @@
+//! URLs that may stand in HTML, and their protocols.
+
 ghost use Rattle.std.specs.Prelude.{◌≡◌, ◌≤◌, ◌<◌, ◌++◌, ◌/◌, ◌%◌, IfOk, OnOk, MatchOption, take, length, map, true};
 ghost use Rattle.std.specs.String.{string_bytes};
 ghost use Rattle.md_text.specs.Encode.{encoded};

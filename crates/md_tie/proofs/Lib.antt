@@ -1,3 +1,4 @@
+-- The lemmas of the theorem that what is printed is what is meant: name by name, then for nodes, then for documents.
 pub mod Reading
 pub mod Leaves
 pub mod Sides

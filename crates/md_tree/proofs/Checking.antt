@@ -1,4 +1,5 @@
--- What a check may say of a list of events.
+-- What a check may say of a list of events: why each refusal is one, and that a list that passes is of the grammar.
+-- The contracts of `check` and of `Reader` follow from it.
 use Rattle.std.proofs.Common.{◌≡◌, ◌⊎◌, inl, inr, ℕ, suc, ◌<◌, ◌≤◌, false, Option, Some, None, List, [], ◌∷◌, ◌++◌, length, take, drop, get_or, refl, sym, ap, ◌∙◌, subst, arith}
 use Rattle.std.specs.Prelude.{slice_get}
 use Rattle.std.specs.List.{All}

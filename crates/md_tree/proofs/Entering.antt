@@ -1,4 +1,5 @@
--- The events of a document, each with what is found of the node that it enters.
+-- The events of a document in rows, each with what is found at it, its node's children and place. So what stands at an
+-- index of a list is what the tree says of the node that is entered there.
 use Rattle.std.proofs.Common.{◌≡◌, ◌⊎◌, inl, inr, ℕ, zero, suc, ◌+◌, ◌<◌, ◌≤◌, true, cond, Option, Some, None, List, [], ◌∷◌, ◌++◌, length, get_or, refl, sym, ap, ◌∙◌, subst, append_assoc, append-nil, arith}
 use Rattle.std.specs.Prelude.{map, option_map, slice_get}
 use Rattle.std.specs.List.{All}

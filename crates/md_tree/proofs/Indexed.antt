@@ -1,4 +1,5 @@
--- The events of a document, each with what is known of it.
+-- A list of events is the flattening of one tree at most, and each exit of a text or a label has its text there. So
+-- what is looked up at an index is so in any tree of the events, and no look-up fails.
 use Rattle.std.proofs.Common.{◌≡◌, ℕ, suc, ◌<◌, Bool, true, Option, Some, None, List, [], ◌∷◌, ◌++◌, length, get_or, refl, sym, ap, ◌∙◌, append_assoc, append-nil, arith}
 use Rattle.std.specs.Prelude.{map, option_map, slice_get, option_copied, IsSome}
 use Rattle.std.specs.Borrow.{Bor}

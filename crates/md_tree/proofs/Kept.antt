@@ -1,4 +1,5 @@
--- What is kept at the index of an event.
+-- What a `Checked` keeps is what the tree of its events says, at each index of an event. The calls of `Checked` only
+-- look something up: what they answer is right by this.
 use Rattle.std.proofs.Common.{◌≡◌, ℕ, ◌<◌, Bool, true, Option, Some, List, length, refl, sym, ap, ◌∙◌, subst}
 use Rattle.std.specs.Prelude.{map, slice_get}
 use Rattle.std.specs.List.{All}

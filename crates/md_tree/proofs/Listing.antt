@@ -1,4 +1,5 @@
--- What a walk keeps of the mentions is all but those of nothing, each with the index of its event.
+-- What a walk keeps of the mentions is all but those of nothing, each with the index of its event. So what is resolved
+-- among those kept is resolved among all, as the grammar asks.
 use Rattle.std.proofs.Common.{◌≡◌, ℕ, zero, suc, ◌+◌, Some, List, [], ◌∷◌, ◌++◌, refl, sym, ap, ◌∙◌, subst, append_assoc, append-nil, arith}
 use Rattle.std.specs.Prelude.{slice_get}
 use Rattle.std.specs.List.{All, Contains}

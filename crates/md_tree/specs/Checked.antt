@@ -10,8 +10,7 @@ abbrev pub given_of : Inside → Document
 given_of inside = handed inside.events.now inside.bytes.now inside.names.now
 
 -- the events are a document's of the grammar, each has what is found at it, the tables, the definitions and the
--- first line
--- ending are theirs, and each was visited once
+-- first line ending are theirs, and each was visited once
 abbrev pub IsKept : Inside → Type 0
 IsKept inside =
     IsChecked (given_of inside)

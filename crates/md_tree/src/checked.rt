@@ -1,3 +1,5 @@
+//! Events that have passed a check, and what is found at them.
+
 ghost use Rattle.std.specs.Prelude.{◌≡◌, ◌↔◌, ◌<◌, Some, length, map, option_map, slice_get, IsTrue};
 ghost use Rattle.md_base.specs.declared.event.Event.{Event};
 ghost use Rattle.md_infer.specs.declared.facts.Fact.{Fact};

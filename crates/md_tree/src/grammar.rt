@@ -1,3 +1,5 @@
+//! The check of a list of events by the grammar.
+
 ghost use Rattle.std.specs.Prelude.{◌≡◌, [], true, false, length, map, IfOk, OnOk, IfErr};
 ghost use Rattle.md_base.specs.Reference.{name_table};
 ghost use Rattle.md_infer.specs.Ending.{first_index};
@@ -25,7 +27,7 @@ use std::alloc::Global;
 ///
 /// # Errors
 ///
-/// `CompileError::Memory` where memory is lacking, and `CompileError::Event` only where the events
+/// `CompileError::Memory` where memory runs out, and `CompileError::Event` only where the events
 /// are the flattening of no such document, with an event and the rule that it breaks.
 ///
 /// # Examples

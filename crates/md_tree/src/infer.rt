@@ -1,3 +1,5 @@
+//! Whether lists and their items are loose, and how the columns of tables are aligned.
+
 ghost use Rattle.std.specs.Prelude.{◌≡◌, ◌⊎◌, if◌then◌else◌, map, IfOk};
 ghost use Rattle.md_base.specs.declared.event.Name.TheVariants as name;
 ghost use Rattle.md_base.specs.Tree.{Forest};
@@ -42,7 +44,7 @@ pub fn list_item_loose(checked: &Checked, index: usize) -> bool
 ///
 /// # Errors
 ///
-/// `AllocError` where memory is lacking.
+/// `AllocError` where memory runs out.
 pub fn gfm_table_align(
     alloc: Global,
     checked: &Checked,

@@ -1,3 +1,5 @@
+//! The rules that are judged where a node ends.
+
 ghost use Rattle.std.specs.Prelude.{◌≡◌, List, length, nat_lt, option_copied, IfOk, if◌then◌else◌};
 ghost use Rattle.md_base.specs.Place.{fits, text_between, label_between};
 ghost use Rattle.md_base.specs.Reference.{name_table, is_number};
@@ -93,7 +95,7 @@ fn is_right_number(around: Role, before: Option<Symbol>, text: &str) -> bool
 fn is_decimal(text: &str) -> bool
     ensures { result ≡ is_number 10 text.now }
 {
-    // `parse` takes a plus sign, which a list's number can't have.
+    // `from_str_radix` takes a plus sign, which a list's number can't have.
     if text.starts_with('+') {
         return false;
     }
@@ -234,8 +236,11 @@ pub fn place_at(events: &[Event], entry: usize, exit: usize) -> Position
 pub struct Source<'t, 'a> {
     /// Where what is kept of them gets its memory.
     pub alloc: Global,
+    /// The events.
     pub events: &'a [Event],
+    /// The document's bytes, of which the texts are found.
     pub bytes: &'t Texts<'a>,
+    /// The names of character references, each with its text.
     pub names: &'a [(&'a str, &'a str)],
 }
 
@@ -246,14 +251,20 @@ pub struct Spot {
     pub around: Role,
     /// The symbol before it.
     pub before: Option<Symbol>,
+    /// What is read of it.
     pub reading: Reading,
-    /// The indices of its events.
+    /// The index of the event that enters it.
     pub entry: usize,
+    /// The index of the event that exits it.
     pub exit: usize,
 }
 
 /// Reads a node whose own target is this one: answers the rule that it breaks, if it breaks one, and goes on with the
 /// target of the spine around it.
+///
+/// # Errors
+///
+/// `AllocError`, only where memory runs out.
 #[inline(always)]
 pub fn read_node(
     source: Source,

@@ -25,6 +25,8 @@ pub enum Mention {
 /// What is mentioned by a node that exits at an index.
 #[derive(Clone, Copy, Debug, PartialEq, Eq)]
 pub struct Mentioned {
+    /// The index of the event that exits the node.
     pub index: usize,
+    /// What the node mentions.
     pub mention: Mention,
 }

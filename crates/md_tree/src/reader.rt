@@ -19,7 +19,9 @@ use std::alloc::AllocError;
 /// What is known of the events that have been read.
 #[derive(Drop)]
 pub struct Reader {
+    /// How far the walk has read them.
     pub walk: Walk,
+    /// What the pass has found at them.
     pub pass: Pass,
     /// The exit of the first line ending.
     pub first_ending: Option<usize>,
@@ -27,6 +29,10 @@ pub struct Reader {
 
 impl Reader {
     /// Before any event.
+    ///
+    /// # Errors
+    ///
+    /// `AllocError`, only where memory runs out.
     pub fn new(source: Source) -> Result<Reader, AllocError>
         ensures { IfOk result
             (λ reader. HasRead source.entry.bytes.now (name_table source.entry.names.now) source.entry.events.now 0 reader) }
@@ -40,6 +46,11 @@ impl Reader {
 
     /// Reads the event at an index, and the next one with it where both enter and exit a node without children; answers
     /// how many it read.
+    ///
+    /// # Errors
+    ///
+    /// `CompileError::Memory` where memory runs out, and `CompileError::Event` where an event that
+    /// is read is refused: with the index of that event, and the rule that it breaks.
     #[inline(always)]
     pub fn advance(
         &mut self,

@@ -1,3 +1,5 @@
+//! Whether the definitions are there to which links, images and footnote calls lead.
+
 ghost use Rattle.std.specs.Prelude.{◌≡◌, ◌↔◌, option_map, string_bytes, IfOk, OnOk, IfErr, IfSome, None, IsTrue};
 ghost use Rattle.std.specs.List.{All, Contains};
 ghost use Rattle.md_tree.specs.Mentions.{identifier_at, defined, footnoted, mentions_among, IsResolved};
@@ -63,6 +65,12 @@ fn is_among(found: &Identifiers, wanted: &Option<String>) -> bool
 }
 
 /// Refuses what leads to a definition or a footnote definition that isn't there.
+///
+/// # Errors
+///
+/// `CompileError::Memory` where memory runs out, and `CompileError::Event` with the index at which
+/// what leads nowhere exits: with `Rule::Definition` for a link or an image, and with
+/// `Rule::Footnote` for a footnote call.
 pub fn resolve(alloc: Global, bytes: &[u8], mentions: &[Mentioned]) -> Result<(), CompileError>
     ensures ok { OnOk result (All (IsResolved bytes.now (mentions_among mentions.now)) (mentions_among mentions.now)) }
     ensures refused { IfErr result (IsUnresolved bytes.now mentions.now) }

@@ -1,3 +1,5 @@
+//! The rules of the grammar, and why a check answers nothing.
+
 use std::alloc::{AllocError, AllocFailed};
 use std::error::Error;
 use std::fmt;

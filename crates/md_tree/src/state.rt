@@ -1,3 +1,5 @@
+//! What is kept of the nodes that are open while events are read.
+
 use md_base::Name;
 use md_pattern::{Reading, State, Symbol};
 
@@ -30,13 +32,17 @@ pub struct Open {
     pub entry: usize,
     /// None where the node is transparent.
     pub outer: Option<Outer>,
+    /// Its name.
     pub name: Name,
 }
 
 /// Where a node's children begin.
 #[derive(Clone, Copy, Debug, PartialEq, Eq)]
 pub struct Entry {
+    /// The spine on which the children stand.
     pub state: State,
+    /// The target of that spine, so far.
     pub target: Aim,
+    /// What waits for the end of the node.
     pub outer: Option<Outer>,
 }

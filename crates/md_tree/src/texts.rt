@@ -65,6 +65,10 @@ impl<'a> Model for Texts<'a> {
 
 impl<'a> Texts<'a> {
     /// Finds the texts.
+    ///
+    /// # Errors
+    ///
+    /// `AllocError`, only where memory runs out.
     pub fn new(alloc: Global, bytes: &'a [u8]) -> Result<Texts<'a>, AllocError>
         ensures { IfOk result (λ texts. texts ≡ bytes.now) }
     {

@@ -1,3 +1,5 @@
+//! The walk over the events, which enters and exits nodes and refuses an event that breaks a rule.
+
 ghost use Rattle.std.specs.Prelude.{◌≡◌, Err, OnOk};
 ghost use Rattle.md_tree.specs.declared.rule.CompileError.TheVariants as error;
 ghost use Rattle.md_tree.specs.Mentions.{mention_of, mentions_with};
@@ -51,6 +53,13 @@ impl Walk {
     }
 
     /// Reads an event, the one at this index.
+    ///
+    /// # Errors
+    ///
+    /// `CompileError::Memory` where memory runs out, and `CompileError::Event` with this index and
+    /// a rule: `Rule::Mdx` where the event enters a node of MDX, `Rule::Order` where no other node
+    /// may be entered there or none of this name may end, and any other rule where the node that
+    /// ends breaks it.
     pub fn step(&mut self, source: Source, index: usize, event: &Event) -> Result<(), CompileError>
         requires { event.now.point ≡ point_at source.events.now index }
         ensures ok { OnOk result
@@ -140,6 +149,11 @@ impl Walk {
     }
 
     /// Enters a node at this index, and leaves it at the next one.
+    ///
+    /// # Errors
+    ///
+    /// Those of `step`: with this index where the entry is refused, and with the next one where the
+    /// exit is.
     pub fn leaf(&mut self, source: Source, index: usize, name: Name) -> Result<(), CompileError>
         requires { index + 1 < length source.events.now }
         ensures ok { OnOk result

@@ -25,7 +25,7 @@ options must be safe.
 
 A script has a line for each option (!NAME or !NAME=VALUE) and for each event
 (+NAME INDEX where a node begins, -NAME INDEX where it ends), then a line --, and
-behind it the document that the indices point into.
+after it the document that the indices point into.
 
     printf -- '+ThematicBreak 0\\n-ThematicBreak 3\\n--\\n***' | mdevents
 
@@ -35,7 +35,7 @@ prints <hr />. Where nothing can be written, a line on standard error says why:
     status 2   line N: unreadable       the line with that number can't be read
     status 3   out of memory
     status 4   input or output failed
-    status 5   unsafe options           with --page alone
+    status 5   unsafe options           only with --page
     status 64  usage: ..                other arguments
 ";
 

@@ -129,7 +129,7 @@ fn calls_of_words(alloc: Global, words: &str) -> Result<Calls, AllocError> {
     Ok(calls)
 }
 
-/// Puts a text, and lays the section of footnotes behind it under the default options.
+/// Puts a text, and lays the section of footnotes after it under the default options.
 fn lay_behind(
     alloc: Global,
     sheet: &mut Sheet,

@@ -111,7 +111,7 @@ fn append_part(alloc: Global, text: &mut Rope, part: &str) -> Result<(), AllocEr
     text.push_str(">")
 }
 
-/// A text behind `<`, in parts.
+/// A text after `<`, in parts.
 fn opened(alloc: Global, text: &str) -> Result<Rope, AllocError> {
     let mut rope = Rope::new(alloc);
     rope.push_str("<")?;

@@ -24,7 +24,7 @@ fn table(alloc: Global, place: usize, times: usize) -> Result<String, AllocError
     Ok(script)
 }
 
-/// Puts a line behind a script so many times.
+/// Puts a line after a script so many times.
 fn push_line(script: &mut String, line: &str, times: usize) -> Result<(), AllocError> {
     for _ in 0..times {
         writeln!(script, "{line}")?;

@@ -327,7 +327,7 @@ fn add_paragraph(
     document.once(&[Exit(Name::Paragraph)])
 }
 
-/// Definitions, and behind them links in this order.
+/// Definitions, and after them links in this order.
 fn linked(alloc: Global, order: &[usize]) -> Result<Document, AllocError> {
     let mut document = Document::new(alloc);
     document.items(&in_order(alloc)?, &DEFINITION)?;
@@ -382,7 +382,7 @@ const FOOTNOTE: [Step; 18] = [
     Exit(Name::GfmFootnoteDefinition),
 ];
 
-/// Calls in this order, and behind them the footnotes.
+/// Calls in this order, and after them the footnotes.
 fn called(alloc: Global, order: &[usize]) -> Result<Document, AllocError> {
     let mut document = Document::new(alloc);
     add_paragraph(&mut document, order, &CALL)?;

@@ -51,7 +51,7 @@ chunk given at = said (encoded true (serialized_of given.bytes at.start at.end))
 abbrev pub code_end : At → List Piece
 code_end at = when (list_any is_chunk (spine_names at.children)) (Needed ∷ []) ++ said (codes "</code></pre>")
 
--- code that has one fence alone
+-- code that has only one fence
 abbrev pub is_unclosed : At → Bool
 is_unclosed at = count_by is_fence (spine_names at.children) == 1
 

@@ -1,3 +1,4 @@
+-- At each turn: the events that were read, and after them what the rest stands for, are what the whole stands for.
 use Rattle.std.proofs.Common.{◌≡◌, ◌++◌, map, drop, Some}
 use Rattle.md_ffi.specs.Events.{event_of}
 use Rattle.md_ffi.proofs.event.read_events.Given as goal

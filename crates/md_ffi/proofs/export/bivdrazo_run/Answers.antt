@@ -1,3 +1,5 @@
+-- What an answer says of a script's text, and of its error as a failure, clause by clause.
+-- By itself the search doesn't go through the statuses of an answer: `AnswerLemmas` does.
 use Rattle.std.proofs.Common.{subst, sym, ap, ◌∙◌}
 use Rattle.md_script.specs.Run.{IsTextOf}
 use Rattle.md_ffi.specs.Failures.{answer_of}

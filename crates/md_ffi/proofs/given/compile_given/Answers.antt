@@ -1,3 +1,5 @@
+-- What was read stands for what C handed in, also as slices: so what `compile_read` says holds of C's arguments.
+-- By itself the search can't carry its promise from the one to the other.
 use Rattle.std.specs.Prelude.{string_bytes}
 use Rattle.md_ffi.proofs.GivenLemmas.{read_as, text_given, refusal_given}
 use Rattle.md_ffi.proofs.given.compile_given.Goals as goal

@@ -1,3 +1,5 @@
+-- The compiler's refusal stays true as the failure that `?` makes of it.
+-- By itself the search can't put the five clauses of a refusal together.
 use Rattle.md_tree.specs.Grammar.{handed}
 use Rattle.md_ffi.proofs.GivenLemmas.{told}
 use Rattle.md_ffi.proofs.given.compile_read.Goals as goal

@@ -1,3 +1,5 @@
+-- A table's columns as the check finds them are the machine's: what is told of an entry is the node's children.
+-- By itself the search can't turn what is known of the check's answer into what is asked of it.
 use Rattle.std.proofs.Common.{◌≡◌, Vec, Global, Option, ap, sym, ◌∙◌}
 use Rattle.md_base.specs.declared.event.AlignKind.{AlignKind}
 use Rattle.md_base.specs.declared.event.Name.TheVariants.{GfmTable}

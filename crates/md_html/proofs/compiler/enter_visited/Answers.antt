@@ -1,3 +1,5 @@
+-- The place, the looseness and the columns that are found for an entry are those that the machine is told.
+-- By itself the search can't put the three into the step one after another.
 use Rattle.std.proofs.Common.{◌≡◌, Option, Bool, List, ap, ◌∙◌}
 use Rattle.md_base.specs.declared.event.AlignKind.{AlignKind}
 use Rattle.md_base.specs.declared.event.Kind.TheVariants.{Enter}

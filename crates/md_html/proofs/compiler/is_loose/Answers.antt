@@ -1,3 +1,5 @@
+-- A list's looseness as the check finds it is the machine's, for both kinds of lists: what is told of an entry is
+-- the node's children. By itself the search can't tell that, or go through the two kinds.
 use Rattle.std.proofs.Common.{◌≡◌, ◌⊎◌, inl, inr, Option, false, ap, sym, ◌∙◌}
 use Rattle.std.specs.Option.{option_map_or}
 use Rattle.md_base.specs.declared.event.Name.{Name}

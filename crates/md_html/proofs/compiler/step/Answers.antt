@@ -1,3 +1,5 @@
+-- To enter and to exit, as the code does them, are the machine's step for an event of that kind, with whether it is
+-- the last. By itself the search can't put these into the step.
 use Rattle.std.proofs.Common.{◌≡◌, Option, Bool, List, ap, sym, ◌∙◌}
 use Rattle.md_base.specs.declared.event.Kind.TheVariants.{Enter}
 use Rattle.md_base.specs.Tree.{Forest}

@@ -1,3 +1,5 @@
+-- The run over a definition's own events logs one definition, the one looked for: so the last of the log is it.
+-- By itself the search can't find what that run logs.
 use Rattle.std.proofs.Common.{◌≡◌, ◌<◌, ℕ, ◌-◌, [], ◌∷◌, length, drop, ap, sym, ◌∙◌, arith, subst, Some, get_or}
 use Rattle.std.specs.Prelude.{slice_get}
 use Rattle.md_pattern.specs.Shape.{IsShaped}

@@ -1,3 +1,5 @@
+-- No definition at the start, one more of the document's own at each turn, all of them at the end; so with visits.
+-- By itself the search can't count along a list, or add up the events.
 use Rattle.std.proofs.Common.{◌++◌, take, ap, sym, ◌∙◌, arith}
 use Rattle.std.specs.Prelude.{slice_get, List}
 use Rattle.std.specs.Option.{option_to_list}

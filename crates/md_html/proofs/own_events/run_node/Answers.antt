@@ -1,3 +1,5 @@
+-- The node's events, and others after them, are those from its entry on: so each turn's event stands at its index.
+-- By itself the search can't choose these other events, nor take the machine one event further.
 use Rattle.std.proofs.Common.{◌≡◌, ◌+◌, List, ◌∷◌, ◌++◌, length, drop, get_or, ap, sym, ◌∙◌, arith, Option, Some, None}
 use Rattle.std.specs.Prelude.{slice_get}
 use Rattle.std.proofs.lemmas.Option.{slice_get_within}

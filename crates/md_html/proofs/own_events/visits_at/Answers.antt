@@ -1,3 +1,5 @@
+-- The partner that is found ends the same node in each document with these events: so its events are so many.
+-- By itself the search can't go from the partner to the length.
 use Rattle.std.proofs.Common.{length, ap, ◌∙◌}
 use Rattle.md_html.specs.OwnDefinitions.{events_at}
 use Rattle.md_html.proofs.OwnNodes.{partner-at}

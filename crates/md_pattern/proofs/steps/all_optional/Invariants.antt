@@ -1,3 +1,4 @@
+-- At each turn: all items from the start on may be left out exactly where all from here on may.
 use Rattle.std.proofs.Common.{◌≡◌, drop}
 use Rattle.std.specs.List.{list_all}
 use Rattle.md_pattern.specs.Steps.{is_optional}

@@ -1,3 +1,5 @@
+-- The two tests tell exactly the roles whose spine can't be empty: a lemma by cases over all roles, which the search
+-- doesn't make.
 use Rattle.std.proofs.Common.{rules}
 use Rattle.md_pattern.proofs.Positions.{empty-complete}
 use Rattle.md_pattern.proofs.steps.can_be_empty.Goals as goal

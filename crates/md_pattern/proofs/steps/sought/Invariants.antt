@@ -1,3 +1,4 @@
+-- At each turn: what is sought from the start is what is sought from here.
 use Rattle.std.proofs.Common.{◌≡◌, drop}
 use Rattle.md_pattern.specs.Steps.{seek}
 use Rattle.md_pattern.proofs.steps.sought.Given as goal

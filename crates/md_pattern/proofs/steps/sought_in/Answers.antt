@@ -1,3 +1,4 @@
+-- The place that is found fits a byte, so the cast keeps it. The search doesn't know how long a pattern is.
 use Rattle.std.proofs.Common.{rules}
 use Rattle.std.proofs.Math.Facts.{Fits-of_lt}
 use Rattle.md_pattern.proofs.Positions.{seek-fits}

@@ -1,3 +1,4 @@
+-- At each turn: what is written, and after it what the rest becomes, is what the whole text becomes.
 use Rattle.std.proofs.Common.{◌≡◌, ◌++◌, string_bytes}
 use Rattle.md_meaning.specs.Texts.{unescaped_pipes}
 use Rattle.md_pieces.proofs.code.unescape_pipes.Given as goal

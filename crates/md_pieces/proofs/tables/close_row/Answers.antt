@@ -1,3 +1,5 @@
+-- The empty cells, and after them the tag, are the row's end printed in one.
+-- By itself the search can't join what is printed in two parts.
 use Rattle.std.proofs.Common.{◌≡◌, [], ◌∷◌, ◌++◌, drop, List, codes, ap, sym, ◌∙◌, subst, OnOk}
 use Rattle.md_meaning.specs.Piece.{Piece, Text, Needed}
 use Rattle.md_printer.specs.Machine.{State, printing}

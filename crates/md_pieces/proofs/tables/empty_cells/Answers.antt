@@ -1,3 +1,5 @@
+-- A column more is one empty cell and then those of the rest; where there is no column there is no cell left.
+-- By itself the search can't take the first of a list's rest, or join what is printed in parts.
 use Rattle.std.proofs.Common.{[], ◌+◌, drop, List, ap, sym, ◌∙◌}
 use Rattle.md_base.specs.declared.event.AlignKind.{AlignKind}
 use Rattle.md_meaning.specs.Piece.{Piece}

@@ -1,3 +1,5 @@
+-- At each turn: to print the cells of the columns that are left is to print those from the first on at the start.
+-- It ends, as fewer columns are left each time.
 use Rattle.std.proofs.Common.{◌≡◌, ◌-◌, length, drop, []}
 use Rattle.md_meaning.specs.Tables as tables
 use Rattle.md_printer.specs.Machine.{printing}

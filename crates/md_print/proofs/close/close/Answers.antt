@@ -1,4 +1,4 @@
--- A name prints in its group alone.
+-- A name prints only in its group.
 use Rattle.std.proofs.Common.{◌≡◌, [], OnOk, sym, subst, ◌∙◌}
 use Rattle.md_printer.specs.Machine.{State}
 use Rattle.md_print.specs.declared.groups.Group.TheVariants.{Text, Span, Block, Autolink, Table}

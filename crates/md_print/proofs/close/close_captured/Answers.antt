@@ -1,4 +1,4 @@
--- Code prints texts alone, so it is all one how lines end; nothing else is printed for it.
+-- Code prints only texts, so how lines end makes no difference; nothing else is printed for it.
 use Rattle.std.proofs.Common.{◌≡◌, ◌++◌, List, [], ℕ, Bool, true, false, OnOk, refl, sym, subst, ap, ◌∙◌, ◌∷◌}
 use Rattle.std.specs.Prelude.{if◌then◌else◌}
 use Rattle.md_base.specs.declared.event.Name.{Name}

@@ -1,3 +1,5 @@
+-- A line with no space after its name writes no event.
+-- By itself the search can't see that the definition finds no place in it.
 use Rattle.std.proofs.Common.{◌∙◌}
 use Rattle.md_script.proofs.LineLemmas.{without_place}
 use Rattle.md_script.proofs.line.read_event.Goals as goal

@@ -1,3 +1,5 @@
+-- After `Other` a number is read; any other text is looked up only among the names that are as long.
+-- By itself the search can't see that no other name can be the text.
 use Rattle.std.proofs.Common.{◌∙◌}
 use Rattle.md_script.proofs.NameLemmas.{at_length, name_of_other, name_of_listed}
 use Rattle.md_script.proofs.name.read_name.Goals as goal

@@ -1,3 +1,5 @@
+-- Where a byte is no digit there is no number; so few digits write less than 10^9, which fits; one more is a step.
+-- By itself the search does no induction over the digits.
 use Rattle.std.proofs.Common.{◌+◌, ◌*◌, sym, ◌∙◌, ap, arith}
 use Rattle.md_script.proofs.NumberLemmas.{value_small, value_more, digits_more, number_none}
 use Rattle.md_script.proofs.number.read_number.Goals as goal

@@ -1,3 +1,5 @@
+-- A line feed after some digits ends the index; so few digits write less than 10^9, which fits; one more is a step.
+-- By itself the search does no induction over the digits.
 use Rattle.std.proofs.Common.{◌+◌, ◌*◌, sym, ◌∙◌, ap, arith}
 use Rattle.md_script.proofs.NumberLemmas.{value_few, value_more, digits_more}
 use Rattle.md_script.proofs.PlainLemmas.{index_read_at}

@@ -1,3 +1,5 @@
+-- Before the first space or line feed of a line's rest there stands no other.
+-- By itself the search does no induction over the bytes.
 use Rattle.md_script.specs.PlainLine.{is_break}
 use Rattle.md_script.proofs.PlainLemmas.{none_until}
 use Rattle.md_script.proofs.plain_line.split_name.Goals as goal

@@ -1,3 +1,5 @@
+-- The compiler's refusal, of options or of an event, stays true as the error that `?` makes of it.
+-- By itself the search can't put the clauses of a refusal together.
 use Rattle.md_script.proofs.RunLemmas.{refusal_of, told_safely}
 use Rattle.md_script.specs.Run.{document_of}
 use Rattle.md_script.proofs.running.compile_safely.Goals as goal

@@ -1,3 +1,5 @@
+-- Nothing is read at first, each read adds its bytes, and one that gives none, with room for some, has met the end.
+-- By itself the search can't join what was read by several reads.
 use Rattle.std.proofs.Common.{◌≡◌, ◌++◌, take, append-nil, sym, ap, ◌∙◌, subst, rules}
 use Rattle.std.proofs.lemmas.List.{places}
 use Rattle.std.specs.Io.KnownBytes.{Consumes}

@@ -1,3 +1,5 @@
+-- What is written goes from the front of the rest to the end of what is done.
+-- By itself the search can't choose the bytes that are done.
 use Rattle.std.proofs.Common.{◌≡◌, ℕ, ◌-◌, List, ◌++◌, length, take, drop, sym, ap, ◌∙◌, append_assoc, take-append-drop}
 use Rattle.std.proofs.lemmas.List.{take_rest}
 use Rattle.std.proofs.KnownBytes.{Appends-trans}

@@ -1,3 +1,5 @@
+-- There is a separator exactly where its first place is found.
+-- By itself the search can't go from a place to the test on all bytes.
 use Rattle.std.proofs.Common.{eqb, is_some, ap, ◌∙◌}
 use Rattle.md_script.proofs.SplitLemmas.{any_from_position}
 use Rattle.md_script.proofs.split.split_at_first.Goals as goal

@@ -1,3 +1,4 @@
+-- At each turn: the value of the text in the entries that are left is its value in the whole table.
 use Rattle.std.proofs.Common.{◌≡◌, drop}
 use Rattle.md_script.specs.Table.{entries_of, listed}
 use Rattle.md_script.proofs.table.listed.Given as goal

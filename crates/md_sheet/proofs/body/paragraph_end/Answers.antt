@@ -1,3 +1,5 @@
+-- A text may be cut where the `</p>` at its end begins, since `<` is ASCII.
+-- By itself the search can't find that byte in the text from the test on the text's end.
 use Rattle.std.proofs.Common.{◌≡◌, codes, length, ℕ, ◌-◌, true, List}
 use Rattle.md_meaning.specs.Footnotes as notes
 use Rattle.md_sheet.proofs.body.paragraph_end.Goals as goal

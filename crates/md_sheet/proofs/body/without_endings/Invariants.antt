@@ -1,3 +1,4 @@
+-- At each turn: without the line endings at its end, what is kept is the same as the whole text. It gets shorter.
 use Rattle.std.proofs.Common.{◌≡◌, length}
 use Rattle.md_meaning.specs.Footnotes as notes
 use Rattle.md_sheet.proofs.body.without_endings.Given as goal

@@ -1,3 +1,5 @@
+-- To write the count at a place one higher is to count one call more there, and no other entry changes.
+-- By itself the search does no induction over the entries.
 use Rattle.std.proofs.Common.{rules, ◌≡◌, ◌+◌, slice_index_or}
 use Rattle.md_sheet.proofs.Placing.{again-set}
 use Rattle.md_sheet.proofs.calls.count_again.Goals as goal

@@ -1,3 +1,5 @@
+-- The map gets a copy of the identifier with the place where the entry will stand: so it still finds each place.
+-- By itself the search can't follow each look-up into the longer list.
 use Rattle.std.proofs.Common.{◌≡◌, ◌∷◌, [], ◌++◌, ap, sym, ◌∙◌, rules, string_bytes}
 use Rattle.md_sheet.specs.Seen.{place_among}
 use Rattle.md_sheet.proofs.Placing.{places-push}

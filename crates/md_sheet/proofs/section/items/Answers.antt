@@ -1,3 +1,5 @@
+-- A footnote more is laid with its id, its text and its ways back, and then the rest; at the end none is left.
+-- By itself the search can't take the first of a list's rest, or lay pieces in parts.
 use Rattle.std.proofs.Common.{◌+◌, List}
 use Rattle.md_meaning.specs.Piece.{lay}
 use Rattle.md_meaning.specs.Footnotes as notes

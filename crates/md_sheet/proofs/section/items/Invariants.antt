@@ -1,3 +1,5 @@
+-- At each turn: to lay the footnotes that are left is to lay all of them on the sheet as it was at the start.
+-- It ends, as fewer are left each time.
 use Rattle.std.proofs.Common.{◌≡◌, ◌+◌, ◌-◌, ◌≤◌, length, drop}
 use Rattle.md_meaning.specs.Piece.{lay}
 use Rattle.md_meaning.specs.Footnotes as notes

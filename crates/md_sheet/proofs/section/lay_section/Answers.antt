@@ -1,3 +1,5 @@
+-- Where there is a call, the opening, the items and the end, laid one after another, are the section.
+-- By itself the search can't lay pieces in parts.
 use Rattle.std.proofs.Common.{◌≡◌, ◌∷◌, [], ◌++◌, ◌==◌, OnOk, length, false, List}
 use Rattle.md_meaning.specs.Piece.{lay}
 use Rattle.md_meaning.specs.Footnotes as notes

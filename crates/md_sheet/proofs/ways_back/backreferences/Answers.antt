@@ -1,3 +1,5 @@
+-- The ways back so far, a space unless there are none, and one way back are the ways back to one call more.
+-- By itself the search can't go from the text to the definition for one more call.
 use Rattle.std.proofs.Common.{rules, ◌≡◌, ◌∷◌, [], ◌++◌, ◌==◌, suc, string_bytes, if◌then◌else◌, ℕ, ◌+◌, List}
 use Rattle.md_meaning.specs.Footnotes as notes
 use Rattle.md_sheet.proofs.ways_back.backreferences.Goals as goal

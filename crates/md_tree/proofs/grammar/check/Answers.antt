@@ -1,3 +1,5 @@
+-- What `check` says where the walk isn't done, where a mention leads nowhere, and where all is well. The search can't
+-- go from how a walk ends to what holds of the events: `Checking` does.
 use Rattle.std.proofs.Common.{◌≡◌, [], ◌∷◌, refl, sym, ap, ◌∙◌, subst, length, List}
 use Rattle.std.specs.Prelude.{map, reverse}
 use Rattle.md_base.specs.declared.event.Event.{Event}

@@ -1,3 +1,5 @@
+-- Where memory is there, the copy has the table's alignments, and one for each value of its delimiter row. The search
+-- doesn't go into the answer, nor know that the table has a table's shape.
 use Rattle.std.proofs.Common.{◌∙◌}
 use Rattle.std.specs.Prelude.{Result, Ok, Err, IfOk}
 use Rattle.md_tree.proofs.Tables.{alignments-values_of_table}

@@ -1,3 +1,5 @@
+-- What the fact says of the item is what is defined of its children. The pass is told it child by child, so it is
+-- shown by induction, in `Telling`.
 use Rattle.std.proofs.Common.{ap, ◌∙◌}
 use Rattle.md_base.specs.declared.event.Name.TheVariants.{ListItem}
 use Rattle.md_infer.specs.declared.facts.Fact.{Fact}

@@ -1,3 +1,5 @@
+-- What the fact says of the list is what is defined of its children, with and without the items. The search doesn't
+-- split the two kinds of lists, and `Telling` shows the rest by induction.
 use Rattle.std.proofs.Common.{◌⊎◌, inl, inr, ℕ, List, sym, ap, ◌∙◌}
 use Rattle.std.specs.Prelude.{if◌then◌else◌}
 use Rattle.md_base.specs.declared.event.Event.{Event}

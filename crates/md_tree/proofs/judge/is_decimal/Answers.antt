@@ -1,3 +1,5 @@
+-- A text with a plus sign before it is no number, and of any other std's reader of numbers says what the definition
+-- says. The search knows neither without the lemmas on digits.
 use Rattle.std.proofs.Common.{◌≡◌, ◌≢◌, ℕ, Bool, true, false, not, ◌&&◌, ◌^◌, eqb, nat_lt, cond, List, [], ◌∷◌, length, get_or, Some, None, Result, Ok, Err, is_ok, sym, ◌∙◌, subst, refl, lit<, arith}
 use Rattle.std.specs.Char.{digit_value}
 use Rattle.std.specs.List.{list_all}

@@ -1,3 +1,4 @@
+-- The law is `flatten_one`, by induction over both trees, which no search makes.
 use Rattle.md_base.specs.declared.event.Name.TheVariants.{Data}
 use Rattle.md_base.specs.declared.event.Point.{Point}
 use Rattle.md_tree.proofs.Indexed.{flatten_one}

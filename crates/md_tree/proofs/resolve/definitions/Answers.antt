@@ -1,3 +1,5 @@
+-- The set has the identifiers of all definitions, in its own order: a definition puts one in, another mention none.
+-- The search doesn't show that two lists have the same in whatever order.
 use Rattle.std.proofs.Common.{ℕ, ◌+◌, List, Option, drop, ap, refl}
 use Rattle.md_tree.specs.declared.mention.Mentioned.{Mentioned}
 use Rattle.md_tree.specs.Mentions.{mentions_among, defined, defined_by}

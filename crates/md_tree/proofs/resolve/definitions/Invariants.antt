@@ -1,3 +1,4 @@
+-- At each turn: what was found, with what the mentions from here on define, is what all mentions define.
 use Rattle.std.proofs.Common.{◌++◌, drop}
 use Rattle.md_tree.specs.Resolve.{identifiers_of, HaveSame}
 use Rattle.md_tree.specs.Mentions.{defined, mentions_among}

@@ -1,3 +1,5 @@
+-- The set has the identifiers of all footnote definitions, in its own order: one of these puts one in, another mention
+-- none. The search doesn't show that two lists have the same in whatever order.
 use Rattle.std.proofs.Common.{ℕ, ◌+◌, List, Option, drop, ap, refl}
 use Rattle.md_tree.specs.declared.mention.Mentioned.{Mentioned}
 use Rattle.md_tree.specs.Mentions.{mentions_among, footnoted, footnoted_by}
@@ -5,7 +7,7 @@ use Rattle.md_tree.proofs.Identifiers.{HaveSame-put, HaveSame-passed, HaveSame-a
 use Rattle.md_tree.proofs.resolve.footnotes.Goals as goal
 use Rattle.md_tree.proofs.resolve.footnotes.Goals.{in-FootnoteDefinition+in_ok-identifier+in_ok-insert, in_default}
 
--- what is defined
+-- what footnotes are defined
 abbrev read : List ℕ → List Mentioned → List (Option (List ℕ))
 read bytes mentioned = footnoted bytes (mentions_among mentioned)
 

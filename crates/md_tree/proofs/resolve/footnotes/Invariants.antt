@@ -1,3 +1,4 @@
+-- At each turn: what was found, with the footnotes that the mentions from here on define, is all that are defined.
 use Rattle.std.proofs.Common.{◌++◌, drop}
 use Rattle.md_tree.specs.Resolve.{identifiers_of, HaveSame}
 use Rattle.md_tree.specs.Mentions.{footnoted, mentions_among}

@@ -1,3 +1,5 @@
+-- A mention that is refused leads nowhere, and after one that passes all so far are resolved. The search doesn't go
+-- from the two sets of identifiers to what the mentions define: `Resolving` does.
 use Rattle.std.proofs.Common.{below_more, get_or}
 use Rattle.md_tree.specs.Mentions.{mentions_among, IsResolved}
 use Rattle.md_tree.specs.Resolve.{identifiers_of}

@@ -1,3 +1,4 @@
+-- At each turn: each mention before this one is resolved.
 use Rattle.std.proofs.Common.{ℕ, ◌<◌, get_or}
 use Rattle.md_tree.specs.declared.mention.Mention.{Mention}
 use Rattle.md_tree.specs.Mentions.{mentions_among, IsResolved}

@@ -1,3 +1,5 @@
+-- What `exit` leaves is the pass after this exit, in an open node and where only the document is left. The search
+-- can't see that the first of the open nodes changes where the last of the vector does.
 use Rattle.std.proofs.Common.{rules, ◌≡◌, ◌<◌, ◌-◌, ◌∷◌, [], length, get_or, refl, sym, ap, ◌∙◌, subst}
 use Rattle.std.specs.Prelude.{set}
 use Rattle.md_infer.specs.contracts.facts.Pass.{the_view}

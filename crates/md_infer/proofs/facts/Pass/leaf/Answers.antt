@@ -1,3 +1,5 @@
+-- What `leaf` leaves is the pass after an entry and its exit, in an open node and in the document itself. The search
+-- can't see that two steps of the definition are the one of the code, nor which open node changes.
 use Rattle.std.proofs.Common.{rules, ◌≡◌, ◌<◌, ◌+◌, ◌-◌, ◌++◌, ◌∷◌, [], length, get_or, sym, ap, ◌∙◌, subst}
 use Rattle.std.specs.Prelude.{set}
 use Rattle.md_infer.specs.contracts.facts.Pass.{the_view}

@@ -1,3 +1,5 @@
+-- An identifier with a place has its count raised there, a new one comes last: one call more, and each place stays.
+-- By itself the search can't go from places in a map to the list of calls.
 use Rattle.std.proofs.Common.{ap, sym, ◌∙◌, string_bytes}
 use Rattle.std.specs.BTreeMap.{get_by_text}
 use Rattle.std.proofs.lemmas.Result.{on_ok_weaker}

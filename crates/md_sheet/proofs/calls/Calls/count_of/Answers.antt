@@ -1,3 +1,5 @@
+-- The count at an identifier's place is how often it is called; without a place that is 0.
+-- By itself the search can't go from places in a map to the list of calls.
 use Rattle.std.proofs.Common.{ap, sym, ◌∙◌}
 use Rattle.std.specs.Prelude.{slice_get}
 use Rattle.std.specs.Option.{option_map_or}

@@ -1,3 +1,5 @@
+-- An identifier's number is one more than its place, which is below the length of the list: so it fits.
+-- By itself the search can't go from places in a map to the list of calls.
 use Rattle.std.proofs.Common.{◌+◌, ap, sym, ◌∙◌, arith, length}
 use Rattle.std.specs.Option.{option_map_or}
 use Rattle.md_meaning.specs.Calls.{number_among}

@@ -1,3 +1,5 @@
+-- The last of the rest is put before those that are kept: what is found in both together stays the same.
+-- By itself the search can't look up in two lists, one after the other.
 use Rattle.std.proofs.Common.{◌∷◌, [], ◌++◌, ap, sym, ◌∙◌, append_assoc}
 use Rattle.md_meaning.specs.Media.{defined_target}
 use Rattle.md_sheet.proofs.LookUps.{found-behind}

@@ -1,3 +1,4 @@
+-- At each turn: what is found in the rest of the list, and then in what is kept, is what is found in the whole list.
 use Rattle.std.proofs.Common.{◌≡◌, ℕ, List, ◌++◌, length}
 use Rattle.md_meaning.specs.Media.{defined_target}
 use Rattle.md_sheet.proofs.definitions.Definitions.first_of.Given as goal

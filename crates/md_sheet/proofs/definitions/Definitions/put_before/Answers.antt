@@ -1,3 +1,5 @@
+-- An entry that is put into the map is found as if its definition stood before all others.
+-- By itself the search can't go from the map's entries to the list of definitions.
 use Rattle.std.proofs.Common.{◌∷◌, ap, ◌∙◌}
 use Rattle.md_meaning.specs.Media.{defined_target}
 use Rattle.md_sheet.specs.Seen.{definitions_in}

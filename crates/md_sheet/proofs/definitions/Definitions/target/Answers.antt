@@ -1,3 +1,5 @@
+-- What the map finds under an identifier is the target of the first definition with it.
+-- By itself the search can't go from the map's entries to the list of definitions.
 use Rattle.std.proofs.Common.{ap, ◌∙◌, unwrap_or}
 use Rattle.md_meaning.specs.Media.{defined_target}
 use Rattle.md_meaning.specs.Piece.{nowhere}

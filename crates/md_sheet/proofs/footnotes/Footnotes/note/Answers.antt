@@ -1,3 +1,5 @@
+-- A footnote whose identifier has a place changes nothing, a new one comes last: both as `noted` says.
+-- By itself the search can't go from places in a map to the list of footnotes.
 use Rattle.std.proofs.Common.{ap, sym, ◌∙◌, string_bytes}
 use Rattle.std.specs.BTreeMap.{get_by_text}
 use Rattle.std.proofs.lemmas.Result.{on_ok_weaker}

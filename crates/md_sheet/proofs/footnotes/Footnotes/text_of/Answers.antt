@@ -1,3 +1,5 @@
+-- The text at an identifier's place is that of the first footnote with it; without a place it is empty.
+-- By itself the search can't go from places in a map to the list of footnotes.
 use Rattle.std.proofs.Common.{[], ap, sym, ◌∙◌, string_bytes}
 use Rattle.std.specs.Prelude.{slice_get}
 use Rattle.std.specs.Option.{option_map_or}

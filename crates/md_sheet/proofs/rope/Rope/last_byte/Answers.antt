@@ -1,3 +1,5 @@
+-- The first part in the list that isn't empty has the text's last byte, where the last part is empty.
+-- By itself the search can't see that a text's last byte is that of its end.
 use Rattle.std.proofs.Common.{◌∷◌, ◌+◌, ap, sym, ◌∙◌, drop, string_bytes, String, Global, List}
 use Rattle.std.proofs.lemmas.List.{drop_more}
 use Rattle.md_sheet.specs.Ropes.{joined}

@@ -1,3 +1,4 @@
+-- At each turn: the last byte of the text is that of the parts that are left, as all others so far are empty.
 use Rattle.std.proofs.Common.{◌≡◌, drop}
 use Rattle.md_sheet.specs.Ropes.{joined}
 use Rattle.md_sheet.proofs.Ropes.{last}

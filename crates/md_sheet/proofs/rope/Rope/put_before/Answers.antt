@@ -1,3 +1,5 @@
+-- A part that is added to the list stands before all others in the text, and the length counts it.
+-- By itself the search does no induction over the parts.
 use Rattle.std.proofs.Common.{rules, ◌≡◌, ◌+◌, ◌-◌, ◌^◌, ◌++◌, List, ℕ, length, ap, sym, ◌∙◌, append_assoc, string_bytes}
 use Rattle.std.specs.Prelude.{min}
 use Rattle.md_sheet.specs.Ropes.{joined, counted_up}

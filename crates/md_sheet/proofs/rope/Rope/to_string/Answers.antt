@@ -1,3 +1,5 @@
+-- The last part in the list is the first of the text that is left, and comes after what is copied.
+-- By itself the search can't take a part off the end of the list.
 use Rattle.std.proofs.Common.{◌++◌, ap, sym, ◌∙◌, append_assoc, string_bytes}
 use Rattle.md_sheet.specs.Ropes.{joined}
 use Rattle.md_sheet.proofs.Ropes.{joined-push}

@@ -1,3 +1,4 @@
+-- At each turn: what is copied, and after it the text of the parts that are left, is the text of all in the list.
 use Rattle.std.proofs.Common.{◌≡◌, ◌++◌, length, string_bytes}
 use Rattle.md_sheet.specs.Ropes.{joined}
 use Rattle.md_sheet.proofs.rope.Rope.to_string.Given as goal

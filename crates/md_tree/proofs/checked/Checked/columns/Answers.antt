@@ -1,3 +1,5 @@
+-- The index is one of a fact, the fact's place is one of a table, and the alignments there are those of the node. The
+-- search doesn't know what a `Checked` keeps: `Kept` says it.
 use Rattle.std.proofs.Common.{◌≡◌, ◌<◌, Option, Some, List, length, sym, ap, ◌∙◌, subst}
 use Rattle.std.specs.Prelude.{map, slice_get}
 use Rattle.md_base.specs.declared.event.AlignKind.{AlignKind}

@@ -1,3 +1,5 @@
+-- The indices that are kept are those of the document's definitions, and at each an event enters one. The search
+-- doesn't know what a `Checked` keeps: `Kept` says it.
 use Rattle.std.proofs.Common.{subst, sym}
 use Rattle.std.specs.List.{All}
 use Rattle.md_base.specs.declared.event.Name.TheVariants.{Definition}

@@ -1,3 +1,5 @@
+-- Where an event enters a node, its index is one of a fact, and the fact is that of the node. The search doesn't know
+-- what a `Checked` keeps: `Kept` says it.
 use Rattle.std.proofs.Common.{◌<◌, length, sym, ap, ◌∙◌, subst}
 use Rattle.std.specs.Prelude.{slice_get}
 use Rattle.md_tree.proofs.Kept.{facts-inside, node-entered, fact-kept}

@@ -1,3 +1,5 @@
+-- What the fact says of a resource is what is defined of the node's children. The search doesn't split a link from an
+-- image, and what the pass has found is shown by induction, in `Searching`.
 use Rattle.std.proofs.Common.{◌≡◌, ◌⊎◌, inl, inr, ℕ, suc, List, refl, ap, ◌∙◌}
 use Rattle.md_base.specs.declared.event.Event.{Event}
 use Rattle.md_base.specs.declared.event.Name.TheVariants.{Link, Image}

@@ -1,3 +1,5 @@
+-- The place and the text of the label are there, so neither `unwrap` fails, and the text is the defined one. It holds
+-- as a label with no text would break a rule: `Indexed` shows it, and the search doesn't find it.
 use Rattle.std.proofs.Common.{◌≡◌, ℕ, sym, ap, ◌∙◌}
 use Rattle.std.specs.Prelude.{option_copied}
 use Rattle.md_base.specs.Place.{label_between}

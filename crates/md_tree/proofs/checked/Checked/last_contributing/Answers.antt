@@ -1,3 +1,5 @@
+-- The place in the fact is the last contributing child that is defined of the item. The pass finds it from the first
+-- child to the last, so it is shown by induction, in `Contributing`.
 use Rattle.std.proofs.Common.{ap, ◌∙◌}
 use Rattle.md_base.specs.declared.event.Name.TheVariants.{ListItem}
 use Rattle.md_infer.specs.declared.facts.Fact.{Fact}

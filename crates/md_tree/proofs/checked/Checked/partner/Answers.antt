@@ -1,3 +1,5 @@
+-- The partner in the fact is the one that the tree of the events gives. The search doesn't name that tree, the one
+-- that the check has read.
 use Rattle.std.proofs.Common.{◌≡◌, ℕ, Option, ap, ◌∙◌}
 use Rattle.std.specs.Prelude.{option_map, slice_get}
 use Rattle.md_tree.specs.declared.checked.Checked.TheInside.{Inside}

@@ -1,3 +1,5 @@
+-- Where the node lies that a name reads: for each such name the fact has the place that was sought, which is the
+-- defined one. The search doesn't go through the names, nor make the induction of `Searching`.
 use Rattle.std.proofs.Common.{◌≡◌, ℕ, suc, true, false, refl, ap, ◌∙◌}
 use Rattle.md_base.specs.declared.event.Name.{Name}
 use Rattle.md_base.specs.declared.event.Name.TheVariants.{HeadingAtx, ListOrdered, Link, Image, GfmFootnoteCall, Definition, GfmFootnoteDefinition}

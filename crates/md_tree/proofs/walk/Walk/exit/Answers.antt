@@ -1,3 +1,5 @@
+-- What stops `leave` stops the walk at this exit. `leave` is called when the innermost node is off the stack, and the
+-- search can't go from that walk back to the one before.
 use Rattle.std.proofs.Common.{◌≡◌, List, [], ◌∷◌, ◌++◌, Result, Ok, Err, ap, ◌∙◌}
 use Rattle.std.specs.Prelude.{map, option_map, reverse, IfErr}
 use Rattle.std.proofs.lemmas.List.{map-append, reverse-append}

@@ -1,3 +1,5 @@
+-- What `leaf` answers where a node may stand: the walk's course after both its events, or why the exit stops it. The
+-- search doesn't find the course between the two events, which the code never makes.
 use Rattle.std.proofs.Common.{◌≡◌, ◌⊎◌, Some, None, sym, ◌∙◌, subst, add-one, suc}
 use Rattle.md_base.specs.Reference.{name_table}
 use Rattle.md_pattern.specs.declared.kinds.Standing.TheVariants.{Through, Space}

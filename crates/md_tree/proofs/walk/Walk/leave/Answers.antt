@@ -1,3 +1,5 @@
+-- A node whose spine may end, but which breaks a rule, stops the walk. The search doesn't go through the rules: one
+-- that is broken here is never that of the order.
 use Rattle.std.proofs.Common.{refl, sym, ◌∙◌}
 use Rattle.md_base.specs.Reference.{name_table}
 use Rattle.md_tree.specs.Walk.{point_at, outer_seen, course_of}
