@@ -63,7 +63,7 @@ pub(crate) fn answer_to(failure: &Failure) -> Answer
     }
 }
 
-/// The answer that tells a status and an index alone.
+/// The answer that tells only a status and an index.
 fn about(status: u32, index: usize) -> Answer
     ensures { result ≡ record { status = status; rule = 0; index = index; length = 0 } }
 {
@@ -105,7 +105,7 @@ pub(crate) fn hand_over(text: &str, buffer: &mut [u8]) -> Answer
     with_length(OK, bytes.len())
 }
 
-/// The answer that tells a status and a length alone.
+/// The answer that tells only a status and a length.
 fn with_length(status: u32, length: usize) -> Answer
     ensures { result ≡ record { status = status; rule = 0; index = 0; length = length } }
 {

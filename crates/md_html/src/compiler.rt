@@ -431,7 +431,7 @@ fn enter_visited(
     enter(printer, source, told, event.name, event.point)
 }
 
-/// Goes over a node without children that prints at its exit alone, if at all.
+/// Goes over a node without children that prints only at its exit, if at all.
 fn leaf(
     printer: &mut Printer,
     source: &Source,

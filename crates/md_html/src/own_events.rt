@@ -1,4 +1,4 @@
-//! Definitions, each compiled from its own events alone.
+//! Definitions, each compiled only from its own events.
 
 ghost use Rattle.std.specs.Prelude.{◌≡◌, ◌++◌, ℕ, List, IfOk, OnOk, Some, take, drop, slice_get, length, ◌≤◌};
 ghost use Rattle.std.specs.Option.{option_to_list};

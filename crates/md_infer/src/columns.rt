@@ -86,6 +86,10 @@ impl Columns {
     }
 
     /// The entry of a node.
+    ///
+    /// # Errors
+    ///
+    /// `AllocError`, only where memory runs out.
     pub fn enter(&mut self, name: Name) -> Result<(), AllocError>
         ensures { OnOk result (self.new ≡ spec.columns_entered name self.old) }
     {
@@ -99,6 +103,10 @@ impl Columns {
     }
 
     /// The exit of a node whose children tell this, in one where values are collected or not.
+    ///
+    /// # Errors
+    ///
+    /// `AllocError`, only where memory runs out.
     #[inline(always)]
     pub fn exit(
         &mut self,

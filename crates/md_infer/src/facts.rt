@@ -23,6 +23,7 @@ pub struct Fact {
     /// The index of the entry of what is read of the node: of an item its last contributing child,
     /// of another node what its name reads; 0 where there is none. Of a table which of the tables it is.
     pub place: usize,
+    /// Whether the node is loose, by its children, as a list or as an item.
     pub looseness: Looseness,
     /// A resource stands on the spine of a link or an image.
     pub has_resource: bool,
@@ -35,7 +36,9 @@ pub struct OpenNode {
     pub entry: usize,
     /// The entry of its last contributing child, 0 where there is none.
     pub contributing: usize,
+    /// How the spine on which its children stand has been searched so far.
     pub sought: Sought,
+    /// What its children so far tell of its looseness and its alignment.
     pub told: Told,
     /// A value in it is one of the table around it.
     pub collects: bool,
@@ -210,10 +213,16 @@ fn search_leaf(sought: &mut Sought, name: Name, entry: usize)
 /// the order of their exits, the exit of the first line ending, and how many events were visited for it.
 #[derive(Drop)]
 pub struct Facts {
+    /// What is found at each event, in the order of the events.
     pub facts: Vec<Fact>,
+    /// The alignments of each table's columns, in the order of the tables' exits.
     pub tables: Vec<Vec<AlignKind>>,
+    /// The indices of the events that enter the definitions, in the order of their exits.
     pub definitions: Vec<usize>,
+    /// The index of the event that exits the first line ending, blank or not; None where there is
+    /// none.
     pub first_ending: Option<usize>,
+    /// How many events were visited to find this.
     pub visits: usize,
 }
 
@@ -231,6 +240,7 @@ pub struct Pass {
 /// What the nodes leave that have ended.
 #[derive(Drop)]
 pub struct Ended {
+    /// The alignments of the tables that have ended, and of those that are open.
     pub columns: Columns,
     /// The entries of the definitions.
     pub definitions: Vec<usize>,
@@ -246,6 +256,10 @@ impl Model for Pass {
 
 impl Pass {
     /// Before any of so many events.
+    ///
+    /// # Errors
+    ///
+    /// `AllocError`, only where memory runs out.
     pub fn new(alloc: Global, events: usize) -> Result<Pass, AllocError>
         ensures { IfOk result (λ pass. pass ≡ spec.nothing_passed) }
     {
@@ -261,6 +275,10 @@ impl Pass {
     }
 
     /// Finds what the next event tells.
+    ///
+    /// # Errors
+    ///
+    /// `AllocError`, only where memory runs out.
     pub fn find(&mut self, alloc: Global, event: &Event) -> Result<(), AllocError>
         ensures { OnOk result (self.new ≡ spec.passed event.now.kind event.now.name self.old) }
     {
@@ -271,6 +289,10 @@ impl Pass {
     }
 
     /// Finds what a node without children tells, which exits right after its entry.
+    ///
+    /// # Errors
+    ///
+    /// `AllocError`, only where memory runs out.
     pub fn leaf(&mut self, alloc: Global, name: Name) -> Result<(), AllocError>
         ensures { OnOk result (self.new ≡ spec.passed_exit name (spec.passed_entry name self.old)) }
     {

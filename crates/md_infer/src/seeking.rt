@@ -47,7 +47,9 @@ pub enum Found {
 pub struct Sought {
     /// The index of the event that enters what is read, 0 where there is none.
     pub place: usize,
+    /// What is sought on the spine.
     pub wanted: Wanted,
+    /// What has been found on it so far.
     pub found: Found,
     /// A resource stands on the spine of a link or an image.
     pub has_resource: bool,
@@ -56,12 +58,15 @@ pub struct Sought {
 /// What a node is on a spine on which something is sought.
 #[derive(Clone, Copy, Debug, PartialEq, Eq)]
 pub enum Sight {
+    /// Nothing that the search looks at.
     Other,
     /// It is what is sought.
     Itself,
     /// It holds what is sought.
     Holder,
+    /// The reference of a link or an image.
     Reference,
+    /// The resource of a link or an image.
     Resource,
 }
 

@@ -42,6 +42,7 @@ pub enum Last {
 /// What the children so far tell.
 #[derive(Clone, Copy, Debug, PartialEq, Eq)]
 pub struct Told {
+    /// What the last child is.
     pub last: Last,
     /// The first child is a marker of a delimiter row.
     pub begins_with_marker: bool,

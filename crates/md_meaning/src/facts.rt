@@ -43,7 +43,7 @@ pub struct Spine {
     pub has_fence: bool,
     /// There are two fences or more.
     pub has_second_fence: bool,
-    /// There is a line of code.
+    /// There is a line of code or of mathematics.
     pub has_chunk: bool,
     /// How many cells there are.
     pub cells: usize,

@@ -455,7 +455,7 @@ pub fn meaning_under_html()
     ensures { MeansWith options.html options.each_name_bytes options.each_name options.html_text }
 {}
 
-/// The tag filter alone, where HTML is escaped.
+/// Only the tag filter, where HTML is escaped.
 pub fn meaning_under_tag_filter()
     ensures { MeansWith options.tag_filter options.each_name_bytes options.each_name options.tag_filter_text }
 {}

@@ -14,7 +14,7 @@ enum Tool {
     /// `encode`, with or without HTML.
     Encode(bool),
     Sanitize,
-    /// `sanitize_with_protocols`, with `http` alone.
+    /// `sanitize_with_protocols`, with only `http`.
     SanitizeWithHttp,
     Tagfilter,
     Normalize,

@@ -7,9 +7,13 @@ pub enum Symbol {
     Text,
     LineEnding,
     BlankLineEnding,
+    /// The marker that a character reference begins with.
     ReferenceMarker,
+    /// The marker of a numeric character reference.
     ReferenceNumeric,
+    /// The marker of a hexadecimal character reference.
     ReferenceHexadecimal,
+    /// The value of a character reference.
     ReferenceValue,
     /// What may stand in a paragraph and is no text.
     Span,
@@ -17,18 +21,24 @@ pub enum Symbol {
     Block,
     SetextText,
     SetextUnderline,
+    /// The prefix of a footnote definition.
     FootnotePrefix,
+    /// The label in the prefix of a footnote definition.
     FootnoteLabel,
     ListItem,
     ListItemPrefix,
     ListItemValue,
     ListItemMarker,
+    /// A mark of an ATX heading.
     HeadingSequence,
+    /// The text of an ATX heading.
     HeadingText,
+    /// A line of code in a block.
     CodeFlowChunk,
     CodeFence,
     CodeInfo,
     CodeMeta,
+    /// A line of mathematics in a block.
     MathFlowChunk,
     MathFence,
     MathMeta,
@@ -36,9 +46,13 @@ pub enum Symbol {
     MathTextData,
     HtmlFlowData,
     HtmlTextData,
+    /// The label of a link, an image or a footnote call.
     Label,
+    /// The text in such a label.
     LabelText,
+    /// The resource of a link or an image.
     Resource,
+    /// The reference of a link or an image.
     ReferenceString,
     ResourceDestination,
     ResourceTitle,
@@ -50,8 +64,11 @@ pub enum Symbol {
     TableRow,
     TableCell,
     TableDelimiterRow,
+    /// The value of a cell in a delimiter row.
     TableDelimiterValue,
+    /// A marker in such a value.
     TableDelimiterMarker,
+    /// What says that a task is checked.
     TaskChecked,
 }
 
@@ -61,25 +78,37 @@ pub enum Role {
     /// The document, and a block quote.
     Flow,
     FootnoteDefinition,
+    /// The prefix of a footnote definition.
     FootnotePrefix,
     OrderedList,
     UnorderedList,
     /// The first item of an ordered list, whose value is the list's number.
     FirstOrderedItem,
+    /// An item of an ordered list that isn't the first.
     OrderedItem,
+    /// An item of an unordered list, and the usual role of an item.
     Item,
+    /// The prefix of the first item of an ordered list.
     FirstOrderedPrefix,
+    /// The prefix of an item of an ordered list that isn't the first.
     OrderedPrefix,
+    /// The prefix of an item of an unordered list, and the usual role of a prefix.
     Prefix,
+    /// What holds text and spans, as a paragraph does.
     Phrasing,
+    /// An ATX heading.
     Heading,
     CodeIndented,
     CodeFenced,
+    /// The first fence, which may have an info and a meta.
     FirstCodeFence,
     /// A fence that isn't the first.
     CodeFence,
+    /// Mathematics in a block.
     Math,
+    /// The first fence of mathematics, which may have a meta.
     FirstMathFence,
+    /// A fence of mathematics that isn't the first.
     MathFence,
     CodeText,
     MathText,
@@ -88,17 +117,21 @@ pub enum Role {
     /// A link or an image.
     Media,
     FootnoteCall,
+    /// The label of a link or an image, and the usual role of a label.
     Label,
     /// The label of a footnote call, which has a text.
     CallLabel,
+    /// The resource of a link or an image.
     Resource,
     Definition,
+    /// What holds text and no spans, as a title does.
     String,
     Table,
     TableHead,
     TableBody,
     TableRow,
     TableDelimiterRow,
+    /// The value of a cell in a delimiter row.
     TableDelimiterValue,
     TaskCheck,
     Frontmatter,
@@ -133,8 +166,11 @@ pub enum Reading {
     Resource,
     /// A link or an image.
     Media,
+    /// A footnote call, which mentions its label.
     Call,
+    /// A definition, which mentions its label.
     Definition,
+    /// A footnote definition, which mentions its label.
     FootnoteDefinition,
 }
 
@@ -155,10 +191,15 @@ pub enum Standing {
 /// Which symbols may stand at a place of a pattern; a group is seen by its first symbol.
 #[derive(Clone, Copy, Debug, PartialEq, Eq)]
 pub enum Class {
+    /// Characters, character references and line endings.
     String,
+    /// These and spans.
     Phrasing,
+    /// These, and blocks, setext headings and blank line endings.
     Flow,
+    /// The symbol.
     Only(Symbol),
+    /// One of the two symbols.
     Either(Symbol, Symbol),
     /// The symbol, or a line ending of either kind.
     OrLine(Symbol),
@@ -167,14 +208,19 @@ pub enum Class {
 /// How often an item of a pattern may be there.
 #[derive(Clone, Copy, Debug, PartialEq, Eq)]
 pub enum Times {
+    /// Exactly once.
     Once,
+    /// At most once.
     Maybe,
+    /// Any number of times, or never.
     Many,
 }
 
 /// One item of a pattern.
 #[derive(Clone, Copy, Debug, PartialEq, Eq)]
 pub struct Item {
+    /// How often it may be there.
     pub times: Times,
+    /// Which symbols it takes.
     pub class: Class,
 }

@@ -26,5 +26,6 @@ pub struct State {
     pub role: Role,
     /// The last symbol.
     pub before: Option<Symbol>,
+    /// How far the group has been read that is open, if one is.
     pub stage: Stage,
 }

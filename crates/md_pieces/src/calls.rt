@@ -46,6 +46,11 @@ fn put_tags(printer: &mut Printer, footnote: &str, id: &str, number: &str) -> Re
 }
 
 /// Prints a call, numbered after those that were seen: nothing in an image.
+///
+/// # Errors
+///
+/// `AllocError`, only where memory runs out, or where one identifier is called more often than a
+/// `usize` counts.
 pub fn call(
     printer: &mut Printer,
     source: &Source,

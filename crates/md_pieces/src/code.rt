@@ -10,6 +10,10 @@ use std::alloc::{AllocError, Global};
 
 /// The text of code where it stands: in a table each backslash directly before a pipe goes, and then one space
 /// goes at each end of a text that is padded.
+///
+/// # Errors
+///
+/// `AllocError`, only where memory runs out.
 pub fn code_text(alloc: Global, around: Surroundings, text: &str) -> Result<String, AllocError>
     ensures { IfOk result (λ code. string_bytes code ≡ texts.code_text around text.now) }
 {

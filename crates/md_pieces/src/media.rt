@@ -17,6 +17,10 @@ use md_text::{encode, sanitize, sanitize_with_protocols};
 use std::alloc::{AllocError, Global};
 
 /// A link's destination as it is written.
+///
+/// # Errors
+///
+/// `AllocError`, only where memory runs out.
 pub fn href_of(
     alloc: Global,
     options: &CompileOptions,
@@ -140,7 +144,11 @@ fn link_to(
     link_end(alloc, printer, label)
 }
 
-/// Prints a link: in an image its label alone.
+/// Prints a link: in an image only its label.
+///
+/// # Errors
+///
+/// `AllocError`, only where memory runs out.
 pub fn link(
     printer: &mut Printer,
     source: &Source,
@@ -197,7 +205,11 @@ fn image_of(
     printer.put(" />")
 }
 
-/// Prints an image: in another its label alone.
+/// Prints an image: in another only its label.
+///
+/// # Errors
+///
+/// `AllocError`, only where memory runs out.
 pub fn image(
     printer: &mut Printer,
     source: &Source,
@@ -231,6 +243,10 @@ fn joined(alloc: Global, prefix: &str, text: &str) -> Result<String, AllocError>
 }
 
 /// Prints an autolink: its text, in a link to a prefix and its text unless it is plain.
+///
+/// # Errors
+///
+/// `AllocError`, only where memory runs out.
 pub fn autolink(
     printer: &mut Printer,
     source: &Source,

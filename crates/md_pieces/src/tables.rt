@@ -56,6 +56,10 @@ fn cell(
 }
 
 /// Prints a cell after its children, whose page it is handed, if the table has its column.
+///
+/// # Errors
+///
+/// `AllocError`, only where memory runs out.
 pub fn close_cell(
     alloc: Global,
     printer: &mut Printer,
@@ -92,6 +96,10 @@ fn empty_cells(
 }
 
 /// Prints the end of a row: empty cells for the columns that it has no cells for, and its tag.
+///
+/// # Errors
+///
+/// `AllocError`, only where memory runs out.
 pub fn close_row(printer: &mut Printer, ending: &str, exit: &Exit) -> Result<(), AllocError>
     ensures { OnOk result (printer.new ≡ printing ending.now (tables.row_closing exit.now.around (left_at exit.now [] (first_or [] printer.old.tables)) printer.old.frame.passed) printer.old) }
 {

@@ -15,6 +15,10 @@ use md_text::gfm_tagfilter;
 use std::alloc::AllocError;
 
 /// Prints a node's text, escaped where its surroundings say so.
+///
+/// # Errors
+///
+/// `AllocError`, only where memory runs out.
 pub fn data(printer: &mut Printer, source: &Source, exit: &Exit) -> Result<(), AllocError>
     ensures { OnOk result (printer.new ≡ printing [] (texts.data_pieces (given_of source.now) exit.now.around exit.now.start exit.now.end) printer.old) }
 {
@@ -23,6 +27,10 @@ pub fn data(printer: &mut Printer, source: &Source, exit: &Exit) -> Result<(), A
 }
 
 /// Prints HTML, disarmed by the tag filter where HTML may stand.
+///
+/// # Errors
+///
+/// `AllocError`, only where memory runs out.
 pub fn html(printer: &mut Printer, source: &Source, exit: &Exit) -> Result<(), AllocError>
     ensures { OnOk result (printer.new ≡ printing [] (texts.html_pieces (given_of source.now) exit.now.around exit.now.start exit.now.end) printer.old) }
 {
@@ -47,6 +55,10 @@ fn marker_of(name: Option<Name>) -> u8
 }
 
 /// Prints what a reference stands for, escaped where its surroundings say so.
+///
+/// # Errors
+///
+/// `AllocError`, only where memory runs out.
 pub fn reference(printer: &mut Printer, source: &Source, exit: &Exit) -> Result<(), AllocError>
     ensures { OnOk result (printer.new ≡ printing [] (texts.reference_pieces (given_of source.now) exit.now.around (left_at exit.now [] []) exit.now.start exit.now.end) printer.old) }
 {
@@ -79,6 +91,10 @@ fn is_dropped(exit: &Exit) -> bool
 }
 
 /// Prints a line ending: a space in code, else its own text unless it is dropped.
+///
+/// # Errors
+///
+/// `AllocError`, only where memory runs out.
 pub fn line_ending(printer: &mut Printer, source: &Source, exit: &Exit) -> Result<(), AllocError>
     ensures { OnOk result (printer.new ≡ printing [] (texts.line_ending_pieces (given_of source.now) exit.now.around (left_at exit.now [] []) exit.now.start exit.now.end) printer.old) }
 {

@@ -32,6 +32,10 @@ use md_sheet::Sheet;
 use std::alloc::{AllocError, Global};
 
 /// Prints what a node whose children aren't captured prints after them.
+///
+/// # Errors
+///
+/// `AllocError`, only where memory runs out.
 pub fn close(
     printer: &mut Printer,
     source: &Source,
@@ -184,6 +188,11 @@ fn close_table(
 }
 
 /// Prints or notes what a node whose children are captured prints or notes after them.
+///
+/// # Errors
+///
+/// `AllocError`, only where memory runs out, or where one identifier is called more often than a
+/// `usize` counts.
 pub fn close_captured(
     printer: &mut Printer,
     source: &Source,
@@ -304,7 +313,7 @@ fn heading_closing(rank: usize) -> &'static str
     }
 }
 
-/// Prints a setext heading, whose text was put aside, with the rank that its underline tells.
+/// Prints a setext heading, whose text was noted, with the rank that its underline tells.
 fn setext(printer: &mut Printer, source: &Source, exit: &Exit) -> Result<(), AllocError>
     ensures { OnOk result (printer.new ≡ printing source.now.ending.now (blocks.setext_pieces (given_of source.now) exit.now.start) printer.old) }
 {

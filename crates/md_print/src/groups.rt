@@ -95,7 +95,7 @@ pub fn group_of(name: Name) -> Group
     }
 }
 
-/// A group whose nodes print at their exits alone, if at all, and without a page of their own.
+/// A group whose nodes print only at their exits, if at all, and without a page of their own.
 pub fn is_light(group: Group) -> bool
     ensures { result ≡ closings.is_light group }
 {

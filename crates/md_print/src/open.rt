@@ -17,6 +17,10 @@ use md_printer::source::{Source, length_of, text_of, without_zeros};
 use std::alloc::AllocError;
 
 /// Prints what a node prints before its children.
+///
+/// # Errors
+///
+/// `AllocError`, only where memory runs out.
 pub fn open(
     printer: &mut Printer,
     source: &Source,
@@ -62,7 +66,11 @@ pub fn open(
     }
 }
 
-/// Prints a tag, but in an image.
+/// Prints a tag, except in an image.
+///
+/// # Errors
+///
+/// `AllocError`, only where memory runs out.
 pub fn outside_images(
     printer: &mut Printer,
     around: Surroundings,

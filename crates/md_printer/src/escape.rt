@@ -9,6 +9,10 @@ use crate::printer::Printer;
 use std::alloc::AllocError;
 
 /// Prints a text, escaped where `escaping` says so; what stays as it is goes onto the page in runs.
+///
+/// # Errors
+///
+/// `AllocError`, only where memory runs out.
 pub fn put_encoded(printer: &mut Printer, text: &str, escaping: bool) -> Result<(), AllocError>
     ensures { OnOk result (printer.new ≡ printing [] (said (encoded escaping text.now)) printer.old) }
 {

@@ -8,6 +8,10 @@ use crate::printer::Printer;
 use std::alloc::AllocError;
 
 /// Prints a tag on a line of its own.
+///
+/// # Errors
+///
+/// `AllocError`, only where memory runs out.
 pub fn on_own_line(printer: &mut Printer, ending: &str, tag: &str) -> Result<(), AllocError>
     ensures { OnOk result (printer.new ≡ printing ending.now (blocks.on_own_line tag.now) printer.old) }
 {

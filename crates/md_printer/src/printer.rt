@@ -46,6 +46,10 @@ impl Printer {
     ghost use Rattle.md_printer.specs.Sources.{frame_of, exit_in, leaf_in};
 
     /// Prints a text.
+    ///
+    /// # Errors
+    ///
+    /// `AllocError`, only where memory runs out.
     pub fn put(&mut self, text: &str) -> Result<(), AllocError>
         ensures { OnOk result (self.new ≡ machine.printing [] (said text.now) self.old) }
     {
@@ -53,6 +57,10 @@ impl Printer {
     }
 
     /// Prints a text in parts, without copying the longer of it and the page.
+    ///
+    /// # Errors
+    ///
+    /// `AllocError`, only where memory runs out.
     pub fn append(&mut self, alloc: Global, text: Rope) -> Result<(), AllocError>
         ensures { OnOk result (self.new ≡ machine.printing [] (said text) self.old) }
     {
@@ -60,6 +68,10 @@ impl Printer {
     }
 
     /// Prints a line ending, unless a line starts here.
+    ///
+    /// # Errors
+    ///
+    /// `AllocError`, only where memory runs out.
     pub fn need(&mut self, ending: &str) -> Result<(), AllocError>
         ensures { OnOk result (self.new ≡ machine.printing ending.now (Needed ∷ []) self.old) }
     {
@@ -67,6 +79,10 @@ impl Printer {
     }
 
     /// Prints a line ending.
+    ///
+    /// # Errors
+    ///
+    /// `AllocError`, only where memory runs out.
     pub fn force(&mut self, ending: &str) -> Result<(), AllocError>
         ensures { OnOk result (self.new ≡ machine.printing ending.now (Forced ∷ []) self.old) }
     {
@@ -102,6 +118,11 @@ impl Printer {
     }
 
     /// Adds a footnote call to those that were seen.
+    ///
+    /// # Errors
+    ///
+    /// `AllocError`, only where memory runs out, or where one identifier is called more often than
+    /// a `usize` counts.
     pub fn log_call(&mut self, identifier: String) -> Result<(), AllocError>
         ensures { OnOk result (self.new ≡ record self.old { log = record self.old.log { called = counted self.old.log.called (string_bytes identifier) } }) }
     {
@@ -109,6 +130,10 @@ impl Printer {
     }
 
     /// Adds a footnote to those that were seen.
+    ///
+    /// # Errors
+    ///
+    /// `AllocError`, only where memory runs out.
     pub fn log_footnote(&mut self, identifier: String, text: String) -> Result<(), AllocError>
         ensures { OnOk result (self.new ≡ record self.old { log = record self.old.log { footnotes = noted self.old.log.footnotes (record { identifier = string_bytes identifier; text = string_bytes text }) } }) }
     {
@@ -148,6 +173,10 @@ impl Printer {
     }
 
     /// Enters a table whose columns have these alignments, if it is one.
+    ///
+    /// # Errors
+    ///
+    /// `AllocError`, only where memory runs out.
     pub fn enter_table_if(
         &mut self,
         is_table: bool,
@@ -171,6 +200,10 @@ impl Printer {
     }
 
     /// Adds a definition to those that were seen.
+    ///
+    /// # Errors
+    ///
+    /// `AllocError`, only where memory runs out.
     pub fn log_definition(&mut self, definition: Defined) -> Result<(), AllocError>
         ensures { OnOk result (self.new ≡ record self.old { log = record self.old.log { definitions = self.old.log.definitions ++ definition ∷ [] } }) }
     {
@@ -179,6 +212,10 @@ impl Printer {
     }
 
     /// Prints the heading's text that was noted last.
+    ///
+    /// # Errors
+    ///
+    /// `AllocError`, only where memory runs out.
     pub fn recall(&mut self) -> Result<(), AllocError>
         ensures { OnOk result (self.new ≡ machine.printing [] (Recalled ∷ []) self.old) }
     {
@@ -186,6 +223,10 @@ impl Printer {
     }
 
     /// Begins a text of its own, to be released later.
+    ///
+    /// # Errors
+    ///
+    /// `AllocError`, only where memory runs out.
     #[cold]
     pub fn capture(&mut self, alloc: Global) -> Result<(), AllocError>
         ensures { OnOk result (self.new ≡ machine.capturing true self.old) }
@@ -261,6 +302,10 @@ impl Printer {
     }
 
     /// Captures what follows, if it is to be captured.
+    ///
+    /// # Errors
+    ///
+    /// `AllocError`, only where memory runs out.
     pub fn capture_if(&mut self, alloc: Global, captured: bool) -> Result<(), AllocError>
         ensures { OnOk result (self.new ≡ machine.capturing captured self.old) }
     {
@@ -272,6 +317,10 @@ impl Printer {
     }
 
     /// Opens a node's frame.
+    ///
+    /// # Errors
+    ///
+    /// `AllocError`, only where memory runs out.
     pub fn open_frame(
         &mut self,
         options: &CompileOptions,
@@ -296,6 +345,10 @@ impl Printer {
     }
 
     /// Leaves the innermost node that is open.
+    ///
+    /// # Errors
+    ///
+    /// `AllocError`, only where there are more cells on a spine than a `usize` counts.
     pub fn leave(&mut self, name: Name) -> Result<(), AllocError>
         ensures { OnOk result (self.new ≡ machine.leaving name self.old) }
     {
@@ -308,6 +361,10 @@ impl Printer {
     }
 
     /// Passes a node without children.
+    ///
+    /// # Errors
+    ///
+    /// `AllocError`, only where there are more cells on a spine than a `usize` counts.
     pub fn pass(&mut self, name: Name) -> Result<(), AllocError>
         ensures { OnOk result (self.new ≡ machine.passing_leaf name self.old) }
     {
@@ -348,6 +405,10 @@ impl Printer {
     }
 
     /// The text at the end, with the section of footnotes.
+    ///
+    /// # Errors
+    ///
+    /// `AllocError`, only where memory runs out.
     pub fn into_text(
         self,
         alloc: Global,

@@ -51,6 +51,10 @@ pub fn label_of<'a>(bytes: &'a [u8], start: Point, end: Point) -> &'a str
 }
 
 /// The identifier at a place, if there is one.
+///
+/// # Errors
+///
+/// `AllocError`, only where memory runs out.
 pub fn identifier_at(
     alloc: Global,
     bytes: &[u8],
@@ -65,6 +69,10 @@ pub fn identifier_at(
 }
 
 /// The text of a line of code with the spaces of tabs that are cut at its ends, else nothing.
+///
+/// # Errors
+///
+/// `AllocError`, only where memory runs out.
 pub fn serialized_of(
     alloc: Global,
     bytes: &[u8],

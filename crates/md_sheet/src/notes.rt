@@ -10,7 +10,9 @@ use std::marker::Model;
 /// Where a link or an image leads, and its title.
 #[derive(Drop)]
 pub struct Target {
+    /// The destination, not yet sanitized; empty where there is none.
     pub destination: String,
+    /// The title as it is printed, if there is one.
     pub title: Option<String>,
 }
 
@@ -26,7 +28,9 @@ impl Model for Target {
 /// A definition: its identifier, and where it leads.
 #[derive(Drop)]
 pub struct Defined {
+    /// The identifier, in the form in which identifiers are compared.
     pub identifier: String,
+    /// Where it leads, and its title.
     pub target: Target,
 }
 

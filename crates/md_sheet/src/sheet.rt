@@ -9,7 +9,7 @@ use crate::rope::Rope;
 use std::alloc::{AllocError, Global};
 use std::marker::Model;
 
-/// What is laid out so far, and the text that was put aside last.
+/// What is laid out so far, and what was put aside: a heading, a target, a resource.
 #[derive(Drop)]
 pub struct Sheet {
     text: Rope,

@@ -304,7 +304,8 @@ impl<'a> Checked<'a> {
         table_at(&self.tables, fact_at(&self.facts, index).place)
     }
 
-    /// The text of the node that ends with the event at the index: its bytes alone.
+    /// The text of the node that ends with the event at the index: only its bytes, without the
+    /// spaces of tabs that are cut at its ends.
     ///
     /// # Examples
     ///

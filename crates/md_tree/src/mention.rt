@@ -2,12 +2,13 @@
 
 use md_base::Position;
 
-/// What identifies a link, an image, a footnote call or a definition.
+/// What identifies a link, an image, a footnote call or a definition: a label by its place.
+/// Contracts speak of it; while events are read, `Aim` is kept, which has indices of events.
 #[derive(Clone, Copy, Debug, PartialEq, Eq)]
 pub enum Target {
     Missing,
     Resource,
-    /// The place of its label, of which the indices alone are read.
+    /// The place of its label, of which only the indices are read.
     Label(Position),
 }
 

@@ -3,12 +3,13 @@
 use md_base::Name;
 use md_pattern::{Reading, State, Symbol};
 
-/// What identifies a link, an image, a footnote call or a definition, as far as events have been read.
+/// What identifies a link, an image, a footnote call or a definition, as far as events have been
+/// read: a label by the indices of its two events. Contracts speak of `Target`, which has places.
 #[derive(Clone, Copy, Debug, PartialEq, Eq)]
 pub enum Aim {
     Missing,
     Resource,
-    /// Its label, which is entered and exited at these indices.
+    /// Its label, which the events at these indices enter and exit.
     Label(usize, usize),
 }
 

@@ -115,7 +115,7 @@ html = record default_options { allow_dangerous_html = true }
 abbrev pub html_text : List ℕ
 html_text = each_name_text [] [] [] (codes "<xmp>") (codes "<title>") disabled lf
 
--- the tag filter alone, where HTML is escaped
+-- only the tag filter, where HTML is escaped
 abbrev pub tag_filter : CompileOptions
 tag_filter = record default_options { gfm_tagfilter = true }
 
