@@ -469,7 +469,7 @@ static void begin_tree(struct places *places, cmark_node *node) {
 
 /* Whether the next definition stood before this turn: before a block that begins on a later line, or in the document.
  */
-static bool is_behind_definition(const struct places *places, cmark_event_type turn, cmark_node *node) {
+static bool is_after_definition(const struct places *places, cmark_event_type turn, cmark_node *node) {
     cmark_node *parent = cmark_node_parent(node);
     if (places->definitions_done == places->definitions_length)
         return false;
@@ -490,7 +490,7 @@ static void add_next(struct walk *walk, struct places *places) {
     if (tree->turn == CMARK_EVENT_DONE) {
         cmark_iter_free(tree->walker);
         places->trees_length--;
-    } else if (is_behind_definition(places, tree->turn, node)) {
+    } else if (is_after_definition(places, tree->turn, node)) {
         begin_tree(places, places->definitions[places->definitions_done++]);
     } else if (places->trees_length == 1 && is_definition(node)) {
         cmark_iter_reset(tree->walker, node, CMARK_EVENT_EXIT);

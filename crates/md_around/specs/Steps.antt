@@ -43,7 +43,7 @@ passing name inner passed = record {
 }
 
 -- the last mark, after these, the latest first
-abbrev pub slurps_behind : List Mark → Bool → Bool
-slurps_behind [] slurping = slurping
-slurps_behind (Sets ∷ marks) slurping = true
-slurps_behind (Clears ∷ marks) slurping = false
+abbrev pub slurps_after : List Mark → Bool → Bool
+slurps_after [] slurping = slurping
+slurps_after (Sets ∷ marks) slurping = true
+slurps_after (Clears ∷ marks) slurping = false

@@ -60,7 +60,7 @@ pub fn is_chunk(name: Name) -> bool
     matches!(name, Name::CodeFlowChunk | Name::MathFlowChunk)
 }
 
-/// A node whose children are laid out on a page of their own.
+/// A node whose children are laid out on a sheet of their own.
 #[inline(always)]
 pub fn is_captured(name: Name) -> bool
     ensures { result ≡ printed.is_captured name }

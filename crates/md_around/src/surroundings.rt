@@ -83,8 +83,8 @@ pub fn inside(
 
 /// Whether the last mark is a setting one after the exit of a node, which stands after a spine.
 #[inline(always)]
-pub fn slurps_behind(around: Surroundings, spine: Spine, name: Name, slurping: bool) -> bool
-    ensures { result ≡ machine.slurps_behind (spec.own_marks around spine name) slurping }
+pub fn slurps_after(around: Surroundings, spine: Spine, name: Name, slurping: bool) -> bool
+    ensures { result ≡ machine.slurps_after (spec.own_marks around spine name) slurping }
 {
     if around.in_definition {
         return slurping;
@@ -118,7 +118,7 @@ pub const NO_SPINE: Spine = Spine {
 
 /// How many cells there are after one more name; more than memory can hold are refused.
 #[inline(always)]
-fn cells_behind(name: Name, cells: usize) -> Result<usize, AllocError>
+fn cells_after(name: Name, cells: usize) -> Result<usize, AllocError>
     ensures { IfOk result (λ sum. sum ≡ cells + (if is_cell name then 1 else 0)) }
 {
     if is_cell(name) {
@@ -134,7 +134,7 @@ fn add_name(spine: &mut Spine, name: Name) -> Result<(), AllocError>
     ensures { OnOk result (spine.new ≡ machine.with_name name spine.old) }
 {
     let fence = is_fence(name);
-    spine.cells = cells_behind(name, spine.cells)?;
+    spine.cells = cells_after(name, spine.cells)?;
     spine.has_second_fence |= spine.has_fence & fence;
     spine.has_fence |= fence;
     spine.has_chunk |= is_chunk(name);
@@ -144,7 +144,7 @@ fn add_name(spine: &mut Spine, name: Name) -> Result<(), AllocError>
 
 /// The last child that an item's end looks at, after one more.
 #[inline(always)]
-fn contributing_behind(name: Name, before: Option<Name>) -> Option<Name>
+fn contributing_after(name: Name, before: Option<Name>) -> Option<Name>
     ensures { result ≡ (if contributes name then Some name else before) }
 {
     if contributes(name) {
@@ -164,7 +164,7 @@ pub fn pass(passed: &mut Passed, name: Name, inner: Spine) -> Result<(), AllocEr
     ensures { OnOk result (passed.new ≡ machine.passing name inner passed.old) }
 {
     passed.last = Some(name);
-    passed.contributing = contributing_behind(name, passed.contributing);
+    passed.contributing = contributing_after(name, passed.contributing);
     if is_transparent(name) {
         passed.spine = inner;
         Ok(())

@@ -24,8 +24,8 @@ abbrev pub in_word : List ℕ → List ℕ
 in_word text = word_on (slice_split is_white text)
 
 -- and after one
-abbrev pub behind_word : List ℕ → List ℕ
-behind_word text = spaced (filter is_nonempty (slice_split is_white text))
+abbrev pub after_word : List ℕ → List ℕ
+after_word text = spaced (filter is_nonempty (slice_split is_white text))
 
 join-cons : (word : List ℕ) (words : List (List ℕ)) → join_with_byte 32 (word ∷ words) ≡ word ++ spaced words
 join-cons word [] = sym (append-nil word)
@@ -41,11 +41,11 @@ white_split b text white = ap (λ test. cond test ([] ∷ slice_split is_white t
 pub collapsed-white : (b : ℕ) (text : List ℕ) → is_white b ≡ true → collapsed (b ∷ text) ≡ collapsed text
 collapsed-white b text white = ap (λ parts. join_with_byte 32 (filter is_nonempty parts)) (white_split b text white)
 
-pub in_word-white : (b : ℕ) (text : List ℕ) → is_white b ≡ true → in_word (b ∷ text) ≡ behind_word text
+pub in_word-white : (b : ℕ) (text : List ℕ) → is_white b ≡ true → in_word (b ∷ text) ≡ after_word text
 in_word-white b text white = ap word_on (white_split b text white)
 
-pub behind_word-white : (b : ℕ) (text : List ℕ) → is_white b ≡ true → behind_word (b ∷ text) ≡ behind_word text
-behind_word-white b text white = ap (λ parts. spaced (filter is_nonempty parts)) (white_split b text white)
+pub after_word-white : (b : ℕ) (text : List ℕ) → is_white b ≡ true → after_word (b ∷ text) ≡ after_word text
+after_word-white b text white = ap (λ parts. spaced (filter is_nonempty parts)) (white_split b text white)
 
 -- ---- at another byte
 
@@ -75,8 +75,8 @@ collapsed-black b text black = ap (λ parts. join_with_byte 32 (filter is_nonemp
 in_word-black : (b : ℕ) (text : List ℕ) → is_white b ≡ false → in_word (b ∷ text) ≡ b ∷ in_word text
 in_word-black b text black = ap word_on (black_split b text black) ∙ word_onto b (slice_split is_white text)
 
-behind_word-black : (b : ℕ) (text : List ℕ) → is_white b ≡ false → behind_word (b ∷ text) ≡ 32 ∷ b ∷ in_word text
-behind_word-black b text black = ap (λ parts. spaced (filter is_nonempty parts)) (black_split b text black)
+after_word-black : (b : ℕ) (text : List ℕ) → is_white b ≡ false → after_word (b ∷ text) ≡ 32 ∷ b ∷ in_word text
+after_word-black b text black = ap (λ parts. spaced (filter is_nonempty parts)) (black_split b text black)
     ∙ spaced_onto b (slice_split is_white text)
 
 -- ---- at a character, with what is written so far and whether a space is owed
@@ -84,7 +84,7 @@ behind_word-black b text black = ap (λ parts. spaced (filter is_nonempty parts)
 -- what is still to be written
 abbrev pub still : Bool → List ℕ → List ℕ → List ℕ
 still is_gap [] rest = collapsed rest
-still true (b ∷ written) rest = behind_word rest
+still true (b ∷ written) rest = after_word rest
 still false (b ∷ written) rest = in_word rest
 
 wide_is_black : (b : ℕ) → 128 ≤ b → is_white b ≡ false
@@ -102,7 +102,7 @@ white_step_ascii : (is_gap empty : Bool) (written : List ℕ) (c : ℕ) (rest : 
 white_step_ascii is_gap empty [] c rest white e = sym (collapsed-white c rest white)
 white_step_ascii true empty (b ∷ written) c rest white e =
     ap (λ t. still (not t) (b ∷ written) rest) (e ∙ ne_eqb (suc (length written)) 0 (λ h. omega (arith, h)))
-    ∙ sym (behind_word-white c rest white)
+    ∙ sym (after_word-white c rest white)
 white_step_ascii false empty (b ∷ written) c rest white e =
     ap (λ t. still (not t) (b ∷ written) rest) (e ∙ ne_eqb (suc (length written)) 0 (λ h. omega (arith, h)))
     ∙ sym (in_word-white c rest white)
@@ -140,7 +140,7 @@ word_step false [] (b ∷ word) rest some black owed =
     sym (collapsed-black b (word ++ rest) (black zero some)
     ∙ ap (λ t. b ∷ t) (word_runs word rest (λ k inside. black (suc k) (omega (arith, inside)))))
 word_step true (w ∷ written) (b ∷ word) rest some black owed =
-    let more = behind_word-black b (word ++ rest) (black zero some)
+    let more = after_word-black b (word ++ rest) (black zero some)
     ∙ ap (λ t. 32 ∷ b ∷ t) (word_runs word rest (λ k inside. black (suc k) (omega (arith, inside)))) in
     append_assoc (w ∷ written) (32 ∷ b ∷ word) (in_word rest) ∙ ap (λ t. w ∷ (written ++ t)) (sym more)
 word_step false (w ∷ written) (b ∷ word) rest some black owed =

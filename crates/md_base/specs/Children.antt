@@ -16,7 +16,8 @@ abbrev pub or_else : {A : Type 0} → Option A → Option A → Option A
 or_else first second = elim first [ None ↦ second | Some found ↦ Some found ]
 
 -- what `tell` tells of the first node on the spine whose name passes a test
-abbrev pub first_on_spine : {A : Type 0} → (Name → Bool) → (Point → Point → Forest → A) → Forest → Option A
+abbrev pub first_on_spine : {A : Type 0} → (Name → Bool) → (Point → Point → Forest → A) → Forest →
+    Option A
 first_on_spine test tell Empty = None
 first_on_spine test tell (Node name start end children rest) = or_else
     (if test name then Some (tell start end children)

@@ -5,7 +5,8 @@ use Rattle.md_base.specs.declared.event.Name.TheVariants.{LineEnding, BlankLineE
 
 -- a node that its parent's pattern looks through
 abbrev pub is_transparent : Name → Bool
-is_transparent name = elim name [ Other number ↦ true | BlockQuotePrefix ↦ true | SpaceOrTab ↦ true | _ ↦ false ]
+is_transparent name =
+    elim name [ Other number ↦ true | BlockQuotePrefix ↦ true | SpaceOrTab ↦ true | _ ↦ false ]
 
 abbrev pub is_blank_line_ending : Name → Bool
 is_blank_line_ending name = elim name [ BlankLineEnding ↦ true | _ ↦ false ]
@@ -102,4 +103,5 @@ is_delimiter_row name = elim name [ GfmTableDelimiterRow ↦ true | _ ↦ false 
 
 -- the nodes by which a table reaches its delimiter row's values
 abbrev pub leads_to_values : Name → Bool
-leads_to_values name = elim name [ GfmTableHead ↦ true | GfmTableDelimiterRow ↦ true | other ↦ is_transparent other ]
+leads_to_values name =
+    elim name [ GfmTableHead ↦ true | GfmTableDelimiterRow ↦ true | other ↦ is_transparent other ]

@@ -21,4 +21,5 @@ exiting name point = record { kind = Exit; name = name; point = point }
 -- the events of the nodes: each node's entering event, those of its children, its exiting event
 abbrev pub flatten : Forest → List Event
 flatten Empty = []
-flatten (Node name start end children rest) = entering name start ∷ flatten children ++ exiting name end ∷ flatten rest
+flatten (Node name start end children rest) =
+    entering name start ∷ flatten children ++ exiting name end ∷ flatten rest

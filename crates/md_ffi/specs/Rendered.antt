@@ -41,7 +41,8 @@ pub record IsRendered (events : List CEvent) (bytes : List ℕ) (options : COpti
   pub distinct_ids : KeepsIds options → HasDistinctIds text
 
 -- what was handed in stands for events that are refused at this index by this rule
-pub record IsRefusedFor (events : List CEvent) (bytes : List ℕ) (names : List CReference) (index : ℕ) (broken : Rule)
+pub record IsRefusedFor (events : List CEvent) (bytes : List ℕ) (names : List CReference) (index : ℕ)
+    (broken : Rule)
     : Type 0 where
   pub read : List Event
   pub table : List (List ℕ × List ℕ)

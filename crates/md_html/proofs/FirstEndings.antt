@@ -70,23 +70,23 @@ outcome Empty tail more found later = later
 outcome (Node name start end children rest) tail more found later =
     let place : Position = record { start = start; end = end } in
     let own : Option Position = if is_line_ending name then Some place else None in
-    let behind : List Event = flatten rest ++ tail in
+    let beyond : List Event = flatten rest ++ tail in
     let places : List (Option Position) = positions_of rest ++ more in
-    let after = exit_step name end place behind places (or_else (first_ending rest) found)
+    let after = exit_step name end place beyond places (or_else (first_ending rest) found)
     (outcome rest tail more found later) in
-    let inner = outcome children (exiting name end ∷ behind) (Some place
+    let inner = outcome children (exiting name end ∷ beyond) (Some place
     ∷ places) (or_else own (or_else (first_ending rest) found)) after in
     let whole = shift (entering name start) None (flatten children ++ exiting name end
-    ∷ behind) (positions_of children ++ Some place ∷ places)
+    ∷ beyond) (positions_of children ++ Some place ∷ places)
     (or_else (first_ending children) (or_else own (or_else (first_ending rest) found))) refl inner in
     subst (λ es. Outcome (entering name start ∷ es) (None
     ∷ ((positions_of children ++ Some place ∷ positions_of rest) ++ more))
     (or_else (first_ending (Node name start end children rest)) found))
     (sym (append_assoc (flatten children) (exiting name end ∷ flatten rest) tail))
-    (subst (λ ps. Outcome (entering name start ∷ (flatten children ++ exiting name end ∷ behind)) (None
+    (subst (λ ps. Outcome (entering name start ∷ (flatten children ++ exiting name end ∷ beyond)) (None
     ∷ ps) (or_else (first_ending (Node name start end children rest)) found))
     (sym (append_assoc (positions_of children) (Some place ∷ positions_of rest) more))
-    (subst (Outcome (entering name start ∷ (flatten children ++ exiting name end ∷ behind)) (None
+    (subst (Outcome (entering name start ∷ (flatten children ++ exiting name end ∷ beyond)) (None
     ∷ (positions_of children ++ Some place ∷ places)))
     (ap (or_else (first_ending children)) (or_else_assoc own (first_ending rest) found)
     ∙ or_else_assoc (first_ending children) (or_else own (first_ending rest)) found) whole))

@@ -6,7 +6,7 @@ use Rattle.md_base.specs.declared.event.Name.{Name}
 use Rattle.md_base.specs.declared.event.Name.TheVariants.{GfmTable, GfmFootnoteCall, Definition, GfmFootnoteDefinition}
 use Rattle.md_base.specs.NameTests.{is_table}
 use Rattle.md_meaning.specs.declared.facts.Ahead.{Ahead}
-use Rattle.md_meaning.specs.Piece.{Page}
+use Rattle.md_meaning.specs.Piece.{Sheet}
 use Rattle.md_meaning.specs.Printed.{is_captured}
 use Rattle.md_printer.specs.Machine.{State, logging}
 
@@ -16,7 +16,7 @@ no_table GfmTable captured = absurd (false≢true captured)
 no_table _ captured = refl
 
 -- a node that isn't captured is seen for nothing
-pub unseen : (bytes : List ℕ) (ahead : Ahead) (name : Name) (inner : Page) (state : State) →
+pub unseen : (bytes : List ℕ) (ahead : Ahead) (name : Name) (inner : Sheet) (state : State) →
     is_captured name ≡ false → logging bytes ahead name inner state ≡ state
 unseen bytes ahead GfmFootnoteCall inner state streamed = absurd (false≢true (sym streamed))
 unseen bytes ahead Definition inner state streamed = absurd (false≢true (sym streamed))

@@ -23,7 +23,7 @@ use Rattle.md_printer.specs.Machine.{State, printing, opening_frame, entering_ta
 use Rattle.md_around.specs.Steps.{first_or}
 use Rattle.md_print.proofs.Closings.{At, closing-group, captured-group, text, block, medium, table}
 use Rattle.md_sheet.proofs.Lists.{drop-found}
-use Rattle.md_html.specs.Leaf.{IsLeaf}
+use Rattle.md_html.specs.Leaf.{IsLightLeaf}
 use Rattle.md_html.proofs.Walks.{drop-first, drop-later, told-at}
 use Rattle.md_html.proofs.Groups.{unseen}
 
@@ -139,7 +139,7 @@ leaf-steps given ahead other_ahead passed loose columns last name start end stat
 -- the two events of such a node, in one step
 pub run-leaf : (given : Given) (document : Forest) (events : List Event) (index : ℕ) (entry exit : Event)
     (beyond : List Event) (state after : State) →
-    flatten document ≡ events → entry ∷ exit ∷ beyond ≡ drop index events → IsLeaf entry exit →
+    flatten document ≡ events → entry ∷ exit ∷ beyond ≡ drop index events → IsLightLeaf entry exit →
     ((ahead : Ahead) (loose : Bool) (columns : List AlignKind) →
     after ≡ exited given (is_nil beyond) false entry.name exit.point
     (entered given ahead loose columns false entry.name entry.point state)) →

@@ -11,7 +11,7 @@ use Rattle.md_base.specs.NameTests.{is_footnote_definition}
 use Rattle.md_meaning.specs.declared.facts.Surroundings.{Surroundings}
 use Rattle.md_meaning.specs.declared.facts.Ahead.{Ahead}
 use Rattle.md_meaning.specs.declared.facts.Passed.{Passed}
-use Rattle.md_meaning.specs.Piece.{Piece, Page, blank, lay}
+use Rattle.md_meaning.specs.Piece.{Piece, Sheet, blank, lay}
 use Rattle.md_meaning.specs.Surroundings.{inside, spine_inside}
 use Rattle.md_meaning.specs.Given.{Given, Defined}
 use Rattle.md_meaning.specs.Places.{Before, Left, before_children, before_next, left_of, ahead_of, passed_over, identifier_at}
@@ -35,7 +35,7 @@ opening-alike known given around ahead BlockQuote = refl
 opening-alike known given around ahead _ = refl
 
 text-alike : (known : List Defined) (given : Given) (around : Surroundings) (left : Left) (last : Bool)
-    (start end : Point) (inner : Page) (name : Name) →
+    (start end : Point) (inner : Sheet) (name : Name) →
     text_closing (knowing known given) around left last start end inner name
     ≡ text_closing given around left last start end inner name
 text-alike known given around left last start end inner BlockQuote = refl
@@ -49,7 +49,7 @@ block-alike known given around left ahead passed start end BlockQuote = refl
 block-alike known given around left ahead passed start end _ = refl
 
 gfm-alike : (known : List Defined) (given : Given) (around : Surroundings) (left : Left) (ahead : Ahead)
-    (passed : Passed) (inner : Page) (name : Name) →
+    (passed : Passed) (inner : Sheet) (name : Name) →
     gfm_closing (knowing known given) around left ahead passed inner name
     ≡ gfm_closing given around left ahead passed inner name
 gfm-alike known given around left ahead passed inner BlockQuote = refl
@@ -57,7 +57,7 @@ gfm-alike known given around left ahead passed inner _ = refl
 
 -- only links and images look definitions up
 media-alike : (known : List Defined) (given : Given) → FindAlike known given.definitions →
-    (around : Surroundings) (ahead : Ahead) (start end : Point) (inner : Page) (name : Name) →
+    (around : Surroundings) (ahead : Ahead) (start end : Point) (inner : Sheet) (name : Name) →
     media_closing (knowing known given) around ahead start end inner name
     ≡ media_closing given around ahead start end inner name
 media-alike known given same around ahead start end inner Link =
@@ -72,7 +72,7 @@ media-alike known given same around ahead start end inner _ = refl
 
 closing-alike : (known : List Defined) (given : Given) → FindAlike known given.definitions →
     (around : Surroundings) (left : Left) (ahead : Ahead) (passed : Passed) (last : Bool) (start end : Point)
-    (inner : Page) (name : Name) →
+    (inner : Sheet) (name : Name) →
     closing (knowing known given) around left ahead passed last start end inner name
     ≡ closing given around left ahead passed last start end inner name
 closing-alike known given same around left ahead passed last start end inner name =
@@ -100,12 +100,12 @@ node-alike : (known : List Defined) (given : Given) → FindAlike known given.de
     printed_node (knowing known given) around left ahead passed last start end name inner
     ≡ printed_node given around left ahead passed last start end name inner
 node-alike known given same around left ahead passed last start end name inner =
-    let page : Page = if is_captured name then lay given.ending blank inner else blank in
+    let sheet : Sheet = if is_captured name then lay given.ending blank inner else blank in
     let kept : List Piece = if is_captured name then [] else inner in
-    ap (λ o. o ++ (kept ++ closing (knowing known given) around left ahead passed last start end page name))
+    ap (λ o. o ++ (kept ++ closing (knowing known given) around left ahead passed last start end sheet name))
     (opening-alike known given around ahead name)
     ∙ ap (λ c. opening given around ahead name ++ (kept ++ c))
-    (closing-alike known given same around left ahead passed last start end page name)
+    (closing-alike known given same around left ahead passed last start end sheet name)
 
 pub printed-alike : (known : List Defined) (given : Given) → FindAlike known given.definitions →
     (around : Surroundings) (before : Before) (forest : Forest) →
@@ -114,18 +114,19 @@ printed-alike known given same around before Empty = refl
 printed-alike known given same around before (Node name start end children rest) =
     let other : Given = knowing known given in
     let own : Before = before_children name children before in
-    let round : Surroundings = inside given.options (is_loose children) name around in
+    let nested : Surroundings = inside given.options (is_loose children) name around in
     let next : Before = before_next given around name start end children before in
     let node : Given → List Piece → List Piece = λ g inner. printed_node g around
     (left_of given.bytes before children) (ahead_of children)
     (passed_over (spine_inside name before.spine) children) (around.is_outermost
     && is_empty rest) start end name inner in
-    ap (λ inner. node other inner ++ printed other around next rest) (printed-alike known given same round own children)
+    ap (λ inner. node other inner ++ printed other around next rest)
+    (printed-alike known given same nested own children)
     ∙ ap (λ n. n ++ printed other around next rest) (node-alike known given same around
     (left_of given.bytes before children) (ahead_of children)
     (passed_over (spine_inside name before.spine) children) (around.is_outermost
-    && is_empty rest) start end name (printed given round own children))
-    ∙ ap (λ ps. node given (printed given round own children) ++ ps) (printed-alike known given same around next rest)
+    && is_empty rest) start end name (printed given nested own children))
+    ∙ ap (λ ps. node given (printed given nested own children) ++ ps) (printed-alike known given same around next rest)
 
 pub footnotes-alike : (known : List Defined) (given : Given) → FindAlike known given.definitions →
     (around : Surroundings) (before : Before) (forest : Forest) →
@@ -134,16 +135,16 @@ footnotes-alike known given same around before Empty = refl
 footnotes-alike known given same around before (Node name start end children rest) =
     let other : Given = knowing known given in
     let own : Before = before_children name children before in
-    let round : Surroundings = inside given.options (is_loose children) name around in
+    let nested : Surroundings = inside given.options (is_loose children) name around in
     let next : Before = before_next given around name start end children before in
     let here : List Piece → List Footnote = λ inner. if is_footnote_definition name
     then record {
       identifier = identifier_at given.bytes (ahead_of children).footnote;
       text = (lay given.ending blank inner).text;
     } ∷ [] else [] in
-    ap (λ fs. fs ++ (here (printed other round own children) ++ footnotes_of other around next rest))
-    (footnotes-alike known given same round own children)
-    ∙ ap (λ inner. footnotes_of given round own children
-    ++ (here inner ++ footnotes_of other around next rest)) (printed-alike known given same round own children)
-    ∙ ap (λ fs. footnotes_of given round own children ++ (here (printed given round own children) ++ fs))
+    ap (λ fs. fs ++ (here (printed other nested own children) ++ footnotes_of other around next rest))
+    (footnotes-alike known given same nested own children)
+    ∙ ap (λ inner. footnotes_of given nested own children
+    ++ (here inner ++ footnotes_of other around next rest)) (printed-alike known given same nested own children)
+    ∙ ap (λ fs. footnotes_of given nested own children ++ (here (printed given nested own children) ++ fs))
     (footnotes-alike known given same around next rest)

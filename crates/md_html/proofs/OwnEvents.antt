@@ -148,17 +148,17 @@ inside-bare options loose _ around = refl
 
 -- what stands in a node of a definition may stand in a definition
 target_letters : (name : Name) → passes in_target (standing_of name) ≡ true → Letters in_target (standing_of name)
-target_letters LineEnding h = record { behind = refl; later = refl; first = refl }
-target_letters Data h = record { behind = refl; later = refl; first = refl }
-target_letters CharacterEscapeValue h = record { behind = refl; later = refl; first = refl }
-target_letters CharacterReferenceMarker h = record { behind = refl; later = refl; first = refl }
-target_letters CharacterReferenceMarkerNumeric h = record { behind = refl; later = refl; first = refl }
-target_letters CharacterReferenceMarkerHexadecimal h = record { behind = refl; later = refl; first = refl }
-target_letters CharacterReferenceValue h = record { behind = refl; later = refl; first = refl }
-target_letters DefinitionLabelString h = record { behind = refl; later = refl; first = refl }
-target_letters DefinitionDestinationString h = record { behind = refl; later = refl; first = refl }
-target_letters DefinitionTitleString h = record { behind = refl; later = refl; first = refl }
-target_letters HeadingSetextUnderlineSequence h = record { behind = refl; later = refl; first = refl }
+target_letters LineEnding h = record { after = refl; later = refl; first = refl }
+target_letters Data h = record { after = refl; later = refl; first = refl }
+target_letters CharacterEscapeValue h = record { after = refl; later = refl; first = refl }
+target_letters CharacterReferenceMarker h = record { after = refl; later = refl; first = refl }
+target_letters CharacterReferenceMarkerNumeric h = record { after = refl; later = refl; first = refl }
+target_letters CharacterReferenceMarkerHexadecimal h = record { after = refl; later = refl; first = refl }
+target_letters CharacterReferenceValue h = record { after = refl; later = refl; first = refl }
+target_letters DefinitionLabelString h = record { after = refl; later = refl; first = refl }
+target_letters DefinitionDestinationString h = record { after = refl; later = refl; first = refl }
+target_letters DefinitionTitleString h = record { after = refl; later = refl; first = refl }
+target_letters HeadingSetextUnderlineSequence h = record { after = refl; later = refl; first = refl }
 target_letters BlockQuotePrefix h = tt
 target_letters SpaceOrTab h = tt
 target_letters (Other number) h = tt
@@ -178,8 +178,8 @@ printed-bare given (Node name start end children rest) around before r b shaped 
     let own : list_all in_target (spine children) ≡ true =
     inner-passes in_target standing children r b shaped.0.1 (target_letters name stands) parts.0 in
     let loose : Bool = is_loose children in
-    let round : Surroundings = inside given.options loose name around in
-    let round' : Surroundings = inside given.options loose name (bare around) in
+    let nested : Surroundings = inside given.options loose name around in
+    let nested' : Surroundings = inside given.options loose name (bare around) in
     let inner : Before = before_children name children before in
     let inner' : Before = before_children name children (barely before) in
     let next : Before = before_next given around name start end children before in
@@ -188,18 +188,18 @@ printed-bare given (Node name start end children rest) around before r b shaped 
     let node : List Piece → List Piece = λ ps. printed_node given (bare around)
     (left_of given.bytes (barely before) children) (ahead_of children) passed ((bare around).is_outermost
     && is_empty rest) start end name ps in
-    let same : printed given round inner children ≡ printed given round' inner' children =
-    printed-bare given children round inner _ _ shaped.1 own (inside-defined given.options loose name around d)
+    let same : printed given nested inner children ≡ printed given nested' inner' children =
+    printed-bare given children nested inner _ _ shaped.1 own (inside-defined given.options loose name around d)
     ∙ ap (λ s. printed given s (barely inner) children) (sym (inside-bare given.options loose name around))
-    ∙ sym (printed-bare given children round' inner' _ _ shaped.1 own
+    ∙ sym (printed-bare given children nested' inner' _ _ shaped.1 own
     (inside-defined given.options loose name (bare around) refl))
     in
     ap (λ ps. ps ++ printed given around next rest)
     (node-bare given around before children (ahead_of children) passed (around.is_outermost
     && is_empty rest) ((bare around).is_outermost && is_empty rest) start end name
-    (printed given round inner children) d stands
+    (printed given nested inner children) d stands
     ∙ ap node same)
-    ∙ ap (λ ps. node (printed given round' inner' children) ++ ps)
+    ∙ ap (λ ps. node (printed given nested' inner' children) ++ ps)
     (printed-bare given rest around next _ _ shaped.2 parts.1 d
     ∙ sym (printed-bare given rest (bare around) next' _ _ shaped.2 parts.1 refl))
 
@@ -253,7 +253,7 @@ hostless_letters MdxFlowExpression h = tt
 hostless_letters MdxTextExpression h = tt
 hostless_letters MdxJsxFlowTag h = tt
 hostless_letters MdxJsxTextTag h = tt
-hostless_letters _ h = record { behind = refl; later = refl; first = refl }
+hostless_letters _ h = record { after = refl; later = refl; first = refl }
 
 -- transparent nodes change nothing
 plain_through : (options : CompileOptions) (loose : Bool) (name : Name) (around : Surroundings) →
@@ -307,7 +307,7 @@ definition-bare given around before children plain shaped match =
     let own : Before = barely (before_children Definition children nothing_before) in
     let all : list_all in_target (spine children) ≡ true =
     spine-all in_target role.Definition role.Flow None (spine children) (record {
-      behind = refl;
+      after = refl;
       later = refl;
       first = refl;
     }) match in
@@ -354,16 +354,16 @@ definitions-own given (Node name start end children rest) around before r b shap
     (sym (list_all-append hostless symbols (spine rest)) ∙ all) in
     let here : Hosting around symbols = elim host [ inl plain ↦ inl plain | inr all ↦ inr (split all).0 ] in
     let later : Hosting around (spine rest) = elim host [ inl plain ↦ inl plain | inr all ↦ inr (split all).1 ] in
-    let round : Surroundings = inside given.options (is_loose children) name around in
+    let nested : Surroundings = inside given.options (is_loose children) name around in
     let own : Before = before_children name children before in
     let next : Before = before_next given around name start end children before in
-    let target : Target = (lay given.ending blank (printed given round own children)).notes.target in
+    let target : Target = (lay given.ending blank (printed given nested own children)).notes.target in
     let node : List Defined = if is_link_definition name
     then record { identifier = identifier_at given.bytes (ahead_of children).defined; target = target } ∷ []
     else [] in
     let alone : List Defined = if is_link_definition name then defined_alone given children ∷ [] else [] in
     ap (λ ds. ds ++ (node ++ definitions_of given around next rest))
-    (definitions-own given children round own _ _ shaped.1
+    (definitions-own given children nested own _ _ shaped.1
     (hosting-inside given.options (is_loose children) name around children r b shaped.0.1 here))
     ∙ ap (λ ds. own_definitions given children ++ (ds ++ definitions_of given around next rest))
     (definition-node given around before name children r b shaped.0.1 shaped.1 here)
@@ -408,7 +408,7 @@ pub definition-run : (given : Given) (start end : Point) (children : Forest) (mo
     ≡ defined_alone given children ∷ []
 definition-run given start end children more shaped match =
     let node : Forest = Node Definition start end children Empty in
-    let round : Surroundings = inside given.options (is_loose children) Definition outermost in
+    let nested : Surroundings = inside given.options (is_loose children) Definition outermost in
     let own : Before = before_children Definition children nothing_before in
     let begins : Knows beginning nothing_before = record {
       calls = refl;
@@ -419,14 +419,14 @@ definition-run given start end children more shaped match =
     } in
     let free : list_all hostless (spine children) ≡ true =
     spine-all hostless role.Definition role.Flow None (spine children) (record {
-      behind = refl;
+      after = refl;
       later = refl;
       first = refl;
     }) match in
     ap (λ es. (run given es (children_of node ++ more) beginning).log.definitions) (sym (append-nil (flatten node)))
     ∙ ap (λ (s : State). s.log.definitions) (run-flatten given node nothing_before [] more beginning begins refl)
     ∙ ap (λ ds. ds ++ defined_alone given children ∷ [])
-    (definitions-own given children round own role.Definition None shaped (inr free)
+    (definitions-own given children nested own role.Definition None shaped (inr free)
     ∙ none-defined given children role.Definition None shaped free)
 
 -- no definition stands in a definition
@@ -435,7 +435,7 @@ pub none-inside : (given : Given) (children : Forest) → AreShaped children rol
 none-inside given children shaped match =
     none-defined given children role.Definition None shaped
     (spine-all hostless role.Definition role.Flow None (spine children) (record {
-      behind = refl;
+      after = refl;
       later = refl;
       first = refl;
     }) match)

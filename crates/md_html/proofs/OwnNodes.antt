@@ -14,7 +14,7 @@ use Rattle.md_pattern.specs.declared.kinds.Role.TheVariants as role
 use Rattle.md_pattern.specs.Spine.{spine, Matches}
 use Rattle.md_pattern.specs.Shape.{AreShaped, IsShaped}
 use Rattle.md_base.specs.Tree.{Forest, Empty, Node, flatten, entering, exiting}
-use Rattle.md_infer.specs.Partners.{behind, partners_of}
+use Rattle.md_infer.specs.Partners.{index_after, partners_of}
 use Rattle.md_tree.specs.Indices.{IsPartnerAt}
 use Rattle.md_tree.specs.Grammar.{Document}
 use Rattle.md_tree.proofs.Indexed.{flatten_one}
@@ -47,7 +47,7 @@ own_nodes index Empty = []
 own_nodes index (Node name start end children rest) =
     own_nodes (suc index) children
     ++ (node_where (is_link_definition name) (record { index = index; start = start; end = end; children = children })
-    ++ own_nodes (suc (behind (suc index) children)) rest)
+    ++ own_nodes (suc (index_after (suc index) children)) rest)
 
 pub map-append : {A B : Type 0} (f : A → B) (xs ys : List A) → map f (xs ++ ys) ≡ map f xs ++ map f ys
 map-append f [] ys = refl
@@ -69,14 +69,14 @@ nodes-entries (Node name start end children rest) index =
       end = end;
       children = children;
     }) in
-    let later : List OwnNode = own_nodes (suc (behind (suc index) children)) rest in
+    let later : List OwnNode = own_nodes (suc (index_after (suc index) children)) rest in
     map-append f (own_nodes (suc index) children) (here ++ later)
     ∙ ap (λ xs. xs ++ map f (here ++ later)) (nodes-entries children (suc index))
     ∙ ap (λ xs. entries_of (suc index) children ++ xs) (map-append f here later)
     ∙ ap (λ xs. entries_of (suc index) children ++ (xs ++ map f later))
     (map-where f (is_link_definition name) (record { index = index; start = start; end = end; children = children }))
     ∙ ap (λ xs. entries_of (suc index) children ++ ((if is_link_definition name then index ∷ [] else []) ++ xs))
-    (nodes-entries rest (suc (behind (suc index) children)))
+    (nodes-entries rest (suc (index_after (suc index) children)))
 
 pub nodes-defined : (given : Given) (forest : Forest) (index : ℕ) →
     map (λ n. defined_alone given n.children) (own_nodes index forest) ≡ own_definitions given forest
@@ -89,14 +89,14 @@ nodes-defined given (Node name start end children rest) index =
       end = end;
       children = children;
     }) in
-    let later : List OwnNode = own_nodes (suc (behind (suc index) children)) rest in
+    let later : List OwnNode = own_nodes (suc (index_after (suc index) children)) rest in
     map-append f (own_nodes (suc index) children) (here ++ later)
     ∙ ap (λ xs. xs ++ map f (here ++ later)) (nodes-defined given children (suc index))
     ∙ ap (λ xs. own_definitions given children ++ xs) (map-append f here later)
     ∙ ap (λ xs. own_definitions given children ++ (xs ++ map f later))
     (map-where f (is_link_definition name) (record { index = index; start = start; end = end; children = children }))
     ∙ ap (λ xs. own_definitions given children ++ ((if is_link_definition name then defined_alone given children ∷ []
-    else []) ++ xs)) (nodes-defined given rest (suc (behind (suc index) children)))
+    else []) ++ xs)) (nodes-defined given rest (suc (index_after (suc index) children)))
 
 -- what is left after the first
 drop-past : {A : Type 0} (xs : List A) (i : ℕ) (y : A) (ys : List A) → drop i xs ≡ y ∷ ys → drop (suc i) xs ≡ ys
@@ -106,34 +106,34 @@ drop-past xs i y ys h = ap (λ n. drop n xs) (next i) ∙ sym (drop-later xs i y
     next n = omega arith
 
 -- what is left after some nodes' events, and after what is told of them
-events-behind : (forest : Forest) (i : ℕ) (es tail : List Event) → drop i es ≡ flatten forest ++ tail →
-    drop (behind i forest) es ≡ tail
-events-behind Empty i es tail h = h
-events-behind (Node name start end children rest) i es tail h =
-    events-behind rest (suc (behind (suc i) children)) es tail
-    (drop-past es (behind (suc i) children) (exiting name end) (flatten rest ++ tail)
-    (events-behind children (suc i) es (exiting name end ∷ (flatten rest ++ tail))
+events-after : (forest : Forest) (i : ℕ) (es tail : List Event) → drop i es ≡ flatten forest ++ tail →
+    drop (index_after i forest) es ≡ tail
+events-after Empty i es tail h = h
+events-after (Node name start end children rest) i es tail h =
+    events-after rest (suc (index_after (suc i) children)) es tail
+    (drop-past es (index_after (suc i) children) (exiting name end) (flatten rest ++ tail)
+    (events-after children (suc i) es (exiting name end ∷ (flatten rest ++ tail))
     (drop-past es i _ ((flatten children ++ exiting name end ∷ flatten rest) ++ tail) h
     ∙ append_assoc (flatten children) (exiting name end ∷ flatten rest) tail)))
 
-nodes-behind : (forest : Forest) (i : ℕ) (ns tail : List (Option Forest)) → drop i ns ≡ children_of forest ++ tail →
-    drop (behind i forest) ns ≡ tail
-nodes-behind Empty i ns tail h = h
-nodes-behind (Node name start end children rest) i ns tail h =
-    nodes-behind rest (suc (behind (suc i) children)) ns tail
-    (drop-past ns (behind (suc i) children) None (children_of rest ++ tail)
-    (nodes-behind children (suc i) ns (None ∷ (children_of rest ++ tail))
+nodes-after : (forest : Forest) (i : ℕ) (ns tail : List (Option Forest)) → drop i ns ≡ children_of forest ++ tail →
+    drop (index_after i forest) ns ≡ tail
+nodes-after Empty i ns tail h = h
+nodes-after (Node name start end children rest) i ns tail h =
+    nodes-after rest (suc (index_after (suc i) children)) ns tail
+    (drop-past ns (index_after (suc i) children) None (children_of rest ++ tail)
+    (nodes-after children (suc i) ns (None ∷ (children_of rest ++ tail))
     (drop-past ns i _ ((children_of children ++ None ∷ children_of rest) ++ tail) h
     ∙ append_assoc (children_of children) (None ∷ children_of rest) tail)))
 
-partners-behind : (forest : Forest) (i : ℕ) (ps tail : List ℕ) → drop i ps ≡ partners_of i forest ++ tail →
-    drop (behind i forest) ps ≡ tail
-partners-behind Empty i ps tail h = h
-partners-behind (Node name start end children rest) i ps tail h =
-    let later : List ℕ = partners_of (suc (behind (suc i) children)) rest in
-    partners-behind rest (suc (behind (suc i) children)) ps tail
-    (drop-past ps (behind (suc i) children) i (later ++ tail)
-    (partners-behind children (suc i) ps (i ∷ (later ++ tail))
+partners-after : (forest : Forest) (i : ℕ) (ps tail : List ℕ) → drop i ps ≡ partners_of i forest ++ tail →
+    drop (index_after i forest) ps ≡ tail
+partners-after Empty i ps tail h = h
+partners-after (Node name start end children rest) i ps tail h =
+    let later : List ℕ = partners_of (suc (index_after (suc i) children)) rest in
+    partners-after rest (suc (index_after (suc i) children)) ps tail
+    (drop-past ps (index_after (suc i) children) i (later ++ tail)
+    (partners-after children (suc i) ps (i ∷ (later ++ tail))
     (drop-past ps i _ ((partners_of (suc i) children ++ i ∷ later) ++ tail) h
     ∙ append_assoc (partners_of (suc i) children) (i ∷ later) tail)))
 
@@ -143,7 +143,7 @@ pub record Stands (es : List Event) (ns : List (Option Forest)) (ps : List ℕ) 
   pub more : List (Option Forest)
   pub events : drop n.index es ≡ flatten (alone n) ++ later
   pub nodes : drop n.index ns ≡ children_of (alone n) ++ more
-  pub partner : slice_get ps n.index ≡ Some (behind (suc n.index) n.children)
+  pub partner : slice_get ps n.index ≡ Some (index_after (suc n.index) n.children)
   pub shaped : AreShaped n.children role.Definition None
   pub match : Matches role.Definition (spine n.children)
 
@@ -161,7 +161,7 @@ one_stands : (name : Name) (start end : Point) (children : Forest) (i : ℕ) (r 
     (later : List Event) (more : List (Option Forest)) → AreShaped (Node name start end children Empty) r b →
     drop i es ≡ (flatten (Node name start end children Empty)) ++ later →
     drop i ns ≡ children_of (Node name start end children Empty) ++ more →
-    slice_get ps i ≡ Some (behind (suc i) children) →
+    slice_get ps i ≡ Some (index_after (suc i) children) →
     Each (Stands es ns ps) (node_where (is_link_definition name) (record {
       index = i;
       start = start;
@@ -188,7 +188,7 @@ pub all_stand : (forest : Forest) (i : ℕ) (r : Role) (b : Option Symbol) (es t
     drop i ps ≡ partners_of i forest ++ others → Each (Stands es ns ps) (own_nodes i forest)
 all_stand Empty i r b es tail ns untold ps others shaped events nodes partners = tt
 all_stand (Node name start end children rest) i r b es tail ns untold ps others shaped events nodes partners =
-    let past : ℕ = behind (suc i) children in
+    let past : ℕ = index_after (suc i) children in
     let later : List ℕ = partners_of (suc past) rest in
     let e1 : drop (suc i) es ≡ flatten children ++ exiting name end ∷ (flatten rest ++ tail) =
     drop-past es i _ ((flatten children ++ exiting name end ∷ flatten rest) ++ tail) events
@@ -203,11 +203,11 @@ all_stand (Node name start end children rest) i r b es tail ns untold ps others 
     ∙ append_assoc (partners_of (suc i) children) (i ∷ later) others
     in
     let e2 : drop (suc past) es ≡ flatten rest ++ tail =
-    drop-past es past _ (flatten rest ++ tail) (events-behind children (suc i) es _ e1) in
+    drop-past es past _ (flatten rest ++ tail) (events-after children (suc i) es _ e1) in
     let n2 : drop (suc past) ns ≡ children_of rest ++ untold =
-    drop-past ns past _ (children_of rest ++ untold) (nodes-behind children (suc i) ns _ n1) in
+    drop-past ns past _ (children_of rest ++ untold) (nodes-after children (suc i) ns _ n1) in
     let p2 : drop (suc past) ps ≡ later ++ others = drop-past ps past _ (later
-    ++ others) (partners-behind children (suc i) ps _ p1) in
+    ++ others) (partners-after children (suc i) ps _ p1) in
     each-append (Stands es ns ps) (own_nodes (suc i) children) _
     (all_stand children (suc i) _ _ es _ ns _ ps _ shaped.1 e1 n1 p1)
     (each-append (Stands es ns ps) (node_where (is_link_definition name) (record {
@@ -243,13 +243,14 @@ map-got f (x ∷ xs) zero n h = ap (λ o. Some (f (unwrap_or o x))) h
 map-got f (x ∷ xs) (suc place) n h = map-got f xs place n h
 
 -- how many events there are
-behind-length : (forest : Forest) (i : ℕ) → behind i forest ≡ i + length (flatten forest)
-behind-length Empty i = omega arith
-behind-length (Node name start end children rest) i =
-    let inner = behind-length children (suc i) in
-    let later = behind-length rest (suc (behind (suc i) children)) in
+after-length : (forest : Forest) (i : ℕ) → index_after i forest ≡ i + length (flatten forest)
+after-length Empty i = omega arith
+after-length (Node name start end children rest) i =
+    let inner = after-length children (suc i) in
+    let later = after-length rest (suc (index_after (suc i) children)) in
     let all = length-append (flatten children) (exiting name end ∷ flatten rest) in
-    sum (behind (suc i) children) (behind (suc (behind (suc i) children)) rest) (length (flatten children))
+    sum (index_after (suc i) children) (index_after (suc (index_after (suc i) children)) rest)
+    (length (flatten children))
     (length (flatten rest)) (length (flatten children ++ exiting name end ∷ flatten rest)) inner later all
   where
     sum : (p q a b c : ℕ) → p ≡ suc i + a → q ≡ suc p + b → c ≡ a + suc b → q ≡ i + suc c
@@ -260,11 +261,11 @@ take-own [] ys = refl
 take-own (x ∷ xs) ys = ap (λ zs. x ∷ zs) (take-own xs ys)
 
 -- the events of a node are so many
-pub alone-length : (n : OwnNode) → suc (behind (suc n.index) n.children) - n.index ≡ length (flatten (alone n))
+pub alone-length : (n : OwnNode) → suc (index_after (suc n.index) n.children) - n.index ≡ length (flatten (alone n))
 alone-length n =
     let all = length-append (flatten n.children) (exiting Definition n.end ∷ []) in
-    count n.index (behind (suc n.index) n.children) (length (flatten n.children))
-    (length (flatten n.children ++ exiting Definition n.end ∷ [])) (behind-length n.children (suc n.index)) all
+    count n.index (index_after (suc n.index) n.children) (length (flatten n.children))
+    (length (flatten n.children ++ exiting Definition n.end ∷ [])) (after-length n.children (suc n.index)) all
   where
     count : (i p a c : ℕ) → p ≡ suc i + a → c ≡ a + 1 → suc p - i ≡ suc c
     count i p a c h e = omega (arith, h, e)
@@ -276,7 +277,7 @@ stands-run : (given : Given) (document : Forest) (n : OwnNode) →
 stands-run given document n stands =
     ap (λ o. (run given (events_at (flatten document) n.index o)
     (drop n.index (children_of document)) beginning).log.definitions) stands.partner
-    ∙ ap (λ es. (run given (take (suc (behind (suc n.index) n.children) - n.index) es)
+    ∙ ap (λ es. (run given (take (suc (index_after (suc n.index) n.children) - n.index) es)
     (drop n.index (children_of document)) beginning).log.definitions) stands.events
     ∙ ap (λ m. (run given (take m (flatten (alone n) ++ stands.later))
     (drop n.index (children_of document)) beginning).log.definitions) (alone-length n)

@@ -12,7 +12,7 @@ use Rattle.md_pattern.specs.declared.kinds.Role.{Role}
 use Rattle.md_pattern.specs.declared.kinds.Role.TheVariants as role
 use Rattle.md_pattern.specs.Shape.{AreShaped, IsShaped}
 use Rattle.md_base.specs.Tree.{Forest, Empty, Node, flatten, exiting}
-use Rattle.md_infer.specs.Partners.{behind, partners_of, definitions_of as entries_of}
+use Rattle.md_infer.specs.Partners.{index_after, partners_of, definitions_of as entries_of}
 use Rattle.md_tree.specs.Entered.{children_of}
 use Rattle.md_base.specs.NameTests.{is_link_definition}
 use Rattle.md_meaning.specs.Given.{Given}
@@ -96,7 +96,7 @@ sizes-fit given (Node name start end children rest) i r b shaped =
       end = end;
       children = children;
     }) in
-    let later : List OwnNode = own_nodes (suc (behind (suc i) children)) rest in
+    let later : List OwnNode = own_nodes (suc (index_after (suc i) children)) rest in
     let split = ap total (map-append f inside (here ++ later)) ∙ total-append (map f inside) (map f (here ++ later)) in
     let split_more = ap total (map-append f here later) ∙ total-append (map f here) (map f later) in
     let own = here-fits given name start end children i r b (
@@ -104,7 +104,7 @@ sizes-fit given (Node name start end children rest) i r b shaped =
       shaped.1,
       tt,
     ) (sizes-fit given children (suc i) _ _ shaped.1) in
-    let others = sizes-fit given rest (suc (behind (suc i) children)) _ _ shaped.2 in
+    let others = sizes-fit given rest (suc (index_after (suc i) children)) _ _ shaped.2 in
     sum (total (map f (inside ++ (here ++ later)))) (total (map f inside)) (total (map f here)) (total (map f later))
     (total (map f (here ++ later)))
     (length (flatten children)) (length (flatten rest)) (length (flatten children ++ exiting name end ∷ []))
@@ -126,7 +126,7 @@ stands-size : (document : Forest) (n : OwnNode) → Stands (flatten document) (c
     length (events_at (flatten document) n.index (slice_get (partners_of 0 document) n.index)) ≡ size n
 stands-size document n stands =
     ap (λ o. length (events_at (flatten document) n.index o)) stands.partner
-    ∙ ap (λ es. length (take (suc (behind (suc n.index) n.children) - n.index) es)) stands.events
+    ∙ ap (λ es. length (take (suc (index_after (suc n.index) n.children) - n.index) es)) stands.events
     ∙ ap (λ m. length (take m (flatten (alone n) ++ stands.later))) (alone-length n)
     ∙ ap (λ es. length es) (take-own (flatten (alone n)) stands.later)
 

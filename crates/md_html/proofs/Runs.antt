@@ -21,8 +21,8 @@ use Rattle.md_meaning.specs.declared.facts.Surroundings.{Surroundings}
 use Rattle.md_meaning.specs.declared.facts.Spine.{Spine}
 use Rattle.md_meaning.specs.declared.facts.Ahead.{Ahead}
 use Rattle.md_meaning.specs.declared.facts.Passed.{Passed}
-use Rattle.md_meaning.specs.Piece.{Piece, Page, blank, lay}
-use Rattle.md_meaning.specs.Surroundings.{Mark, Sets, Clears, is_slurping, own_marks, marks_of, inside, two_pass, last_of, told_by, spine_inside, spine_behind}
+use Rattle.md_meaning.specs.Piece.{Piece, Sheet, blank, lay}
+use Rattle.md_meaning.specs.Surroundings.{Mark, Sets, Clears, is_slurping, own_marks, marks_of, inside, two_pass, last_of, told_by, spine_inside, spine_after_node}
 use Rattle.md_meaning.specs.Given.{Given, Defined}
 use Rattle.md_meaning.specs.Places.{Before, Left, calls_of, identifier_at, before_children, before_next, left_of, ahead_of, passed_over}
 use Rattle.md_meaning.specs.Printed.{opening, closing, is_captured, printed, printed_node, definitions_of, footnotes_of}
@@ -32,20 +32,20 @@ use Rattle.md_sheet.proofs.Tally.{fold-tally}
 use Rattle.md_meaning.specs.Calls.{Called, tally}
 use Rattle.md_meaning.specs.Footnotes.{Footnote}
 use Rattle.md_printer.specs.Machine.{State, Log, ahead_by, ahead_told, columns_told, loose_told, entering_table, leaving_table, entered, exited, is_nil, run, beginning}
-use Rattle.md_around.specs.Steps.{first_or, others_of, no_spine, with_name, passing, slurps_behind}
+use Rattle.md_around.specs.Steps.{first_or, others_of, no_spine, with_name, passing, slurps_after}
 
 -- marks before marks
 pub is_slurping-append : (marks before : List Mark) → is_slurping (marks ++ before)
-    ≡ slurps_behind marks (is_slurping before)
+    ≡ slurps_after marks (is_slurping before)
 is_slurping-append [] before = refl
 is_slurping-append (Sets ∷ marks) before = refl
 is_slurping-append (Clears ∷ marks) before = refl
 
-pub slurps_behind-append : (marks before : List Mark) (s : Bool) →
-    slurps_behind (marks ++ before) s ≡ slurps_behind marks (slurps_behind before s)
-slurps_behind-append [] before s = refl
-slurps_behind-append (Sets ∷ marks) before s = refl
-slurps_behind-append (Clears ∷ marks) before s = refl
+pub slurps_after-append : (marks before : List Mark) (s : Bool) →
+    slurps_after (marks ++ before) s ≡ slurps_after marks (slurps_after before s)
+slurps_after-append [] before s = refl
+slurps_after-append (Sets ∷ marks) before s = refl
+slurps_after-append (Clears ∷ marks) before s = refl
 
 -- tests on a list with one more name
 or_assoc : (a b c : Bool) → (a || b) || c ≡ a || (b || c)
@@ -152,8 +152,8 @@ after given before forest state = record state {
     definitions = state.log.definitions ++ definitions_of given state.frame.around before forest;
     footnotes = fold noted state.log.footnotes (footnotes_of given state.frame.around before forest);
   };
-  page = lay given.ending state.page (printed given state.frame.around before forest);
-  is_slurping = slurps_behind (marks_of given.options state.frame.around before.spine forest) state.is_slurping;
+  sheet = lay given.ending state.sheet (printed given state.frame.around before forest);
+  is_slurping = slurps_after (marks_of given.options state.frame.around before.spine forest) state.is_slurping;
   frame = record state.frame {
     passed = record {
       last = or_else (last_name forest) state.frame.passed.last;
@@ -226,9 +226,9 @@ tables-restored name children tables =
       | false ↦ refl
     ]
 
--- the page that a node's children print by themselves
-abbrev inner_page : Given → Surroundings → Before → Bool → Name → Forest → Page
-inner_page given around before captured name children =
+-- the sheet that a node's children print by themselves
+abbrev inner_sheet : Given → Surroundings → Before → Bool → Name → Forest → Sheet
+inner_sheet given around before captured name children =
     if captured then lay given.ending blank (printed given (inside given.options (is_loose children) name around)
     (before_children name children before) children) else blank
 
@@ -247,7 +247,7 @@ after_node given ahead before last captured name start end children state = reco
         (before_children name children before) children)
         ++ record {
           identifier = identifier_at given.bytes ahead.defined;
-          target = (inner_page given state.frame.around before captured name children).notes.target;
+          target = (inner_sheet given state.frame.around before captured name children).notes.target;
         } ∷ []
         else state.log.definitions ++ definitions_of given
         (inside given.options (is_loose children) name state.frame.around)
@@ -259,13 +259,13 @@ after_node given ahead before last captured name start end children state = reco
         (before_children name children before) children))
         (record {
           identifier = identifier_at given.bytes ahead.footnote;
-          text = (inner_page given state.frame.around before captured name children).text;
+          text = (inner_sheet given state.frame.around before captured name children).text;
         })
         else fold noted state.log.footnotes (footnotes_of given
         (inside given.options (is_loose children) name state.frame.around)
         (before_children name children before) children);
   };
-  page = lay given.ending state.page
+  sheet = lay given.ending state.sheet
       (opening given state.frame.around ahead name
       ++ ((if captured then [] else printed given (inside given.options (is_loose children) name state.frame.around)
       (before_children name children before) children)
@@ -274,8 +274,8 @@ after_node given ahead before last captured name start end children state = reco
       (if captured then lay given.ending blank (printed given
       (inside given.options (is_loose children) name state.frame.around)
       (before_children name children before) children) else blank) name));
-  is_slurping = slurps_behind (own_marks state.frame.around (told_by before.spine) name)
-      (slurps_behind (marks_of given.options (inside given.options (is_loose children) name state.frame.around)
+  is_slurping = slurps_after (own_marks state.frame.around (told_by before.spine) name)
+      (slurps_after (marks_of given.options (inside given.options (is_loose children) name state.frame.around)
       (spine_inside name before.spine) children) state.is_slurping);
   frame = record state.frame {
     passed = passing name (told_by (spine_inside name before.spine
@@ -283,15 +283,15 @@ after_node given ahead before last captured name start end children state = reco
   };
 }
 
--- a page, laid on in parts
-lay_parts : (ending : List ℕ) (page : Page) (xs ys zs : List Piece) →
-    lay ending (lay ending (lay ending page xs) ys) zs ≡ lay ending page (xs ++ (ys ++ zs))
-lay_parts ending page xs ys zs = sym (lay-append ending page xs (ys ++ zs)
-    ∙ lay-append ending (lay ending page xs) ys zs)
+-- a sheet, laid on in parts
+lay_parts : (ending : List ℕ) (sheet : Sheet) (xs ys zs : List Piece) →
+    lay ending (lay ending (lay ending sheet xs) ys) zs ≡ lay ending sheet (xs ++ (ys ++ zs))
+lay_parts ending sheet xs ys zs = sym (lay-append ending sheet xs (ys ++ zs)
+    ∙ lay-append ending (lay ending sheet xs) ys zs)
 
-lay_two : (ending : List ℕ) (page : Page) (xs zs : List Piece) →
-    lay ending (lay ending page xs) zs ≡ lay ending page (xs ++ zs)
-lay_two ending page xs zs = sym (lay-append ending page xs zs)
+lay_two : (ending : List ℕ) (sheet : Sheet) (xs zs : List Piece) →
+    lay ending (lay ending sheet xs) zs ≡ lay ending sheet (xs ++ zs)
+lay_two ending sheet xs zs = sym (lay-append ending sheet xs zs)
 
 -- what is known of the node when it is left
 left-known : (given : Given) (before : Before) (name : Name) (start : Point) (children : Forest) (captured : Bool)
@@ -337,11 +337,11 @@ node_step-streamed given ahead before last name start end children state knows =
       contributing = p;
       spine = spine;
     }) last start end blank name in
-    let at : List (List AlignKind) → Page → Spine → State = λ tables page told. record state {
+    let at : List (List AlignKind) → Sheet → Spine → State = λ tables sheet told. record state {
       tables = tables;
       log = (after_node given ahead before last false name start end children state).log;
-      page = page;
-      is_slurping = slurps_behind (own_marks around told name) (slurps_behind marks state.is_slurping);
+      sheet = sheet;
+      is_slurping = slurps_after (own_marks around told name) (slurps_after marks state.is_slurping);
       frame = record state.frame { passed = passing name spine state.frame.passed };
     } in
     let left : List (List AlignKind) → Left = λ tables. record {
@@ -353,7 +353,7 @@ node_step-streamed given ahead before last name start end children state knows =
     } in
     let laid : List (List AlignKind) → Left → Option Name → Option Name → Spine →
     State = λ tables l o p told. at tables (lay given.ending
-    (lay given.ending (lay given.ending state.page opened) inner) (close l o p)) told in
+    (lay given.ending (lay given.ending state.sheet opened) inner) (close l o p)) told in
     ap (λ tables. laid tables (left tables) (or_else (last_name children) None)
     (or_else (last_contributing children) None) state.frame.passed.spine) (tables-restored name children state.tables)
     ∙ ap (λ l. laid state.tables l (or_else (last_name children) None)
@@ -365,8 +365,8 @@ node_step-streamed given ahead before last name start end children state knows =
     (last_name children) o state.frame.passed.spine) (or_else-none (last_contributing children))
     ∙ ap (λ told. laid state.tables (left_of given.bytes before children) (last_name children)
     (last_contributing children) told) knows.spine
-    ∙ ap (λ page. at state.tables page (told_by before.spine))
-    (lay_parts given.ending state.page opened inner (close (left_of given.bytes before children)
+    ∙ ap (λ sheet. at state.tables sheet (told_by before.spine))
+    (lay_parts given.ending state.sheet opened inner (close (left_of given.bytes before children)
     (last_name children) (last_contributing children)))
 
 -- a node is left after its children, whose text is captured
@@ -389,11 +389,11 @@ node_step-captured given ahead before last name start end children state knows =
       contributing = p;
       spine = spine;
     }) last start end (lay given.ending blank inner) name in
-    let at : List (List AlignKind) → Page → Spine → State = λ tables page told. record state {
+    let at : List (List AlignKind) → Sheet → Spine → State = λ tables sheet told. record state {
       tables = tables;
       log = (after_node given ahead before last true name start end children state).log;
-      page = page;
-      is_slurping = slurps_behind (own_marks around told name) (slurps_behind marks state.is_slurping);
+      sheet = sheet;
+      is_slurping = slurps_after (own_marks around told name) (slurps_after marks state.is_slurping);
       frame = record state.frame { passed = passing name spine state.frame.passed };
     } in
     let left : List (List AlignKind) → Left = λ tables. record {
@@ -404,7 +404,7 @@ node_step-captured given ahead before last name start end children state knows =
       columns = first_or [] tables;
     } in
     let laid : List (List AlignKind) → Left → Option Name → Option Name → Spine →
-    State = λ tables l o p told. at tables (lay given.ending (lay given.ending state.page opened) (close l o p))
+    State = λ tables l o p told. at tables (lay given.ending (lay given.ending state.sheet opened) (close l o p))
     told in
     ap (λ tables. laid tables (left tables) (or_else (last_name children) None)
     (or_else (last_contributing children) None) state.frame.passed.spine) (tables-restored name children state.tables)
@@ -417,8 +417,8 @@ node_step-captured given ahead before last name start end children state knows =
     (last_name children) o state.frame.passed.spine) (or_else-none (last_contributing children))
     ∙ ap (λ told. laid state.tables (left_of given.bytes before children) (last_name children)
     (last_contributing children) told) knows.spine
-    ∙ ap (λ page. at state.tables page (told_by before.spine))
-    (lay_two given.ending state.page opened (close (left_of given.bytes before children) (last_name children)
+    ∙ ap (λ sheet. at state.tables sheet (told_by before.spine))
+    (lay_two given.ending state.sheet opened (close (left_of given.bytes before children) (last_name children)
     (last_contributing children)))
 
 -- what a node's children tell ahead decides only by what its name reads
@@ -438,21 +438,21 @@ told_ahead mark number label reference defined footnote = record {
 }
 
 link-told : (given : Given) (around : Surroundings) (left : Left) (passed : Passed) (last : Bool) (start end : Point)
-    (inner : Page) (m n l r d f : Option Position) →
+    (inner : Sheet) (m n l r d f : Option Position) →
     closing given around left (ahead_by (or_else r l)) passed last start end inner Link
     ≡ closing given around left (told_ahead m n l r d f) passed last start end inner Link
 link-told given around left passed last start end inner m n l None d f = refl
 link-told given around left passed last start end inner m n l (Some r) d f = refl
 
 image-told : (given : Given) (around : Surroundings) (left : Left) (passed : Passed) (last : Bool) (start end : Point)
-    (inner : Page) (m n l r d f : Option Position) →
+    (inner : Sheet) (m n l r d f : Option Position) →
     closing given around left (ahead_by (or_else r l)) passed last start end inner Image
     ≡ closing given around left (told_ahead m n l r d f) passed last start end inner Image
 image-told given around left passed last start end inner m n l None d f = refl
 image-told given around left passed last start end inner m n l (Some r) d f = refl
 
 closing-told : (given : Given) (around : Surroundings) (left : Left) (passed : Passed) (last : Bool)
-    (start end : Point) (inner : Page) (name : Name) (children : Forest) →
+    (start end : Point) (inner : Sheet) (name : Name) (children : Forest) →
     closing given around left (ahead_told name (Some children)) passed last start end inner name
     ≡ closing given around left (ahead_of children) passed last start end inner name
 closing-told given around left passed last start end inner Link children =
@@ -469,24 +469,24 @@ called-told : (bytes : List ℕ) (called : List Called) (name : Name) (children 
 called-told bytes called GfmFootnoteCall children = refl
 called-told bytes called _ children = refl
 
-defined-told : (bytes : List ℕ) (definitions : List Defined) (page : Page) (name : Name) (children : Forest) →
+defined-told : (bytes : List ℕ) (definitions : List Defined) (sheet : Sheet) (name : Name) (children : Forest) →
     (if is_link_definition name then definitions ++ record
-    { identifier = identifier_at bytes (ahead_told name (Some children)).defined; target = page.notes.target } ∷ []
+    { identifier = identifier_at bytes (ahead_told name (Some children)).defined; target = sheet.notes.target } ∷ []
     else definitions)
     ≡ (if is_link_definition name then definitions ++ record
-    { identifier = identifier_at bytes (ahead_of children).defined; target = page.notes.target } ∷ []
+    { identifier = identifier_at bytes (ahead_of children).defined; target = sheet.notes.target } ∷ []
     else definitions)
-defined-told bytes definitions page Definition children = refl
-defined-told bytes definitions page _ children = refl
+defined-told bytes definitions sheet Definition children = refl
+defined-told bytes definitions sheet _ children = refl
 
-noted-told : (bytes : List ℕ) (footnotes : List Footnote) (page : Page) (name : Name) (children : Forest) →
+noted-told : (bytes : List ℕ) (footnotes : List Footnote) (sheet : Sheet) (name : Name) (children : Forest) →
     (if is_footnote_definition name then noted footnotes
-    (record { identifier = identifier_at bytes (ahead_told name (Some children)).footnote; text = page.text })
+    (record { identifier = identifier_at bytes (ahead_told name (Some children)).footnote; text = sheet.text })
     else footnotes)
     ≡ (if is_footnote_definition name then noted footnotes
-    (record { identifier = identifier_at bytes (ahead_of children).footnote; text = page.text }) else footnotes)
-noted-told bytes footnotes page GfmFootnoteDefinition children = refl
-noted-told bytes footnotes page _ children = refl
+    (record { identifier = identifier_at bytes (ahead_of children).footnote; text = sheet.text }) else footnotes)
+noted-told bytes footnotes sheet GfmFootnoteDefinition children = refl
+noted-told bytes footnotes sheet _ children = refl
 
 after_node-told : (given : Given) (before : Before) (last captured : Bool) (name : Name) (start end : Point)
     (children : Forest) (state : State) →
@@ -498,14 +498,14 @@ after_node-told given before last captured name start end children state =
     let whole : State = after_node given told before last captured name start end children state in
     let inner : List Piece = if captured then [] else printed given
     (inside given.options (is_loose children) name around) (before_children name children before) children in
-    let page : Page = inner_page given around before captured name children in
+    let sheet : Sheet = inner_sheet given around before captured name children in
     let close : Ahead → List Piece = λ ahead. closing given around (left_of given.bytes before children) ahead
     (passed_over (spine_inside name before.spine) children) last start end
     (if captured then lay given.ending blank (printed given (inside given.options (is_loose children) name around)
     (before_children name children before) children) else blank) name in
     let made : List Piece → List Piece → List Called → List Defined → List Footnote →
     State = λ opened closed called definitions footnotes. record whole {
-      page = lay given.ending state.page (opened ++ (inner ++ closed));
+      sheet = lay given.ending state.sheet (opened ++ (inner ++ closed));
       log = record { called = called; definitions = definitions; footnotes = footnotes };
     } in
     let calls : List Called = fold counted state.log.called (calls_of given.bytes children) in
@@ -520,16 +520,16 @@ after_node-told given before last captured name start end children state =
     (opening-told given around name children)
     ∙ ap (λ c. made (opening given around (ahead_of children) name) c whole.log.called whole.log.definitions
     whole.log.footnotes) (closing-told given around (left_of given.bytes before children)
-    (passed_over (spine_inside name before.spine) children) last start end page name children)
+    (passed_over (spine_inside name before.spine) children) last start end sheet name children)
     ∙ ap (λ cs. made (opening given around (ahead_of children) name)
     (close (ahead_of children)) cs whole.log.definitions whole.log.footnotes)
     (called-told given.bytes calls name children)
     ∙ ap (λ ds. made (opening given around (ahead_of children) name)
     (close (ahead_of children)) plain.log.called ds whole.log.footnotes)
-    (defined-told given.bytes definitions page name children)
+    (defined-told given.bytes definitions sheet name children)
     ∙ ap (λ fs. made (opening given around (ahead_of children) name)
     (close (ahead_of children)) plain.log.called plain.log.definitions fs)
-    (noted-told given.bytes footnotes page name children)
+    (noted-told given.bytes footnotes sheet name children)
 
 node_step : (given : Given) (before : Before) (last captured : Bool) (name : Name) (start end : Point)
     (children : Forest) (state : State) → Knows state before →
@@ -550,26 +550,26 @@ log-step : {A : Type 0} (b : Bool) (xs ys zs : List A) (x : A) →
 log-step true xs ys zs x = append_assoc (xs ++ ys) (x ∷ []) zs ∙ append_assoc xs ys (x ∷ zs)
 log-step false xs ys zs x = append_assoc xs ys zs
 
--- a definition's page is captured
-definition_page : (name : Name) (identifier : List ℕ) (page : Page) (definitions : List Defined) →
+-- a definition's sheet is captured
+definition_sheet : (name : Name) (identifier : List ℕ) (sheet : Sheet) (definitions : List Defined) →
     (if is_link_definition name then definitions ++ record {
       identifier = identifier;
-      target = (if is_captured name then page else blank).notes.target;
+      target = (if is_captured name then sheet else blank).notes.target;
     } ∷ [] else definitions)
-    ≡ (if is_link_definition name then definitions ++ record { identifier = identifier; target = page.notes.target }
+    ≡ (if is_link_definition name then definitions ++ record { identifier = identifier; target = sheet.notes.target }
     ∷ [] else definitions)
-definition_page Definition identifier page definitions = refl
-definition_page _ identifier page definitions = refl
+definition_sheet Definition identifier sheet definitions = refl
+definition_sheet _ identifier sheet definitions = refl
 
-footnote_page : (name : Name) (identifier : List ℕ) (page : Page) (footnotes : List Footnote) →
+footnote_sheet : (name : Name) (identifier : List ℕ) (sheet : Sheet) (footnotes : List Footnote) →
     (if is_footnote_definition name then noted footnotes (record {
       identifier = identifier;
-      text = (if is_captured name then page else blank).text;
+      text = (if is_captured name then sheet else blank).text;
     }) else footnotes)
-    ≡ (if is_footnote_definition name then noted footnotes (record { identifier = identifier; text = page.text })
+    ≡ (if is_footnote_definition name then noted footnotes (record { identifier = identifier; text = sheet.text })
     else footnotes)
-footnote_page GfmFootnoteDefinition identifier page footnotes = refl
-footnote_page _ identifier page footnotes = refl
+footnote_sheet GfmFootnoteDefinition identifier sheet footnotes = refl
+footnote_sheet _ identifier sheet footnotes = refl
 
 -- one more that is seen, and those after it
 fold-step : {A B : Type 0} (f : B → A → B) (b : Bool) (seen : B) (xs ys : List A) (x : A) →
@@ -594,9 +594,9 @@ next_knows given before last captured name start end children state knows =
           ∙ ap (λ called. fold counted called (calls_of given.bytes (Node name start end children Empty))) knows.calls
           ∙ fold-tally before.calls (calls_of given.bytes (Node name start end children Empty));
       slurping =
-          ap (λ s. slurps_behind own (slurps_behind marks s)) knows.slurping
+          ap (λ s. slurps_after own (slurps_after marks s)) knows.slurping
           ∙ sym (is_slurping-append (own ++ marks) before.marks
-          ∙ slurps_behind-append own marks (is_slurping before.marks));
+          ∙ slurps_after-append own marks (is_slurping before.marks));
       previous = refl;
       spine = elim (is_transparent name) as (λ b. (if b then told_by ((if b then before.spine else [])
           ++ spine_names children) else with_name name state.frame.passed.spine)
@@ -624,11 +624,11 @@ after-node given before name start end children rest state =
     let own : List Mark = own_marks around (told_by before.spine) name in
     let marks : List Mark = marks_of given.options (inside given.options (is_loose children) name around)
     (spine_inside name before.spine) children in
-    let later : List Mark = marks_of given.options around (spine_behind name children before.spine) rest in
-    let inner : Page = lay given.ending blank (printed given (inside given.options (is_loose children) name around)
+    let later : List Mark = marks_of given.options around (spine_after_node name children before.spine) rest in
+    let inner : Sheet = lay given.ending blank (printed given (inside given.options (is_loose children) name around)
     (before_children name children before) children) in
     let identifier : List ℕ = identifier_at given.bytes (ahead_of children).defined in
-    let defined : Page → Defined = λ page. record { identifier = identifier; target = page.notes.target } in
+    let defined : Sheet → Defined = λ sheet. record { identifier = identifier; target = sheet.notes.target } in
     let inner_definitions : List Defined = definitions_of given (inside given.options (is_loose children) name around)
     (before_children name children before) children in
     let later_definitions : List Defined = definitions_of given around next rest in
@@ -645,46 +645,46 @@ after-node given before name start end children rest state =
     let logged : List Called → List Defined → List Footnote →
     State = λ cs ds fs. record (after given before (Node name start end children rest) state)
     { log = record { called = cs; definitions = ds; footnotes = fs } } in
-    let made : Page → Bool → Option Name → Option Name → List Name → State = λ page slurping o p names. record state {
+    let made : Sheet → Bool → Option Name → Option Name → List Name → State = λ sheet slurping o p names. record state {
       log = (after given next rest (after_node given (ahead_of children) before (around.is_outermost
           && is_empty rest) (is_captured name) name start end children state)).log;
-      page = page;
+      sheet = sheet;
       is_slurping = slurping;
       frame = record state.frame { passed = record { last = o; contributing = p; spine = told_by names } };
     } in
     let own_contribution : Option Name = if contributes name then Some name else state.frame.passed.contributing in
-    ap (λ page. made page (slurps_behind later (slurps_behind own (slurps_behind marks state.is_slurping)))
+    ap (λ sheet. made sheet (slurps_after later (slurps_after own (slurps_after marks state.is_slurping)))
     (or_else (last_name rest) (Some name)) (or_else (last_contributing rest) own_contribution)
-    (spine_behind name children before.spine ++ spine_names rest))
-    (lay_two given.ending state.page node (printed given around next rest))
-    ∙ ap (λ s. made (lay given.ending state.page (node ++ printed given around next rest)) s
+    (spine_after_node name children before.spine ++ spine_names rest))
+    (lay_two given.ending state.sheet node (printed given around next rest))
+    ∙ ap (λ s. made (lay given.ending state.sheet (node ++ printed given around next rest)) s
     (or_else (last_name rest) (Some name)) (or_else (last_contributing rest) own_contribution)
-    (spine_behind name children before.spine ++ spine_names rest))
-    (sym (slurps_behind-append (later ++ own) marks state.is_slurping
-    ∙ slurps_behind-append later own (slurps_behind marks state.is_slurping)))
-    ∙ ap (λ o. made (lay given.ending state.page (node ++ printed given around next rest))
-    (slurps_behind (later ++ own ++ marks) state.is_slurping) o (or_else (last_contributing rest) own_contribution)
-    (spine_behind name children before.spine ++ spine_names rest))
+    (spine_after_node name children before.spine ++ spine_names rest))
+    (sym (slurps_after-append (later ++ own) marks state.is_slurping
+    ∙ slurps_after-append later own (slurps_after marks state.is_slurping)))
+    ∙ ap (λ o. made (lay given.ending state.sheet (node ++ printed given around next rest))
+    (slurps_after (later ++ own ++ marks) state.is_slurping) o (or_else (last_contributing rest) own_contribution)
+    (spine_after_node name children before.spine ++ spine_names rest))
     (or_else_last (last_name rest) name state.frame.passed.last)
-    ∙ ap (λ o. made (lay given.ending state.page (node ++ printed given around next rest))
-    (slurps_behind (later ++ own ++ marks) state.is_slurping)
+    ∙ ap (λ o. made (lay given.ending state.sheet (node ++ printed given around next rest))
+    (slurps_after (later ++ own ++ marks) state.is_slurping)
     (or_else (last_name (Node name start end children rest)) state.frame.passed.last) o
-    (spine_behind name children before.spine ++ spine_names rest))
+    (spine_after_node name children before.spine ++ spine_names rest))
     (or_else_assoc (last_contributing rest) (contributes name) name state.frame.passed.contributing)
-    ∙ ap (λ names. made (lay given.ending state.page (node ++ printed given around next rest))
-    (slurps_behind (later ++ own ++ marks) state.is_slurping)
+    ∙ ap (λ names. made (lay given.ending state.sheet (node ++ printed given around next rest))
+    (slurps_after (later ++ own ++ marks) state.is_slurping)
     (or_else (last_name (Node name start end children rest)) state.frame.passed.last)
     (or_else (last_contributing (Node name start end children rest)) state.frame.passed.contributing) names)
     (append_assoc before.spine (if is_transparent name then spine_names children else name ∷ []) (spine_names rest))
     ∙ ap (λ ds. logged (fold counted left.called (calls_of given.bytes rest)) (ds
     ++ later_definitions) (fold noted left.footnotes later_footnotes))
-    (definition_page name identifier inner (state.log.definitions ++ inner_definitions))
+    (definition_sheet name identifier inner (state.log.definitions ++ inner_definitions))
     ∙ ap (λ ds. logged (fold counted left.called (calls_of given.bytes rest)) ds
     (fold noted left.footnotes later_footnotes))
     (log-step (is_link_definition name) state.log.definitions inner_definitions later_definitions (defined inner))
     ∙ ap (λ fs. logged (fold counted left.called (calls_of given.bytes rest)) (state.log.definitions
     ++ definitions_of given around before (Node name start end children rest)) fs)
-    (ap (λ fs. fold noted fs later_footnotes) (footnote_page name
+    (ap (λ fs. fold noted fs later_footnotes) (footnote_sheet name
     (identifier_at given.bytes (ahead_of children).footnote) inner (fold noted state.log.footnotes inner_footnotes))
     ∙ fold-step noted (is_footnote_definition name) state.log.footnotes inner_footnotes later_footnotes footnote)
     ∙ ap (λ cs. logged cs (state.log.definitions ++ definitions_of given around before

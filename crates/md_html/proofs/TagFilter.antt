@@ -12,7 +12,7 @@ use Rattle.md_base.specs.Children.{is_empty}
 use Rattle.md_infer.specs.Looseness.{is_loose}
 use Rattle.md_meaning.specs.declared.options.CompileOptions.{CompileOptions}
 use Rattle.md_meaning.specs.declared.facts.Surroundings.{Surroundings}
-use Rattle.md_meaning.specs.Surroundings.{Mark, inside, outermost, spine_inside, spine_behind}
+use Rattle.md_meaning.specs.Surroundings.{Mark, inside, outermost, spine_inside, spine_after_node}
 use Rattle.md_meaning.specs.Given.{Defined}
 use Rattle.md_meaning.specs.Footnotes.{Footnote}
 use Rattle.md_meaning.specs.Calls.{distinct, count_of}
@@ -67,15 +67,15 @@ marks-moot : (filter : Bool) (options : CompileOptions) (around : Surroundings) 
 marks-moot filter options around spine Empty = refl
 marks-moot filter options around spine (Node name start end children rest) =
     let before : List Mark → List Mark → List Mark = λ later inner. later ++ own_marks around spine name ++ inner in
-    let round : Surroundings = inside options (is_loose children) name around in
+    let nested : Surroundings = inside options (is_loose children) name around in
     ap (λ ms. before ms (marks_of (filtering filter options)
     (inside (filtering filter options) (is_loose children) name around) (spine_inside name spine) children))
-    (marks-moot filter options around (spine_behind name children spine) rest)
-    ∙ ap (λ ar. before (marks_of options around (spine_behind name children spine) rest)
+    (marks-moot filter options around (spine_after_node name children spine) rest)
+    ∙ ap (λ ar. before (marks_of options around (spine_after_node name children spine) rest)
     (marks_of (filtering filter options) ar (spine_inside name spine) children))
     (inside-moot filter options (is_loose children) name around)
-    ∙ ap (λ ms. before (marks_of options around (spine_behind name children spine) rest) ms)
-    (marks-moot filter options round (spine_inside name spine) children)
+    ∙ ap (λ ms. before (marks_of options around (spine_after_node name children spine) rest) ms)
+    (marks-moot filter options nested (spine_inside name spine) children)
 
 next-moot : (filter : Bool) (given : Given) (at : At) (name : Name) (found : Found) →
     before_next (under filter given) at name found ≡ before_next given at name found
@@ -102,7 +102,7 @@ meant-moot filter given h around before Empty = refl
 meant-moot filter given h around before (Node name start end children rest) =
     let other : Given = under filter given in
     let own : Before = before_children name children before in
-    let round : Surroundings = inside given.options (is_loose children) name around in
+    let nested : Surroundings = inside given.options (is_loose children) name around in
     let at : Meant → At = λ inner. record {
       around = around;
       before = before;
@@ -114,11 +114,11 @@ meant-moot filter given h around before (Node name start end children rest) =
     } in
     let later : Meant → Meant = λ inner. meant other around
     (before_next other (at inner) name (found_at other (at inner) name inner.pieces)) rest in
-    let inner : Meant = meant given round own children in
+    let inner : Meant = meant given nested own children in
     let here : At = at inner in
     ap (λ ar. both (node other (at (meant other ar own children)) name (meant other ar own children))
     (later (meant other ar own children))) (inside-moot filter given.options (is_loose children) name around)
-    ∙ ap (λ m. both (node other (at m) name m) (later m)) (meant-moot filter given h round own children)
+    ∙ ap (λ m. both (node other (at m) name m) (later m)) (meant-moot filter given h nested own children)
     ∙ ap (λ n. both n (later inner)) (node-moot filter given here h name inner)
     ∙ ap (λ f. both (node given here name inner) (meant other around (before_next other here name f) rest))
     (found-moot filter given here name inner.pieces)

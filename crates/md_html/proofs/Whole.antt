@@ -13,7 +13,7 @@ use Rattle.md_meaning.specs.Meaning.{ending_at}
 use Rattle.md_meaning.specs.Whole.{printed_meaning as meaning}
 use Rattle.md_printer.specs.Machine.{run, beginning, finished}
 use Rattle.md_tree.specs.Entered.{children_of}
-use Rattle.md_meaning.specs.Piece.{Piece, Page, blank, lay, layout}
+use Rattle.md_meaning.specs.Piece.{Piece, Sheet, blank, lay, layout}
 use Rattle.md_meaning.specs.Surroundings.{outermost}
 use Rattle.md_meaning.specs.Calls.{Called, tally}
 use Rattle.md_meaning.specs.Footnotes.{Footnote, footnote_text, item_pieces, items_pieces, section_opening, section_closing, section_pieces}
@@ -52,10 +52,10 @@ run-events given events document flat = ap (λ es. run given es (children_of doc
     ∙ run-document given document
 
 -- what is found after one footnote
-found_behind : (first : Footnote) (xs ys : List Footnote) (identifier : List ℕ) →
+found_after : (first : Footnote) (xs ys : List Footnote) (identifier : List ℕ) →
     footnote_text xs identifier ≡ footnote_text ys identifier →
     footnote_text (first ∷ xs) identifier ≡ footnote_text (first ∷ ys) identifier
-found_behind first xs ys identifier h =
+found_after first xs ys identifier h =
     elim (bytes_eq first.identifier identifier) as (λ b. option_map_or (λ footnote. footnote.text) (if b
     then Some first else find (λ footnote. bytes_eq footnote.identifier identifier) xs) []
     ≡ option_map_or (λ footnote. footnote.text) (if b then Some first
@@ -71,15 +71,15 @@ passed_by : (others : List Footnote) (footnote : Footnote) (more : List Footnote
 passed_by [] footnote more identifier h = ap (λ b. option_map_or (λ f. f.text) (if b then Some footnote
     else find (λ f. bytes_eq f.identifier identifier) more) []) (sym h)
 passed_by (other ∷ others) footnote more identifier h =
-    found_behind other (others ++ more) ((others ++ footnote ∷ [])
+    found_after other (others ++ more) ((others ++ footnote ∷ [])
     ++ more) identifier (passed_by others footnote more identifier h)
 
 -- after one with the same identifier another makes no difference
-same_behind : (first : Footnote) (others : List Footnote) (footnote : Footnote) (more : List Footnote)
+same_after : (first : Footnote) (others : List Footnote) (footnote : Footnote) (more : List Footnote)
     (identifier : List ℕ) → first.identifier ≡ footnote.identifier →
     footnote_text (first ∷ others ++ more) identifier ≡ footnote_text (first ∷ (others ++ footnote ∷ [])
     ++ more) identifier
-same_behind first others footnote more identifier h =
+same_after first others footnote more identifier h =
     elim (bytes_eq first.identifier identifier) as (λ b. bytes_eq first.identifier identifier ≡ b →
     option_map_or (λ f. f.text) (if b then Some first else find (λ f. bytes_eq f.identifier identifier) (others
     ++ more)) [] ≡ option_map_or (λ f. f.text) (if b then Some first
@@ -96,9 +96,9 @@ one_noted (first ∷ others) footnote more identifier =
     elim (bytes_eq first.identifier footnote.identifier) as (λ b. bytes_eq first.identifier footnote.identifier ≡ b →
     footnote_text (first ∷ (if b then others else noted others footnote) ++ more) identifier
     ≡ footnote_text (first ∷ (others ++ footnote ∷ []) ++ more) identifier) [
-      | true ↦ λ e. same_behind first others footnote more identifier
+      | true ↦ λ e. same_after first others footnote more identifier
           ((bytes_eq-Decides first.identifier footnote.identifier).0 e)
-      | false ↦ λ e. found_behind first (noted others footnote ++ more) ((others ++ footnote ∷ [])
+      | false ↦ λ e. found_after first (noted others footnote ++ more) ((others ++ footnote ∷ [])
           ++ more) identifier (one_noted others footnote more identifier)
     ] refl
 
@@ -127,7 +127,7 @@ section-noted options kept footnotes (called ∷ others) same =
         ∙ ap (λ items. item_pieces options (footnote_text footnotes call.identifier) call.identifier number call.count
         ++ items) (items-noted (suc number) calls)
 
--- the last page, with the section, is the document's
+-- the last sheet, with the section, is the document's
 finished-document : (given : Given) (document : Forest) →
     (finished given (after given nothing_before document beginning)).text
     ≡ layout given.ending (printed given outermost nothing_before document
@@ -136,10 +136,10 @@ finished-document : (given : Given) (document : Forest) →
 finished-document given document =
     let pieces : List Piece = printed given outermost nothing_before document in
     let footnotes : List Footnote = footnotes_of given outermost nothing_before document in
-    let page : Page = lay given.ending blank pieces in
-    ap (λ called. (lay given.ending page (section_pieces given.options (fold noted [] footnotes) called)).text)
+    let sheet : Sheet = lay given.ending blank pieces in
+    ap (λ called. (lay given.ending sheet (section_pieces given.options (fold noted [] footnotes) called)).text)
     (fold-tally [] (calls_of given.bytes document))
-    ∙ ap (λ section. (lay given.ending page section).text)
+    ∙ ap (λ section. (lay given.ending sheet section).text)
     (section-noted given.options (fold noted [] footnotes) footnotes (tally (calls_of given.bytes document))
     (noted-found [] footnotes))
     ∙ ap (λ p. p.text) (sym (lay-append given.ending blank pieces

@@ -5,7 +5,7 @@ use Rattle.md_base.specs.declared.event.Kind.TheVariants.{Enter, Exit}
 use Rattle.md_print.specs.Closings.{group_of, is_light}
 
 -- the first enters and the second exits such a node
-pub record IsLeaf (entry exit : Event) : Type 0 where
+pub record IsLightLeaf (entry exit : Event) : Type 0 where
   pub enters : entry.kind ≡ Enter
   pub exits : exit.kind ≡ Exit
   pub light : is_light (group_of entry.name) ≡ true

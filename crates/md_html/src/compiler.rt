@@ -22,7 +22,7 @@ ghost use Rattle.md_meaning.specs.Places.{first_ending as first_place};
 ghost use Rattle.md_meaning.specs.Printed.{is_captured};
 ghost use Rattle.md_meaning.specs.declared.facts.Ahead.{Ahead};
 ghost use Rattle.md_print.specs.Closings.{group_of, is_light};
-ghost use Rattle.md_html.specs.Leaf.{IsLeaf};
+ghost use Rattle.md_html.specs.Leaf.{IsLightLeaf};
 ghost use Rattle.std.specs.Bool.{OnTrue};
 ghost use Rattle.md_base.specs.declared.event.AlignKind.{AlignKind};
 
@@ -34,7 +34,7 @@ use md_meaning::CompileOptions;
 use md_print::close::{close, close_captured};
 use md_print::groups::{group_of, is_light};
 use md_print::open::open;
-use md_printer::facts::{Exit, Inner, Told};
+use md_printer::facts::{Exit, Inner, Lookahead};
 use md_printer::printer::Printer;
 use md_printer::source::{Source, identifier_at};
 use md_sheet::{Defined, Definitions};
@@ -221,7 +221,7 @@ fn ending_of<'a>(checked: &Checked<'a>, options: &'a CompileOptions) -> &'a str
 fn enter(
     printer: &mut Printer,
     source: &Source,
-    told: Told,
+    told: Lookahead,
     name: Name,
     start: Point,
 ) -> Result<(), AllocError>
@@ -300,8 +300,8 @@ fn close_and_log(
 ) -> Result<(), AllocError>
     requires { is_captured name ≡ true }
     ensures { OnOk result (printer.new ≡ machine.printing source.now.ending.now
-        (closing_at (given_of source.now) exit.now printer.old.log.called (steps.first_or [] printer.old.tables) (machine.ahead_by inner.place) printer.old.frame.passed inner.page name)
-        (machine.logging source.now.bytes.now (machine.ahead_by inner.place) name inner.page printer.old)) }
+        (closing_at (given_of source.now) exit.now printer.old.log.called (steps.first_or [] printer.old.tables) (machine.ahead_by inner.place) printer.old.frame.passed inner.sheet name)
+        (machine.logging source.now.bytes.now (machine.ahead_by inner.place) name inner.sheet printer.old)) }
 {
     match name {
         Name::GfmFootnoteCall => {
@@ -311,11 +311,11 @@ fn close_and_log(
         }
         Name::GfmFootnoteDefinition => {
             let identifier = identifier_at(source.alloc, source.bytes, inner.place)?;
-            printer.log_footnote(identifier, inner.page.into_text(source.alloc)?)
+            printer.log_footnote(identifier, inner.sheet.into_text(source.alloc)?)
         }
         Name::Definition => {
             let identifier = identifier_at(source.alloc, source.bytes, inner.place)?;
-            let target = inner.page.into_target();
+            let target = inner.sheet.into_target();
             printer.log_definition(Defined { identifier, target })
         }
         _ => close_captured(printer, source, exit, inner, name),
@@ -336,8 +336,8 @@ fn exit_captured(
 {
     let exit = printer.exit(is_last, end);
     let place = printer.place();
-    let page = printer.release(source.alloc);
-    close_and_log(printer, source, &exit, Inner { place, page }, name)?;
+    let sheet = printer.release(source.alloc);
+    close_and_log(printer, source, &exit, Inner { place, sheet }, name)?;
     printer.leave(name)
 }
 
@@ -423,7 +423,7 @@ fn enter_visited(
     let place = place_read(checked, visit.index, event.name);
     let loose = is_loose(checked, visit.index, event.name);
     let columns = columns_of(source.alloc, checked, visit.index, event.name)?;
-    let told = Told {
+    let told = Lookahead {
         place,
         loose,
         columns,
@@ -450,7 +450,7 @@ fn leaf(
 
 /// Two events enter and exit such a node.
 fn is_leaf(entry: &Event, exit: &Event) -> bool
-    ensures { OnTrue result (IsLeaf entry.now exit.now) }
+    ensures { OnTrue result (IsLightLeaf entry.now exit.now) }
 {
     matches!(entry.kind, Kind::Enter)
         && matches!(exit.kind, Kind::Exit)

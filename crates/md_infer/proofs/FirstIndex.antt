@@ -4,11 +4,11 @@ use Rattle.std.specs.Prelude.{if◌then◌else◌, option_map}
 use Rattle.std.proofs.Math.Seq.{take-suc}
 use Rattle.std.proofs.lemmas.List.{length-take-le}
 use Rattle.md_base.specs.declared.event.Event.{Event}
-use Rattle.md_infer.specs.Ending.{ends_line, first_index, ending_behind}
+use Rattle.md_infer.specs.Ending.{ends_line, first_index, ending_after}
 
 one_later : (found : Option ℕ) (index : ℕ) (event : Event) →
-    option_map (λ i. suc i) (ending_behind found index event)
-    ≡ ending_behind (option_map (λ i. suc i) found) (suc index) event
+    option_map (λ i. suc i) (ending_after found index event)
+    ≡ ending_after (option_map (λ i. suc i) found) (suc index) event
 one_later (Some found) index event = refl
 one_later None index event = by (ends_line event)
   where
@@ -18,28 +18,28 @@ one_later None index event = by (ends_line event)
     by false = refl
 
 first_index-step : (first event : Event) (events : List Event) →
-    first_index (events ++ event ∷ []) ≡ ending_behind (first_index events) (length events) event →
-    first_index (first ∷ (events ++ event ∷ [])) ≡ ending_behind (first_index (first ∷ events))
+    first_index (events ++ event ∷ []) ≡ ending_after (first_index events) (length events) event →
+    first_index (first ∷ (events ++ event ∷ [])) ≡ ending_after (first_index (first ∷ events))
     (suc (length events)) event
 first_index-step first event events e = by (ends_line first)
   where
     by : (ends : Bool) → (if ends then Some 0 else option_map (λ i. suc i) (first_index (events ++ event ∷ [])))
-        ≡ ending_behind (if ends then Some 0 else option_map (λ i. suc i) (first_index events))
+        ≡ ending_after (if ends then Some 0 else option_map (λ i. suc i) (first_index events))
         (suc (length events)) event
     by true = refl
     by false = ap (option_map (λ i. suc i)) e ∙ one_later (first_index events) (length events) event
 
 first_index-append : (events : List Event) (event : Event) →
-    first_index (events ++ event ∷ []) ≡ ending_behind (first_index events) (length events) event
+    first_index (events ++ event ∷ []) ≡ ending_after (first_index events) (length events) event
 first_index-append [] event = refl
 first_index-append (first ∷ events) event = first_index-step first event events (first_index-append events event)
 
 pub first_index-more : (events : List Event) (index : ℕ) (d : Event) (found : Option ℕ) → index < length events →
     found ≡ first_index (take index events) →
-    ending_behind found index (get_or events index d) ≡ first_index (take (index + 1) events)
+    ending_after found index (get_or events index d) ≡ first_index (take (index + 1) events)
 first_index-more events index d found inside so_far =
-    ap (λ f. ending_behind f index (get_or events index d)) so_far
-    ∙ ap (λ i. ending_behind (first_index (take index events)) i (get_or events index d))
+    ap (λ f. ending_after f index (get_or events index d)) so_far
+    ∙ ap (λ i. ending_after (first_index (take index events)) i (get_or events index d))
     (sym (length-take-le index events (before inside)))
     ∙ sym (first_index-append (take index events) (get_or events index d))
     ∙ ap first_index (sym (take-suc events index d inside))

@@ -25,8 +25,8 @@ plain-fact GfmTable exit table around plain = lie (sym plain)
 plain-fact _ exit table around plain = refl
 
 -- what is found after such a node
-abbrev pub behind_leaf : Name → Passed → Passed
-behind_leaf name pass = record {
+abbrev pub after_leaf : Name → Passed → Passed
+after_leaf name pass = record {
   facts = (pass.facts ++ fact_of name (length pass.facts + 1)
       (length (Collected.tables (columns_entered name pass.columns))) 0
       (sought_inside name (OpenNode.sought pass.here)) nothing_told ∷ [])
@@ -34,7 +34,7 @@ behind_leaf name pass = record {
   columns = columns_exited name nothing_told (OpenNode.collects pass.here) (columns_entered name pass.columns);
   definitions = definitions_with name (length pass.facts) pass.definitions;
   here = followed name (opened (length pass.facts) name pass.here) pass.here;
-  round = pass.round;
+  outer = pass.outer;
 }
 
 facts-leaf : (found : List Fact) (alone : Fact) (at : ℕ → Fact) →
@@ -43,9 +43,9 @@ facts-leaf found alone at =
     sym (set-append_seam found alone [] (at (length found + 1)))
     ∙ ap (λ n. set (found ++ alone ∷ []) (length found) (at n)) (sym (length-append found (alone ∷ [])))
 
-pub passed-leaf : (name : Name) (pass : Passed) → behind_leaf name pass ≡ passed_exit name (passed_entry name pass)
+pub passed-leaf : (name : Name) (pass : Passed) → after_leaf name pass ≡ passed_exit name (passed_entry name pass)
 passed-leaf name pass =
-    ap (λ fs. record (behind_leaf name pass) { facts = fs ++ partner_alone (length pass.facts) ∷ [] })
+    ap (λ fs. record (after_leaf name pass) { facts = fs ++ partner_alone (length pass.facts) ∷ [] })
     (facts-leaf pass.facts (partner_alone 0) (λ exit. fact_of name exit (length (Collected.tables
     (columns_entered name pass.columns))) 0 (sought_inside name (OpenNode.sought pass.here)) nothing_told))
 
@@ -56,7 +56,7 @@ pub passed-leaf_by : (name : Name) (pass : Passed) (entry : ℕ) (here : OpenNod
     columns ≡ columns_exited name nothing_told (OpenNode.collects pass.here) pass.columns →
     definitions ≡ definitions_with name entry pass.definitions →
     here ≡ followed name (opened entry name pass.here) pass.here →
-    record { facts = twice; columns = columns; definitions = definitions; here = here; round = pass.round }
+    record { facts = twice; columns = columns; definitions = definitions; here = here; outer = pass.outer }
     ≡ passed_exit name (passed_entry name pass)
 passed-leaf_by name pass entry here columns once twice definitions plain e1 e5 e6 e7 e8 e9 =
     rw (e9, e8, e7, e6, e5, e1) (ap (λ f. record {
@@ -64,9 +64,9 @@ passed-leaf_by name pass entry here columns once twice definitions plain e1 e5 e
       columns = columns_exited name nothing_told (OpenNode.collects pass.here) pass.columns;
       definitions = definitions_with name (length pass.facts) pass.definitions;
       here = followed name (opened (length pass.facts) name pass.here) pass.here;
-      round = pass.round;
+      outer = pass.outer;
     }) (plain-fact name (length pass.facts + 1) (length (Collected.tables (columns_entered name pass.columns)))
     (OpenNode.sought pass.here) plain)
-    ∙ ap (λ c. record (behind_leaf name pass) {
+    ∙ ap (λ c. record (after_leaf name pass) {
       columns = columns_exited name nothing_told (OpenNode.collects pass.here) c;
     }) (sym (plain-entered name pass.columns plain)) ∙ passed-leaf name pass)

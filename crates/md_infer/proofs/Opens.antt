@@ -9,7 +9,7 @@ use Rattle.md_infer.specs.declared.facts.OpenNode.{OpenNode}
 use Rattle.md_infer.specs.Columns.{Collected, columns_exited}
 use Rattle.md_infer.specs.Told.{nothing_told}
 use Rattle.md_base.specs.NameTests.{is_table}
-use Rattle.md_infer.specs.Facts.{Passed, opens, next_round, others_round, grounded, opened, followed, fact_of, partner_alone, definitions_with, passed_entry, passed_exit}
+use Rattle.md_infer.specs.Facts.{Passed, opens, next_outer, others_outer, grounded, opened, followed, fact_of, partner_alone, definitions_with, passed_entry, passed_exit}
 use Rattle.md_infer.proofs.Leaves.{passed-leaf_by}
 
 -- an answer of a call of which three things are known
@@ -29,41 +29,41 @@ last-place : (r : List OpenNode) (x : OpenNode) → length (r ++ x ∷ []) - 1 �
 last-place r x = ap (λ n. n - 1) (length-append r (x ∷ [])) ∙ one_less (length r)
 
 set-by : (r items : List OpenNode) (d w : OpenNode) → items ≡ reverse r → 0 < length items →
-    opens (set items (length items - 1) w) d ≡ w ∷ others_round (opens items d)
+    opens (set items (length items - 1) w) d ≡ w ∷ others_outer (opens items d)
 set-by [] items d w is some = absurd (omega (arith, subst (λ xs. 0 < length xs) is some))
 set-by (x ∷ r) items d w is some =
     let parts = is ∙ reverse-append (x ∷ []) r in
     rw parts (ap (λ n. opens (set (reverse r ++ x ∷ []) n w) d) (last-place (reverse r) x)
     ∙ ap (λ xs. opens xs d) (set-append_seam (reverse r) x [] w)
     ∙ opens-seam r w d
-    ∙ ap (λ o. w ∷ others_round o) (sym (opens-seam r x d)))
+    ∙ ap (λ o. w ∷ others_outer o) (sym (opens-seam r x d)))
 
 last-by : (r items : List OpenNode) (d x : OpenNode) → items ≡ reverse r → 0 < length items →
-    get_or items (length items - 1) x ≡ next_round (opens items d)
+    get_or items (length items - 1) x ≡ next_outer (opens items d)
 last-by [] items d x is some = absurd (omega (arith, subst (λ xs. 0 < length xs) is some))
 last-by (y ∷ r) items d x is some =
     let parts = is ∙ reverse-append (y ∷ []) r in
     rw parts (ap (λ n. get_or (reverse r ++ y ∷ []) n x) (last-place (reverse r) y)
     ∙ get_or-append_seam (reverse r) y [] x
-    ∙ ap next_round (sym (opens-seam r y d)))
+    ∙ ap next_outer (sym (opens-seam r y d)))
 
 pub opens-set : (items : List OpenNode) (d w : OpenNode) → 0 < length items →
-    opens (set items (length items - 1) w) d ≡ w ∷ others_round (opens items d)
+    opens (set items (length items - 1) w) d ≡ w ∷ others_outer (opens items d)
 opens-set items d w some = set-by (reverse items) items d w (sym (reverse-reverse items)) some
 
 pub opens-last : (items : List OpenNode) (d x : OpenNode) → 0 < length items →
-    get_or items (length items - 1) x ≡ next_round (opens items d)
+    get_or items (length items - 1) x ≡ next_outer (opens items d)
 opens-last items d x some = last-by (reverse items) items d x (sym (reverse-reverse items)) some
 
 pub opens-alone : (items : List OpenNode) (d : OpenNode) → length items ≡ 0 → opens items d ≡ d ∷ []
 opens-alone [] d none = refl
 opens-alone (x ∷ items) d none = absurd (omega (arith, none))
 
-grounded-next : (r : List OpenNode) → next_round (grounded r) ≡ next_round r
+grounded-next : (r : List OpenNode) → next_outer (grounded r) ≡ next_outer r
 grounded-next [] = refl
 grounded-next (x ∷ r) = refl
 
-grounded-others : (r : List OpenNode) → others_round (grounded r) ≡ others_round r
+grounded-others : (r : List OpenNode) → others_outer (grounded r) ≡ others_outer r
 grounded-others [] = refl
 grounded-others (x ∷ r) = refl
 
@@ -81,8 +81,8 @@ put_then_pushed facts index len fact whole last alone put pushed len_is fact_is 
 
 -- the exit of a node, by what each step gave: the node, what is left, and what it is then
 pub passed_exit-by : (name : Name) (pass : Passed) (own here after : OpenNode) (facts : List Fact) (columns : Collected)
-    (definitions : List ℕ) (left stack : List OpenNode) → own ≡ pass.here → left ≡ grounded pass.round →
-    here ≡ next_round left → stack ≡ after ∷ others_round left → after ≡ followed name own here →
+    (definitions : List ℕ) (left stack : List OpenNode) → own ≡ pass.here → left ≡ grounded pass.outer →
+    here ≡ next_outer left → stack ≡ after ∷ others_outer left → after ≡ followed name own here →
     facts ≡ set pass.facts own.entry (fact_of name (length pass.facts) (length pass.columns.tables) own.contributing
     own.sought own.told) ++ partner_alone own.entry ∷ [] →
     columns ≡ columns_exited name own.told here.collects pass.columns →
@@ -91,8 +91,8 @@ pub passed_exit-by : (name : Name) (pass : Passed) (own here after : OpenNode) (
       facts = facts;
       columns = columns;
       definitions = definitions;
-      here = next_round stack;
-      round = others_round stack;
+      here = next_outer stack;
+      outer = others_outer stack;
     } ≡ passed_exit name pass
 passed_exit-by name pass own here after facts columns definitions left stack own_is left_is here_is stack_is after_is
     facts_is columns_is definitions_is =
@@ -105,23 +105,23 @@ passed_exit-by name pass own here after facts columns definitions left stack own
       here_is,
       left_is,
       own_is,
-      grounded-next pass.round,
-      grounded-others pass.round,
+      grounded-next pass.outer,
+      grounded-others pass.outer,
     ) refl
 
 -- a node without children, by what each step gave
 pub passed_leaf-by : (name : Name) (pass : Passed) (entry : ℕ) (here after : OpenNode) (columns : Collected)
     (once twice : List Fact) (definitions : List ℕ) (stack : List OpenNode) → is_table name ≡ false →
     entry ≡ length pass.facts → once ≡ pass.facts ++ partner_alone (entry + 1) ∷ [] →
-    twice ≡ once ++ partner_alone entry ∷ [] → here ≡ pass.here → stack ≡ after ∷ pass.round →
+    twice ≡ once ++ partner_alone entry ∷ [] → here ≡ pass.here → stack ≡ after ∷ pass.outer →
     columns ≡ columns_exited name nothing_told here.collects pass.columns →
     definitions ≡ definitions_with name entry pass.definitions → after ≡ followed name (opened entry name here) here →
     record {
       facts = twice;
       columns = columns;
       definitions = definitions;
-      here = next_round stack;
-      round = others_round stack;
+      here = next_outer stack;
+      outer = others_outer stack;
     } ≡ passed_exit name (passed_entry name pass)
 passed_leaf-by name pass entry here after columns once twice definitions stack plain entry_is once_is twice_is here_is
     stack_is columns_is definitions_is after_is =

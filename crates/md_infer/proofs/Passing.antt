@@ -16,11 +16,11 @@ use Rattle.md_infer.specs.declared.facts.OpenNode.{OpenNode}
 use Rattle.md_base.specs.Tree.{Forest, Empty, Node, flatten, exiting}
 use Rattle.md_base.specs.NameTests.{is_transparent, is_item, is_table, is_link_definition, is_delimiter_value, leads_to_values}
 use Rattle.md_infer.specs.Alignments.{alignment_of, alignments}
-use Rattle.md_infer.specs.Partners.{behind, definitions_of}
+use Rattle.md_infer.specs.Partners.{index_after, definitions_of}
 use Rattle.md_infer.specs.Told.{nothing_told, told_over, alignment, looseness}
 use Rattle.md_infer.specs.Seeking.{search_of}
-use Rattle.md_infer.specs.Columns.{Collected, part_of, collects_where, collects_in, entered_where, columns_entered, exited_where, columns_exited, tables_of, columns_behind}
-use Rattle.md_infer.specs.Facts.{Passed, nothing_passed, sought_inside, opened, followed, fact_of, partner_alone, passed_exit, passed, passed_over, contributing_over, sought_over, after, tables_with, tables_behind, fact_at, facts_of}
+use Rattle.md_infer.specs.Columns.{Collected, part_of, collects_where, collects_in, entered_where, columns_entered, exited_where, columns_exited, tables_of, columns_after}
+use Rattle.md_infer.specs.Facts.{Passed, nothing_passed, sought_inside, opened, followed, fact_of, partner_alone, passed_exit, passed, passed_over, contributing_over, sought_over, after, tables_with, tables_after, fact_at, facts_of}
 use Rattle.md_infer.proofs.Telling.{alignment-told}
 
 -- ---- columns
@@ -72,7 +72,7 @@ cond-nil false none = refl
 
 columns_part : (p : Part) (children : Forest) (collects : Bool) (columns : Collected) →
     exited_where p (told_over children nothing_told) collects
-    (columns_behind children (collects_where p collects) (entered_where p columns))
+    (columns_after children (collects_where p collects) (entered_where p columns))
     ≡ columns_next (is_table_part p) (is_value_part p) (is_leads_part p) children collects columns
 columns_part part.Table children collects columns =
     let pending = columns.pending in
@@ -101,7 +101,7 @@ columns_part part.Apart children collects columns =
 
 columns_node : (name : Name) (children : Forest) (collects : Bool) (columns : Collected) →
     columns_exited name (told_over children nothing_told) collects
-    (columns_behind children (collects_in name collects) (columns_entered name columns))
+    (columns_after children (collects_in name collects) (columns_entered name columns))
     ≡ columns_next (is_table name) (is_delimiter_value name) (leads_to_values name) children collects columns
 columns_node name children collects columns =
     let parts = parted name in
@@ -112,7 +112,7 @@ columns_node name children collects columns =
     ∙ ap (λ b. columns_next (is_table name) (is_delimiter_value name) b children collects columns) parts.leads
 
 columns_rest : (name : Name) (children rest : Forest) (tables : List (List AlignKind)) (own : List AlignKind)
-    (collects : Bool) (columns : Collected) → columns_behind rest collects
+    (collects : Bool) (columns : Collected) → columns_after rest collects
     (record {
       tables = columns.tables ++ (tables_of children ++ tables);
       pending = columns.pending ++ cond collects own [];
@@ -148,7 +148,7 @@ fact_same name exit tables contributing index children sought told = by (is_tran
     fact_where : Bool → Sought → Fact
     fact_where through own = record {
       partner = exit;
-      place = cond (is_table name) tables (cond (is_item name) contributing (cond through 0 own.place));
+      read_at = cond (is_table name) tables (cond (is_item name) contributing (cond through 0 own.read_at));
       looseness = looseness told;
       has_resource = not through && own.has_resource;
     }
@@ -171,13 +171,13 @@ regrouped a b c x y =
     ∙ append_assoc a (x ∷ []) (b ++ (y ∷ c))
 
 pub length_facts : (forest : Forest) (index tables : ℕ) (facts : List Fact) → length facts ≡ index →
-    length (facts ++ facts_of index tables forest) ≡ behind index forest
+    length (facts ++ facts_of index tables forest) ≡ index_after index forest
 length_facts Empty index tables facts e = ap length (append-nil facts) ∙ e
 length_facts (Node name start end children rest) index tables facts e =
     let fact = fact_at index tables name children in
     let inner = facts_of (suc index) tables children in
-    let more = tables_with name (tables_behind tables children) in
-    let exit = behind (suc index) children in
+    let more = tables_with name (tables_after tables children) in
+    let exit = index_after (suc index) children in
     let inside = length_facts children (suc index) tables (facts ++ fact ∷ []) (length_one facts fact ∙ ap suc e) in
     ap length (sym (regrouped facts inner (facts_of (suc exit) more rest) fact (partner_alone index)))
     ∙ length_facts rest (suc exit) more (((facts ++ fact ∷ []) ++ inner) ++ partner_alone index
@@ -192,22 +192,22 @@ length_table name xs x n e = by (is_table name)
     by false = ap length (append-nil xs) ∙ e
 
 pub length_tables : (forest : Forest) (tables : ℕ) (ended : List (List AlignKind)) → length ended ≡ tables →
-    length (ended ++ tables_of forest) ≡ tables_behind tables forest
+    length (ended ++ tables_of forest) ≡ tables_after tables forest
 length_tables Empty tables ended e = ap length (append-nil ended) ∙ e
 length_tables (Node name start end children rest) tables ended e =
     let own = cond (is_table name) (alignments children ∷ []) [] in
-    let inside = length_table name (ended ++ tables_of children) (alignments children) (tables_behind tables children)
+    let inside = length_table name (ended ++ tables_of children) (alignments children) (tables_after tables children)
     (length_tables children tables ended e) in
     ap length (sym (append_assoc ended (tables_of children) (own ++ tables_of rest))
     ∙ sym (append_assoc (ended ++ tables_of children) own (tables_of rest)))
-    ∙ length_tables rest (tables_with name (tables_behind tables children)) ((ended ++ tables_of children)
+    ∙ length_tables rest (tables_with name (tables_after tables children)) ((ended ++ tables_of children)
     ++ own) inside
 
 -- ---- the pass
 
 abbrev state : List OpenNode → OpenNode → List ℕ → List Fact → Collected → Passed
-state round here definitions facts columns =
-    record { facts = facts; columns = columns; definitions = definitions; here = here; round = round }
+state outer here definitions facts columns =
+    record { facts = facts; columns = columns; definitions = definitions; here = here; outer = outer }
 
 passed_over-append : (xs ys : List Event) (pass : Passed) →
     passed_over (xs ++ ys) pass ≡ passed_over ys (passed_over xs pass)
@@ -218,10 +218,10 @@ passed_over-append (x ∷ xs) ys pass = passed_over-append xs ys (passed x.kind 
 abbrev passed_forest : ℕ → ℕ → Forest → Passed → Passed
 passed_forest index tables forest pass = record {
   facts = pass.facts ++ facts_of index tables forest;
-  columns = columns_behind forest pass.here.collects pass.columns;
+  columns = columns_after forest pass.here.collects pass.columns;
   definitions = pass.definitions ++ definitions_of index forest;
   here = after index forest pass.here;
-  round = pass.round;
+  outer = pass.outer;
 }
 
 -- a node that is entered, and one that has ended
@@ -231,11 +231,11 @@ inside_node index name pass = record {
   columns = columns_entered name pass.columns;
   definitions = pass.definitions;
   here = opened index name pass.here;
-  round = pass.here ∷ pass.round;
+  outer = pass.here ∷ pass.outer;
 }
 
-abbrev behind_node : ℕ → ℕ → Name → Forest → Passed → Passed
-behind_node index tables name children pass = record {
+abbrev after_node : ℕ → ℕ → Name → Forest → Passed → Passed
+after_node index tables name children pass = record {
   facts = ((pass.facts ++ fact_at index tables name children ∷ []) ++ facts_of (suc index) tables children)
       ++ partner_alone index ∷ [];
   columns = columns_next (is_table name) (is_delimiter_value name)
@@ -243,14 +243,14 @@ behind_node index tables name children pass = record {
   definitions = (pass.definitions ++ definitions_of (suc index) children)
       ++ cond (is_link_definition name) (index ∷ []) [];
   here = followed name (after (suc index) children (opened index name pass.here)) pass.here;
-  round = pass.round;
+  outer = pass.outer;
 }
 
-exit_behind : (index tables : ℕ) (name : Name) (children : Forest) (pass : Passed) → length pass.facts ≡ index →
+exit_after : (index tables : ℕ) (name : Name) (children : Forest) (pass : Passed) → length pass.facts ≡ index →
     length pass.columns.tables ≡ tables → passed_exit name
     (passed_forest (suc index) tables children (inside_node index name pass))
-    ≡ behind_node index tables name children pass
-exit_behind index tables name children pass e t =
+    ≡ after_node index tables name children pass
+exit_after index tables name children pass e t =
     let inner = facts_of (suc index) tables children in
     let here = followed name (after (suc index) children (opened index name pass.here)) pass.here in
     let found = (pass.facts ++ partner_alone 0 ∷ []) ++ inner in
@@ -260,17 +260,17 @@ exit_behind index tables name children pass e t =
     let told = told_over children nothing_told in
     let definitions = (pass.definitions ++ definitions_of (suc index) children)
     ++ cond (is_link_definition name) (index ∷ []) [] in
-    let exit_is : length found ≡ behind (suc index) children =
+    let exit_is : length found ≡ index_after (suc index) children =
     length_facts children (suc index) tables (pass.facts ++ partner_alone 0
     ∷ []) (length_one pass.facts (partner_alone 0) ∙ ap suc e) in
-    let tables_are : length ended ≡ tables_behind tables children =
+    let tables_are : length ended ≡ tables_after tables children =
     length_tables children tables (Collected.tables (columns_entered name pass.columns))
     (ap length (entered_tables (part_of name) pass.columns) ∙ t) in
     let fact_is : fact_of name (length found) (length ended) contributing sought told
     ≡ fact_at index tables name children =
     ap (λ n. fact_of name n (length ended) contributing sought told) exit_is
-    ∙ ap (λ n. fact_of name (behind (suc index) children) n contributing sought told) tables_are
-    ∙ fact_same name (behind (suc index) children) (tables_behind tables children) contributing
+    ∙ ap (λ n. fact_of name (index_after (suc index) children) n contributing sought told) tables_are
+    ∙ fact_same name (index_after (suc index) children) (tables_after tables children) contributing
     (suc index) children pass.here.sought told in
     let put : set found index (fact_of name (length found) (length ended) contributing sought told)
     ≡ (pass.facts ++ fact_at index tables name children ∷ []) ++ inner =
@@ -279,10 +279,10 @@ exit_behind index tables name children pass e t =
     (append_assoc pass.facts (partner_alone 0 ∷ []) inner)
     ∙ set_at pass.facts (partner_alone 0) inner (fact_at index tables name children) index e
     ∙ sym (append_assoc pass.facts (fact_at index tables name children ∷ []) inner) in
-    ap (λ fs. state pass.round here definitions (fs ++ partner_alone index
+    ap (λ fs. state pass.outer here definitions (fs ++ partner_alone index
     ∷ []) (columns_exited name told pass.here.collects
-    (columns_behind children (collects_in name pass.here.collects) (columns_entered name pass.columns)))) put
-    ∙ ap (λ columns. state pass.round here definitions (((pass.facts ++ fact_at index tables name children ∷ [])
+    (columns_after children (collects_in name pass.here.collects) (columns_entered name pass.columns)))) put
+    ∙ ap (λ columns. state pass.outer here definitions (((pass.facts ++ fact_at index tables name children ∷ [])
     ++ inner) ++ partner_alone index ∷ []) columns) (columns_node name children pass.here.collects pass.columns)
 
 definitions_joined : (a b c d : List ℕ) → ((a ++ b) ++ c) ++ d ≡ a ++ (b ++ (c ++ d))
@@ -291,44 +291,44 @@ definitions_joined a b c d = append_assoc (a ++ b) c d ∙ append_assoc a b (c +
 pub passed_over-flatten : (forest : Forest) (index tables : ℕ) (pass : Passed) → length pass.facts ≡ index →
     length pass.columns.tables ≡ tables → passed_over (flatten forest) pass ≡ passed_forest index tables forest pass
 passed_over-flatten Empty index tables pass e t =
-    ap (λ ds. state pass.round pass.here ds pass.facts pass.columns) (sym (append-nil pass.definitions))
-    ∙ ap (λ fs. state pass.round pass.here (pass.definitions ++ []) fs pass.columns) (sym (append-nil pass.facts))
-    ∙ ap (λ columns. state pass.round pass.here (pass.definitions ++ []) (pass.facts ++ []) columns)
+    ap (λ ds. state pass.outer pass.here ds pass.facts pass.columns) (sym (append-nil pass.definitions))
+    ∙ ap (λ fs. state pass.outer pass.here (pass.definitions ++ []) fs pass.columns) (sym (append-nil pass.facts))
+    ∙ ap (λ columns. state pass.outer pass.here (pass.definitions ++ []) (pass.facts ++ []) columns)
     (both_made pass.columns.starts _ _ _ _ (sym (append-nil pass.columns.tables))
     (sym (append-nil pass.columns.pending) ∙ ap (λ none. pass.columns.pending
     ++ none) (sym (cond-nil pass.here.collects []))))
 passed_over-flatten (Node name start end children rest) index tables pass e t =
-    let exit = behind (suc index) children in
-    let more = tables_with name (tables_behind tables children) in
+    let exit = index_after (suc index) children in
+    let more = tables_with name (tables_after tables children) in
     let inner = facts_of (suc index) tables children in
     let fact = fact_at index tables name children in
     let last = exiting name end ∷ flatten rest in
     let entered = inside_node index name pass in
-    let behind_it = behind_node index tables name children pass in
+    let after_it = after_node index tables name children pass in
     let own = cond (is_table name) (alignments children ∷ []) [] in
     let all_here = after index (Node name start end children rest) pass.here in
     let all_defined = pass.definitions ++ definitions_of index (Node name start end children rest) in
-    let length_behind : length behind_it.facts ≡ suc exit =
+    let length_after : length after_it.facts ≡ suc exit =
     length_one ((pass.facts ++ fact ∷ []) ++ inner) (partner_alone index)
     ∙ ap suc (length_facts children (suc index) tables (pass.facts ++ fact ∷ []) (length_one pass.facts fact
     ∙ ap suc e)) in
-    let tables_behind_it : length behind_it.columns.tables ≡ more =
+    let tables_after_it : length after_it.columns.tables ≡ more =
     ap length (sym (append_assoc pass.columns.tables (tables_of children) own))
     ∙ length_table name (pass.columns.tables ++ tables_of children) (alignments children)
-    (tables_behind tables children) (length_tables children tables pass.columns.tables t) in
+    (tables_after tables children) (length_tables children tables pass.columns.tables t) in
     ap (λ i. passed_over (flatten children ++ last) (inside_node i name pass)) e
     ∙ passed_over-append (flatten children) last entered
     ∙ ap (λ p. passed_over last p) (passed_over-flatten children (suc index) tables entered
     (length_one pass.facts (partner_alone 0) ∙ ap suc e) (ap length (entered_tables (part_of name) pass.columns) ∙ t))
-    ∙ ap (λ p. passed_over (flatten rest) p) (exit_behind index tables name children pass e t)
-    ∙ passed_over-flatten rest (suc exit) more behind_it length_behind tables_behind_it
-    ∙ ap (λ ds. state pass.round all_here ds (behind_it.facts
-    ++ facts_of (suc exit) more rest) (columns_behind rest pass.here.collects behind_it.columns))
+    ∙ ap (λ p. passed_over (flatten rest) p) (exit_after index tables name children pass e t)
+    ∙ passed_over-flatten rest (suc exit) more after_it length_after tables_after_it
+    ∙ ap (λ ds. state pass.outer all_here ds (after_it.facts
+    ++ facts_of (suc exit) more rest) (columns_after rest pass.here.collects after_it.columns))
     (definitions_joined pass.definitions (definitions_of (suc index) children)
     (cond (is_link_definition name) (index ∷ []) []) (definitions_of (suc exit) rest))
-    ∙ ap (λ fs. state pass.round all_here all_defined fs (columns_behind rest pass.here.collects behind_it.columns))
+    ∙ ap (λ fs. state pass.outer all_here all_defined fs (columns_after rest pass.here.collects after_it.columns))
     (regrouped pass.facts inner (facts_of (suc exit) more rest) fact (partner_alone index))
-    ∙ ap (λ columns. state pass.round all_here all_defined (pass.facts
+    ∙ ap (λ columns. state pass.outer all_here all_defined (pass.facts
     ++ facts_of index tables (Node name start end children rest)) columns)
     (columns_rest name children rest own (added (is_delimiter_value name) (leads_to_values name) children)
     pass.here.collects pass.columns)

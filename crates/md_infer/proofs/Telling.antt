@@ -310,13 +310,13 @@ begins_over (Node name start end children rest) told =
     by false b = sym (or-false b)
 
 -- nothing stands after a marker in the last of some nodes after another
-abbrev bare_behind : Last → Forest → Bool
-bare_behind l forest = cond (is_end forest) (cond (is_empty forest) (is_bare_last l) (is_bare_last (spaced l)))
+abbrev bare_after : Last → Forest → Bool
+bare_after l forest = cond (is_end forest) (cond (is_empty forest) (is_bare_last l) (is_bare_last (spaced l)))
     (ends_bare forest)
 
 bare_step : (rest : Forest) (name : Name) (children : Forest) (own told : Told) →
     is_quote_last own.last ≡ option_map_or is_block_quote_prefix (last_name children) false →
-    bare_behind (Told.last (told_with name own told)) rest
+    bare_after (Told.last (told_with name own told)) rest
     ≡ cond (is_space name && is_empty rest) (is_bare_last (spaced told.last))
     (cond (is_end rest) (is_bare name children) (ends_bare rest))
 bare_step Empty name children own told quote =
@@ -342,13 +342,13 @@ bare_step (Node next start end inner rest) name children own told quote =
     by false = refl
 
 bare_over : (forest : Forest) (told : Told) → is_bare_last (Told.last (told_over forest told))
-    ≡ bare_behind told.last forest
+    ≡ bare_after told.last forest
 bare_over Empty told = refl
 bare_over (Node name start end children rest) told =
     let own = told_over children nothing_told in
     bare_over rest (told_with name own told) ∙ bare_step rest name children own told (quote_over children nothing_told)
 
-ends_bare-end : (forest : Forest) → bare_behind final.Nothing forest ≡ ends_bare forest
+ends_bare-end : (forest : Forest) → bare_after final.Nothing forest ≡ ends_bare forest
 ends_bare-end Empty = refl
 ends_bare-end (Node name start end children Empty) = by name
   where

@@ -87,8 +87,8 @@ tables_of (Node name start end children rest) =
     tables_of children ++ ((if is_table name then alignments children ∷ [] else []) ++ tables_of rest)
 
 -- what is collected after some nodes
-abbrev pub columns_behind : Forest → Bool → Collected → Collected
-columns_behind forest collects columns = record {
+abbrev pub columns_after : Forest → Bool → Collected → Collected
+columns_after forest collects columns = record {
   tables = columns.tables ++ tables_of forest;
   pending = columns.pending ++ (if collects then alignments forest else []);
   starts = columns.starts;

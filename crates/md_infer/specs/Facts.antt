@@ -13,7 +13,7 @@ use Rattle.md_infer.specs.declared.facts.Fact.{Fact}
 use Rattle.md_infer.specs.declared.facts.OpenNode.{OpenNode}
 use Rattle.md_base.specs.Tree.{Forest, Empty, Node}
 use Rattle.md_base.specs.NameTests.{is_transparent, is_item, is_table, is_link_definition, contributes}
-use Rattle.md_infer.specs.Partners.{behind}
+use Rattle.md_infer.specs.Partners.{index_after}
 use Rattle.md_infer.specs.Told.{nothing_told, told_with, told_over, looseness}
 use Rattle.md_infer.specs.Seeking.{search_of, seen}
 use Rattle.md_infer.specs.Columns.{Collected, nothing_collected, collects_in, columns_entered, columns_exited}
@@ -27,12 +27,12 @@ abbrev pub sought_inside : Name → Sought → Sought
 sought_inside name around = if is_transparent name then around else search_of name
 
 -- the search after a node, given that in it
-abbrev pub sought_behind : Name → ℕ → Sought → Sought → Sought
-sought_behind name entry own around = if is_transparent name then own else seen around name entry own.place
+abbrev pub sought_after : Name → ℕ → Sought → Sought → Sought
+sought_after name entry own around = if is_transparent name then own else seen around name entry own.read_at
 
 -- the last contributing child, after one more child
-abbrev pub contributing_behind : Name → ℕ → ℕ → ℕ
-contributing_behind name entry before = if contributes name then entry else before
+abbrev pub contributing_after : Name → ℕ → ℕ → ℕ
+contributing_after name entry before = if contributes name then entry else before
 
 -- a node that has been entered at an index, in one that is open
 abbrev pub opened : ℕ → Name → OpenNode → OpenNode
@@ -48,21 +48,22 @@ opened entry name around = record {
 abbrev pub followed : Name → OpenNode → OpenNode → OpenNode
 followed name own around = record {
   entry = around.entry;
-  contributing = contributing_behind name own.entry around.contributing;
+  contributing = contributing_after name own.entry around.contributing;
   collects = around.collects;
-  sought = sought_behind name own.entry own.sought around.sought;
+  sought = sought_after name own.entry own.sought around.sought;
   told = told_with name own.told around.told;
 }
 
--- which place a fact has: which table it is, the last contributing child, or what was sought
-abbrev pub place_of : Name → ℕ → ℕ → Sought → ℕ
-place_of name table contributing sought =
+-- where what is read of a node is found: which table it is, the last contributing child, or what was sought
+abbrev pub read_at_of : Name → ℕ → ℕ → Sought → ℕ
+read_at_of name table contributing sought =
     if is_table name then table
-    else (if is_item name then contributing else (if is_transparent name then 0 else sought.place))
+    else (if is_item name then contributing else (if is_transparent name then 0 else sought.read_at))
 
 -- a node that, where it has no children, tells no more than what the last child is
 abbrev pub is_simple : Name → Bool
-is_simple name = elim name [ Data ↦ true | LineEnding ↦ true | SpaceOrTab ↦ true | Other number ↦ true | _ ↦ false ]
+is_simple name =
+    elim name [ Data ↦ true | LineEnding ↦ true | SpaceOrTab ↦ true | Other number ↦ true | _ ↦ false ]
 
 -- a node as most are: it contributes, and is nothing that the node around it looks at
 abbrev pub is_common : Name → Bool
@@ -86,7 +87,7 @@ is_common name = elim name [
 abbrev pub fact_of : Name → ℕ → ℕ → ℕ → Sought → Told → Fact
 fact_of name exit table contributing sought told = record {
   partner = exit;
-  place = place_of name table contributing sought;
+  read_at = read_at_of name table contributing sought;
   looseness = looseness told;
   has_resource = not (is_transparent name) && sought.has_resource;
 }
@@ -95,7 +96,7 @@ fact_of name exit table contributing sought told = record {
 abbrev pub partner_alone : ℕ → Fact
 partner_alone partner = record {
   partner = partner;
-  place = 0;
+  read_at = 0;
   looseness = record { without_items = false; with_items = false; of_item = false };
   has_resource = false;
 }
@@ -107,20 +108,20 @@ pub record Passed : Type 0 where
   pub columns : Collected
   pub definitions : List ℕ
   pub here : OpenNode
-  pub round : List OpenNode
+  pub outer : List OpenNode
 
 -- before any event
 abbrev pub nothing_passed : Passed
-nothing_passed = record { facts = []; columns = nothing_collected; definitions = []; here = nowhere; round = [] }
+nothing_passed = record { facts = []; columns = nothing_collected; definitions = []; here = nowhere; outer = [] }
 
 -- the first of some open nodes, and the others
-abbrev pub next_round : List OpenNode → OpenNode
-next_round [] = nowhere
-next_round (open_node ∷ others) = open_node
+abbrev pub next_outer : List OpenNode → OpenNode
+next_outer [] = nowhere
+next_outer (open_node ∷ others) = open_node
 
-abbrev pub others_round : List OpenNode → List OpenNode
-others_round [] = []
-others_round (open_node ∷ others) = others
+abbrev pub others_outer : List OpenNode → List OpenNode
+others_outer [] = []
+others_outer (open_node ∷ others) = others
 
 -- the open nodes with the document around them, the innermost first, by a list that has it last
 abbrev pub opens : List OpenNode → OpenNode → List OpenNode
@@ -138,7 +139,7 @@ passed_entry name pass = record {
   columns = columns_entered name pass.columns;
   definitions = pass.definitions;
   here = opened (length pass.facts) name pass.here;
-  round = pass.here ∷ pass.round;
+  outer = pass.here ∷ pass.outer;
 }
 
 -- what is found of the innermost open node, which exits
@@ -154,10 +155,10 @@ definitions_with name entry definitions = definitions ++ (if is_link_definition 
 abbrev pub passed_exit : Name → Passed → Passed
 passed_exit name pass = record {
   facts = set pass.facts pass.here.entry (fact_here name pass) ++ partner_alone pass.here.entry ∷ [];
-  columns = columns_exited name pass.here.told (OpenNode.collects (next_round pass.round)) pass.columns;
+  columns = columns_exited name pass.here.told (OpenNode.collects (next_outer pass.outer)) pass.columns;
   definitions = definitions_with name pass.here.entry pass.definitions;
-  here = followed name pass.here (next_round pass.round);
-  round = others_round pass.round;
+  here = followed name pass.here (next_outer pass.outer);
+  outer = others_outer pass.outer;
 }
 
 -- an event
@@ -174,14 +175,14 @@ passed_over (event ∷ events) pass = passed_over events (passed event.kind even
 abbrev pub contributing_over : ℕ → Forest → ℕ → ℕ
 contributing_over index Empty before = before
 contributing_over index (Node name start end children rest) before =
-    contributing_over (suc (behind (suc index) children)) rest (contributing_behind name index before)
+    contributing_over (suc (index_after (suc index) children)) rest (contributing_after name index before)
 
 -- a search over some nodes
 abbrev pub sought_over : ℕ → Forest → Sought → Sought
 sought_over index Empty sought = sought
 sought_over index (Node name start end children rest) sought =
-    sought_over (suc (behind (suc index) children)) rest
-    (sought_behind name index (sought_over (suc index) children (sought_inside name sought)) sought)
+    sought_over (suc (index_after (suc index) children)) rest
+    (sought_after name index (sought_over (suc index) children (sought_inside name sought)) sought)
 
 -- an open node after some of its children
 abbrev pub after : ℕ → Forest → OpenNode → OpenNode
@@ -197,15 +198,15 @@ after index forest here = record {
 abbrev pub tables_with : Name → ℕ → ℕ
 tables_with name tables = if is_table name then suc tables else tables
 
-abbrev pub tables_behind : ℕ → Forest → ℕ
-tables_behind tables Empty = tables
-tables_behind tables (Node name start end children rest) =
-    tables_behind (tables_with name (tables_behind tables children)) rest
+abbrev pub tables_after : ℕ → Forest → ℕ
+tables_after tables Empty = tables
+tables_after tables (Node name start end children rest) =
+    tables_after (tables_with name (tables_after tables children)) rest
 
 -- what is found of a node that is entered at an index, where so many tables have ended
 abbrev pub fact_at : ℕ → ℕ → Name → Forest → Fact
 fact_at index tables name children =
-    fact_of name (behind (suc index) children) (tables_behind tables children)
+    fact_of name (index_after (suc index) children) (tables_after tables children)
     (contributing_over (suc index) children 0)
     (sought_over (suc index) children (search_of name)) (told_over children nothing_told)
 
@@ -217,7 +218,7 @@ facts_of index tables (Node name start end children rest) =
     fact_at index tables name children
     ∷ facts_of (suc index) tables children
     ++ partner_alone index
-    ∷ facts_of (suc (behind (suc index) children)) (tables_with name (tables_behind tables children)) rest
+    ∷ facts_of (suc (index_after (suc index) children)) (tables_with name (tables_after tables children)) rest
 
 -- what is found at each event, the alignments of the tables, and the entries of the definitions
 abbrev pub facts_at : List Event → List Fact

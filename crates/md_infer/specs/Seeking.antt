@@ -29,7 +29,7 @@ wanted_by _ = want.Nothing
 
 -- a spine of a name, of which nothing has been searched
 abbrev pub search_of : Name → Sought
-search_of name = record { wanted = wanted_by name; found = so_far.Nothing; place = 0; has_resource = false }
+search_of name = record { wanted = wanted_by name; found = so_far.Nothing; read_at = 0; has_resource = false }
 
 -- what a node is on the spine of a link or an image
 abbrev pub sight_in_media : Name → Sight
@@ -60,19 +60,19 @@ sight want.FootnoteLabel name = itself_if (is_footnote_label name)
 
 -- a search that finds this, unless it has found something
 abbrev pub first_where : Found → Sought → ℕ → Sought
-first_where so_far.Nothing sought place = record sought { found = so_far.First; place = place }
-first_where _ sought place = sought
+first_where so_far.Nothing sought index = record sought { found = so_far.First; read_at = index }
+first_where _ sought index = sought
 
 abbrev pub first : Sought → ℕ → Sought
-first sought place = first_where sought.found sought place
+first sought index = first_where sought.found sought index
 
 -- a search that finds a reference, unless it has found one
 abbrev pub refer_where : Found → Sought → ℕ → Sought
-refer_where so_far.Reference sought place = sought
-refer_where _ sought place = record sought { found = so_far.Reference; place = place }
+refer_where so_far.Reference sought index = sought
+refer_where _ sought index = record sought { found = so_far.Reference; read_at = index }
 
 abbrev pub refer : Sought → ℕ → Sought
-refer sought place = refer_where sought.found sought place
+refer sought index = refer_where sought.found sought index
 
 -- a search after a node that is entered here, and in which this was found
 abbrev pub seen_as : Sight → Sought → ℕ → ℕ → Sought

@@ -3,7 +3,7 @@
 ghost use Rattle.std.specs.Prelude.{◌≡◌, ℕ, true, OnOk, map, set, not, ◌&&◌, IfOk};
 ghost use Rattle.md_base.specs.NameTests.{is_transparent, contributes};
 ghost use Rattle.md_infer.specs.Facts as spec;
-ghost use Rattle.md_infer.specs.Ending.{ends_line, ending_behind};
+ghost use Rattle.md_infer.specs.Ending.{ends_line, ending_after};
 ghost use Rattle.md_infer.specs.Columns.{columns_exited};
 ghost use Rattle.md_infer.specs.Told.{nothing_told};
 
@@ -22,7 +22,7 @@ pub struct Fact {
     pub partner: usize,
     /// The index of the entry of what is read of the node: of an item its last contributing child,
     /// of another node what its name reads; 0 where there is none. Of a table which of the tables it is.
-    pub place: usize,
+    pub read_at: usize,
     /// Whether the node is loose, by its children, as a list or as an item.
     pub looseness: Looseness,
     /// A resource stands on the spine of a link or an image.
@@ -127,7 +127,7 @@ fn note_child(
     name: Name,
     entry: usize,
 ) -> Result<(), AllocError>
-    ensures contributing { OnOk result (contributing.new ≡ spec.contributing_behind name entry contributing.old) }
+    ensures contributing { OnOk result (contributing.new ≡ spec.contributing_after name entry contributing.old) }
     ensures definitions { OnOk result (definitions.new.items ≡ spec.definitions_with name entry definitions.old.items) }
 {
     if contributes(name) {
@@ -140,27 +140,27 @@ fn note_child(
 
 /// Goes on with a search after a child, given that in it.
 #[inline(always)]
-fn search_behind(sought: &mut Sought, name: Name, entry: usize, own: &Sought)
-    ensures { sought.new ≡ spec.sought_behind name entry own.now sought.old }
+fn search_after(sought: &mut Sought, name: Name, entry: usize, own: &Sought)
+    ensures { sought.new ≡ spec.sought_after name entry own.now sought.old }
 {
     if is_transparent(name) {
         // Each field by itself, for then what lies between them isn't copied.
         *sought = Sought {
-            place: own.place,
+            read_at: own.read_at,
             wanted: own.wanted,
             found: own.found,
             has_resource: own.has_resource,
         };
     } else if !is_idle(*sought) {
-        *sought = seen(*sought, name, entry, own.place);
+        *sought = seen(*sought, name, entry, own.read_at);
     }
 }
 
-/// Which place a fact has, which table it is, the last contributing child, or what was sought; and whether a resource
+/// Where what is read of a node is found: which table it is, the last contributing child, or what was sought; and whether a resource
 /// was found on the node's own spine.
 #[inline(always)]
-fn place_of(name: Name, table: usize, own: &OpenNode) -> (usize, bool)
-    ensures place { result.0 ≡ spec.place_of name table own.now.contributing own.now.sought }
+fn read_at_of(name: Name, table: usize, own: &OpenNode) -> (usize, bool)
+    ensures read_at { result.0 ≡ spec.read_at_of name table own.now.contributing own.now.sought }
     ensures resource { result.1 ≡ (not (is_transparent name) && own.now.sought.has_resource) }
 {
     let sought = own.sought;
@@ -168,7 +168,7 @@ fn place_of(name: Name, table: usize, own: &OpenNode) -> (usize, bool)
         Name::GfmTable => (table, sought.has_resource),
         Name::ListItem => (own.contributing, sought.has_resource),
         Name::BlockQuotePrefix | Name::SpaceOrTab | Name::Other(_) => (0, false),
-        _ => (sought.place, sought.has_resource),
+        _ => (sought.read_at, sought.has_resource),
     }
 }
 
@@ -177,10 +177,10 @@ fn place_of(name: Name, table: usize, own: &OpenNode) -> (usize, bool)
 fn fact_of(name: Name, exit: usize, table: usize, own: &OpenNode) -> Fact
     ensures { result ≡ spec.fact_of name exit table own.now.contributing own.now.sought own.now.told }
 {
-    let (place, has_resource) = place_of(name, table, own);
+    let (read_at, has_resource) = read_at_of(name, table, own);
     Fact {
         partner: exit,
-        place,
+        read_at,
         looseness: told_looseness(own.told),
         has_resource,
     }
@@ -192,7 +192,7 @@ fn partner_alone(partner: usize) -> Fact
 {
     Fact {
         partner,
-        place: 0,
+        read_at: 0,
         looseness: NOT_LOOSE,
         has_resource: false,
     }
@@ -201,7 +201,7 @@ fn partner_alone(partner: usize) -> Fact
 /// Goes on with a search after a node without children.
 #[inline(always)]
 fn search_leaf(sought: &mut Sought, name: Name, entry: usize)
-    ensures { sought.new ≡ spec.sought_behind name entry (spec.sought_inside name sought.old) sought.old }
+    ensures { sought.new ≡ spec.sought_after name entry (spec.sought_inside name sought.old) sought.old }
 {
     if is_idle(*sought) || is_transparent(name) {
         return;
@@ -247,11 +247,11 @@ pub struct Ended {
 }
 
 impl Model for Pass {
-    ghost use Rattle.md_infer.specs.Facts.{Passed, opens, next_round, others_round};
+    ghost use Rattle.md_infer.specs.Facts.{Passed, opens, next_outer, others_outer};
 
     ghost Value = { Passed };
 
-    ghost view = { λ p. record { facts = p.facts.items; columns = p.ended.columns; definitions = p.ended.definitions.items; here = next_round (opens p.open_nodes.items p.document); round = others_round (opens p.open_nodes.items p.document) } };
+    ghost view = { λ p. record { facts = p.facts.items; columns = p.ended.columns; definitions = p.ended.definitions.items; here = next_outer (opens p.open_nodes.items p.document); outer = others_outer (opens p.open_nodes.items p.document) } };
 }
 
 impl Pass {
@@ -376,7 +376,7 @@ impl Pass {
 /// The innermost open node, or the document.
 #[inline(always)]
 fn innermost<'a>(open_nodes: &'a [OpenNode], document: &'a OpenNode) -> &'a OpenNode
-    ensures { result.now ≡ spec.next_round (spec.opens open_nodes.entry.now document.entry.now) }
+    ensures { result.now ≡ spec.next_outer (spec.opens open_nodes.entry.now document.entry.now) }
 {
     match open_nodes.last() {
         Some(here) => here,
@@ -387,8 +387,8 @@ fn innermost<'a>(open_nodes: &'a [OpenNode], document: &'a OpenNode) -> &'a Open
 /// Takes out the innermost open node; where none is left, the document begins anew.
 #[inline(always)]
 fn leave_innermost(open_nodes: &mut Vec<OpenNode>, document: &mut OpenNode) -> OpenNode
-    ensures own { result ≡ spec.next_round (spec.opens open_nodes.old.items document.old) }
-    ensures left { spec.opens open_nodes.new.items document.new ≡ spec.grounded (spec.others_round (spec.opens open_nodes.old.items document.old)) }
+    ensures own { result ≡ spec.next_outer (spec.opens open_nodes.old.items document.old) }
+    ensures left { spec.opens open_nodes.new.items document.new ≡ spec.grounded (spec.others_outer (spec.opens open_nodes.old.items document.old)) }
 {
     match open_nodes.pop() {
         Some(own) => own,
@@ -413,7 +413,7 @@ fn follow(
     ensures columns { OnOk result (ended.new.columns ≡ columns_exited name own.now.told here.old.collects ended.old.columns) }
     ensures definitions { OnOk result (ended.new.definitions.items ≡ spec.definitions_with name own.now.entry ended.old.definitions.items) }
 {
-    search_behind(&mut here.sought, name, own.entry, &own.sought);
+    search_after(&mut here.sought, name, own.entry, &own.sought);
     if is_common(name) {
         here.contributing = own.entry;
         here.told.last = Last::Plain;
@@ -506,8 +506,8 @@ fn is_simple(name: Name) -> bool
 }
 
 /// The exit of the first line ending, blank or not, after one more event.
-pub fn ending_behind(found: Option<usize>, index: usize, event: &Event) -> Option<usize>
-    ensures { result ≡ ending_behind found index event.now }
+pub fn ending_after(found: Option<usize>, index: usize, event: &Event) -> Option<usize>
+    ensures { result ≡ ending_after found index event.now }
 {
     match found {
         Some(_) => found,

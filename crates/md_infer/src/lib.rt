@@ -7,7 +7,7 @@ mod names;
 mod seeking;
 mod told;
 
-pub use facts::{Fact, Facts, OpenNode, Pass, ending_behind};
+pub use facts::{Fact, Facts, OpenNode, Pass, ending_after};
 pub use names::{is_link_definition, is_table, is_transparent};
 pub use seeking::{Found, Sight, Sought, Wanted};
 pub use told::{Last, Looseness, Told};

@@ -46,7 +46,7 @@ pub enum Found {
 #[derive(Clone, Copy, Debug, PartialEq, Eq)]
 pub struct Sought {
     /// The index of the event that enters what is read, 0 where there is none.
-    pub place: usize,
+    pub read_at: usize,
     /// What is sought on the spine.
     pub wanted: Wanted,
     /// What has been found on it so far.
@@ -97,7 +97,7 @@ pub fn search_of(name: Name) -> Sought
     Sought {
         wanted: wanted_by(name),
         found: Found::Nothing,
-        place: 0,
+        read_at: 0,
         has_resource: false,
     }
 }
@@ -148,13 +148,13 @@ fn sight_of(wanted: Wanted, name: Name) -> Sight
 }
 
 /// A search that finds this, unless it has found something.
-fn first(sought: Sought, place: usize) -> Sought
-    ensures { result ≡ spec.first sought place }
+fn first(sought: Sought, index: usize) -> Sought
+    ensures { result ≡ spec.first sought index }
 {
     match sought.found {
         Found::Nothing => Sought {
             found: Found::First,
-            place,
+            read_at: index,
             ..sought
         },
         _ => sought,
@@ -162,14 +162,14 @@ fn first(sought: Sought, place: usize) -> Sought
 }
 
 /// A search that finds a reference, unless it has found one.
-fn refer(sought: Sought, place: usize) -> Sought
-    ensures { result ≡ spec.refer sought place }
+fn refer(sought: Sought, index: usize) -> Sought
+    ensures { result ≡ spec.refer sought index }
 {
     match sought.found {
         Found::Reference => sought,
         _ => Sought {
             found: Found::Reference,
-            place,
+            read_at: index,
             ..sought
         },
     }

@@ -1,8 +1,8 @@
 -- Pieces that are laid one list after another are laid as one list.
 use Rattle.std.proofs.Common.{◌≡◌, ℕ, List, [], ◌∷◌, ◌++◌, refl}
-use Rattle.md_meaning.specs.Piece.{Piece, Page, lay, lay_piece}
+use Rattle.md_meaning.specs.Piece.{Piece, Sheet, lay, lay_piece}
 
-pub lay-append : (ending : List ℕ) (page : Page) (xs ys : List Piece) →
-    lay ending page (xs ++ ys) ≡ lay ending (lay ending page xs) ys
-lay-append ending page [] ys = refl
-lay-append ending page (x ∷ xs) ys = lay-append ending (lay_piece ending page x) xs ys
+pub lay-append : (ending : List ℕ) (sheet : Sheet) (xs ys : List Piece) →
+    lay ending sheet (xs ++ ys) ≡ lay ending (lay ending sheet xs) ys
+lay-append ending sheet [] ys = refl
+lay-append ending sheet (x ∷ xs) ys = lay-append ending (lay_piece ending sheet x) xs ys

@@ -19,7 +19,8 @@ count_of (other ∷ others) wanted = (if bytes_eq other wanted then 1 else 0) + 
 
 -- the distinct identifiers of some calls, each with the count of its calls
 abbrev pub tally : List (List ℕ) → List Called
-tally calls = map (λ identifier. record { identifier = identifier; count = count_of calls identifier }) (distinct calls)
+tally calls =
+    map (λ identifier. record { identifier = identifier; count = count_of calls identifier }) (distinct calls)
 
 -- the place of an identifier among some, from 1; after them all where it isn't there
 abbrev pub number_among : List Called → List ℕ → ℕ

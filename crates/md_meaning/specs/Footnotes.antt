@@ -117,13 +117,15 @@ ends_in_paragraph text = bytes_eq (drop (paragraph_end text) (without_endings te
 abbrev pub body_pieces : List ℕ → List ℕ → List Piece
 body_pieces text back =
     if ends_in_paragraph text
-    then Text (take (paragraph_end text) text) ∷ Text (32 ∷ []) ∷ Text back ∷ Text (drop (paragraph_end text) text) ∷ []
+    then Text (take (paragraph_end text) text) ∷ Text (32 ∷ []) ∷ Text back
+    ∷ Text (drop (paragraph_end text) text) ∷ []
     else Text text ∷ Needed ∷ Text back ∷ []
 
 -- the text of the first footnote with an identifier
 abbrev pub footnote_text : List Footnote → List ℕ → List ℕ
 footnote_text footnotes identifier =
-    option_map_or (λ footnote. footnote.text) (find (λ footnote. bytes_eq footnote.identifier identifier) footnotes) []
+    option_map_or (λ footnote. footnote.text)
+    (find (λ footnote. bytes_eq footnote.identifier identifier) footnotes) []
 
 -- the beginning of a footnote with an id, up to its text, and its end
 abbrev pub item_opening : List ℕ → List Piece

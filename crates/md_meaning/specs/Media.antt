@@ -8,7 +8,7 @@ use Rattle.md_text.specs.Url.{sanitized, sanitized_with, link_protocols, image_p
 use Rattle.md_meaning.specs.declared.options.CompileOptions.{CompileOptions}
 use Rattle.md_meaning.specs.declared.facts.Surroundings.{Surroundings}
 use Rattle.md_meaning.specs.declared.facts.Ahead.{Ahead}
-use Rattle.md_meaning.specs.Piece.{Piece, Text, Page, Notes, Target, nowhere}
+use Rattle.md_meaning.specs.Piece.{Piece, Text, Sheet, Notes, Target, nowhere}
 use Rattle.md_meaning.specs.Given.{Given, Defined, text_of}
 use Rattle.md_meaning.specs.Places.{identifier_at}
 use Rattle.md_meaning.specs.Texts.{said}
@@ -47,7 +47,8 @@ title_pieces (Some title) = Text (codes " title=\"") ∷ Text title ∷ Text (co
 
 -- `<a href="` URL `"`
 abbrev pub link_start : CompileOptions → List ℕ → List Piece
-link_start options destination = Text (codes "<a href=\"") ∷ Text (href_of options destination) ∷ Text (codes "\"") ∷ []
+link_start options destination =
+    Text (codes "<a href=\"") ∷ Text (href_of options destination) ∷ Text (codes "\"") ∷ []
 
 -- `>` label `</a>`
 abbrev pub link_end : List ℕ → List Piece
@@ -69,12 +70,12 @@ image_of options target label = image_start options target.destination label
     ++ (title_pieces target.title ++ said (codes " />"))
 
 -- a link: in an image only its label
-abbrev pub link_pieces : Given → Surroundings → Ahead → Page → List Piece
+abbrev pub link_pieces : Given → Surroundings → Ahead → Sheet → List Piece
 link_pieces given around ahead inner =
     if around.in_image then said inner.text else link_to given.options (target_of given ahead inner.notes) inner.text
 
 -- an image: in another only its label
-abbrev pub image_pieces : Given → Surroundings → Ahead → Page → List Piece
+abbrev pub image_pieces : Given → Surroundings → Ahead → Sheet → List Piece
 image_pieces given around ahead inner =
     if around.in_image then said inner.text else image_of given.options (target_of given ahead inner.notes) inner.text
 

@@ -29,7 +29,7 @@ pub record Notes : Type 0 where
   pub resource : Option Target
 
 -- what is laid out so far, and what was noted
-pub record Page : Type 0 where
+pub record Sheet : Type 0 where
   pub text : List ℕ
   pub notes : Notes
 
@@ -42,7 +42,7 @@ abbrev pub no_notes : Notes
 no_notes = record { heading = []; target = nowhere; resource = None }
 
 -- nothing is laid out yet
-abbrev pub blank : Page
+abbrev pub blank : Sheet
 blank = record { text = []; notes = no_notes }
 
 -- one note more
@@ -68,17 +68,18 @@ is_line_start text = ends_line (slice_get text (length text - 1))
 
 -- one piece after what is laid out, where lines end in `ending`: a text stands as it is, a needed line
 -- ending comes where no line starts, a forced one always, and the text of a heading where it is recalled
-abbrev pub lay_piece : List ℕ → Page → Piece → Page
-lay_piece ending page (Text text) = record page { text = page.text ++ text }
-lay_piece ending page Needed = record page { text = if is_line_start page.text then page.text else page.text ++ ending }
-lay_piece ending page Forced = record page { text = page.text ++ ending }
-lay_piece ending page (Noted note) = record page { notes = with_note note page.notes }
-lay_piece ending page Recalled = record page { text = page.text ++ page.notes.heading }
+abbrev pub lay_piece : List ℕ → Sheet → Piece → Sheet
+lay_piece ending sheet (Text text) = record sheet { text = sheet.text ++ text }
+lay_piece ending sheet Needed =
+    record sheet { text = if is_line_start sheet.text then sheet.text else sheet.text ++ ending }
+lay_piece ending sheet Forced = record sheet { text = sheet.text ++ ending }
+lay_piece ending sheet (Noted note) = record sheet { notes = with_note note sheet.notes }
+lay_piece ending sheet Recalled = record sheet { text = sheet.text ++ sheet.notes.heading }
 
 -- the pieces after what is laid out, one after another
-abbrev pub lay : List ℕ → Page → List Piece → Page
-lay ending page [] = page
-lay ending page (piece ∷ pieces) = lay ending (lay_piece ending page piece) pieces
+abbrev pub lay : List ℕ → Sheet → List Piece → Sheet
+lay ending sheet [] = sheet
+lay ending sheet (piece ∷ pieces) = lay ending (lay_piece ending sheet piece) pieces
 
 -- the text of some pieces by themselves
 abbrev pub layout : List ℕ → List Piece → List ℕ

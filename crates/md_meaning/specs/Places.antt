@@ -13,7 +13,7 @@ use Rattle.md_tree.specs.Rules.{place, columns}
 use Rattle.md_infer.specs.Looseness.{is_loose}
 use Rattle.md_infer.specs.Alignments.{alignments}
 use Rattle.md_base.specs.declared.event.AlignKind.{AlignKind}
-use Rattle.md_meaning.specs.Surroundings.{Mark, is_slurping, told_by, spine_inside, spine_behind, own_marks, marks_of, inside}
+use Rattle.md_meaning.specs.Surroundings.{Mark, is_slurping, told_by, spine_inside, spine_after_node, own_marks, marks_of, inside}
 use Rattle.md_meaning.specs.declared.facts.Surroundings.{Surroundings}
 use Rattle.md_meaning.specs.declared.facts.Spine.{Spine}
 use Rattle.md_meaning.specs.declared.facts.Ahead.{Ahead}
@@ -36,7 +36,8 @@ has_leading_zero digits = nat_lt 1 (length digits) && (slice_index digits 0 == 4
 -- digits without the zeros before the number that they write
 abbrev pub without_zeros : List ℕ → List ℕ
 without_zeros [] = []
-without_zeros (digit ∷ digits) = if has_leading_zero (digit ∷ digits) then without_zeros digits else digit ∷ digits
+without_zeros (digit ∷ digits) =
+    if has_leading_zero (digit ∷ digits) then without_zeros digits else digit ∷ digits
 
 -- the place of the number in an item's prefix; in the first prefix of an item
 abbrev pub number_in_prefix : Forest → Option Position
@@ -121,7 +122,7 @@ before_next given around name start end children before = record {
       (spine_inside name before.spine) children
       ++ before.marks;
   previous = Some name;
-  spine = spine_behind name children before.spine;
+  spine = spine_after_node name children before.spine;
   columns = before.columns;
 }
 

@@ -8,7 +8,7 @@ use Rattle.md_base.specs.Tree.{Forest, Empty, Node}
 use Rattle.md_base.specs.Children.{is_empty}
 use Rattle.md_base.specs.NameTests.{is_link_definition, is_footnote_definition}
 use Rattle.md_infer.specs.Looseness.{is_loose}
-use Rattle.md_meaning.specs.Piece.{Piece, Text, Needed, Forced, Noted, Heading, Destination, Title, Page, blank, lay}
+use Rattle.md_meaning.specs.Piece.{Piece, Text, Needed, Forced, Noted, Heading, Destination, Title, Sheet, blank, lay}
 use Rattle.md_meaning.specs.Piece.{Resource as noted_resource}
 use Rattle.md_meaning.specs.declared.facts.Surroundings.{Surroundings}
 use Rattle.md_meaning.specs.declared.facts.Ahead.{Ahead}
@@ -46,7 +46,7 @@ opening given around ahead GfmTableBody = said (codes "<tbody>")
 opening given around ahead GfmTableRow = on_own_line (codes "<tr>")
 opening given around ahead _ = []
 
--- a node's children are laid out on a page of their own, which is handed to what the node prints after them
+-- a node's children are laid out on a sheet of their own, which is handed to what the node prints after them
 abbrev pub is_captured : Name → Bool
 is_captured CodeText = true
 is_captured MathText = true
@@ -71,9 +71,9 @@ is_captured GfmTableCell = true
 is_captured GfmTableDelimiterRow = true
 is_captured _ = false
 
--- what a text, a span or a break prints after its children: `inner` is their page, where it is captured, and
+-- what a text, a span or a break prints after its children: `inner` is their sheet, where it is captured, and
 -- `last` tells that nothing follows in the document
-abbrev pub text_closing : Given → Surroundings → Left → Bool → Point → Point → Page → Name → List Piece
+abbrev pub text_closing : Given → Surroundings → Left → Bool → Point → Point → Sheet → Name → List Piece
 text_closing given around left last start end inner LineEnding = line_ending_pieces given around left start end
 text_closing given around left last start end inner BlankLineEnding = blank_line_pieces last
 text_closing given around left last start end inner Data = data_pieces given around start end
@@ -98,7 +98,8 @@ text_closing given around left last start end inner GfmTaskListItemValueChecked 
 text_closing given around left last start end inner _ = []
 
 -- what a block prints after its children
-abbrev pub block_closing : Given → Surroundings → Left → Ahead → Passed → Point → Point → Name → List Piece
+abbrev pub block_closing : Given → Surroundings → Left → Ahead → Passed → Point → Point → Name →
+    List Piece
 block_closing given around left ahead passed start end BlockQuote = on_own_line (codes "</blockquote>")
 block_closing given around left ahead passed start end ListOrdered = Forced ∷ Text (codes "</ol>") ∷ []
 block_closing given around left ahead passed start end ListUnordered = Forced ∷ Text (codes "</ul>") ∷ []
@@ -119,7 +120,7 @@ block_closing given around left ahead passed start end MathFlowChunk = chunk_pie
 block_closing given around left ahead passed start end _ = []
 
 -- what links and what they refer to print or note after their children, and a heading whose underline comes later
-abbrev pub media_closing : Given → Surroundings → Ahead → Point → Point → Page → Name → List Piece
+abbrev pub media_closing : Given → Surroundings → Ahead → Point → Point → Sheet → Name → List Piece
 media_closing given around ahead start end inner HeadingSetextText = Noted (Heading inner.text) ∷ []
 media_closing given around ahead start end inner DefinitionDestinationString = Noted (Destination inner.text) ∷ []
 media_closing given around ahead start end inner DefinitionTitleString = Noted (Title inner.text) ∷ []
@@ -144,7 +145,7 @@ media_closing given around ahead start end inner GfmAutolinkLiteralXmpp =
 media_closing given around ahead start end inner _ = []
 
 -- what tables and footnote calls print after their children
-abbrev pub gfm_closing : Given → Surroundings → Left → Ahead → Passed → Page → Name → List Piece
+abbrev pub gfm_closing : Given → Surroundings → Left → Ahead → Passed → Sheet → Name → List Piece
 gfm_closing given around left ahead passed inner GfmTable = on_own_line (codes "</table>")
 gfm_closing given around left ahead passed inner GfmTableHead = on_own_line (codes "</thead>")
 gfm_closing given around left ahead passed inner GfmTableBody = on_own_line (codes "</tbody>")
@@ -154,7 +155,8 @@ gfm_closing given around left ahead passed inner GfmFootnoteCall = call_pieces g
 gfm_closing given around left ahead passed inner _ = []
 
 -- what a node prints after its children
-abbrev pub closing : Given → Surroundings → Left → Ahead → Passed → Bool → Point → Point → Page → Name → List Piece
+abbrev pub closing : Given → Surroundings → Left → Ahead → Passed → Bool → Point → Point → Sheet →
+    Name → List Piece
 closing given around left ahead passed last start end inner name =
     text_closing given around left last start end inner name
     ++ (block_closing given around left ahead passed start end name
@@ -162,7 +164,8 @@ closing given around left ahead passed last start end inner name =
     ++ gfm_closing given around left ahead passed inner name))
 
 -- what a node prints: `inner` is what its children print
-abbrev pub printed_node : Given → Surroundings → Left → Ahead → Passed → Bool → Point → Point → Name → List Piece →
+abbrev pub printed_node : Given → Surroundings → Left → Ahead → Passed → Bool → Point → Point → Name →
+    List Piece →
     List Piece
 printed_node given around left ahead passed last start end name inner =
     opening given around ahead name

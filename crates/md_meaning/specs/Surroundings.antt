@@ -80,7 +80,7 @@ told_by names = record {
 
 -- the first fence of a raw flow sets
 abbrev pub fence_marks : Bool → List Mark
-fence_marks behind_fence = if behind_fence then [] else Sets ∷ []
+fence_marks after_fence = if after_fence then [] else Sets ∷ []
 
 -- a paragraph sets in a tight list
 abbrev pub paragraph_marks : Container → List Mark
@@ -112,13 +112,13 @@ abbrev pub spine_inside : Name → List Name → List Name
 spine_inside name spine = if is_transparent name then spine else []
 
 -- the names on the spine after a node
-abbrev pub spine_behind : Name → Forest → List Name → List Name
-spine_behind name children spine = spine ++ (if is_transparent name then spine_names children else name ∷ [])
+abbrev pub spine_after_node : Name → Forest → List Name → List Name
+spine_after_node name children spine = spine ++ (if is_transparent name then spine_names children else name ∷ [])
 
 -- the marks of some nodes, the latest first
 abbrev pub marks_of : CompileOptions → Surroundings → List Name → Forest → List Mark
 marks_of options around spine Empty = []
 marks_of options around spine (Node name start end children rest) =
-    marks_of options around (spine_behind name children spine) rest
+    marks_of options around (spine_after_node name children spine) rest
     ++ own_marks around (told_by spine) name
     ++ marks_of options (inside options (is_loose children) name around) (spine_inside name spine) children

@@ -4,7 +4,7 @@ use Rattle.md_base.specs.declared.event.AlignKind.{AlignKind}
 use Rattle.md_base.specs.declared.event.AlignKind.TheVariants as align
 use Rattle.md_meaning.specs.declared.facts.Surroundings.{Surroundings}
 use Rattle.md_meaning.specs.declared.facts.Passed.{Passed}
-use Rattle.md_meaning.specs.Piece.{Piece, Text, Needed, Page}
+use Rattle.md_meaning.specs.Piece.{Piece, Text, Needed, Sheet}
 use Rattle.md_meaning.specs.Places.{Left}
 
 -- how the cells of a column are aligned
@@ -33,7 +33,7 @@ cell_in in_head None text = []
 cell_in in_head (Some kind) text = cell_pieces in_head kind text
 
 -- a cell: its column is the number of cells before it in its row
-abbrev pub cell_closing : Surroundings → Left → Page → List Piece
+abbrev pub cell_closing : Surroundings → Left → Sheet → List Piece
 cell_closing around left inner = cell_in around.in_head (slice_get left.columns left.spine.cells) inner.text
 
 -- an empty cell for each of some columns

@@ -86,8 +86,8 @@ pub fn meaning_of_backslash_before_a_pipe()
 {}
 
 /// The meaning of two endings after a definition.
-pub fn meaning_of_two_endings_behind_a_definition()
-    ensures { Means endings.two_endings_behind_a_definition_bytes endings.two_endings_behind_a_definition endings.two_endings_behind_a_definition_text }
+pub fn meaning_of_two_endings_after_a_definition()
+    ensures { Means endings.two_endings_after_a_definition_bytes endings.two_endings_after_a_definition endings.two_endings_after_a_definition_text }
 {}
 
 /// The meaning of setext heading.
@@ -201,8 +201,8 @@ pub fn meaning_of_empty_footnote()
 {}
 
 /// The meaning of two line endings after a footnote definition, of which the first is dropped.
-pub fn meaning_of_endings_behind_a_footnote_definition()
-    ensures { Means endings.endings_behind_a_footnote_definition_bytes endings.endings_behind_a_footnote_definition endings.endings_behind_a_footnote_definition_text }
+pub fn meaning_of_endings_after_a_footnote_definition()
+    ensures { Means endings.endings_after_a_footnote_definition_bytes endings.endings_after_a_footnote_definition endings.endings_after_a_footnote_definition_text }
 {}
 
 /// The meaning of a table of four columns, with a short row and a long one.
@@ -231,8 +231,8 @@ pub fn meaning_of_table_in_a_footnote()
 {}
 
 /// The meaning of code, a break, a task, strong text, an autolink and a link in the label of an image.
-pub fn meaning_of_image_round_other_names()
-    ensures { Means media.image_round_other_names_bytes media.image_round_other_names media.image_round_other_names_text }
+pub fn meaning_of_image_around_other_names()
+    ensures { Means media.image_around_other_names_bytes media.image_around_other_names media.image_around_other_names_text }
 {}
 
 /// The meaning of reference beside a label.
@@ -276,8 +276,8 @@ pub fn meaning_of_math()
 {}
 
 /// The meaning of a thematic break after frontmatter, whose line ending is slurped.
-pub fn meaning_of_break_behind_frontmatter()
-    ensures { Means endings.break_behind_frontmatter_bytes endings.break_behind_frontmatter endings.break_behind_frontmatter_text }
+pub fn meaning_of_break_after_frontmatter()
+    ensures { Means endings.break_after_frontmatter_bytes endings.break_after_frontmatter endings.break_after_frontmatter_text }
 {}
 
 /// The meaning of unclosed fence.
@@ -321,8 +321,8 @@ pub fn meaning_of_number_references()
 {}
 
 /// The meaning of setext heading after two endings.
-pub fn meaning_of_setext_heading_behind_two_endings()
-    ensures { Means blocks.setext_heading_behind_two_endings_bytes blocks.setext_heading_behind_two_endings blocks.setext_heading_behind_two_endings_text }
+pub fn meaning_of_setext_heading_after_two_endings()
+    ensures { Means blocks.setext_heading_after_two_endings_bytes blocks.setext_heading_after_two_endings blocks.setext_heading_after_two_endings_text }
 {}
 
 /// The meaning of links and images of any protocol, where the options let them.
@@ -346,43 +346,43 @@ pub fn meaning_of_code_in_an_item()
 {}
 
 /// The meaning of a line ending after frontmatter and a blank line, which clears.
-pub fn meaning_of_ending_behind_a_blank_line()
-    ensures { Means endings.ending_behind_a_blank_line_bytes endings.ending_behind_a_blank_line endings.ending_behind_a_blank_line_text }
+pub fn meaning_of_ending_after_a_blank_line()
+    ensures { Means endings.ending_after_a_blank_line_bytes endings.ending_after_a_blank_line endings.ending_after_a_blank_line_text }
 {}
 
 /// The meaning of a line ending after frontmatter and a block quote, which clears.
-pub fn meaning_of_ending_behind_a_quote()
-    ensures { Means endings.ending_behind_a_quote_bytes endings.ending_behind_a_quote endings.ending_behind_a_quote_text }
+pub fn meaning_of_ending_after_a_quote()
+    ensures { Means endings.ending_after_a_quote_bytes endings.ending_after_a_quote endings.ending_after_a_quote_text }
 {}
 
 /// The meaning of a line ending after frontmatter and indented code, which clears.
-pub fn meaning_of_ending_behind_indented_code()
-    ensures { Means endings.ending_behind_indented_code_bytes endings.ending_behind_indented_code endings.ending_behind_indented_code_text }
+pub fn meaning_of_ending_after_indented_code()
+    ensures { Means endings.ending_after_indented_code_bytes endings.ending_after_indented_code endings.ending_after_indented_code_text }
 {}
 
 /// The meaning of a line ending after fenced code, which clears what its fence sets.
-pub fn meaning_of_ending_behind_fenced_code()
-    ensures { Means endings.ending_behind_fenced_code_bytes endings.ending_behind_fenced_code endings.ending_behind_fenced_code_text }
+pub fn meaning_of_ending_after_fenced_code()
+    ensures { Means endings.ending_after_fenced_code_bytes endings.ending_after_fenced_code endings.ending_after_fenced_code_text }
 {}
 
 /// The meaning of a line ending after math, which clears what its fence sets.
-pub fn meaning_of_ending_behind_math()
-    ensures { Means endings.ending_behind_math_bytes endings.ending_behind_math endings.ending_behind_math_text }
+pub fn meaning_of_ending_after_math()
+    ensures { Means endings.ending_after_math_bytes endings.ending_after_math endings.ending_after_math_text }
 {}
 
 /// The meaning of a line ending after a tight list, whose item clears what its paragraph sets.
-pub fn meaning_of_ending_behind_a_tight_list()
-    ensures { Means endings.ending_behind_a_tight_list_bytes endings.ending_behind_a_tight_list endings.ending_behind_a_tight_list_text }
+pub fn meaning_of_ending_after_a_tight_list()
+    ensures { Means endings.ending_after_a_tight_list_bytes endings.ending_after_a_tight_list endings.ending_after_a_tight_list_text }
 {}
 
 /// The meaning of a line ending after frontmatter and code with a line ending, which is no mark.
-pub fn meaning_of_ending_behind_code_with_an_ending()
-    ensures { Means endings.ending_behind_code_with_an_ending_bytes endings.ending_behind_code_with_an_ending endings.ending_behind_code_with_an_ending_text }
+pub fn meaning_of_ending_after_code_with_an_ending()
+    ensures { Means endings.ending_after_code_with_an_ending_bytes endings.ending_after_code_with_an_ending endings.ending_after_code_with_an_ending_text }
 {}
 
 /// The meaning of a line ending after frontmatter and a definition with a line ending, which is no mark.
-pub fn meaning_of_ending_behind_a_definition_with_an_ending()
-    ensures { Means endings.ending_behind_a_definition_with_an_ending_bytes endings.ending_behind_a_definition_with_an_ending endings.ending_behind_a_definition_with_an_ending_text }
+pub fn meaning_of_ending_after_a_definition_with_an_ending()
+    ensures { Means endings.ending_after_a_definition_with_an_ending_bytes endings.ending_after_a_definition_with_an_ending endings.ending_after_a_definition_with_an_ending_text }
 {}
 
 /// The meaning of a title with a line ending after frontmatter, which is not slurped in a definition.

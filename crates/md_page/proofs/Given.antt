@@ -9,7 +9,7 @@ use Rattle.md_text.specs.Safe.{is_safe_image}
 use Rattle.md_text.proofs.EncodeLaws.{is_escaped-encoded, read_back-encoded}
 use Rattle.md_html.specs.Safe.{IsSafe}
 use Rattle.md_page.specs.Page.{is_title, IsPage, IsPageOf, page_text}
-use Rattle.md_page.proofs.Pages.{before_title, before_body, behind_body, page_written, one_page}
+use Rattle.md_page.proofs.Pages.{before_title, before_body, after_body, page_written, one_page}
 
 -- a text as a title
 abbrev titled_by : List ℕ → Forest
@@ -34,9 +34,9 @@ page_given title body text e safe =
       body_in_grammar = safe.safe_links.reading.in_grammar;
       written_so =
           e ∙ sym (page_written head inside
-          ∙ ap (λ t. before_title ++ (t ++ (before_body ++ (written inside ++ behind_body))))
+          ∙ ap (λ t. before_title ++ (t ++ (before_body ++ (written inside ++ after_body))))
           (titled_by-written escaped)
-          ∙ ap (λ b. before_title ++ (escaped ++ (before_body ++ (b ++ behind_body))))
+          ∙ ap (λ b. before_title ++ (escaped ++ (before_body ++ (b ++ after_body))))
           safe.safe_links.reading.written_so);
     }
     in

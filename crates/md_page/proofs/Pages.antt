@@ -18,8 +18,8 @@ before_title = codes "<!doctype html>\n<html><head><meta charset=\"utf-8\" /><ti
 abbrev pub before_body : List ℕ
 before_body = codes "</title></head><body>"
 
-abbrev pub behind_body : List ℕ
-behind_body = codes "</body></html>\n"
+abbrev pub after_body : List ℕ
+after_body = codes "</body></html>\n"
 
 regroup : (a t x b y z w : List ℕ) → (((a ++ t) ++ (x ++ (b ++ y))) ++ z) ++ w ≡ a
     ++ (t ++ (x ++ (b ++ (y ++ (z ++ w)))))
@@ -31,7 +31,7 @@ regroup a t x b y z w =
 
 -- a page from its start to its end
 pub page_written : (title body : Forest) → codes "<!doctype html>\n" ++ written (page_tree title body) ++ codes "\n"
-    ≡ before_title ++ (written title ++ (before_body ++ (written body ++ behind_body)))
+    ≡ before_title ++ (written title ++ (before_body ++ (written body ++ after_body)))
 page_written title body =
     ap (λ r. before_title ++ r)
     (regroup (written title) (codes "</title>") (codes "</head><body>") (written body) (codes "</body>")
@@ -104,9 +104,9 @@ one_page text title body title' body' p q =
     let whole = sym (page_written title body) ∙ sym p.written_so ∙ q.written_so ∙ page_written title' body' in
     let later = append_cancel_left before_title _ _ whole in
     let parts = split no_angle (written title) (written title') (before_body
-    ++ (written body ++ behind_body)) (before_body ++ (written body' ++ behind_body))
+    ++ (written body ++ after_body)) (before_body ++ (written body' ++ after_body))
     (title_tidy title p.title_is_text) (title_tidy title' q.title_is_text) refl refl later in
-    let bodies = append_cancel_right (written body) (written body') behind_body
+    let bodies = append_cancel_right (written body) (written body') after_body
     (append_cancel_left before_body _ _ parts.1) in (
       same_forest title title' (title_forest title p.title_is_text) (title_forest title' q.title_is_text) parts.0,
       same_forest body body' p.body_in_grammar q.body_in_grammar bodies,

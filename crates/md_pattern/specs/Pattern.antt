@@ -66,7 +66,8 @@ pattern_of role.Label = many Phrasing ∷ maybe (Only LabelText) ∷ many Phrasi
 pattern_of role.CallLabel = many Phrasing ∷ once (Only LabelText) ∷ many Phrasing ∷ []
 pattern_of role.Resource = many (Only LineEnding) ∷ maybe (Only ResourceDestination) ∷ many (Only LineEnding)
     ∷ maybe (Only ResourceTitle) ∷ many (Only LineEnding) ∷ []
-pattern_of role.Definition = once (Only DefinitionLabel) ∷ many (Only LineEnding) ∷ maybe (Only DefinitionDestination)
+pattern_of role.Definition = once (Only DefinitionLabel) ∷ many (Only LineEnding)
+    ∷ maybe (Only DefinitionDestination)
     ∷ many (Only LineEnding) ∷ maybe (Only DefinitionTitle) ∷ many (Only LineEnding) ∷ []
 pattern_of role.String = many String ∷ []
 pattern_of role.Table = once (Only TableHead) ∷ many (Only LineEnding) ∷ maybe (Only TableBody)

@@ -22,7 +22,8 @@ spine (Node name start end children rest) = shown (standing_of name) (spine chil
 
 -- what follows the first symbol of a group on a spine: a reference's marks and value, a setext heading's underline
 abbrev pub IsTail : Symbol → List Symbol → Type 0
-IsTail ReferenceMarker tail = (tail ≡ ReferenceValue ∷ []) ⊎ ((tail ≡ ReferenceNumeric ∷ ReferenceValue ∷ [])
+IsTail ReferenceMarker tail =
+    (tail ≡ ReferenceValue ∷ []) ⊎ ((tail ≡ ReferenceNumeric ∷ ReferenceValue ∷ [])
     ⊎ (tail ≡ ReferenceNumeric ∷ ReferenceHexadecimal ∷ ReferenceValue ∷ []))
 IsTail SetextText tail = (endings : ℕ) × (tail ≡ replicate endings LineEnding ++ SetextUnderline ∷ [])
 IsTail _ tail = tail ≡ []

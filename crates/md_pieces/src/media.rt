@@ -155,10 +155,10 @@ pub fn link(
     exit: &Exit,
     inner: Inner,
 ) -> Result<(), AllocError>
-    ensures { OnOk result (printer.new ≡ printing [] (media.link_pieces (given_of source.now) exit.now.around (ahead_by inner.place) inner.page) printer.old) }
+    ensures { OnOk result (printer.new ≡ printing [] (media.link_pieces (given_of source.now) exit.now.around (ahead_by inner.place) inner.sheet) printer.old) }
 {
-    let Inner { place, page } = inner;
-    let (label, notes) = page.into_parts();
+    let Inner { place, sheet } = inner;
+    let (label, notes) = sheet.into_parts();
     if exit.around.in_image {
         return printer.append(source.alloc, label);
     }
@@ -216,10 +216,10 @@ pub fn image(
     exit: &Exit,
     inner: Inner,
 ) -> Result<(), AllocError>
-    ensures { OnOk result (printer.new ≡ printing [] (media.image_pieces (given_of source.now) exit.now.around (ahead_by inner.place) inner.page) printer.old) }
+    ensures { OnOk result (printer.new ≡ printing [] (media.image_pieces (given_of source.now) exit.now.around (ahead_by inner.place) inner.sheet) printer.old) }
 {
-    let Inner { place, page } = inner;
-    let (label, notes) = page.into_parts();
+    let Inner { place, sheet } = inner;
+    let (label, notes) = sheet.into_parts();
     if exit.around.in_image {
         return printer.append(source.alloc, label);
     }

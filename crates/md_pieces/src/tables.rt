@@ -55,7 +55,7 @@ fn cell(
     printer.put(cell_end(in_head))
 }
 
-/// Prints a cell after its children, whose page it is handed, if the table has its column.
+/// Prints a cell after its children, whose sheet it is handed, if the table has its column.
 ///
 /// # Errors
 ///

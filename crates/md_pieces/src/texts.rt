@@ -69,24 +69,24 @@ pub fn reference(printer: &mut Printer, source: &Source, exit: &Exit) -> Result<
     put_encoded(printer, text.as_str(), exit.around.is_escaping)
 }
 
-fn is_dropped_when(in_definition: bool, slurping: bool, behind_definition: bool) -> bool
-    ensures { result ≡ (not in_definition && slurping || behind_definition) }
+fn is_dropped_when(in_definition: bool, slurping: bool, after_definition: bool) -> bool
+    ensures { result ≡ (not in_definition && slurping || after_definition) }
 {
-    !in_definition && slurping || behind_definition
+    !in_definition && slurping || after_definition
 }
 
 /// A line ending that isn't printed: it is slurped, or stands after a definition.
 fn is_dropped(exit: &Exit) -> bool
     ensures { result ≡ texts.is_dropped exit.now.around (left_at exit.now [] []) }
 {
-    let behind_definition = match exit.previous {
+    let after_definition = match exit.previous {
         Some(name) => is_definition(name),
         None => false,
     };
     is_dropped_when(
         exit.around.in_definition,
         exit.is_slurping,
-        behind_definition,
+        after_definition,
     )
 }
 

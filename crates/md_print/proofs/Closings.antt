@@ -4,7 +4,7 @@ use Rattle.std.proofs.Common.{◌≡◌, ℕ, Bool, List, ◌++◌, refl, sym, a
 use Rattle.std.proofs.lemmas.List.{append-nil}
 use Rattle.md_base.specs.declared.event.Name.{Name}
 use Rattle.md_base.specs.declared.event.Name.TheVariants.{LineEnding, BlankLineEnding, Emphasis, Strong, GfmStrikethrough, HardBreakEscape, HardBreakTrailing, GfmTaskListItemCheck, GfmTaskListItemValueChecked, ListItem, Paragraph, CodeIndented, CodeFenced, MathFlow, CodeFencedFence, MathFlowFence, AutolinkEmail, AutolinkProtocol, GfmAutolinkLiteralEmail, GfmAutolinkLiteralMailto, GfmAutolinkLiteralProtocol, GfmAutolinkLiteralWww, GfmAutolinkLiteralXmpp, CodeText}
-use Rattle.md_meaning.specs.Piece.{Piece, Page}
+use Rattle.md_meaning.specs.Piece.{Piece, Sheet}
 use Rattle.md_base.specs.declared.event.Point.{Point}
 use Rattle.md_meaning.specs.Given.{Given}
 use Rattle.md_meaning.specs.Places.{Left}
@@ -26,7 +26,7 @@ pub record At : Type 0 where
   pub last : Bool
   pub start : Point
   pub end : Point
-  pub inner : Page
+  pub inner : Sheet
 
 abbrev pub text : At → Name → List Piece
 text at name = text_closing at.given at.around at.left at.last at.start at.end at.inner name

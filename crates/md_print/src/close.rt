@@ -202,42 +202,42 @@ pub fn close_captured(
 ) -> Result<(), AllocError>
     requires { is_captured name ≡ true }
     ensures { OnOk result (printer.new ≡ printing source.now.ending.now
-        (closing_at (given_of source.now) exit.now printer.old.log.called (first_or [] printer.old.tables) (ahead_by inner.place) printer.old.frame.passed inner.page name) printer.old) }
+        (closing_at (given_of source.now) exit.now printer.old.log.called (first_or [] printer.old.tables) (ahead_by inner.place) printer.old.frame.passed inner.sheet name) printer.old) }
 {
     match name {
-        Name::CodeText => code(source.alloc, printer, exit.around, "<code>", &inner.page),
+        Name::CodeText => code(source.alloc, printer, exit.around, "<code>", &inner.sheet),
         Name::MathText => {
             let tag = "<code class=\"language-math math-inline\">";
-            code(source.alloc, printer, exit.around, tag, &inner.page)
+            code(source.alloc, printer, exit.around, tag, &inner.sheet)
         }
         Name::HeadingSetextText => {
-            printer.note_heading(inner.page.into_text(source.alloc)?);
+            printer.note_heading(inner.sheet.into_text(source.alloc)?);
             Ok(())
         }
         Name::DefinitionDestinationString => {
-            printer.note_destination(inner.page.into_text(source.alloc)?);
+            printer.note_destination(inner.sheet.into_text(source.alloc)?);
             Ok(())
         }
         Name::DefinitionTitleString => {
-            printer.note_title(inner.page.into_text(source.alloc)?);
+            printer.note_title(inner.sheet.into_text(source.alloc)?);
             Ok(())
         }
         Name::ResourceDestinationString => {
-            printer.note_destination(inner.page.into_text(source.alloc)?);
+            printer.note_destination(inner.sheet.into_text(source.alloc)?);
             Ok(())
         }
         Name::ResourceTitleString => {
-            printer.note_title(inner.page.into_text(source.alloc)?);
+            printer.note_title(inner.sheet.into_text(source.alloc)?);
             Ok(())
         }
         Name::Resource => {
-            printer.note_resource(inner.page.into_target());
+            printer.note_resource(inner.sheet.into_target());
             Ok(())
         }
         Name::Link => link(printer, source, exit, inner),
         Name::Image => image(printer, source, exit, inner),
         Name::GfmFootnoteCall => call(printer, source, exit, inner.place),
-        Name::GfmTableCell => close_cell(source.alloc, printer, source.ending, exit, &inner.page),
+        Name::GfmTableCell => close_cell(source.alloc, printer, source.ending, exit, &inner.sheet),
         _ => Ok(()),
     }
 }
@@ -390,11 +390,11 @@ fn need_if(printer: &mut Printer, ending: &str, needed: bool) -> Result<(), Allo
 fn runs_out(around: Surroundings, passed: Passed, unclosed: bool) -> bool
     ensures { unclosed ≡ blocks.is_unclosed passed → result ≡ blocks.runs_out around passed }
 {
-    let behind_fence = match passed.last {
+    let after_fence = match passed.last {
         Some(name) => is_fence(name),
         None => false,
     };
-    all_three(unclosed, is_contained(around.container), !behind_fence)
+    all_three(unclosed, is_contained(around.container), !after_fence)
 }
 
 fn fenced(printer: &mut Printer, ending: &str, around: Surroundings) -> Result<(), AllocError>

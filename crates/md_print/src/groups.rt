@@ -20,7 +20,7 @@ pub enum Group {
     Autolink,
     /// A part of a table.
     Table,
-    /// A node whose children are laid out on a page of their own.
+    /// A node whose children are laid out on a sheet of their own.
     Captured,
 }
 
@@ -95,7 +95,7 @@ pub fn group_of(name: Name) -> Group
     }
 }
 
-/// A group whose nodes print only at their exits, if at all, and without a page of their own.
+/// A group whose nodes print only at their exits, if at all, and without a sheet of their own.
 pub fn is_light(group: Group) -> bool
     ensures { result ≡ closings.is_light group }
 {

@@ -25,5 +25,6 @@ encoded-at html bs other i h plain same =
 pub printed-parts : (xs ys zs all : List ℕ) (state : State) → xs ++ (ys ++ zs) ≡ all →
     printing [] (said zs) (printing [] (said ys) (printing [] (said xs) state)) ≡ printing [] (said all) state
 printed-parts xs ys zs all state same =
-    ap (λ text. record state { page = record state.page { text = text } }) (append_assoc (state.page.text ++ xs) ys zs
-    ∙ append_assoc state.page.text xs (ys ++ zs) ∙ ap (λ x. state.page.text ++ x) same)
+    ap (λ text. record state { sheet = record state.sheet { text = text } })
+    (append_assoc (state.sheet.text ++ xs) ys zs
+    ∙ append_assoc state.sheet.text xs (ys ++ zs) ∙ ap (λ x. state.sheet.text ++ x) same)

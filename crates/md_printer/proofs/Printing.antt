@@ -8,4 +8,4 @@ use Rattle.md_sheet.proofs.Lists.{lay-append}
 -- some pieces and then others
 pub printing-append : (ending : List ℕ) (xs ys : List Piece) (state : State) →
     printing ending (xs ++ ys) state ≡ printing ending ys (printing ending xs state)
-printing-append ending xs ys state = ap (λ p. record state { page = p }) (lay-append ending state.page xs ys)
+printing-append ending xs ys state = ap (λ p. record state { sheet = p }) (lay-append ending state.sheet xs ys)

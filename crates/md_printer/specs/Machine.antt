@@ -23,9 +23,9 @@ use Rattle.md_meaning.specs.declared.facts.Surroundings.{Surroundings}
 use Rattle.md_meaning.specs.declared.facts.Passed.{Passed}
 use Rattle.md_meaning.specs.declared.facts.Spine.{Spine}
 use Rattle.md_meaning.specs.declared.options.CompileOptions.{CompileOptions}
-use Rattle.md_meaning.specs.Piece.{Piece, Page, blank, lay}
+use Rattle.md_meaning.specs.Piece.{Piece, Sheet, blank, lay}
 use Rattle.md_meaning.specs.Surroundings.{own_marks, inside, outermost}
-use Rattle.md_around.specs.Steps.{first_or, others_of, no_spine, nothing_passed, passing, slurps_behind}
+use Rattle.md_around.specs.Steps.{first_or, others_of, no_spine, nothing_passed, passing, slurps_after}
 use Rattle.md_meaning.specs.Given.{Given, Defined}
 use Rattle.md_meaning.specs.Places.{Left, identifier_at}
 use Rattle.md_meaning.specs.Printed.{opening, closing, is_captured}
@@ -62,13 +62,13 @@ pub record Frame : Type 0 where
   pub ahead : Ahead
   pub passed : Passed
 
--- the page, those below it (the newest first), what was seen, whether the last mark is a setting one, the innermost
+-- the sheet, those below it (the newest first), what was seen, whether the last mark is a setting one, the innermost
 -- node
 -- that is open, those around it (the innermost first), and the alignments of the tables that are open (the innermost
 -- first)
 pub record State : Type 0 where
-  pub page : Page
-  pub below : List Page
+  pub sheet : Sheet
+  pub below : List Sheet
   pub log : Log
   pub is_slurping : Bool
   pub frame : Frame
@@ -88,7 +88,7 @@ document_frame = record {
 -- before the first event
 abbrev pub beginning : State
 beginning = record {
-  page = blank;
+  sheet = blank;
   below = [];
   log = record { called = []; definitions = []; footnotes = [] };
   is_slurping = false;
@@ -97,21 +97,21 @@ beginning = record {
   tables = [];
 }
 
--- some pieces are laid on the page
+-- some pieces are laid on the sheet
 abbrev pub printing : List ℕ → List Piece → State → State
-printing ending pieces state = record state { page = lay ending state.page pieces }
+printing ending pieces state = record state { sheet = lay ending state.sheet pieces }
 
--- the page is put below an empty one
+-- the sheet is put below an empty one
 abbrev pub capturing : Bool → State → State
 capturing captured state = record state {
-  page = if captured then blank else state.page;
-  below = if captured then state.page ∷ state.below else state.below;
+  sheet = if captured then blank else state.sheet;
+  below = if captured then state.sheet ∷ state.below else state.below;
 }
 
--- the page below comes back
+-- the sheet below comes back
 abbrev pub releasing : Bool → State → State
 releasing captured state = record state {
-  page = if captured then first_or blank state.below else state.page;
+  sheet = if captured then first_or blank state.below else state.sheet;
   below = if captured then others_of state.below else state.below;
 }
 
@@ -152,7 +152,7 @@ entered given ahead loose columns captured name start state =
 -- a child of the innermost node is passed, which has passed its own children
 abbrev pub passing_child : Name → Spine → State → State
 passing_child name inner state = record state {
-  is_slurping = slurps_behind (own_marks state.frame.around state.frame.passed.spine name) state.is_slurping;
+  is_slurping = slurps_after (own_marks state.frame.around state.frame.passed.spine name) state.is_slurping;
   frame = record state.frame { passed = passing name inner state.frame.passed };
 }
 
@@ -181,13 +181,13 @@ left_in state =
     }
 
 -- what is printed where the innermost node is left
-abbrev pub closing_in : Given → Bool → Name → Point → Page → State → List Piece
+abbrev pub closing_in : Given → Bool → Name → Point → Sheet → State → List Piece
 closing_in given last name end inner state =
     closing given (first_or document_frame state.frames).around
     (left_in state) state.frame.ahead state.frame.passed last state.frame.start end inner name
 
--- what a node that is exited is seen for, with its children's page
-abbrev pub logging : List ℕ → Ahead → Name → Page → State → State
+-- what a node that is exited is seen for, with its children's sheet
+abbrev pub logging : List ℕ → Ahead → Name → Sheet → State → State
 logging bytes ahead name inner state = record state {
   log = record {
     called = if is_call name then counted state.log.called (identifier_at bytes ahead.label) else state.log.called;
@@ -210,8 +210,8 @@ abbrev pub exited : Given → Bool → Bool → Name → Point → State → Sta
 exited given last captured name end state =
     leaving name
     (printing given.ending
-    (closing_in given last name end (if captured then state.page else blank) (leaving_table (is_table name) state))
-    (logging given.bytes state.frame.ahead name (if captured then state.page
+    (closing_in given last name end (if captured then state.sheet else blank) (leaving_table (is_table name) state))
+    (logging given.bytes state.frame.ahead name (if captured then state.sheet
     else blank) (leaving_table (is_table name) (releasing captured state))))
 
 -- there is no event
@@ -244,5 +244,5 @@ run given (event ∷ events) (children ∷ nodes) state =
     run given events nodes (stepped given event.kind event.name event.point children (is_nil events) state)
 
 -- the text at the end: the section of footnotes comes last
-abbrev pub finished : Given → State → Page
-finished given state = lay given.ending state.page (section_pieces given.options state.log.footnotes state.log.called)
+abbrev pub finished : Given → State → Sheet
+finished given state = lay given.ending state.sheet (section_pieces given.options state.log.footnotes state.log.called)

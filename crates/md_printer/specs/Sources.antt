@@ -10,7 +10,7 @@ use Rattle.md_printer.specs.declared.facts.Exit.{Exit}
 use Rattle.md_printer.specs.declared.facts.Frame.{Frame as FrameInside}
 use Rattle.md_printer.specs.Machine.{Frame, State, ahead_by, document_frame}
 use Rattle.md_around.specs.Steps.{first_or}
-use Rattle.md_meaning.specs.Piece.{Piece, Page}
+use Rattle.md_meaning.specs.Piece.{Piece, Sheet}
 use Rattle.md_meaning.specs.Places.{Left}
 use Rattle.md_meaning.specs.declared.facts.Ahead.{Ahead}
 use Rattle.md_meaning.specs.declared.facts.Passed.{Passed}
@@ -76,7 +76,8 @@ left_at exit called columns = record {
 }
 
 -- what is printed where a node is exited, whose children tell this ahead and so far
-abbrev pub closing_at : Given → Exit → List Called → List AlignKind → Ahead → Passed → Page → Name → List Piece
+abbrev pub closing_at : Given → Exit → List Called → List AlignKind → Ahead → Passed → Sheet → Name →
+    List Piece
 closing_at given exit called columns ahead passed inner name =
     closing given exit.around (left_at exit called columns) ahead passed exit.is_last exit.start exit.end inner name
 

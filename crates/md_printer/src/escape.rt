@@ -1,4 +1,4 @@
-//! Escaping straight onto the page.
+//! Escaping straight onto the sheet.
 
 ghost use Rattle.std.specs.Prelude.{◌≡◌, ◌∷◌, ◌<◌, [], OnOk, MatchOption, length, get_or, take};
 ghost use Rattle.md_printer.specs.Machine.{printing};
@@ -8,7 +8,7 @@ ghost use Rattle.md_text.specs.Encode.{encoded, encoded_byte};
 use crate::printer::Printer;
 use std::alloc::AllocError;
 
-/// Prints a text, escaped where `escaping` says so; what stays as it is goes onto the page in runs.
+/// Prints a text, escaped where `escaping` says so; what stays as it is goes onto the sheet in runs.
 ///
 /// # Errors
 ///

@@ -40,7 +40,7 @@ pub struct Exit {
 
 /// What a node that is entered is told of its children.
 #[derive(Drop)]
-pub struct Told {
+pub struct Lookahead {
     /// The place that its name reads in them.
     pub place: Option<Position>,
     /// It is a loose list.
@@ -54,6 +54,6 @@ pub struct Told {
 pub struct Inner {
     /// The place that its name reads in them.
     pub place: Option<Position>,
-    /// The page that they are laid on.
-    pub page: Sheet,
+    /// The sheet that they are laid on.
+    pub sheet: Sheet,
 }

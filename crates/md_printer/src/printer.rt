@@ -10,8 +10,8 @@ ghost use Rattle.md_meaning.specs.Footnotes.{section_pieces};
 ghost use Rattle.md_sheet.specs.Seen.{counted, noted};
 ghost use Rattle.md_meaning.specs.Texts.{said};
 
-use crate::facts::{Exit, Frame, Told};
-use md_around::surroundings::{NO_SPINE, inside, pass, slurps_behind, spine_inside};
+use crate::facts::{Exit, Frame, Lookahead};
+use md_around::surroundings::{NO_SPINE, inside, pass, slurps_after, spine_inside};
 use md_base::{AlignKind, Name, Point, Position};
 use md_meaning::{CompileOptions, Container, Passed, Spine, Surroundings};
 use md_sheet::{Calls, Defined, Footnotes, Rope, Settings, Sheet, Target, lay_section};
@@ -39,7 +39,7 @@ impl Model for Printer {
 
     ghost Value = { State };
 
-    ghost view = { λ p. record { page = p.sheet; below = reverse p.below.items; log = record { called = p.calls; definitions = p.definitions.items; footnotes = p.footnotes }; is_slurping = p.is_slurping; frame = frame_of p.frame; frames = reverse (map frame_of p.frames.items); tables = reverse (map (λ v. v.items) p.tables.items) } };
+    ghost view = { λ p. record { sheet = p.sheet; below = reverse p.below.items; log = record { called = p.calls; definitions = p.definitions.items; footnotes = p.footnotes }; is_slurping = p.is_slurping; frame = frame_of p.frame; frames = reverse (map frame_of p.frames.items); tables = reverse (map (λ v. v.items) p.tables.items) } };
 }
 
 impl Printer {
@@ -56,7 +56,7 @@ impl Printer {
         self.sheet.put(text)
     }
 
-    /// Prints a text in parts, without copying the longer of it and the page.
+    /// Prints a text in parts, without copying the longer of it and the sheet.
     ///
     /// # Errors
     ///
@@ -236,10 +236,10 @@ impl Printer {
         Ok(())
     }
 
-    /// Ends the page that was captured last, and goes on with the one below.
+    /// Ends the sheet that was captured last, and goes on with the one below.
     #[cold]
     pub fn release(&mut self, alloc: Global) -> Sheet
-        ensures page { result ≡ self.old.page }
+        ensures sheet { result ≡ self.old.sheet }
         ensures state { self.new ≡ machine.releasing true self.old }
     {
         let outer = self.below.pop().unwrap_or(Sheet::new(alloc));
@@ -324,7 +324,7 @@ impl Printer {
     pub fn open_frame(
         &mut self,
         options: &CompileOptions,
-        told: &Told,
+        told: &Lookahead,
         name: Name,
         start: Point,
     ) -> Result<(), AllocError>
@@ -377,7 +377,7 @@ impl Printer {
     fn pass_child(&mut self, name: Name, inner: Spine) -> Result<(), AllocError>
         ensures { OnOk result (self.new ≡ machine.passing_child name inner self.old) }
     {
-        self.is_slurping = slurps_behind(
+        self.is_slurping = slurps_after(
             self.frame.around,
             self.frame.passed.spine,
             name,
@@ -415,7 +415,7 @@ impl Printer {
         options: &CompileOptions,
         ending: &str,
     ) -> Result<String, AllocError>
-        ensures { IfOk result (λ text. string_bytes text ≡ (lay ending.now self.page (section_pieces options.now self.log.footnotes self.log.called)).text) }
+        ensures { IfOk result (λ text. string_bytes text ≡ (lay ending.now self.sheet (section_pieces options.now self.log.footnotes self.log.called)).text) }
     {
         let Printer {
             mut sheet,

@@ -24,12 +24,12 @@ use Rattle.md_shape.specs.Built.{Blocks, is_part, is_string, is_span, is_in_medi
 use Rattle.md_safe.proofs.Texts.{Escaped}
 use Rattle.md_safe.proofs.Claim.{plain_of}
 use Rattle.md_safe.proofs.Laid.{adds-append, adds-weaker, adds-text, adds-nothing, adds-needed, adds-forced, adds-note}
-use Rattle.md_safe.proofs.Tags.{Bracket, IsFramed, void-read, adds-flat, adds-pair, adds-framed, adds-nil, adds-before, adds-behind, adds-escaped, framed-text, framed-needed, framed-forced}
+use Rattle.md_safe.proofs.Tags.{Bracket, IsFramed, void-read, adds-flat, adds-pair, adds-framed, adds-nil, adds-before, adds-after, adds-escaped, framed-text, framed-needed, framed-forced}
 use Rattle.md_safe.proofs.Media.{adds-cell_in, adds-empty_cells}
 use Rattle.md_safe.proofs.Elements.{bracket-plain, bracket-code, bracket-heading, adds-setext, ordered-opening, adds-raw, code_tag, math_tag}
 use Rattle.md_safe.proofs.Spot.{IsWhole, Setting, Spot, node_pieces, IsFitAt, Prints, Inside, narrow-wide, wide-reading, prints-alone, prints-both, prints-own}
 use Rattle.md_safe.proofs.StringNodes.{string-node}
-use Rattle.md_safe.proofs.SpanNodes.{page_of, page-holds, span-node, media-node, autolink-node, html-escaped}
+use Rattle.md_safe.proofs.SpanNodes.{sheet_of, sheet-holds, span-node, media-node, autolink-node, html-escaped}
 
 -- what is claimed of a text
 abbrev pub Reads : Setting → List ℕ → Type 0
@@ -191,7 +191,7 @@ flow-node s t ListItem e is fit whole inner a =
     (framed-needed s.p s.given.ending (codes "<li>") s.ending) a (when-end s _ (codes "</li>"))
 flow-node s t Paragraph e is fit whole inner a = paragraph-node s (not (is_tight t.around.container)) inner a
 flow-node s t ThematicBreak e is fit whole inner a =
-    adds-behind s.p s.given.ending inner (on_own_line (codes "<hr />")) a
+    adds-after s.p s.given.ending inner (on_own_line (codes "<hr />")) a
     (adds-before (plain_of s.p) s.given.ending (Needed ∷ []) (said (codes "<hr />"))
     (adds-escaped s.p s.given.ending (Needed ∷ []) (adds-needed s.p s.given.ending s.ending))
     (adds-flat s.p s.given.ending (HasReadingWith s.p.test) (said (codes "<hr />")) refl
@@ -203,8 +203,8 @@ flow-node s t HeadingAtx e is fit whole inner a =
     (framed-needed s.p s.given.ending (heading_opening rank) s.ending) a
     (framed-text s.p s.given.ending (heading_closing rank))
 flow-node s t HeadingSetextText e is fit whole inner a =
-    adds-note s.p s.given.ending (Reads s) (Heading (page_of s inner).text) (holds-none s)
-    ((whole refl).notes (page_of s inner).text (page-holds s (Reads s) inner a))
+    adds-note s.p s.given.ending (Reads s) (Heading (sheet_of s inner).text) (holds-none s)
+    ((whole refl).notes (sheet_of s inner).text (sheet-holds s (Reads s) inner a))
 flow-node s t HeadingSetextUnderlineSequence e is fit whole inner a =
     adds-append s.p s.given.ending (Reads s) (Reads s) (Reads s) inner (setext_pieces s.given t.start) (whole refl).both
     a
@@ -225,7 +225,7 @@ flow-node s t HtmlFlow e is fit whole inner a =
     ++ []) (adds-escaped s.p s.given.ending (Needed ∷ []) (adds-needed s.p s.given.ending s.ending))
     (prints-alone s (Reads s) inner a)
 flow-node s t HtmlFlowData e is fit whole inner a =
-    prints-both s (Reads s) (HasReadingWith s.p.test) s.p.behind inner (html_pieces s.given t.around t.start t.end) a
+    prints-both s (Reads s) (HasReadingWith s.p.test) s.p.after inner (html_pieces s.given t.around t.start t.end) a
     (adds-escaped s.p s.given.ending (html_pieces s.given t.around t.start t.end) (html-escaped s t e))
 flow-node s t _ e is fit whole inner a = lie is
 
@@ -237,10 +237,10 @@ hidden-node s t Frontmatter e is inner a = adds-nothing s.p s.given.ending (Read
 hidden-node s t Definition e is inner a = adds-nothing s.p s.given.ending (Reads s) (holds-none s)
 hidden-node s t DefinitionLabelString e is inner a = adds-nothing s.p s.given.ending (Reads s) (holds-none s)
 hidden-node s t DefinitionDestinationString e is inner a =
-    adds-note s.p s.given.ending (Reads s) (Destination (page_of s inner).text) (holds-none s) tt
+    adds-note s.p s.given.ending (Reads s) (Destination (sheet_of s inner).text) (holds-none s) tt
 hidden-node s t DefinitionTitleString e is inner a =
-    adds-note s.p s.given.ending (Reads s) (Title (page_of s inner).text) (holds-none s)
-    (page-holds s (λ x. t.around.is_escaping ≡ true → Escaped x) inner a e)
+    adds-note s.p s.given.ending (Reads s) (Title (sheet_of s inner).text) (holds-none s)
+    (sheet-holds s (λ x. t.around.is_escaping ≡ true → Escaped x) inner a e)
 hidden-node s t GfmFootnoteDefinition e is inner a = adds-nothing s.p s.given.ending (Reads s) (holds-none s)
 hidden-node s t GfmFootnoteDefinitionLabelString e is inner a = adds-nothing s.p s.given.ending (Reads s) (holds-none s)
 hidden-node s t GfmTableDelimiterRow e is inner a = adds-nothing s.p s.given.ending (Reads s) (holds-none s)
@@ -255,7 +255,7 @@ row-node s in_head kinds inner a =
     (append_assoc inner (empty_cells in_head kinds) (on_own_line (codes "</tr>")))
     (block-pair s (codes "<tr>") (codes "</tr>") (bracket-plain s.p (codes "tr") refl) (inner
     ++ empty_cells in_head kinds)
-    (adds-behind s.p s.given.ending inner (empty_cells in_head kinds) a
+    (adds-after s.p s.given.ending inner (empty_cells in_head kinds) a
     (adds-empty_cells s.p s.given.ending s.ending s.given.options s.test in_head kinds)))
 
 table-node : (s : Setting) (t : Spot) (name : Name) → is_tabular name ≡ true → (inner : List Piece) →
@@ -271,7 +271,7 @@ table-node s t GfmTableBody is inner a =
 table-node s t GfmTableRow is inner a = row-node s t.around.in_head (drop t.passed.spine.cells t.left.columns) inner a
 table-node s t GfmTableCell is inner a =
     adds-cell_in s.p s.given.ending s.ending s.given.options s.test t.around.in_head
-    (slice_get t.left.columns t.left.spine.cells) (page_of s inner).text (page-holds s (Reads s) inner a)
+    (slice_get t.left.columns t.left.spine.cells) (sheet_of s inner).text (sheet-holds s (Reads s) inner a)
 table-node s t _ is inner a = lie is
 
 silent-node : (s : Setting) (t : Spot) (name : Name) → is_silent name ≡ true → (inner : List Piece) →

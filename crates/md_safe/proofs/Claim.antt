@@ -16,7 +16,7 @@ pub record Claim : Type 1 where
   pub test : Attribute → Bool
   pub plain : (x : List ℕ) → HasReadingWith test x → holds x
   pub before : (x y : List ℕ) → HasReadingWith test x → holds y → holds (x ++ y)
-  pub behind : (x y : List ℕ) → holds x → HasReadingWith test y → holds (x ++ y)
+  pub after : (x y : List ℕ) → holds x → HasReadingWith test y → holds (x ++ y)
   pub within : (name : List ℕ) (attributes : List Attribute) (inside : List ℕ) →
       is_tag elements name attributes ≡ true → list_all test attributes ≡ true → holds inside
       → holds (60 ∷ (name ++ (written_attributes attributes ++ (62 ∷ (inside ++ (60 ∷ 47 ∷ (name ++ (62 ∷ []))))))))
@@ -33,7 +33,7 @@ passing test noted unnoted = record {
   test = test;
   plain = λ x h. h;
   before = join test;
-  behind = join test;
+  after = join test;
   within = element test;
   takes = paragraph_takes test;
 }

@@ -14,8 +14,8 @@ use Rattle.md_base.specs.NameTests.{is_fence as fence_name}
 use Rattle.md_base.specs.Children.{spine_names}
 use Rattle.md_meaning.specs.declared.options.CompileOptions.{CompileOptions}
 use Rattle.md_meaning.specs.declared.facts.Surroundings.{Surroundings}
-use Rattle.md_meaning.specs.Surroundings.{inside, spine_behind}
-use Rattle.md_shape.specs.Built.{Content, Blocks, Spans, Strings, FirstFence, FirstMathFence, Chunks, InfoAndMeta, MetaAlone, Done, Nothing, is_fence, is_line, is_info, is_code_fence, is_math_fence, may_stand, content_of, content_past, content_after, content_inside, content_behind, IsBuilt, IsFit}
+use Rattle.md_meaning.specs.Surroundings.{inside, spine_after_node}
+use Rattle.md_shape.specs.Built.{Content, Blocks, Spans, Strings, FirstFence, FirstMathFence, Chunks, InfoAndMeta, MetaAlone, Done, Nothing, is_fence, is_line, is_info, is_code_fence, is_math_fence, may_stand, content_of, content_past, content_after, content_inside, content_after_node, IsBuilt, IsFit}
 use Rattle.md_safe.proofs.Texts.{Escaped}
 use Rattle.md_safe.proofs.Claim.{Claim}
 use Rattle.md_safe.proofs.Elements.{IsRaw, IsInCode, IsDone, bare-in_code, code_tag, math_tag}
@@ -68,13 +68,14 @@ holds-nothing p escaping in_image Done h = inl refl
 holds-nothing p escaping in_image Nothing h = refl
 
 -- what stays after each name stays after nodes
-pub after : (Q : Content → Type 0) → ((content : Content) (name : Name) → Q content → Q (content_past content name)) →
+pub stays-after : (Q : Content → Type 0) →
+    ((content : Content) (name : Name) → Q content → Q (content_past content name)) →
     (content : Content) (forest : Forest) → Q content → Q (content_after content forest)
-after Q past content Empty h = h
-after Q past content (Node name start end children rest) h =
-    after Q past (cond (is_transparent name) (content_after content children) (content_past content name)) rest
+stays-after Q past content Empty h = h
+stays-after Q past content (Node name start end children rest) h =
+    stays-after Q past (cond (is_transparent name) (content_after content children) (content_past content name)) rest
     (cond_both (is_transparent name) (content_after content children) (content_past content name) Q
-    (λ _. after Q past content children h) (λ _. past content name h))
+    (λ _. stays-after Q past content children h) (λ _. past content name h))
 
 suits-past : (escaping in_image : Bool) (content : Content) (name : Name) → Suits escaping in_image content →
     Suits escaping in_image (content_past content name)
@@ -105,12 +106,12 @@ later-past MetaAlone name h = refl
 later-past Done name h = refl
 later-past Nothing name h = refl
 
-pub suits-behind : (escaping in_image : Bool) (content : Content) (name : Name) (children : Forest) →
-    Suits escaping in_image content → Suits escaping in_image (content_behind content name children)
-suits-behind escaping in_image content name children h =
+pub suits-after-node : (escaping in_image : Bool) (content : Content) (name : Name) (children : Forest) →
+    Suits escaping in_image content → Suits escaping in_image (content_after_node content name children)
+suits-after-node escaping in_image content name children h =
     cond_both (is_transparent name) (content_after content children) (content_past content name)
     (Suits escaping in_image)
-    (λ _. after (Suits escaping in_image) (suits-past escaping in_image) content children h)
+    (λ _. stays-after (Suits escaping in_image) (suits-past escaping in_image) content children h)
     (λ _. suits-past escaping in_image content name h)
 
 -- the two tests of fences are one
@@ -175,7 +176,7 @@ through bytes content name children e built = subst (λ b. IsBuilt bytes
 follows-node : (content : Content) (name : Name) (names : List Name) (children : Forest) →
     (is_transparent name || may_stand content name) ≡ true → Follows content names
     → (is_transparent name ≡ true → Follows (content_after content children) (names ++ spine_names children)) →
-    Follows (content_behind content name children) (spine_behind name children names)
+    Follows (content_after_node content name children) (spine_after_node name children names)
 follows-node content name names children stands f inner = by (is_transparent name) refl
   where
     by : (through : Bool) → is_transparent name ≡ through →
@@ -189,17 +190,17 @@ pub follows-after : (bytes : List ℕ) (content : Content) (names : List Name) (
     Follows (content_after content forest) (names ++ spine_names forest)
 follows-after bytes content names Empty built f = subst (Follows content) (sym (append-nil names)) f
 follows-after bytes content names (Node name start end children rest) built f =
-    subst (Follows (content_after (content_behind content name children) rest))
+    subst (Follows (content_after (content_after_node content name children) rest))
     (append_assoc names (cond (is_transparent name) (spine_names children) (name ∷ [])) (spine_names rest))
-    (follows-after bytes (content_behind content name children) (spine_behind name children names) rest built.3
+    (follows-after bytes (content_after_node content name children) (spine_after_node name children names) rest built.3
     (follows-node content name names children built.0 f (λ e. follows-after bytes content names children
     (through bytes content name children e built.2) f)))
 
-pub follows-behind : (bytes : List ℕ) (content : Content) (name : Name) (names : List Name) (children : Forest) →
+pub follows-after-node : (bytes : List ℕ) (content : Content) (name : Name) (names : List Name) (children : Forest) →
     (is_transparent name || may_stand content name) ≡ true → IsBuilt bytes (content_inside content name) children →
     Follows content names
-    → Follows (content_behind content name children) (spine_behind name children names)
-follows-behind bytes content name names children stands built f =
+    → Follows (content_after_node content name children) (spine_after_node name children names)
+follows-after-node bytes content name names children stands built f =
     follows-node content name names children stands f (λ e. follows-after bytes content names children
     (through bytes content name children e built) f)
 
@@ -357,7 +358,7 @@ later-math_fence FirstMathFence = refl
 later-math_fence _ = refl
 
 later-after : (content : Content) (forest : Forest) → IsLater content → IsLater (content_after content forest)
-later-after content forest h = after IsLater later-past content forest h
+later-after content forest h = stays-after IsLater later-past content forest h
 
 -- after a fence no first one is to come
 later-fenced : (content : Content) (names : List Name) → Follows content names → list_any fence_name names ≡ true →
@@ -478,10 +479,11 @@ past-blocks Done name h = h
 past-blocks Nothing name h = h
 
 -- what is asked of blocks alone is asked after nodes of no more
-pub asked-behind : (A : Type 0) (content : Content) (name : Name) (children : Forest) →
-    (is_blocks content ≡ true → A) → is_blocks (content_behind content name children) ≡ true → A
-asked-behind A content name children asked =
+pub asked-after-node : (A : Type 0) (content : Content) (name : Name) (children : Forest) →
+    (is_blocks content ≡ true → A) → is_blocks (content_after_node content name children) ≡ true → A
+asked-after-node A content name children asked =
     cond_both (is_transparent name) (content_after content children) (content_past content name)
     (λ c. is_blocks c ≡ true → A)
-    (λ _. after (λ c. is_blocks c ≡ true → A) (λ c name asked h. asked (past-blocks c name h)) content children asked)
+    (λ _. stays-after (λ c. is_blocks c ≡ true → A)
+    (λ c name asked h. asked (past-blocks c name h)) content children asked)
     (λ _ h. asked (past-blocks content name h))

@@ -1,4 +1,4 @@
--- How often an id stands in what is printed: what is claimed of texts, of pages and of footnotes, where the claim
+-- How often an id stands in what is printed: what is claimed of texts, of sheets and of footnotes, where the claim
 -- changes from piece to piece.
 use Rattle.std.proofs.Common.{◌≡◌, ℕ, ◌+◌, ◌≤◌, Bool, true, false, not, ◌&&◌, List, [], ◌∷◌, ◌++◌, refl, sym, ap, ◌∙◌, subst, arith, append_assoc, codes}
 use Rattle.std.specs.Prelude.{bytes_eq}
@@ -10,7 +10,7 @@ use Rattle.md_text.proofs.HtmlWriting.{attributes_before, written_attributes-bef
 use Rattle.md_text.specs.Ids.{ids_in}
 use Rattle.md_text.proofs.HtmlIds.{occurs, is_without, none-attributes, Counts, counts-plain, counts-more, counts-join, counts-element, counts-takes}
 use Rattle.md_meaning.specs.declared.options.CompileOptions.{CompileOptions}
-use Rattle.md_meaning.specs.Piece.{Piece, Page, lay}
+use Rattle.md_meaning.specs.Piece.{Piece, Sheet, lay}
 use Rattle.md_meaning.specs.Footnotes.{Footnote}
 use Rattle.md_safe.proofs.Claim.{Claim}
 use Rattle.md_safe.proofs.Texts.{Escaped}
@@ -28,7 +28,7 @@ counting w n noted unnoted = record {
   test = is_without w;
   plain = λ x h. counts-more w 0 n x (omega arith) (counts-plain w x h);
   before = λ x y h g. counts-more w (0 + n) n (x ++ y) (omega arith) (counts-join w 0 n x y (counts-plain w x h) g);
-  behind = λ x y h g. counts-more w (n + 0) n (x ++ y) (omega arith) (counts-join w n 0 x y h (counts-plain w y g));
+  after = λ x y h g. counts-more w (n + 0) n (x ++ y) (omega arith) (counts-join w n 0 x y h (counts-plain w y g));
   within = λ name attributes inside h a within.
       counts-more w (0 + n) n _ (omega arith) (counts-element w n 0 name attributes inside h
       (omega (none-attributes w attributes a, arith)) within);
@@ -68,19 +68,19 @@ waiting-none w false n = tt
 
 -- pieces add a text of which something holds, where something holds of the heading before them, and after them
 abbrev pub Steps : List ℕ → (pre post holds : List ℕ → Type 0) → List Piece → Type 0
-Steps ending pre post holds pieces = (page : Page) → AreGood pre page.notes →
-    Grows post holds page (lay ending page pieces)
+Steps ending pre post holds pieces = (sheet : Sheet) → AreGood pre sheet.notes →
+    Grows post holds sheet (lay ending sheet pieces)
 
 pub steps-append : (ending : List ℕ) (pre mid post f g h : List ℕ → Type 0) (xs ys : List Piece) →
     ((x y : List ℕ) → f x → g y → h (x ++ y)) → Steps ending pre mid f xs → Steps ending mid post g ys →
     Steps ending pre post h (xs ++ ys)
-steps-append ending pre mid post f g h xs ys both a b page good =
-    let r = a page good in
-    let s = b (lay ending page xs) r.good in
-    subst (Grows post h page) (sym (lay-append ending page xs ys))
+steps-append ending pre mid post f g h xs ys both a b sheet good =
+    let r = a sheet good in
+    let s = b (lay ending sheet xs) r.good in
+    subst (Grows post h sheet) (sym (lay-append ending sheet xs ys))
     (record {
       added = r.added ++ s.added;
-      behind = s.behind ∙ ap (λ t. t ++ s.added) r.behind ∙ append_assoc page.text r.added s.added;
+      grown = s.grown ∙ ap (λ t. t ++ s.added) r.grown ∙ append_assoc sheet.text r.added s.added;
       it_holds = both r.added s.added r.it_holds s.it_holds;
       good = s.good;
     })
@@ -89,18 +89,18 @@ steps-append ending pre mid post f g h xs ys both a b page good =
 pub steps-weaker : (ending : List ℕ) (pre pre' post post' f g : List ℕ → Type 0) (pieces : List Piece) →
     ((x : List ℕ) → pre' x → pre x) → ((x : List ℕ) → post x → post' x) → ((x : List ℕ) → f x → g x) →
     Steps ending pre post f pieces → Steps ending pre' post' g pieces
-steps-weaker ending pre pre' post post' f g pieces asked claimed weaker a page good =
-    let r = a page (record {
-      heading = asked page.notes.heading good.heading;
+steps-weaker ending pre pre' post post' f g pieces asked claimed weaker a sheet good =
+    let r = a sheet (record {
+      heading = asked sheet.notes.heading good.heading;
       title = good.title;
       resource = good.resource;
     }) in
     record {
       added = r.added;
-      behind = r.behind;
+      grown = r.grown;
       it_holds = weaker r.added r.it_holds;
       good = record {
-        heading = claimed (lay ending page pieces).notes.heading r.good.heading;
+        heading = claimed (lay ending sheet pieces).notes.heading r.good.heading;
         title = r.good.title;
         resource = r.good.resource;
       };

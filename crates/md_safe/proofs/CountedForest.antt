@@ -12,11 +12,11 @@ use Rattle.md_meaning.specs.declared.facts.Surroundings.{Surroundings}
 use Rattle.md_meaning.specs.Places.{Before, before_children, before_next, identifier_at, ahead_of, calls_of}
 use Rattle.md_meaning.specs.Footnotes.{Footnote}
 use Rattle.md_meaning.specs.Printed.{printed, footnotes_of}
-use Rattle.md_shape.specs.Built.{Blocks, content_of, content_inside, content_behind, content_past, content_after, is_part, may_stand, IsBuilt}
+use Rattle.md_shape.specs.Built.{Blocks, content_of, content_inside, content_after_node, content_past, content_after, is_part, may_stand, IsBuilt}
 use Rattle.md_shape.specs.Underlined.{waits_past, waits_after, IsUnderlined}
-use Rattle.md_safe.proofs.Contents.{is_blocks, Suits, second, after}
+use Rattle.md_safe.proofs.Contents.{is_blocks, Suits, second, stays-after}
 use Rattle.md_safe.proofs.Forests.{children-suit}
-use Rattle.md_safe.proofs.CallIds.{ids_behind, ids-append}
+use Rattle.md_safe.proofs.CallIds.{ids_after, ids-append}
 use Rattle.md_safe.proofs.Counted.{Waiting, steps-append, TextsCount, texts-append}
 use Rattle.md_meaning.specs.Surroundings.{inside}
 use Rattle.md_safe.proofs.CountedNodes.{counts-none, is_blocks-same, Document, due, Spent, NodeSpent, Place, pieces_at, inner_notes, footnote_at, noted_at, cost_at, BelowBlocks, through-spent, solid-spent, place_of}
@@ -29,10 +29,10 @@ pub record Fits (d : Document) (around : Surroundings) (waits : Bool) (forest : 
   pub underlined : IsUnderlined waits forest
 
 -- blocks stay blocks
-behind-blocks : (name : Name) (children : Forest) → content_behind Blocks name children ≡ Blocks
-behind-blocks name children =
+after-blocks : (name : Name) (children : Forest) → content_after_node Blocks name children ≡ Blocks
+after-blocks name children =
     cond_both (is_transparent name) (content_after Blocks children) Blocks (λ c. c ≡ Blocks)
-    (λ _. after (λ content. content ≡ Blocks) (λ content name e. ap (λ content. content_past content name) e)
+    (λ _. stays-after (λ content. content ≡ Blocks) (λ content name e. ap (λ content. content_past content name) e)
     Blocks children refl) (λ _. refl)
 
 -- what is known below a node, where blocks stand in it
@@ -50,11 +50,11 @@ fits-inside d name start end children rest around waits f is =
       underlined = f.underlined.1;
     }
 
-fits-behind : (d : Document) (name : Name) (start end : Point) (children rest : Forest) (around : Surroundings)
+fits-after : (d : Document) (name : Name) (start end : Point) (children rest : Forest) (around : Surroundings)
     (waits : Bool) → Fits d around waits (Node name start end children rest) →
     Fits d around (cond (is_transparent name) (waits_after waits children) (waits_past waits name)) rest
-fits-behind d name start end children rest around waits f = record {
-  built = subst (λ c. IsBuilt d.given.bytes c rest) (behind-blocks name children) f.built.3;
+fits-after d name start end children rest around waits f = record {
+  built = subst (λ c. IsBuilt d.given.bytes c rest) (after-blocks name children) f.built.3;
   escaping = f.escaping;
   underlined = f.underlined.2;
 }
@@ -89,12 +89,12 @@ due-parts : (d : Document) (w : List ℕ) (t : Place) (name : Name) →
 due-parts d w t name =
     let below : List (List ℕ) = calls_of d.given.bytes t.children in
     let own : List (List ℕ) = cond (is_call name) (identifier_at d.given.bytes (ahead_of t.children).label ∷ []) [] in
-    let behind : List (List ℕ) = calls_of d.given.bytes t.rest in
-    ap (λ calls. occurs w (ids_behind d.given.options t.before.calls calls))
-    (ap (λ own. below ++ (own ++ behind)) (sym (append-nil own)) ∙ sym (append_assoc below (own ++ []) behind))
-    ∙ ap (occurs w) (ids-append d.given.options t.before.calls (below ++ (own ++ [])) behind)
-    ∙ occurs-append w (ids_behind d.given.options t.before.calls (below ++ (own ++ [])))
-    (ids_behind d.given.options (t.before.calls ++ (below ++ (own ++ []))) behind)
+    let after : List (List ℕ) = calls_of d.given.bytes t.rest in
+    ap (λ calls. occurs w (ids_after d.given.options t.before.calls calls))
+    (ap (λ own. below ++ (own ++ after)) (sym (append-nil own)) ∙ sym (append_assoc below (own ++ []) after))
+    ∙ ap (occurs w) (ids-append d.given.options t.before.calls (below ++ (own ++ [])) after)
+    ∙ occurs-append w (ids_after d.given.options t.before.calls (below ++ (own ++ [])))
+    (ids_after d.given.options (t.before.calls ++ (below ++ (own ++ []))) after)
 
 pub spent : (d : Document) (w : List ℕ) (forest : Forest) (around : Surroundings) (before : Before) (waits : Bool)
     (m : ℕ) → Fits d around waits forest → Spent d w around before waits m forest
@@ -102,9 +102,9 @@ spent d w Empty around before waits m f = record {
   body = 0;
   left = m;
   notes = 0;
-  prints = λ page good. record {
+  prints = λ sheet good. record {
     added = [];
-    behind = sym (append-nil page.text);
+    grown = sym (append-nil sheet.text);
     it_holds = counts-none w;
     good = good;
   };
@@ -120,7 +120,7 @@ spent d w (Node name start end children rest) around before waits m f =
     (before_children name children before) (cond (is_transparent name) waits false) (cond (is_transparent name) m 0)
     (fits-inside d name start end children rest around waits f is)) in
     let later : Spent d w around next waits' one.left rest =
-    spent d w rest around next waits' one.left (fits-behind d name start end children rest around waits f) in
+    spent d w rest around next waits' one.left (fits-after d name start end children rest around waits f) in
     let own : List Footnote = cond (is_footnote_definition name) (footnote_at d t name ∷ []) [] in
     record {
       body = one.body + later.body;

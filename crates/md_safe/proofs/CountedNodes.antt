@@ -25,17 +25,17 @@ use Rattle.md_meaning.specs.Footnotes.{Footnote, footnote_id, call_id, call_tags
 use Rattle.md_safe.proofs.Media.{footnote_id-escaped, call_id-escaped}
 use Rattle.md_safe.proofs.Tags.{adds-flat}
 use Rattle.md_meaning.specs.Printed.{printed, footnotes_of}
-use Rattle.md_shape.specs.Built.{Content, Blocks, Spans, Strings, FirstFence, FirstMathFence, Chunks, InfoAndMeta, MetaAlone, Done, Nothing, content_of, content_inside, content_behind, is_part, may_stand, IsBuilt, IsFit}
+use Rattle.md_shape.specs.Built.{Content, Blocks, Spans, Strings, FirstFence, FirstMathFence, Chunks, InfoAndMeta, MetaAlone, Done, Nothing, content_of, content_inside, content_after_node, is_part, may_stand, IsBuilt, IsFit}
 use Rattle.md_shape.specs.Underlined.{is_underline, waits_past, waits_after}
 use Rattle.md_safe.proofs.Texts.{Escaped, decimal-escaped}
 use Rattle.md_safe.proofs.Laid.{adds-blank, adds-nothing}
-use Rattle.md_safe.proofs.Contents.{is_blocks, inside-blocks, asked-behind, Holds}
+use Rattle.md_safe.proofs.Contents.{is_blocks, inside-blocks, asked-after-node, Holds}
 use Rattle.md_safe.proofs.Spot.{AreTitles, Setting, Spot, node_pieces, Prints, Inside}
 use Rattle.md_meaning.specs.Blocks.{setext_rank, setext_pieces, is_dash_at}
 use Rattle.md_safe.proofs.Elements.{adds-setext}
 use Rattle.md_safe.proofs.BlockNodes.{is_setext, setext-fits, block-node}
 use Rattle.md_safe.proofs.Forests.{spot_of, children-print}
-use Rattle.md_safe.proofs.CallIds.{ids_behind, ids-append}
+use Rattle.md_safe.proofs.CallIds.{ids_after, ids-append}
 use Rattle.md_safe.proofs.Counted.{counting, without-test, Waiting, waiting-none, Steps, steps-weaker, TextsCount, texts-append}
 use Rattle.md_shape.proofs.Underlines.{both_none}
 
@@ -58,7 +58,7 @@ counted_in d w n noted unnoted = record {
 
 -- how many of the calls in some nodes have the id
 abbrev pub due : Document → List ℕ → Before → Forest → ℕ
-due d w before forest = occurs w (ids_behind d.given.options before.calls (calls_of d.given.bytes forest))
+due d w before forest = occurs w (ids_after d.given.options before.calls (calls_of d.given.bytes forest))
 
 -- what some nodes print has the id so often, a heading that waits after them so often, and their footnotes so often:
 -- together at most so often as the heading that waits before them, and as their calls
@@ -143,14 +143,14 @@ Below d w t name waits m =
 -- what a node costs is what its children do, and it itself where it is a call
 pub cost-parts : (d : Document) (w : List ℕ) (t : Place) (name : Name) →
     cost_at d w t name ≡ due d w (before_children name t.children t.before) t.children
-    + occurs w (ids_behind d.given.options (t.before.calls ++ calls_of d.given.bytes t.children)
+    + occurs w (ids_after d.given.options (t.before.calls ++ calls_of d.given.bytes t.children)
     (cond (is_call name) (identifier_at d.given.bytes (ahead_of t.children).label ∷ []) [] ++ []))
 cost-parts d w t name =
     let own : List (List ℕ) = cond (is_call name) (identifier_at d.given.bytes (ahead_of t.children).label ∷ []) []
     ++ [] in
     ap (occurs w) (ids-append d.given.options t.before.calls (calls_of d.given.bytes t.children) own)
-    ∙ occurs-append w (ids_behind d.given.options t.before.calls (calls_of d.given.bytes t.children))
-    (ids_behind d.given.options (t.before.calls ++ calls_of d.given.bytes t.children) own)
+    ∙ occurs-append w (ids_after d.given.options t.before.calls (calls_of d.given.bytes t.children))
+    (ids_after d.given.options (t.before.calls ++ calls_of d.given.bytes t.children) own)
 
 cost-least : (d : Document) (w : List ℕ) (t : Place) (name : Name) →
     due d w (before_children name t.children t.before) t.children ≤ cost_at d w t name
@@ -290,17 +290,17 @@ no_footnotes d content (Node name start end children rest) around before other b
       text = (lay d.given.ending blank (printed d.given (inside d.given.options (is_loose children) name around)
           (before_children name children before) children)).text;
     } in
-    let behind : List Footnote =
+    let after : List Footnote =
     footnotes_of d.given around (before_next d.given around name start end children before) rest in
-    ap (λ fs. fs ++ (cond (is_footnote_definition name) (own ∷ []) [] ++ behind))
+    ap (λ fs. fs ++ (cond (is_footnote_definition name) (own ∷ []) [] ++ after))
     (no_footnotes d (content_inside content name) children (inside d.given.options (is_loose children) name around)
     (before_children name children before)
     (isn't (is_blocks (content_inside content name)) (λ h. differ other (inside-blocks content name h))) built.2)
-    ∙ ap (λ b. cond b (own ∷ []) [] ++ behind) (none_here content name built.0 other)
-    ∙ no_footnotes d (content_behind content name children) rest around
+    ∙ ap (λ b. cond b (own ∷ []) [] ++ after) (none_here content name built.0 other)
+    ∙ no_footnotes d (content_after_node content name children) rest around
     (before_next d.given around name start end children before)
-    (isn't (is_blocks (content_behind content name children))
-    (asked-behind (false ≡ true) content name children (λ h. differ other h))) built.3
+    (isn't (is_blocks (content_after_node content name children))
+    (asked-after-node (false ≡ true) content name children (λ h. differ other h))) built.3
 
 -- a node in which something else stands
 around-others : (d : Document) (w : List ℕ) (t : Place) (name : Name) (waits : Bool) (m : ℕ) → Stands d t name →
@@ -342,7 +342,7 @@ setext_text d w t waits m b =
       notes = b.notes;
       prints = λ before good. record {
         added = [];
-        behind = sym (append-nil before.text);
+        grown = sym (append-nil before.text);
         it_holds = counts-none w;
         good = record { heading = laid_inside d w t HeadingSetextText b; title = good.title; resource = good.resource };
       };
@@ -362,7 +362,7 @@ footnote d w t waits m b =
       notes = b.notes + b.body;
       prints = λ before good. record {
         added = [];
-        behind = sym (append-nil before.text);
+        grown = sym (append-nil before.text);
         it_holds = counts-none w;
         good = record { heading = tt; title = good.title; resource = good.resource };
       };
@@ -395,9 +395,9 @@ nothing_printed d (Node name start end children rest) around before h =
     let parts = both_none (cond (is_transparent name) (spine_names children) (name ∷ [])) (spine_names rest) h in
     let seen = seen_through name (spine_names children) parts.0 in
     let t : Place = place_of around before start end children rest in
-    let behind : List Piece =
+    let after : List Piece =
     printed d.given around (before_next d.given around name start end children before) rest in
-    ap (λ ps. ps ++ behind) (through_pieces d t name seen.0
+    ap (λ ps. ps ++ after) (through_pieces d t name seen.0
     ∙ ap (λ ps. ps ++ []) (nothing_printed d children (inner_around d t name)
     (before_children name children before) seen.1))
     ∙ nothing_printed d rest around (before_next d.given around name start end children before) parts.1

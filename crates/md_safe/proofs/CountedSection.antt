@@ -6,7 +6,7 @@ use Rattle.std.proofs.lemmas.Bool.{or_parts}
 use Rattle.md_base.specs.Tree.{Forest}
 use Rattle.md_text.specs.References.{read_back}
 use Rattle.md_text.specs.Html.{opening_tag, closing_tag}
-use Rattle.md_text.proofs.HtmlIds.{occurs, occurs-append, Counts, counts-more, counts-join, counts-round}
+use Rattle.md_text.proofs.HtmlIds.{occurs, occurs-append, Counts, counts-more, counts-join, counts-enclosed}
 use Rattle.md_meaning.specs.Piece.{blank, lay}
 use Rattle.md_meaning.specs.Surroundings.{outermost}
 use Rattle.md_meaning.specs.Calls.{Called, tally, distinct, count_of}
@@ -107,7 +107,7 @@ item-turn d w n v h x held =
     (ap (λ y. codes "<li id=\"" ++ y) (append_assoc v (34 ∷ []) (62 ∷ [])))
     (subst (Counts w (hit + n))
     (append_assoc (opening_tag (codes "li") (attribute (codes "id") v ∷ [])) x (closing_tag (codes "li")))
-    (counts-round w n hit (codes "li") (attribute (codes "id") v ∷ []) x (li_id v h) (omega arith) held))
+    (counts-enclosed w n hit (codes "li") (attribute (codes "id") v ∷ []) x (li_id v h) (omega arith) held))
 
 occurs-first : (w x : List ℕ) (xs : List (List ℕ)) → occurs w (x ∷ xs) ≡ occurs w (x ∷ []) + occurs w xs
 occurs-first w x xs = occurs-append w (x ∷ []) xs

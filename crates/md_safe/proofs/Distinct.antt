@@ -22,7 +22,7 @@ use Rattle.md_shape.specs.Built.{is_digit}
 use Rattle.md_meaning.proofs.Identifiers.{is_in, same, itself, is_in-distinct}
 use Rattle.md_tie.proofs.Calls.{number-same, number-placed, count-same}
 use Rattle.md_safe.proofs.Texts.{digit-plain}
-use Rattle.md_safe.proofs.CallIds.{id_behind, ids_behind}
+use Rattle.md_safe.proofs.CallIds.{id_after, ids_after}
 use Rattle.md_text.proofs.ProtocolLemmas.{no_and}
 
 -- ---- what decimal writes
@@ -294,7 +294,7 @@ occurrence-bound before x = omega (count-same before x, count-last before x, ari
 -- a later call has another id
 ids-differ : (options : CompileOptions) → options.gfm_footnote_number_ids ≡ true → (before mid : List (List ℕ))
     (x y : List ℕ) → length (before ++ x ∷ mid) + 1 < 2 ^ 64 →
-    id_behind options (before ++ x ∷ mid) y ≡ id_behind options before x → ⊥
+    id_after options (before ++ x ∷ mid) y ≡ id_after options before x → ⊥
 ids-differ options on before mid x y small e =
     let n : ℕ = number_among (tally before) x in
     let k : ℕ = suc (count_among (tally before) x) in
@@ -314,11 +314,11 @@ ids-differ options on before mid x y small e =
 -- no later call has the id of an earlier one
 none-later : (options : CompileOptions) → options.gfm_footnote_number_ids ≡ true → (before mid : List (List ℕ))
     (x : List ℕ) (calls : List (List ℕ)) → length (before ++ x ∷ mid) + length calls + 1 < 2 ^ 64 →
-    occurs (id_behind options before x) (ids_behind options (before ++ x ∷ mid) calls) ≡ 0
+    occurs (id_after options before x) (ids_after options (before ++ x ∷ mid) calls) ≡ 0
 none-later options on before mid x [] small = refl
 none-later options on before mid x (y ∷ calls) small =
-    by (bytes_eq (id_behind options (before ++ x ∷ mid) y) (id_behind options before x)) refl
-    (subst (λ b. occurs (id_behind options before x) (ids_behind options b calls) ≡ 0)
+    by (bytes_eq (id_after options (before ++ x ∷ mid) y) (id_after options before x)) refl
+    (subst (λ b. occurs (id_after options before x) (ids_after options b calls) ≡ 0)
     (sym (append_assoc before (x ∷ mid) (y ∷ [])))
     (none-later options on before (mid ++ y ∷ []) x calls
     (omega (
@@ -328,31 +328,31 @@ none-later options on before mid x (y ∷ calls) small =
       arith,
     ))))
   where
-    by : (is : Bool) → bytes_eq (id_behind options (before ++ x ∷ mid) y) (id_behind options before x) ≡ is →
-        occurs (id_behind options before x) (ids_behind options ((before ++ x ∷ mid) ++ y ∷ []) calls) ≡ 0 →
-        cond is (suc (occurs (id_behind options before x) (ids_behind options ((before ++ x ∷ mid) ++ y ∷ []) calls)))
-        (occurs (id_behind options before x) (ids_behind options ((before ++ x ∷ mid) ++ y ∷ []) calls)) ≡ 0
+    by : (is : Bool) → bytes_eq (id_after options (before ++ x ∷ mid) y) (id_after options before x) ≡ is →
+        occurs (id_after options before x) (ids_after options ((before ++ x ∷ mid) ++ y ∷ []) calls) ≡ 0 →
+        cond is (suc (occurs (id_after options before x) (ids_after options ((before ++ x ∷ mid) ++ y ∷ []) calls)))
+        (occurs (id_after options before x) (ids_after options ((before ++ x ∷ mid) ++ y ∷ []) calls)) ≡ 0
     by true e later = absurd (ids-differ options on before mid x y (omega (small, arith))
-        (same (id_behind options (before ++ x ∷ mid) y) (id_behind options before x) e))
+        (same (id_after options (before ++ x ∷ mid) y) (id_after options before x) e))
     by false e later = later
 
 -- each id is that of one call at most
 calls-once : (options : CompileOptions) → options.gfm_footnote_number_ids ≡ true → (w : List ℕ)
     (before calls : List (List ℕ)) → length before + length calls + 1 < 2 ^ 64 →
-    occurs w (ids_behind options before calls) ≤ 1
+    occurs w (ids_after options before calls) ≤ 1
 calls-once options on w before [] small = omega arith
 calls-once options on w before (x ∷ calls) small =
-    by (bytes_eq (id_behind options before x) w) refl
+    by (bytes_eq (id_after options before x) w) refl
     (calls-once options on w (before ++ x ∷ []) calls (omega (length-append before (x ∷ []), small, arith)))
   where
-    by : (is : Bool) → bytes_eq (id_behind options before x) w ≡ is →
-        occurs w (ids_behind options (before ++ x ∷ []) calls) ≤ 1
-        → cond is (suc (occurs w (ids_behind options (before ++ x ∷ []) calls)))
-        (occurs w (ids_behind options (before ++ x ∷ []) calls)) ≤ 1
+    by : (is : Bool) → bytes_eq (id_after options before x) w ≡ is →
+        occurs w (ids_after options (before ++ x ∷ []) calls) ≤ 1
+        → cond is (suc (occurs w (ids_after options (before ++ x ∷ []) calls)))
+        (occurs w (ids_after options (before ++ x ∷ []) calls)) ≤ 1
     by true e later =
         omega (
-          ap (λ w. occurs w (ids_behind options (before ++ x ∷ []) calls))
-              (sym (same (id_behind options before x) w e)),
+          ap (λ w. occurs w (ids_after options (before ++ x ∷ []) calls))
+              (sym (same (id_after options before x) w e)),
           none-later options on before [] x calls (omega (length-append before (x ∷ []), small, arith)),
           arith,
         )
@@ -364,16 +364,16 @@ note_ids options number [] = []
 note_ids options number (called ∷ others) =
     read_back (footnote_id options called.identifier number) ∷ note_ids options (suc number) others
 
-none-behind : (options : CompileOptions) → options.gfm_footnote_number_ids ≡ true → (identifier : List ℕ)
+none-after : (options : CompileOptions) → options.gfm_footnote_number_ids ≡ true → (identifier : List ℕ)
     (number more : ℕ) (called : List Called) → number + more + length called + 1 < 2 ^ 64 →
     occurs (read_back (footnote_id options identifier number)) (note_ids options (suc (number + more)) called) ≡ 0
-none-behind options on identifier number more [] small = refl
-none-behind options on identifier number more (called ∷ others) small =
+none-after options on identifier number more [] small = refl
+none-after options on identifier number more (called ∷ others) small =
     by (bytes_eq (read_back (footnote_id options called.identifier (suc (number + more))))
     (read_back (footnote_id options identifier number))) refl
     (subst (λ k. occurs (read_back (footnote_id options identifier number)) (note_ids options (suc k) others) ≡ 0)
     (omega arith)
-    (none-behind options on identifier number (suc more) others (omega (small, arith))))
+    (none-after options on identifier number (suc more) others (omega (small, arith))))
   where
     by : (is : Bool) → bytes_eq (read_back (footnote_id options called.identifier (suc (number + more))))
         (read_back (footnote_id options identifier number)) ≡ is
@@ -402,7 +402,7 @@ none-next : (options : CompileOptions) → options.gfm_footnote_number_ids ≡ t
 none-next options on identifier number called small =
     let same : number + 0 ≡ number = omega arith in
     subst (λ k. occurs (read_back (footnote_id options identifier number)) (note_ids options (suc k) called) ≡ 0) same
-    (none-behind options on identifier number 0 called (omega (small, arith)))
+    (none-after options on identifier number 0 called (omega (small, arith)))
 
 -- each id is that of one footnote at most
 notes-once : (options : CompileOptions) → options.gfm_footnote_number_ids ≡ true → (w : List ℕ) (number : ℕ)
@@ -456,7 +456,7 @@ each-note options on number (called ∷ others) = (
 )
 
 each-call : (options : CompileOptions) → options.gfm_footnote_number_ids ≡ true → (before calls : List (List ℕ)) →
-    Each (IsCall options) (ids_behind options before calls)
+    Each (IsCall options) (ids_after options before calls)
 each-call options on before [] = tt
 each-call options on before (x ∷ calls) = (
   (
@@ -491,14 +491,14 @@ tally-length calls = by (count_of calls) (distinct calls)
 -- each id is that of the heading, of one footnote or of one call, and of no two
 pub document-once : (options : CompileOptions) → options.gfm_footnote_number_ids ≡ true → (w : List ℕ)
     (calls : List (List ℕ)) → length calls + 2 < 2 ^ 64 →
-    occurs w label_id + occurs w (note_ids options 1 (tally calls)) + occurs w (ids_behind options [] calls) ≤ 1
+    occurs w label_id + occurs w (note_ids options 1 (tally calls)) + occurs w (ids_after options [] calls) ≤ 1
 document-once options on w calls small =
     let few : length (tally calls) ≤ length calls = omega (tally-length calls, distinct-fewer calls, arith) in
     let notes = notes-once options on w 1 (tally calls) (omega (few, small, arith)) in
     let called = calls-once options on w [] calls (omega (small, arith)) in
     by notes called (among-each (IsNote options) w (note_ids options 1 (tally calls))
     (each-note options on 1 (tally calls)))
-    (among-each (IsCall options) w (ids_behind options [] calls) (each-call options on [] calls))
+    (among-each (IsCall options) w (ids_after options [] calls) (each-call options on [] calls))
   where
     heading : occurs w label_id ≤ 1
     heading = of (bytes_eq (codes "footnote-label") w)
@@ -507,10 +507,10 @@ document-once options on w calls small =
         of true = omega arith
         of false = omega arith
 
-    by : occurs w (note_ids options 1 (tally calls)) ≤ 1 → occurs w (ids_behind options [] calls) ≤ 1
+    by : occurs w (note_ids options 1 (tally calls)) ≤ 1 → occurs w (ids_after options [] calls) ≤ 1
         → (occurs w (note_ids options 1 (tally calls)) ≡ 0) ⊎ IsNote options w
-        → (occurs w (ids_behind options [] calls) ≡ 0) ⊎ IsCall options w
-        → occurs w label_id + occurs w (note_ids options 1 (tally calls)) + occurs w (ids_behind options [] calls) ≤ 1
+        → (occurs w (ids_after options [] calls) ≡ 0) ⊎ IsCall options w
+        → occurs w label_id + occurs w (note_ids options 1 (tally calls)) + occurs w (ids_after options [] calls) ≤ 1
     by notes called (inl n) (inl c) = omega (heading, n, c, arith)
     by notes called (inl n) (inr c) =
         omega (label-alone options w (subst EndsInDigit (sym c.2) (call-ends options c.0 c.1)), n, called, arith)

@@ -223,7 +223,7 @@ raw-enclosed p tag x y z a r c =
     ++ c.after)) =
     p.before a.0 (((tag ++ (r.attributes ++ (62 ∷ []))) ++ ((r.body ++ c.before) ++ code_end))
     ++ c.after) (text p.test a.0 a.2)
-    (p.behind ((tag ++ (r.attributes ++ (62 ∷ []))) ++ ((r.body ++ c.before) ++ code_end)) c.after
+    (p.after ((tag ++ (r.attributes ++ (62 ∷ []))) ++ ((r.body ++ c.before) ++ code_end)) c.after
     (r.bracket (r.body ++ c.before) inside) (text p.test c.after c.escaped_after)) in
     let parts : p.holds ((a.0 ++ tag) ++ ((r.attributes ++ (62 ∷ r.body))
     ++ (c.before ++ (code_end ++ c.after)))) =

@@ -12,15 +12,15 @@ use Rattle.md_base.specs.Children.{is_empty}
 use Rattle.md_infer.specs.Looseness.{is_loose}
 use Rattle.md_meaning.specs.declared.options.CompileOptions.{CompileOptions}
 use Rattle.md_meaning.specs.declared.facts.Surroundings.{Surroundings}
-use Rattle.md_meaning.specs.Piece.{Piece, blank, lay, Page}
+use Rattle.md_meaning.specs.Piece.{Piece, blank, lay, Sheet}
 use Rattle.md_meaning.specs.Given.{Given, Defined}
 use Rattle.md_meaning.specs.Places.{Before, before_children, before_next, left_of, passed_over, ahead_of, identifier_at}
 use Rattle.md_meaning.specs.Surroundings.{inside, spine_inside}
 use Rattle.md_meaning.specs.Footnotes.{Footnote}
 use Rattle.md_meaning.specs.Printed.{printed, definitions_of, footnotes_of}
-use Rattle.md_shape.specs.Built.{Content, Blocks, Spans, Strings, FirstFence, FirstMathFence, Chunks, InfoAndMeta, MetaAlone, Done, Nothing, may_stand, content_of, content_inside, content_behind, content_after, IsBuilt}
+use Rattle.md_shape.specs.Built.{Content, Blocks, Spans, Strings, FirstFence, FirstMathFence, Chunks, InfoAndMeta, MetaAlone, Done, Nothing, may_stand, content_of, content_inside, content_after_node, content_after, IsBuilt}
 use Rattle.md_safe.proofs.Laid.{IsEscapedTitle, adds-blank}
-use Rattle.md_safe.proofs.Contents.{is_blocks, inside-blocks, asked-behind, Holds, Suits, Follows, second, suits-inside, suits-behind, follows-inside, follows-behind}
+use Rattle.md_safe.proofs.Contents.{is_blocks, inside-blocks, asked-after-node, Holds, Suits, Follows, second, suits-inside, suits-after-node, follows-inside, follows-after-node}
 use Rattle.md_safe.proofs.Spot.{IsWhole, Setting, Spot, AreTitles, node_pieces, Prints, Inside}
 use Rattle.md_safe.proofs.Nodes.{any-node, inside-alone}
 
@@ -91,10 +91,10 @@ forest-prints s (Node name start end children rest) around before content built 
     (children-suit s.given.options s.test.html (is_loose children) around content name built.0 suits)
     (children-follow content name before.spine built.0 f) (λ h. whole (inside-blocks content name h)) pieces g)
     (forest-prints s rest around (before_next s.given around name start end children before)
-    (content_behind content name children) built.3
-    (suits-behind around.is_escaping around.in_image content name children suits)
-    (follows-behind s.given.bytes content name before.spine children built.0 built.2 f)
-    (asked-behind (IsWhole s.p) content name children whole) later h))
+    (content_after_node content name children) built.3
+    (suits-after-node around.is_escaping around.in_image content name children suits)
+    (follows-after-node s.given.bytes content name before.spine children built.0 built.2 f)
+    (asked-after-node (IsWhole s.p) content name children whole) later h))
 
 -- the children of a node that isn't transparent print what may stand in it
 pub children-print : (s : Setting) (name : Name) (start end : Point) (children rest : Forest) (around : Surroundings)
@@ -200,14 +200,14 @@ gathered s (Node name start end children rest) around before content built suits
     let around' : Surroundings = inside s.given.options (is_loose children) name around in
     let within : Before = before_children name children before in
     let next : Before = before_next s.given around name start end children before in
-    let page : Page = lay s.given.ending blank (printed s.given around' within children) in
+    let sheet : Sheet = lay s.given.ending blank (printed s.given around' within children) in
     let defined : Defined = record {
       identifier = identifier_at s.given.bytes (ahead_of children).defined;
-      target = page.notes.target;
+      target = sheet.notes.target;
     } in
     let noted : Footnote = record {
       identifier = identifier_at s.given.bytes (ahead_of children).footnote;
-      text = page.text;
+      text = sheet.text;
     } in
     let definitions : List Defined = cond (is_link_definition name) (defined ∷ []) [] in
     let footnotes : List Footnote = cond (is_footnote_definition name) (noted ∷ []) [] in
@@ -227,7 +227,7 @@ gathered s (Node name start end children rest) around before content built suits
     (children-follow content name before.spine built.0 f) (λ h. whole (inside-blocks content name h)))
     (gathered-append s definitions (definitions_of s.given around next rest) footnotes
     (footnotes_of s.given around next rest) own
-    (gathered s rest around next (content_behind content name children) built.3
-    (suits-behind around.is_escaping around.in_image content name children suits)
-    (follows-behind s.given.bytes content name before.spine children built.0 built.2 f)
-    (asked-behind (IsWhole s.p) content name children whole)))
+    (gathered s rest around next (content_after_node content name children) built.3
+    (suits-after-node around.is_escaping around.in_image content name children suits)
+    (follows-after-node s.given.bytes content name before.spine children built.0 built.2 f)
+    (asked-after-node (IsWhole s.p) content name children whole)))

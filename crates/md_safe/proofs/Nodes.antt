@@ -229,9 +229,9 @@ pub inside-alone : (s : Setting) (t : Spot) (content : Content) (name : Name) â†
 inside-alone s t content name stands fit built inner a =
     let around = inside s.given.options (is_loose t.children) name t.around in
     let here = Holds s.p around.is_escaping around.in_image (content_of name content) in
-    let behind = Holds s.p around.is_escaping around.in_image (content_after (content_of name content) t.children) in
+    let after = Holds s.p around.is_escaping around.in_image (content_after (content_of name content) t.children) in
     subst (Prints s here) (append-nil inner)
-    (a [] (adds-nothing s.p s.given.ending behind
+    (a [] (adds-nothing s.p s.given.ending after
     (holds-nothing s.p around.is_escaping around.in_image (content_after (content_of name content) t.children)
     (later-inside s.given.bytes content name t.start t.end t.children stands fit built))))
 

@@ -16,7 +16,7 @@ use Rattle.md_meaning.specs.Footnotes.{Footnote, escaped_option, tag_of, attribu
 use Rattle.md_safe.proofs.Texts.{Escaped}
 use Rattle.md_safe.proofs.Claim.{Claim, plain_of}
 use Rattle.md_safe.proofs.Laid.{adds-append, adds-text, adds-nothing, adds-needed, adds-forced}
-use Rattle.md_safe.proofs.Tags.{attribute, Turns, Bracket, adds-turned, IsFramed, bracket-tag, element-read, adds-pair, adds-flat, adds-framed, adds-before, adds-behind, adds-escaped, framed-needed, framed-forced, flat}
+use Rattle.md_safe.proofs.Tags.{attribute, Turns, Bracket, adds-turned, IsFramed, bracket-tag, element-read, adds-pair, adds-flat, adds-framed, adds-before, adds-after, adds-escaped, framed-needed, framed-forced, flat}
 use Rattle.md_safe.proofs.Media.{label-escaped, footnote_id-escaped, backreferences-read}
 use Rattle.md_safe.proofs.Elements.{bracket-plain, adds-framed_flat}
 use Rattle.md_safe.proofs.Spot.{PassesIds, IsWhole, Setting, Prints}
@@ -135,7 +135,7 @@ body-prints s x back r rb =
     (subst (Reads s) (ap (λ y. take (paragraph_end x) x ++ (32 ∷ (back ++ y)))
     (sym (append-nil (drop (paragraph_end x) x)))) (in_paragraph s.p x back r rb is)))
     (λ _.
-    adds-behind s.p s.given.ending (Text x ∷ []) (Needed ∷ Text back
+    adds-after s.p s.given.ending (Text x ∷ []) (Needed ∷ Text back
     ∷ []) (adds-text s.p s.given.ending (Reads s) x r)
     (adds-before (plain_of s.p) s.given.ending (Needed ∷ []) (Text back
     ∷ []) (adds-escaped s.p s.given.ending (Needed ∷ []) (adds-needed s.p s.given.ending s.ending))

@@ -9,7 +9,7 @@ use Rattle.md_text.specs.Filter.{tag_filtered}
 use Rattle.md_text.specs.Html.{HasReadingWith}
 use Rattle.md_text.proofs.EncodeLaws.{is_escaped-encoded}
 use Rattle.md_text.proofs.HtmlJoin.{text}
-use Rattle.md_meaning.specs.Piece.{Piece, Text, Destination, Title, Page, blank, lay}
+use Rattle.md_meaning.specs.Piece.{Piece, Text, Destination, Title, Sheet, blank, lay}
 use Rattle.md_meaning.specs.Piece.{Resource as noted_resource}
 use Rattle.md_meaning.specs.Given.{text_of}
 use Rattle.md_meaning.specs.Calls.{number_among, count_among}
@@ -46,17 +46,17 @@ prints-outside s true holds w xs ys a b = a
 prints-outside s false holds w xs ys a b = adds-weaker s.p s.given.ending s.p.holds holds ys
     (w.outside refl) (b refl)
 
--- the page of what stands in a node
-abbrev pub page_of : Setting → List Piece → Page
-page_of s inner = lay s.given.ending blank inner
+-- the sheet of what stands in a node
+abbrev pub sheet_of : Setting → List Piece → Sheet
+sheet_of s inner = lay s.given.ending blank inner
 
-pub page-holds : (s : Setting) (holds : List ℕ → Type 0) (inner : List Piece) → Prints s holds inner →
-    holds (page_of s inner).text
-page-holds s holds inner a = (adds-blank s.p s.given.ending holds inner a).0
+pub sheet-holds : (s : Setting) (holds : List ℕ → Type 0) (inner : List Piece) → Prints s holds inner →
+    holds (sheet_of s inner).text
+sheet-holds s holds inner a = (adds-blank s.p s.given.ending holds inner a).0
 
-pub page-good : (s : Setting) (holds : List ℕ → Type 0) (inner : List Piece) → Prints s holds inner →
-    AreGood s.p.noted (page_of s inner).notes
-page-good s holds inner a = (adds-blank s.p s.given.ending holds inner a).1
+pub sheet-good : (s : Setting) (holds : List ℕ → Type 0) (inner : List Piece) → Prints s holds inner →
+    AreGood s.p.noted (sheet_of s inner).notes
+sheet-good s holds inner a = (adds-blank s.p s.given.ending holds inner a).1
 
 -- an escaped text
 pub prints-escaped : (s : Setting) (in_image : Bool) (holds : List ℕ → Type 0) → IsWide s.p in_image holds →
@@ -128,43 +128,45 @@ span-node s t content Strong e w is ids inner a = prints-pair s t.around.in_imag
 span-node s t content GfmStrikethrough e w is ids inner a = prints-pair s t.around.in_image (Here s t content) w
     (codes "<del>") (codes "</del>") (bracket-plain s.p (codes "del") refl) inner a
 span-node s t content CodeText e w is ids inner a =
-    let x : List ℕ = code_text t.around (page_of s inner).text in
-    let h : Escaped x = code_text-escaped t (page_of s inner).text (page-holds s (λ x. t.around.is_escaping ≡ true →
+    let x : List ℕ = code_text t.around (sheet_of s inner).text in
+    let h : Escaped x = code_text-escaped t (sheet_of s inner).text (sheet-holds s (λ x. t.around.is_escaping ≡ true →
     Escaped x) inner a e) in
-    prints-alone s (Here s t content) (code_pieces t.around (codes "<code>") (page_of s inner).text)
+    prints-alone s (Here s t content) (code_pieces t.around (codes "<code>") (sheet_of s inner).text)
     (prints-outside s t.around.in_image (Here s t content) w (said x) (Text (codes "<code>") ∷ Text x
     ∷ Text (codes "</code>") ∷ [])
     (prints-escaped s t.around.in_image (Here s t content) w x h) (λ _. adds-code s.p s.given.ending x h))
 span-node s t content MathText e w is ids inner a =
-    let x : List ℕ = code_text t.around (page_of s inner).text in
-    let h : Escaped x = code_text-escaped t (page_of s inner).text (page-holds s (λ x. t.around.is_escaping ≡ true →
+    let x : List ℕ = code_text t.around (sheet_of s inner).text in
+    let h : Escaped x = code_text-escaped t (sheet_of s inner).text (sheet-holds s (λ x. t.around.is_escaping ≡ true →
     Escaped x) inner a e) in
     prints-alone s (Here s t content) (code_pieces t.around (codes "<code class=\"language-math math-inline\">")
-    (page_of s inner).text)
+    (sheet_of s inner).text)
     (prints-outside s t.around.in_image (Here s t content) w (said x)
     (Text (codes "<code class=\"language-math math-inline\">") ∷ Text x ∷ Text (codes "</code>") ∷ [])
     (prints-escaped s t.around.in_image (Here s t content) w x h)
     (λ _. adds-math s.p s.given.ending s.given.options s.test x h))
 span-node s t content Link e w is ids inner a =
-    let page : Page = page_of s inner in
-    let h : Here s t content page.text = page-holds s (Here s t content) inner a in
-    prints-alone s (Here s t content) (link_pieces s.given t.around (ahead_of t.children) page)
-    (prints-outside s t.around.in_image (Here s t content) w (said page.text)
-    (link_to s.given.options (target_of s.given (ahead_of t.children) page.notes) page.text)
-    (adds-text s.p s.given.ending (Here s t content) page.text h)
+    let sheet : Sheet = sheet_of s inner in
+    let h : Here s t content sheet.text = sheet-holds s (Here s t content) inner a in
+    prints-alone s (Here s t content) (link_pieces s.given t.around (ahead_of t.children) sheet)
+    (prints-outside s t.around.in_image (Here s t content) w (said sheet.text)
+    (link_to s.given.options (target_of s.given (ahead_of t.children) sheet.notes) sheet.text)
+    (adds-text s.p s.given.ending (Here s t content) sheet.text h)
     (λ _.
-    adds-link s.p s.given.ending s.given.options s.test (target_of s.given (ahead_of t.children) page.notes) page.text
-    (target-title s (ahead_of t.children) page (page-good s (Here s t content) inner a).resource) (w.read page.text h)))
+    adds-link s.p s.given.ending s.given.options s.test (target_of s.given (ahead_of t.children) sheet.notes) sheet.text
+    (target-title s (ahead_of t.children) sheet (sheet-good s (Here s t content) inner a).resource)
+    (w.read sheet.text h)))
 span-node s t content Image e w is ids inner a =
-    let page : Page = page_of s inner in
-    let h : Escaped page.text = page-holds s Escaped inner a in
-    prints-alone s (Here s t content) (image_pieces s.given t.around (ahead_of t.children) page)
-    (prints-outside s t.around.in_image (Here s t content) w (said page.text)
-    (image_of s.given.options (target_of s.given (ahead_of t.children) page.notes) page.text)
-    (prints-escaped s t.around.in_image (Here s t content) w page.text h)
+    let sheet : Sheet = sheet_of s inner in
+    let h : Escaped sheet.text = sheet-holds s Escaped inner a in
+    prints-alone s (Here s t content) (image_pieces s.given t.around (ahead_of t.children) sheet)
+    (prints-outside s t.around.in_image (Here s t content) w (said sheet.text)
+    (image_of s.given.options (target_of s.given (ahead_of t.children) sheet.notes) sheet.text)
+    (prints-escaped s t.around.in_image (Here s t content) w sheet.text h)
     (λ _.
-    adds-image s.p s.given.ending s.given.options s.test (target_of s.given (ahead_of t.children) page.notes) page.text
-    (target-title s (ahead_of t.children) page (page-good s Escaped inner a).resource) h))
+    adds-image s.p s.given.ending s.given.options s.test (target_of s.given (ahead_of t.children) sheet.notes)
+    sheet.text
+    (target-title s (ahead_of t.children) sheet (sheet-good s Escaped inner a).resource) h))
 span-node s t content HardBreakEscape e w is ids inner a =
     prints-both s (Here s t content) (IsBeside s.p.test t.around.in_image) w.both inner
     (outside_images t.around (said (codes "<br />"))) a (break-beside s t.around.in_image)
@@ -193,13 +195,13 @@ pub media-node : (s : Setting) (t : Spot) (content : Content) (name : Name) → 
 media-node s t content Label e w is inner a = prints-alone s (Here s t content) inner a
 media-node s t content LabelText e w is inner a = prints-alone s (Here s t content) inner a
 media-node s t content Resource e w is inner a =
-    adds-note s.p s.given.ending (Here s t content) (noted_resource (page_of s inner).notes.target) (w.own [] refl)
-    (page-good s (Here s t content) inner a).title
+    adds-note s.p s.given.ending (Here s t content) (noted_resource (sheet_of s inner).notes.target) (w.own [] refl)
+    (sheet-good s (Here s t content) inner a).title
 media-node s t content ResourceDestinationString e w is inner a =
-    adds-note s.p s.given.ending (Here s t content) (Destination (page_of s inner).text) (w.own [] refl) tt
+    adds-note s.p s.given.ending (Here s t content) (Destination (sheet_of s inner).text) (w.own [] refl) tt
 media-node s t content ResourceTitleString e w is inner a =
-    adds-note s.p s.given.ending (Here s t content) (Title (page_of s inner).text) (w.own [] refl)
-    (page-holds s (λ x. t.around.is_escaping ≡ true → Escaped x) inner a e)
+    adds-note s.p s.given.ending (Here s t content) (Title (sheet_of s inner).text) (w.own [] refl)
+    (sheet-holds s (λ x. t.around.is_escaping ≡ true → Escaped x) inner a e)
 media-node s t content ReferenceString e w is inner a = prints-nothing s t.around.in_image (Here s t content) w
 media-node s t content _ e w is inner a = lie is
 

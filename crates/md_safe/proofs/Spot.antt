@@ -15,7 +15,7 @@ use Rattle.md_infer.specs.Looseness.{is_loose}
 use Rattle.md_meaning.specs.declared.facts.Surroundings.{Surroundings}
 use Rattle.md_meaning.specs.declared.facts.Passed.{Passed}
 use Rattle.md_meaning.specs.declared.facts.Ahead.{Ahead}
-use Rattle.md_meaning.specs.Piece.{Piece, Target, Page, nowhere}
+use Rattle.md_meaning.specs.Piece.{Piece, Target, Sheet, nowhere}
 use Rattle.md_meaning.specs.Given.{Given, Defined}
 use Rattle.md_meaning.specs.Places.{Left, ahead_of, identifier_at}
 use Rattle.md_meaning.specs.Surroundings.{inside}
@@ -113,7 +113,7 @@ beside-read test false x h = h.1 refl
 pub wide-reading : (p : Claim) (in_image : Bool) → IsWide p in_image p.holds
 wide-reading p in_image = record {
   own = λ x h. p.plain x (text p.test x h);
-  both = λ x y h g. p.behind x y h (beside-read p.test in_image y g);
+  both = λ x y h g. p.after x y h (beside-read p.test in_image y g);
   outside = λ _ x h. h;
   read = λ x h. h;
 }
@@ -172,9 +172,9 @@ defined-title (defined ∷ others) identifier h = by (bytes_eq defined.identifie
     by true later = h.0
     by false later = later
 
-pub target-title : (s : Setting) (ahead : Ahead) (page : Page) → IsGoodTarget page.notes.resource →
-    IsEscapedTitle (target_of s.given ahead page.notes).title
-target-title s ahead page good = by page.notes.resource good
+pub target-title : (s : Setting) (ahead : Ahead) (sheet : Sheet) → IsGoodTarget sheet.notes.resource →
+    IsEscapedTitle (target_of s.given ahead sheet.notes).title
+target-title s ahead sheet good = by sheet.notes.resource good
   where
     by : (resource : Option Target) → IsGoodTarget resource →
         IsEscapedTitle (unwrap_or resource (defined_target s.given.definitions

@@ -85,11 +85,11 @@ enclosed : (p q : Claim) (o c x y z : List ℕ) → Turns p q o c → IsFramed o
     IsFramed c z → q.holds (x ++ (y ++ z))
 enclosed p q o c x y z bracket a r b =
     let inside : p.holds ((a.after ++ y) ++ b.before) =
-    p.behind (a.after ++ y) b.before (p.before a.after y (text p.test a.after a.escaped_after) r)
+    p.after (a.after ++ y) b.before (p.before a.after y (text p.test a.after a.escaped_after) r)
     (text p.test b.before b.escaped_before) in
     let all : q.holds (a.before ++ ((o ++ (((a.after ++ y) ++ b.before) ++ c)) ++ b.after)) =
     q.before a.before ((o ++ (((a.after ++ y) ++ b.before) ++ c)) ++ b.after) (text q.test a.before a.escaped_before)
-    (q.behind (o ++ (((a.after ++ y) ++ b.before) ++ c)) b.after (bracket ((a.after ++ y) ++ b.before) inside)
+    (q.after (o ++ (((a.after ++ y) ++ b.before) ++ c)) b.after (bracket ((a.after ++ y) ++ b.before) inside)
     (text q.test b.after b.escaped_after)) in
     let parts : q.holds ((a.before ++ (o ++ a.after)) ++ (y ++ (b.before ++ (c ++ b.after)))) =
     subst q.holds (regrouped a.before o a.after y b.before c b.after) all in
@@ -153,9 +153,9 @@ pub adds-before : (p : Claim) (ending : List ℕ) (xs ys : List Piece) → Adds 
     Adds p ending p.holds ys → Adds p ending p.holds (xs ++ ys)
 adds-before p ending xs ys a b = adds-append p ending (HasReadingWith p.test) p.holds p.holds xs ys p.before a b
 
-pub adds-behind : (p : Claim) (ending : List ℕ) (xs ys : List Piece) → Adds p ending p.holds xs →
+pub adds-after : (p : Claim) (ending : List ℕ) (xs ys : List Piece) → Adds p ending p.holds xs →
     Adds p ending (HasReadingWith p.test) ys → Adds p ending p.holds (xs ++ ys)
-adds-behind p ending xs ys a b = adds-append p ending p.holds (HasReadingWith p.test) p.holds xs ys p.behind a b
+adds-after p ending xs ys a b = adds-append p ending p.holds (HasReadingWith p.test) p.holds xs ys p.after a b
 
 -- an escaped text has a reading
 pub adds-escaped : (p : Claim) (ending : List ℕ) (xs : List Piece) → Adds p ending Escaped xs →

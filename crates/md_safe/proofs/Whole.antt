@@ -33,13 +33,13 @@ use Rattle.md_meaning.specs.Footnotes.{section_pieces}
 use Rattle.md_meaning.specs.Printed.{printed, definitions_of, footnotes_of}
 use Rattle.md_meaning.specs.Meaning.{ending_at}
 use Rattle.md_meaning.specs.Whole.{printed_meaning as meaning}
-use Rattle.md_shape.specs.Built.{Content, Blocks, content_inside, content_behind, content_past, content_after, IsBuilt, IsFit}
+use Rattle.md_shape.specs.Built.{Content, Blocks, content_inside, content_after_node, content_past, content_after, IsBuilt, IsFit}
 use Rattle.md_safe.specs.Options.{KeepsGrammar, KeepsLinks, KeepsImages, KeepsIds}
 use Rattle.md_safe.proofs.Texts.{Escaped, line_ends-escaped}
 use Rattle.md_safe.proofs.Claim.{Claim, passing}
 use Rattle.md_safe.proofs.Laid.{adds-blank}
 use Rattle.md_safe.proofs.Tags.{IsTest}
-use Rattle.md_safe.proofs.Contents.{Holds, after}
+use Rattle.md_safe.proofs.Contents.{Holds, stays-after}
 use Rattle.md_safe.proofs.Spot.{PassesIds, IsWhole, Setting, AreTitles, Prints}
 use Rattle.md_safe.proofs.BlockNodes.{Reads}
 use Rattle.md_safe.proofs.Forests.{forest-prints, gathered}
@@ -75,7 +75,7 @@ first-is_ending bytes content (Node name start end children rest) built =
     first_of_two bytes (first_ending children) (or_else own (first_ending rest))
     (first-is_ending bytes (content_inside content name) children built.2)
     (first_of_two bytes own (first_ending rest) (own-ending bytes name start end children built.1)
-    (first-is_ending bytes (content_behind content name children) rest built.3))
+    (first-is_ending bytes (content_after_node content name children) rest built.3))
 
 default-escaped : (ending : Ending) → Escaped (ending_text ending)
 default-escaped CarriageReturnLineFeed = refl
@@ -89,7 +89,7 @@ ending-escaped options bytes (Some place) h = line_ends-escaped (text_of bytes p
 
 -- blocks stand after blocks
 blocks-stay : (forest : Forest) → content_after Blocks forest ≡ Blocks
-blocks-stay forest = after (λ content. content ≡ Blocks)
+blocks-stay forest = stays-after (λ content. content ≡ Blocks)
     (λ content name e. ap (λ content. content_past content name) e) Blocks forest refl
 
 -- a document before its section
@@ -228,10 +228,10 @@ calls-fewer bytes Empty = omega arith
 calls-fewer bytes (Node name start end children rest) =
     let below : List (List ℕ) = calls_of bytes children in
     let own : List (List ℕ) = cond (is_call name) (identifier_at bytes (ahead_of children).label ∷ []) [] in
-    let behind : List (List ℕ) = calls_of bytes rest in
+    let after : List (List ℕ) = calls_of bytes rest in
     omega (
-      length-append below (own ++ behind),
-      length-append own behind,
+      length-append below (own ++ after),
+      length-append own after,
       one (is_call name) (identifier_at bytes (ahead_of children).label),
       length-append (flatten children) (exiting name end ∷ flatten rest),
       calls-fewer bytes children,

@@ -137,10 +137,10 @@ pub index_read_at : (bytes : List ℕ) (i size index : ℕ) → size ≡ i → i
     0 < size → size ≤ 9 → index ≡ digits_value 10 (take i bytes) → all_ascii_digits (take i bytes) ≡ true →
     BeginsWithIndex bytes index (take (length bytes - (size + 1)) (drop (size + 1) bytes))
 index_read_at bytes i size index place inside feed some few value all =
-    let behind : drop (i + 1) bytes ≡ take (length bytes - (size + 1)) (drop (size + 1) bytes) =
+    let after : drop (i + 1) bytes ≡ take (length bytes - (size + 1)) (drop (size + 1) bytes) =
     ap (λ n. drop (n + 1) bytes) (sym place) ∙ sym (take_all (length bytes - (size + 1)) (drop (size + 1) bytes)
     (omega (arith, length-drop (size + 1) bytes))) in
-    subst (λ following. BeginsWithIndex bytes index following) behind
+    subst (λ following. BeginsWithIndex bytes index following) after
     (index_read bytes i index inside feed (omega (arith, place, some)) (omega (arith, place, few)) value all)
 
 -- ---- the event of a plain line
@@ -201,11 +201,11 @@ line_plain sign text rest input following kind name index is ek en none read =
     let same : input ≡ line ++ 10 ∷ following =
     is ∙ ap (λ r. sign ∷ (text ++ 32 ∷ r)) read.whole ∙ sym
     (ap (λ l. sign ∷ l) (append_assoc text (32 ∷ digits) (10 ∷ following))) in
-    let behind : list_any is_line_feed (text ++ 32 ∷ digits) ≡ false =
+    let after : list_any is_line_feed (text ++ 32 ∷ digits) ≡ false =
     list_any-append is_line_feed text (32 ∷ digits) ∙ ap (λ t. t || list_any is_line_feed digits) free.1
     ∙ (digits_are_none digits (number_digits digits index read.value)).1 in
     let whole : list_any is_line_feed line ≡ false = ap (λ t. t
-    || list_any is_line_feed (text ++ 32 ∷ digits)) (sign_is_none sign kind ek) ∙ behind in
+    || list_any is_line_feed (text ++ 32 ∷ digits)) (sign_is_none sign kind ek) ∙ after in
     record {
       line = line;
       cut = ap lines_of same ∙ split_cut is_line_feed line 10 following whole refl;

@@ -21,7 +21,8 @@ abbrev pub reference_names : List (List ℕ × List ℕ)
 reference_names =
     (codes "amp", codes "&") ∷ (codes "lt", codes "<") ∷ (codes "gt", codes ">") ∷ (codes "quot", 34 ∷ [])
     ∷ (codes "apos", codes "'")
-    ∷ (codes "colon", codes ":") ∷ (codes "sol", codes "/") ∷ (codes "num", codes "#") ∷ (codes "quest", codes "?") ∷ []
+    ∷ (codes "colon", codes ":") ∷ (codes "sol", codes "/") ∷ (codes "num", codes "#")
+    ∷ (codes "quest", codes "?") ∷ []
 
 -- events over bytes, as a check is handed them
 abbrev pub document_of : List Event → List ℕ → Document
@@ -30,9 +31,11 @@ document_of events bytes = record { events = events; bytes = bytes; names = refe
 -- the events are of the grammar over the bytes, and the text is the meaning of their document; where the options
 -- are safe, it has one reading, with links and images of permitted protocols alone, and where ids go by number no two
 -- ids are equal
-pub record IsCompiled (events : List Event) (bytes : List ℕ) (options : CompileOptions) (text : List ℕ) : Type 0 where
+pub record IsCompiled (events : List Event) (bytes : List ℕ) (options : CompileOptions) (text : List ℕ)
+    : Type 0 where
   pub grammatical : IsChecked (document_of events bytes)
-  pub means : (document : Forest) → flatten document ≡ events → text ≡ meaning options reference_names bytes document
+  pub means : (document : Forest) → flatten document ≡ events →
+      text ≡ meaning options reference_names bytes document
   pub one_reading : KeepsGrammar options → HasOneReadingWith any_attribute text
   pub safe_links : KeepsLinks options → HasOneReadingWith is_safe_link text
   pub safe_images : KeepsImages options → HasOneReadingWith is_safe_image text

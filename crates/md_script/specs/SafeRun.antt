@@ -25,7 +25,8 @@ pub record IsSafelyCompiled (events : List Event) (bytes : List ℕ) (options : 
     (text : List ℕ) : Type 0 where
   pub safe : KeepsImages options
   pub grammatical : IsChecked (document_of events bytes)
-  pub means : (document : Forest) → flatten document ≡ events → text ≡ meaning options reference_names bytes document
+  pub means : (document : Forest) → flatten document ≡ events →
+      text ≡ meaning options reference_names bytes document
   pub distinct_ids : options.gfm_footnote_number_ids ≡ true → HasDistinctIds text
 
 -- why events give no safe text: their options aren't safe, or they are and the events give no text

@@ -26,7 +26,8 @@ is_readable_after earlier line = is_some (event_of line) || is_setting line && i
 -- each line is readable after the earlier ones and those before it
 abbrev pub ReadsAfter : List (List ℕ) → List (List ℕ) → Type 0
 ReadsAfter earlier [] = Unit {0}
-ReadsAfter earlier (line ∷ lines) = IsTrue (is_readable_after earlier line) × ReadsAfter (earlier ++ line ∷ []) lines
+ReadsAfter earlier (line ∷ lines) = IsTrue (is_readable_after earlier line)
+    × ReadsAfter (earlier ++ line ∷ []) lines
 
 -- an input is readable lines, the line `--`, and the lines of a document
 pub record IsScript (input : List ℕ) (body document : List (List ℕ)) : Type 0 where

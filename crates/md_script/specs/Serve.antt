@@ -57,7 +57,8 @@ pub record IsCutOff (held holds : Option (List ℕ)) (text : List ℕ) : Type 0 
   pub written : Appends held holds front
 
 -- nothing was written, but where writing failed: there the front of the text of what was read
-abbrev pub IsUnwritten : Option (List ℕ) → Option (List ℕ) → Option (List ℕ) → Option (List ℕ) → ServeError → Type 0
+abbrev pub IsUnwritten : Option (List ℕ) → Option (List ℕ) → Option (List ℕ) → Option (List ℕ) →
+    ServeError → Type 0
 IsUnwritten left leaves held holds (Run cause) = Keeps held holds
 IsUnwritten left leaves held holds Input = Keeps held holds
 IsUnwritten left leaves held holds Output = (text : List ℕ) × IsRun left leaves text × IsCutOff held holds text

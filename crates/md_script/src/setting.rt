@@ -157,10 +157,10 @@ fn value_given<'a>(lines: &[&'a [u8]], name: &[u8]) -> Option<&'a str>
 fn value_of(line: &[u8]) -> Option<&str>
     ensures { option_copied result ≡ spec.value_of line.now }
 {
-    std::str::from_utf8(behind_equals(line)).ok()
+    std::str::from_utf8(after_equals(line)).ok()
 }
 
-fn behind_equals(line: &[u8]) -> &[u8]
+fn after_equals(line: &[u8]) -> &[u8]
     ensures { result.now ≡ after_first is_equals line.now }
 {
     match split_at_first(line, b'=') {

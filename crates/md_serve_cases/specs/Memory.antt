@@ -5,20 +5,20 @@ use Rattle.md_script.specs.declared.serving.ServeError.{ServeError}
 use Rattle.md_script.specs.declared.serving.ServeError.TheVariants.{Run, Input, Output}
 
 -- the script has a text, and after what was there stands this text
-pub record IsAppended (script before behind : List ℕ) : Type 0 where
+pub record IsAppended (script before after : List ℕ) : Type 0 where
   pub text : List ℕ
   pub compiled : IsTextOf script text
-  pub written : behind ≡ before ++ text
+  pub written : after ≡ before ++ text
 
 -- the script has a text, and after what was there stands the front of it
-pub record IsPartAppended (script before behind : List ℕ) : Type 0 where
+pub record IsPartAppended (script before after : List ℕ) : Type 0 where
   pub front : List ℕ
   pub others : List ℕ
   pub compiled : IsTextOf script (front ++ others)
-  pub written : behind ≡ before ++ front
+  pub written : after ≡ before ++ front
 
 -- why the text of a script wasn't appended
 abbrev pub ExplainsAppend : List ℕ → List ℕ → List ℕ → ServeError → Type 0
-ExplainsAppend script before behind (Run cause) = ExplainsRun script cause × (behind ≡ before)
-ExplainsAppend script before behind Input = behind ≡ before
-ExplainsAppend script before behind Output = IsPartAppended script before behind
+ExplainsAppend script before after (Run cause) = ExplainsRun script cause × (after ≡ before)
+ExplainsAppend script before after Input = after ≡ before
+ExplainsAppend script before after Output = IsPartAppended script before after

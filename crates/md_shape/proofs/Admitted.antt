@@ -20,28 +20,28 @@ use Rattle.md_shape.specs.Built.{Content, Blocks, Spans, Strings, FirstFence, Fi
 use Rattle.md_shape.proofs.Symbols.{may_show, past, admits, same_content, item_admits, pattern_admits}
 
 -- what may stand at the beginning may stand after others
-may_show-behind : (content : Content) (symbol : Symbol) → may_show false content symbol ≡ true →
+may_show-earlier : (content : Content) (symbol : Symbol) → may_show false content symbol ≡ true →
     may_show true content symbol ≡ true
-may_show-behind Chunks symbol h = lie h
-may_show-behind _ symbol h = h
+may_show-earlier Chunks symbol h = lie h
+may_show-earlier _ symbol h = h
 
-pub shown_behind : (behind : Bool) (content : Content) (symbol : Symbol) → may_show behind content symbol ≡ true →
+pub shown_earlier : (earlier : Bool) (content : Content) (symbol : Symbol) → may_show earlier content symbol ≡ true →
     may_show true content symbol ≡ true
-shown_behind true content symbol h = h
-shown_behind false content symbol h = may_show-behind content symbol h
+shown_earlier true content symbol h = h
+shown_earlier false content symbol h = may_show-earlier content symbol h
 
-admits-behind : (content : Content) (symbols : List Symbol) → admits false content symbols ≡ true →
+admits-earlier : (content : Content) (symbols : List Symbol) → admits false content symbols ≡ true →
     admits true content symbols ≡ true
-admits-behind content [] h = refl
-admits-behind content (symbol ∷ symbols) h =
+admits-earlier content [] h = refl
+admits-earlier content (symbol ∷ symbols) h =
     let parts = and_parts (may_show false content symbol) (admits true (past content symbol) symbols) h in
     and_from (may_show true content symbol) (admits true (past content symbol) symbols)
-    (may_show-behind content symbol parts.0) parts.1
+    (may_show-earlier content symbol parts.0) parts.1
 
-admits-later : (behind : Bool) (content : Content) (symbols : List Symbol) → admits behind content symbols ≡ true →
+admits-later : (earlier : Bool) (content : Content) (symbols : List Symbol) → admits earlier content symbols ≡ true →
     admits true content symbols ≡ true
 admits-later true content symbols h = h
-admits-later false content symbols h = admits-behind content symbols h
+admits-later false content symbols h = admits-earlier content symbols h
 
 same_content-is : (one other : Content) → same_content one other ≡ true → one ≡ other
 same_content-is Blocks Blocks h = refl
@@ -72,64 +72,64 @@ taken test (member ∷ symbols) symbol seen h =
 
 -- one symbol of an item, and what is left after it
 abbrev pub one_admits : (Bool → Content → Bool) → Bool → Content → Symbol → Bool
-one_admits left behind content member = may_show behind content member && left true (past content member)
+one_admits left earlier content member = may_show earlier content member && left true (past content member)
 
 -- the rest may stand after what is left
 abbrev Admits : (Bool → Content → Bool) → List Symbol → Type 0
-Admits left others = (behind : Bool) (content : Content) → left behind content ≡ true →
-    admits behind content others ≡ true
+Admits left others = (earlier : Bool) (content : Content) → left earlier content ≡ true →
+    admits earlier content others ≡ true
 
 one : (class : Class) (left : Bool → Content → Bool) (others own : List Symbol) → Admits left others →
-    length own ≡ 1 → list_all (takes class) own ≡ true → (behind : Bool) (content : Content) →
-    list_all (one_admits left behind content) (members class) ≡ true → admits behind content (own ++ others) ≡ true
-one class left others [] rest count own_taken behind content h = absurd (omega arith)
-one class left others (symbol ∷ []) rest count own_taken behind content h =
-    let here = taken (one_admits left behind content) (members class) symbol
+    length own ≡ 1 → list_all (takes class) own ≡ true → (earlier : Bool) (content : Content) →
+    list_all (one_admits left earlier content) (members class) ≡ true → admits earlier content (own ++ others) ≡ true
+one class left others [] rest count own_taken earlier content h = absurd (omega arith)
+one class left others (symbol ∷ []) rest count own_taken earlier content h =
+    let here = taken (one_admits left earlier content) (members class) symbol
     (and_parts (takes class symbol) true own_taken).0 h in
-    let parts = and_parts (may_show behind content symbol) (left true (past content symbol)) here in
-    and_from (may_show behind content symbol) (admits true (past content symbol) others) parts.0
+    let parts = and_parts (may_show earlier content symbol) (left true (past content symbol)) here in
+    and_from (may_show earlier content symbol) (admits true (past content symbol) others) parts.0
     (rest true (past content symbol) parts.1)
-one class left others (symbol ∷ another ∷ own) rest count own_taken behind content h = absurd (omega arith)
+one class left others (symbol ∷ another ∷ own) rest count own_taken earlier content h = absurd (omega arith)
 
 abbrev pub stays : Bool → Content → Symbol → Bool
-stays behind content member = may_show behind content member && same_content (past content member) content
+stays earlier content member = may_show earlier content member && same_content (past content member) content
 
-several : (class : Class) (others own : List Symbol) (behind : Bool) (content : Content) →
-    list_all (takes class) own ≡ true → list_all (stays behind content) (members class) ≡ true →
-    admits behind content others ≡ true → admits behind content (own ++ others) ≡ true
-several class others [] behind content own_taken h rest = rest
-several class others (symbol ∷ own) behind content own_taken h rest =
+several : (class : Class) (others own : List Symbol) (earlier : Bool) (content : Content) →
+    list_all (takes class) own ≡ true → list_all (stays earlier content) (members class) ≡ true →
+    admits earlier content others ≡ true → admits earlier content (own ++ others) ≡ true
+several class others [] earlier content own_taken h rest = rest
+several class others (symbol ∷ own) earlier content own_taken h rest =
     let own_parts = and_parts (takes class symbol) (list_all (takes class) own) own_taken in
-    let here = taken (stays behind content) (members class) symbol own_parts.0 h in
-    let parts = and_parts (may_show behind content symbol) (same_content (past content symbol) content) here in
-    and_from (may_show behind content symbol) (admits true (past content symbol) (own ++ others)) parts.0
+    let here = taken (stays earlier content) (members class) symbol own_parts.0 h in
+    let parts = and_parts (may_show earlier content symbol) (same_content (past content symbol) content) here in
+    and_from (may_show earlier content symbol) (admits true (past content symbol) (own ++ others)) parts.0
     (subst (λ c. admits true c (own ++ others) ≡ true) (sym (same_content-is (past content symbol) content parts.1))
-    (admits-later behind content (own ++ others) (several class others own behind content own_parts.1 h rest)))
+    (admits-later earlier content (own ++ others) (several class others own earlier content own_parts.1 h rest)))
 
 item_fits : (times : Times) (class : Class) (left : Bool → Content → Bool) (others own : List Symbol) →
     Admits left others → IsCount times (length own) → list_all (takes class) own ≡ true →
-    (behind : Bool) (content : Content) → item_admits times (members class) left behind content ≡ true →
-    admits behind content (own ++ others) ≡ true
-item_fits Once class left others own rest count own_taken behind content h =
-    one class left others own rest count own_taken behind content h
-item_fits Maybe class left others [] rest count own_taken behind content h =
-    rest behind content (and_parts (left behind content)
-    (list_all (one_admits left behind content) (members class)) h).0
-item_fits Maybe class left others (symbol ∷ own) rest count own_taken behind content h =
-    one class left others (symbol ∷ own) rest (omega arith) own_taken behind content
-    (and_parts (left behind content) (list_all (one_admits left behind content) (members class)) h).1
-item_fits Many class left others own rest count own_taken behind content h =
-    let parts = and_parts (left behind content) (list_all (stays behind content) (members class)) h in
-    several class others own behind content own_taken parts.1 (rest behind content parts.0)
+    (earlier : Bool) (content : Content) → item_admits times (members class) left earlier content ≡ true →
+    admits earlier content (own ++ others) ≡ true
+item_fits Once class left others own rest count own_taken earlier content h =
+    one class left others own rest count own_taken earlier content h
+item_fits Maybe class left others [] rest count own_taken earlier content h =
+    rest earlier content (and_parts (left earlier content)
+    (list_all (one_admits left earlier content) (members class)) h).0
+item_fits Maybe class left others (symbol ∷ own) rest count own_taken earlier content h =
+    one class left others (symbol ∷ own) rest (omega arith) own_taken earlier content
+    (and_parts (left earlier content) (list_all (one_admits left earlier content) (members class)) h).1
+item_fits Many class left others own rest count own_taken earlier content h =
+    let parts = and_parts (left earlier content) (list_all (stays earlier content) (members class)) h in
+    several class others own earlier content own_taken parts.1 (rest earlier content parts.0)
 
 -- what fits a pattern may stand where the pattern may
-fits : (items : List Item) (firsts : List Symbol) → Fits items firsts → (behind : Bool) (content : Content) →
-    pattern_admits items behind content ≡ true → admits behind content firsts ≡ true
-fits [] firsts fit behind content h = subst (λ symbols. admits behind content symbols ≡ true) (sym fit) refl
-fits (item ∷ items) firsts fit behind content h =
-    subst (λ symbols. admits behind content symbols ≡ true) (sym fit.2)
+fits : (items : List Item) (firsts : List Symbol) → Fits items firsts → (earlier : Bool) (content : Content) →
+    pattern_admits items earlier content ≡ true → admits earlier content firsts ≡ true
+fits [] firsts fit earlier content h = subst (λ symbols. admits earlier content symbols ≡ true) (sym fit) refl
+fits (item ∷ items) firsts fit earlier content h =
+    subst (λ symbols. admits earlier content symbols ≡ true) (sym fit.2)
     (item_fits item.times item.class (λ b c. pattern_admits items b c) fit.1 fit.0
-    (λ b c left. fits items fit.1 fit.5 b c left) fit.4 fit.3 behind content h)
+    (λ b c left. fits items fit.1 fit.5 b c left) fit.4 fit.3 earlier content h)
 
 -- what follows in a group may stand after its first symbol
 endings_admit : (endings : ℕ) (others : List Symbol) → admits true Blocks others ≡ true →
@@ -169,14 +169,14 @@ tail_admits SetextText tail others content is may h = by content may h
 tail_admits first tail others content is may h = subst (λ t. admits true (past content first) (t ++ others)
     ≡ true) (sym is) h
 
-grouped : (firsts spine : List Symbol) (behind : Bool) (content : Content) → IsGrouped firsts spine →
-    admits behind content firsts ≡ true → admits behind content spine ≡ true
-grouped [] spine behind content g h = subst (λ symbols. admits behind content symbols ≡ true) (sym g) refl
-grouped (first ∷ firsts) spine behind content g h =
-    let parts = and_parts (may_show behind content first) (admits true (past content first) firsts) h in
-    subst (λ symbols. admits behind content symbols ≡ true) (sym g.2)
-    (and_from (may_show behind content first) (admits true (past content first) (g.0 ++ g.1)) parts.0
-    (tail_admits first g.0 g.1 content g.3 (shown_behind behind content first parts.0)
+grouped : (firsts spine : List Symbol) (earlier : Bool) (content : Content) → IsGrouped firsts spine →
+    admits earlier content firsts ≡ true → admits earlier content spine ≡ true
+grouped [] spine earlier content g h = subst (λ symbols. admits earlier content symbols ≡ true) (sym g) refl
+grouped (first ∷ firsts) spine earlier content g h =
+    let parts = and_parts (may_show earlier content first) (admits true (past content first) firsts) h in
+    subst (λ symbols. admits earlier content symbols ≡ true) (sym g.2)
+    (and_from (may_show earlier content first) (admits true (past content first) (g.0 ++ g.1)) parts.0
+    (tail_admits first g.0 g.1 content g.3 (shown_earlier earlier content first parts.0)
     (grouped firsts g.1 true (past content first) g.4 parts.1)))
 
 -- what matches the pattern of a role may stand where the pattern may

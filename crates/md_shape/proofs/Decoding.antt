@@ -28,7 +28,7 @@ use Rattle.md_tree.specs.Grammar.{IsGrammatical}
 use Rattle.md_base.specs.NameTests.{is_transparent}
 use Rattle.md_base.specs.Children.{spine_names}
 use Rattle.md_tree.proofs.Spines.{spine-names}
-use Rattle.md_meaning.specs.Surroundings.{last_of, spine_inside, spine_behind}
+use Rattle.md_meaning.specs.Surroundings.{last_of, spine_inside, spine_after_node}
 use Rattle.md_meaning.specs.Meaning.Spans.{marker}
 use Rattle.md_shape.specs.Leads.{EverywhereAfter, Decodes}
 use Rattle.md_shape.proofs.Symbols.{Told, told}
@@ -134,16 +134,16 @@ solid-shown Space before symbols h = lie h
 solid-shown Mdx before symbols h = lie h
 
 -- names that stand on a spine follow others
-last-symbols : (names behind : List Name) (before : Option Symbol) →
-    list_all (λ n. is_solid (standing_of n)) names ≡ true → before ≡ symbol_of (last_of behind) →
-    last_symbol before (symbols_of names) ≡ symbol_of (last_of (behind ++ names))
-last-symbols [] behind before h e = e ∙ ap (λ ns. symbol_of (last_of ns)) (sym (append-nil behind))
-last-symbols (n ∷ names) behind before h e =
+last-symbols : (names earlier : List Name) (before : Option Symbol) →
+    list_all (λ n. is_solid (standing_of n)) names ≡ true → before ≡ symbol_of (last_of earlier) →
+    last_symbol before (symbols_of names) ≡ symbol_of (last_of (earlier ++ names))
+last-symbols [] earlier before h e = e ∙ ap (λ ns. symbol_of (last_of ns)) (sym (append-nil earlier))
+last-symbols (n ∷ names) earlier before h e =
     let parts = and_parts (is_solid (standing_of n)) (list_all (λ m. is_solid (standing_of m)) names) h in
     solid-shown (standing_of n) before (symbols_of names) parts.0
-    ∙ last-symbols names (behind ++ n ∷ []) (symbol_in (standing_of n)) parts.1
-    (ap symbol_of (sym (last-push behind n)))
-    ∙ ap (λ ns. symbol_of (last_of ns)) (append_assoc behind (n ∷ []) names)
+    ∙ last-symbols names (earlier ++ n ∷ []) (symbol_in (standing_of n)) parts.1
+    (ap symbol_of (sym (last-push earlier n)))
+    ∙ ap (λ ns. symbol_of (last_of ns)) (append_assoc earlier (n ∷ []) names)
 
 solid-append : (names others : List Name) → list_all (λ n. is_solid (standing_of n)) names ≡ true →
     list_all (λ n. is_solid (standing_of n)) others ≡ true →
@@ -204,65 +204,66 @@ value-decodes names before None last h e rules = cc
 value-decodes names before (Some text) last h e rules = after_name names before text last h e
     (unless-holds (is_decodable names before text) rule.CharacterReference rules)
 
-node-decodes : (bytes : List ℕ) (names : List (List ℕ × List ℕ)) (behind : List Name) (n : Name) (start end : Point)
+node-decodes : (bytes : List ℕ) (names : List (List ℕ × List ℕ)) (earlier : List Name) (n : Name) (start end : Point)
     (children : Forest) (around : Role) (before : Option Symbol) →
     IsFine bytes names around before n start end children →
-    are_well before (shown (standing_of n) (spine children)) ≡ true → before ≡ symbol_of (last_of behind) →
-    Decodes bytes names behind n start end children
-node-decodes bytes names behind name.CharacterReferenceValue start end children around before here well e =
-    value-decodes names before (text_between bytes start end) (last_of behind)
+    are_well before (shown (standing_of n) (spine children)) ≡ true → before ≡ symbol_of (last_of earlier) →
+    Decodes bytes names earlier n start end children
+node-decodes bytes names earlier name.CharacterReferenceValue start end children around before here well e =
+    value-decodes names before (text_between bytes start end) (last_of earlier)
     (and_parts (is_mark before) true well).0 e here.1
-node-decodes bytes names behind _ start end children around before here well e = tt
+node-decodes bytes names earlier _ start end children around before here well e = tt
 
 -- what holds of children by themselves holds of them where they stand
-inner-decodes : (bytes : List ℕ) (names : List (List ℕ × List ℕ)) (behind : List Name) (standing : Standing)
+inner-decodes : (bytes : List ℕ) (names : List (List ℕ × List ℕ)) (earlier : List Name) (standing : Standing)
     (n : Name) (children : Forest) (around : Role) (before : Option Symbol) → Told standing n →
     IsStanding standing around before children →
     AreFine bytes names children (inner_role standing around before) (inner_before standing before) →
-    are_well before (shown standing (spine children)) ≡ true → before ≡ symbol_of (last_of behind) →
+    are_well before (shown standing (spine children)) ≡ true → before ≡ symbol_of (last_of earlier) →
     ((a : Role) (b : Option Symbol) (s : List Name) → AreFine bytes names children a b →
     are_well b (spine children) ≡ true → b ≡ symbol_of (last_of s) →
     EverywhereAfter (Decodes bytes names) s children) →
-    EverywhereAfter (Decodes bytes names) (spine_inside n behind) children
-inner-decodes bytes names behind Through n children around before says is all well e again =
-    subst (λ t. EverywhereAfter (Decodes bytes names) (if t then behind else []) children) (sym says)
-    (again around before behind all well e)
-inner-decodes bytes names behind Space n children around before says is all well e again =
-    subst (λ c. EverywhereAfter (Decodes bytes names) (spine_inside n behind) c) (sym is) tt
-inner-decodes bytes names behind (Solid seen usual reading) n children around before says is all well e again =
-    subst (λ t. EverywhereAfter (Decodes bytes names) (if t then behind else []) children) (sym says.0)
+    EverywhereAfter (Decodes bytes names) (spine_inside n earlier) children
+inner-decodes bytes names earlier Through n children around before says is all well e again =
+    subst (λ t. EverywhereAfter (Decodes bytes names) (if t then earlier else []) children) (sym says)
+    (again around before earlier all well e)
+inner-decodes bytes names earlier Space n children around before says is all well e again =
+    subst (λ c. EverywhereAfter (Decodes bytes names) (spine_inside n earlier) c) (sym is) tt
+inner-decodes bytes names earlier (Solid seen usual reading) n children around before says is all well e again =
+    subst (λ t. EverywhereAfter (Decodes bytes names) (if t then earlier else []) children) (sym says.0)
     (again (role_for around before usual) None [] all (well-spine (role_for around before usual) (spine children) is)
     refl)
-inner-decodes bytes names behind Mdx n children around before says is all well e again = absurd is
+inner-decodes bytes names earlier Mdx n children around before says is all well e again = absurd is
 
 -- the last symbol after a node is that of the last name there
-behind-node : (n : Name) (start end : Point) (children : Forest) (around : Role) (before : Option Symbol)
-    (behind : List Name) → AreShaped (Node n start end children Empty) around before →
-    before ≡ symbol_of (last_of behind) →
-    last_symbol before (shown (standing_of n) (spine children)) ≡ symbol_of (last_of (spine_behind n children behind))
-behind-node n start end children around before behind shaped_node e =
+after-node : (n : Name) (start end : Point) (children : Forest) (around : Role) (before : Option Symbol)
+    (earlier : List Name) → AreShaped (Node n start end children Empty) around before →
+    before ≡ symbol_of (last_of earlier) →
+    last_symbol before (shown (standing_of n) (spine children))
+    ≡ symbol_of (last_of (spine_after_node n children earlier))
+after-node n start end children around before earlier shaped_node e =
     let own : List Name = if is_transparent n then spine_names children else n ∷ [] in
     let same : shown (standing_of n) (spine children) ≡ symbols_of own =
     sym (append-nil (shown (standing_of n) (spine children)))
     ∙ spine-names (Node n start end children Empty) around before shaped_node ∙ ap symbols_of (append-nil own)
     in
     ap (last_symbol before) same
-    ∙ last-symbols own behind before (solid-here (standing_of n) n children around before refl
+    ∙ last-symbols own earlier before (solid-here (standing_of n) n children around before refl
     (told n) shaped_node.0.1 (solid-names children _ _ shaped_node.1)) e
 
 decodes : (bytes : List ℕ) (names : List (List ℕ × List ℕ)) (forest : Forest) (around : Role) (before : Option Symbol)
-    (behind : List Name) → AreFine bytes names forest around before → are_well before (spine forest) ≡ true →
-    before ≡ symbol_of (last_of behind) →
-    EverywhereAfter (Decodes bytes names) behind forest
-decodes bytes names Empty around before behind all well e = tt
-decodes bytes names (Node n start end children rest) around before behind all well e =
+    (earlier : List Name) → AreFine bytes names forest around before → are_well before (spine forest) ≡ true →
+    before ≡ symbol_of (last_of earlier) →
+    EverywhereAfter (Decodes bytes names) earlier forest
+decodes bytes names Empty around before earlier all well e = tt
+decodes bytes names (Node n start end children rest) around before earlier all well e =
     let parts = well-split before (shown (standing_of n) (spine children)) (spine rest) well in (
-      node-decodes bytes names behind n start end children around before all.0 parts.0 e,
-      inner-decodes bytes names behind (standing_of n) n children around before (told n) all.0.0.1 all.1 parts.0 e
+      node-decodes bytes names earlier n start end children around before all.0 parts.0 e,
+      inner-decodes bytes names earlier (standing_of n) n children around before (told n) all.0.0.1 all.1 parts.0 e
           (λ a b s f w i. decodes bytes names children a b s f w i),
       decodes bytes names rest around (last_symbol before (shown (standing_of n) (spine children)))
-          (spine_behind n children behind) all.2 parts.1
-          (behind-node n start end children around before behind (
+          (spine_after_node n children earlier) all.2 parts.1
+          (after-node n start end children around before earlier (
             all.0.0,
             shaped bytes names children _ _ all.1,
             tt,

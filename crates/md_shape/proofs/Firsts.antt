@@ -145,10 +145,10 @@ module _ {A : Type 0} (of_symbols : Symbol → Bool) (of_names : Name →
   HasFirst forest = (around : Role) → AreFine bytes names forest around None →
       begins of_symbols (spine forest) ≡ true → First forest around
 
-  first_behind : (name : Name) (start end : Point) (children rest : Forest) (around : Role) →
+  first_after : (name : Name) (start end : Point) (children rest : Forest) (around : Role) →
       told_here (of_names name) (is_transparent name) (tell start end children) (first_on_spine of_names tell children)
       ≡ None → First rest around → First (Node name start end children rest) around
-  first_behind name start end children rest around none first = record {
+  first_after name start end children rest around none first = record {
     name = first.name;
     start = first.start;
     end = first.end;
@@ -190,7 +190,7 @@ module _ {A : Type 0} (of_symbols : Symbol → Bool) (of_names : Name →
       again later h =
       elim (begins-split of_symbols (spine children) (spine rest) h) [
         | inl b ↦ first_inside name start end children rest around says same (again around fine_inside b)
-        | inr e ↦ first_behind name start end children rest around
+        | inr e ↦ first_after name start end children rest around
             (none_step Through name start end children around None says same stands
             (none_first children around None fine_inside) (ap (list_any of_symbols) e.0))
             (later around (subst (λ symbols. AreFine bytes names rest around (last_symbol None symbols)) e.0
@@ -198,7 +198,7 @@ module _ {A : Type 0} (of_symbols : Symbol → Bool) (of_names : Name →
       ]
   first_step Space name start end children rest around says same stands fine_inside fine_rest fine_here fine_own again
       later h =
-      first_behind name start end children rest around
+      first_after name start end children rest around
       (none_step Space name start end children around None says same stands
       (λ e. ap (first_on_spine of_names tell) stands) refl)
       (later around fine_rest h)

@@ -271,10 +271,10 @@ list_fits bytes names children all h =
     (item_number bytes names first.children inside)
 
 -- a fence on the spine is one by its name
-any_behind : (test : Name → Bool) (names others : List Name) → list_any test others ≡ true →
+any_after : (test : Name → Bool) (names others : List Name) → list_any test others ≡ true →
     list_any test (names ++ others) ≡ true
-any_behind test [] others h = h
-any_behind test (name ∷ names) others h = by (test name) (any_behind test names others h)
+any_after test [] others h = h
+any_after test (name ∷ names) others h = by (test name) (any_after test names others h)
   where
     by : (passes : Bool) → list_any test (names ++ others) ≡ true → (passes || list_any test (names ++ others)) ≡ true
     by true later = refl
@@ -328,7 +328,7 @@ fence_named bytes names (Node name start end children rest) around before all h 
           ∷ []) (spine_names rest)
           (any_here (standing_of name) name children around before (told name) (fence_agree name) all.0.0.1
           (fence_named bytes names children _ _ all.1) here)
-      | inr later ↦ any_behind is_fence (if is_transparent name then spine_names children else name
+      | inr later ↦ any_after is_fence (if is_transparent name then spine_names children else name
           ∷ []) (spine_names rest) (fence_named bytes names rest _ _ all.2 later)
     ]
 

@@ -8,7 +8,7 @@ use Rattle.md_pattern.specs.Standing.{standing_of}
 use Rattle.md_pattern.specs.Spine.{spine}
 use Rattle.std.proofs.Common.{refl}
 use Rattle.md_tree.specs.Grammar.{IsGrammatical}
-use Rattle.md_shape.specs.Built.{Content, Blocks, content_inside, content_behind, IsBuilt}
+use Rattle.md_shape.specs.Built.{Content, Blocks, content_inside, content_after_node, IsBuilt}
 use Rattle.md_shape.proofs.Symbols.{admits, told}
 use Rattle.md_shape.proofs.Admitted.{matches_admitted}
 use Rattle.md_shape.proofs.Spots.{after_spine, spot}
@@ -27,7 +27,7 @@ built bytes names (Node name start end children rest) around before content all 
       here.stands,
       fit bytes names name around before start end children all.0 all.1,
       built bytes names children _ _ (content_inside content name) all.1 here.inside,
-      built bytes names rest _ _ (content_behind content name children) all.2 here.behind,
+      built bytes names rest _ _ (content_after_node content name children) all.2 here.after,
     )
 
 pub grammatical-built : (bytes : List ℕ) (names : List (List ℕ × List ℕ)) (forest : Forest) →

@@ -569,13 +569,13 @@ media-refers children shaped match =
 -- ---- what definitions are referred to by
 
 -- nodes that begin with a symbol, after which nothing leaves a target
-behind-neutral : (seen : Symbol) (start end : Point) (children : Forest) (rest : List Stand) (others : List Symbol) →
+after-neutral : (seen : Symbol) (start end : Point) (children : Forest) (rest : List Stand) (others : List Symbol) →
     seen_of rest ≡ others → list_all is_neutral others ≡ true → (found : Target) → sought rest found ≡ found
-behind-neutral seen start end children rest others e h found =
+after-neutral seen start end children rest others e h found =
     sought-neutral rest found (ap (list_all is_neutral) e ∙ h)
 
-abbrev behind_a_label : List Item
-behind_a_label = many (Only symbol.LineEnding) ∷ maybe (Only symbol.DefinitionDestination)
+abbrev after_a_label : List Item
+after_a_label = many (Only symbol.LineEnding) ∷ maybe (Only symbol.DefinitionDestination)
     ∷ many (Only symbol.LineEnding) ∷ maybe (Only symbol.DefinitionTitle) ∷ many (Only symbol.LineEnding) ∷ []
 
 -- a definition is referred to by its label, which is there
@@ -584,19 +584,19 @@ pub definition-label : (children : Forest) → AreShaped children role.Definitio
     × (first_on_spine is_definition_label position children ≡ Some there) × (target_of children Missing ≡ Label there)
 definition-label children shaped match =
     let fit = match.2 in
-    let one = once-is symbol.DefinitionLabel behind_a_label fit.0 fit.1 match.0 fit.4 fit.3 fit.2 fit.5 in
+    let one = once-is symbol.DefinitionLabel after_a_label fit.0 fit.1 match.0 fit.4 fit.3 fit.2 fit.5 in
     let f = follows symbol.DefinitionLabel one.others (spine children) refl
     (subst (λ s. IsGrouped s (spine children)) one.are match.1) in
     let node = begins symbol.DefinitionLabel f.others (stands children) (sym (spine-stands children) ∙ f.are) in
     let neutral = grouped-neutral one.others f.others
-    (fits-all is_neutral behind_a_label one.others one.fit refl) f.grouped
+    (fits-all is_neutral after_a_label one.others one.fit refl) f.grouped
     in (
       position node.start node.end node.children,
       first-stands is_definition_symbol is_definition_label definition-agree position children role.Definition None
           shaped
           ∙ ap (first_seen is_definition_symbol is_definition_label definition-agree position) node.are,
       target-stands children Missing ∙ ap (λ nodes. sought nodes Missing) node.are
-          ∙ behind-neutral symbol.DefinitionLabel node.start node.end node.children node.rest f.others node.others_are
+          ∙ after-neutral symbol.DefinitionLabel node.start node.end node.children node.rest f.others node.others_are
           neutral (Label (place node.start node.end)),
     )
 
@@ -616,7 +616,7 @@ prefix-label children holds =
           holds.0
           ∙ ap (first_seen is_footnote_symbol is_footnote_label footnote-agree position) node.are,
       target-stands children Missing ∙ ap (λ nodes. sought nodes Missing) node.are
-          ∙ behind-neutral symbol.FootnoteLabel node.start node.end node.children node.rest f.others node.others_are
+          ∙ after-neutral symbol.FootnoteLabel node.start node.end node.children node.rest f.others node.others_are
           neutral (Label (place node.start node.end)),
     )
 
@@ -643,7 +643,7 @@ footnote-label children shaped match =
           (λ start end inside. label_in_prefix inside)) node.are)
           ∙ inner.1,
       target-stands children Missing ∙ ap (λ nodes. sought nodes Missing) node.are
-          ∙ behind-neutral symbol.FootnotePrefix node.start node.end node.children node.rest f.others node.others_are
+          ∙ after-neutral symbol.FootnotePrefix node.start node.end node.children node.rest f.others node.others_are
           neutral (target_of node.children Missing)
           ∙ inner.2,
     )

@@ -54,9 +54,9 @@ pub definitions-listed : (given : Given) (around : Surroundings) (before : Befor
 definitions-listed given around before Empty = refl
 definitions-listed given around before (Node name start end children rest) =
     let of : Defined → List ℕ = λ defined. defined.identifier in
-    let round : Surroundings = inside given.options (is_loose children) name around in
+    let nested : Surroundings = inside given.options (is_loose children) name around in
     let within : Before = before_children name children before in
-    let inner : Meant = meant given round within children in
+    let inner : Meant = meant given nested within children in
     let at : At = node_at around before children start end (around.is_outermost && is_empty rest) inner.found in
     let next : Before = before_next given at name (found_at given at name inner.pieces) in
     let identifier = identifier_at given.bytes (first is_definition_label children) in
@@ -64,7 +64,7 @@ definitions-listed given around before (Node name start end children rest) =
     in_a_row of inner.definitions (one_where (is_link_definition name) own)
     (meant given around next rest).definitions (defined_in given.bytes children)
     (if is_link_definition name then identifier ∷ [] else []) (defined_in given.bytes rest)
-    (definitions-listed given round within children) (own-one of (is_link_definition name) own)
+    (definitions-listed given nested within children) (own-one of (is_link_definition name) own)
     (definitions-listed given around next rest)
 
 pub footnotes-listed : (given : Given) (around : Surroundings) (before : Before) (forest : Forest) →
@@ -72,9 +72,9 @@ pub footnotes-listed : (given : Given) (around : Surroundings) (before : Before)
 footnotes-listed given around before Empty = refl
 footnotes-listed given around before (Node name start end children rest) =
     let of : Footnote → List ℕ = λ footnote. footnote.identifier in
-    let round : Surroundings = inside given.options (is_loose children) name around in
+    let nested : Surroundings = inside given.options (is_loose children) name around in
     let within : Before = before_children name children before in
-    let inner : Meant = meant given round within children in
+    let inner : Meant = meant given nested within children in
     let at : At = node_at around before children start end (around.is_outermost && is_empty rest) inner.found in
     let next : Before = before_next given at name (found_at given at name inner.pieces) in
     let identifier = identifier_at given.bytes (footnote_label children) in
@@ -82,5 +82,5 @@ footnotes-listed given around before (Node name start end children rest) =
     in_a_row of inner.footnotes (one_where (is_footnote_definition name) own)
     (meant given around next rest).footnotes (footnotes_in given.bytes children)
     (if is_footnote_definition name then identifier ∷ [] else []) (footnotes_in given.bytes rest)
-    (footnotes-listed given round within children) (own-one of (is_footnote_definition name) own)
+    (footnotes-listed given nested within children) (own-one of (is_footnote_definition name) own)
     (footnotes-listed given around next rest)

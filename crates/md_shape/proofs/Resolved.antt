@@ -178,10 +178,10 @@ mention-everywhere P (Node name start end children rest) all =
     let inner = mentions_of children in
     let later = mentions_of rest in
     let split = All-tail P mention.Nothing _ all in
-    let behind = all-right P inner (own ∷ later) split in (
-      All-head P own later behind,
+    let after = all-right P inner (own ∷ later) split in (
+      All-head P own later after,
       mention-everywhere P children (all-left P inner (own ∷ later) split),
-      mention-everywhere P rest (All-tail P own later behind),
+      mention-everywhere P rest (All-tail P own later after),
     )
 
 -- an identifier as the meaning has it

@@ -14,9 +14,9 @@ use Rattle.md_pattern.specs.Pattern.{pattern_of}
 use Rattle.md_pattern.specs.Spine.{spine, shown}
 use Rattle.md_pattern.specs.Shape.{AreShaped, IsStanding, role_for, item_in, prefix_in, label_in, inner_before, last_symbol}
 use Rattle.md_base.specs.NameTests.{is_transparent}
-use Rattle.md_shape.specs.Built.{Content, may_stand, content_of, content_inside, content_past, content_after, content_behind}
+use Rattle.md_shape.specs.Built.{Content, may_stand, content_of, content_inside, content_past, content_after, content_after_node}
 use Rattle.md_shape.proofs.Symbols.{may_by, past_by, may_by-names, past_by-names, may_show, past, admits, pattern_admits, each_content, roles_for, implies, holds_patterns, Told, told}
-use Rattle.md_shape.proofs.Admitted.{shown_behind, matches_admitted}
+use Rattle.md_shape.proofs.Admitted.{shown_earlier, matches_admitted}
 
 -- what may stand after some symbols
 abbrev pub run : Content → List Symbol → Content
@@ -39,19 +39,19 @@ admits-split before content (symbol ∷ symbols) others h =
     let rest = admits-split (Some symbol) (past content symbol) symbols others parts.1 in
     (ap (λ t. t && admits true (past content symbol) symbols) parts.0 ∙ rest.0, rest.1)
 
-node_behind : (standing : Standing) (name : Name) (children : Forest) (around : Role) (before : Option Symbol)
+node_after : (standing : Standing) (name : Name) (children : Forest) (around : Role) (before : Option Symbol)
     (content : Content) → Told standing name → IsStanding standing around before children →
     content_after content children ≡ run content (spine children) →
-    content_behind content name children ≡ run content (shown standing (spine children))
-node_behind Through name children around before content says stands again =
+    content_after_node content name children ≡ run content (shown standing (spine children))
+node_after Through name children around before content says stands again =
     ap (λ t. cond t (content_after content children) (content_past content name)) says ∙ again
-node_behind Space name children around before content says stands again =
+node_after Space name children around before content says stands again =
     ap (λ t. cond t (content_after content children) (content_past content name)) says
     ∙ ap (λ c. content_after content c) stands
-node_behind (Solid symbol usual reading) name children around before content says stands again =
+node_after (Solid symbol usual reading) name children around before content says stands again =
     ap (λ t. cond t (content_after content children) (content_past content name)) says.0
     ∙ (sym (past_by-names content name) ∙ ap (past_by content) says.1)
-node_behind Mdx name children around before content says stands again = absurd stands
+node_after Mdx name children around before content says stands again = absurd stands
 
 -- what may stand after nodes is what may stand after their spine
 pub after_spine : (forest : Forest) (around : Role) (before : Option Symbol) (content : Content) →
@@ -59,8 +59,8 @@ pub after_spine : (forest : Forest) (around : Role) (before : Option Symbol) (co
 after_spine Empty around before content shaped = refl
 after_spine (Node name start end children rest) around before content shaped =
     let again = after_spine children _ _ content shaped.1 in
-    let here = node_behind (standing_of name) name children around before content (told name) shaped.0.1 again in
-    after_spine rest _ _ (content_behind content name children) shaped.2
+    let here = node_after (standing_of name) name children around before content (told name) shaped.0.1 again in
+    after_spine rest _ _ (content_after_node content name children) shaped.2
     ∙ (ap (λ c. run c (spine rest)) here ∙ sym (run-append content (shown (standing_of name) (spine children))
     (spine rest)))
 
@@ -98,8 +98,8 @@ pub record Spot (standing : Standing) (name : Name) (children : Forest) (before 
     (others : List Symbol) : Type 0 where
   pub stands : (is_transparent name || may_stand content name) ≡ true
   pub inside : admits (is_some (inner_before standing before)) (content_inside content name) (spine children) ≡ true
-  pub behind : admits (is_some (last_symbol before (shown standing (spine children))))
-      (content_behind content name children) others ≡ true
+  pub after : admits (is_some (last_symbol before (shown standing (spine children))))
+      (content_after_node content name children) others ≡ true
 
 follows : (test holds : Bool) → implies test holds ≡ true → test ≡ true → holds ≡ true
 follows test holds h t = ap (λ b. implies b holds) (sym t) ∙ h
@@ -135,7 +135,7 @@ spot_here (Solid symbol usual reading) name children around before content other
     let fits = solid_patterns name symbol usual around before content holds may in (
       ap (λ t. t || may_stand content name) says.0
           ∙ (sym (may_by-names content name) ∙ (ap (may_by content) says.1
-          ∙ shown_behind (is_some before) content symbol may)),
+          ∙ shown_earlier (is_some before) content symbol may)),
       ap (λ t. admits false (cond t content (content_of name content)) (spine children)) says.0
           ∙ matches_admitted (role_for around before usual) (spine children) (content_of name content) stands fits,
     )
@@ -151,8 +151,8 @@ spot standing name children around before content others says stands after h =
     record {
       stands = here.0;
       inside = here.1;
-      behind =
+      after =
           subst (λ c. admits (is_some (last_symbol before (shown standing (spine children)))) c others
-          ≡ true) (sym (node_behind standing name children around before content says stands after))
+          ≡ true) (sym (node_after standing name children around before content says stands after))
           (admits-split before content (shown standing (spine children)) others h).1;
     }

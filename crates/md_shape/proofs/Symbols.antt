@@ -171,15 +171,15 @@ past_by-names Nothing name = refl
 -- a symbol may stand there, after others or at the beginning: lines begin with no fence
 abbrev pub may_show : Bool → Content → Symbol → Bool
 may_show false Chunks symbol = false
-may_show behind content symbol = may_by content (tests_for symbol)
+may_show earlier content symbol = may_by content (tests_for symbol)
 
 abbrev pub past : Content → Symbol → Content
 past content symbol = past_by content (tests_for symbol)
 
 -- the symbols may stand there, one after another
 abbrev pub admits : Bool → Content → List Symbol → Bool
-admits behind content [] = true
-admits behind content (symbol ∷ symbols) = may_show behind content symbol && admits true (past content symbol) symbols
+admits earlier content [] = true
+admits earlier content (symbol ∷ symbols) = may_show earlier content symbol && admits true (past content symbol) symbols
 
 abbrev pub same_content : Content → Content → Bool
 same_content Blocks Blocks = true
@@ -196,20 +196,20 @@ same_content _ _ = false
 
 -- symbols of an item may stand there, so many as it has, and what is left after them
 abbrev pub item_admits : Times → List Symbol → (Bool → Content → Bool) → Bool → Content → Bool
-item_admits Once members left behind content = list_all (λ member. may_show behind content member
+item_admits Once members left earlier content = list_all (λ member. may_show earlier content member
     && left true (past content member)) members
-item_admits Maybe members left behind content =
-    left behind content && list_all (λ member. may_show behind content member
+item_admits Maybe members left earlier content =
+    left earlier content && list_all (λ member. may_show earlier content member
     && left true (past content member)) members
-item_admits Many members left behind content =
-    left behind content && list_all (λ member. may_show behind content member
+item_admits Many members left earlier content =
+    left earlier content && list_all (λ member. may_show earlier content member
     && same_content (past content member) content) members
 
 -- what fits a pattern may stand there
 abbrev pub pattern_admits : List Item → Bool → Content → Bool
-pattern_admits [] behind content = true
-pattern_admits (item ∷ items) behind content = item_admits item.times (members item.class)
-    (λ b c. pattern_admits items b c) behind content
+pattern_admits [] earlier content = true
+pattern_admits (item ∷ items) earlier content = item_admits item.times (members item.class)
+    (λ b c. pattern_admits items b c) earlier content
 
 abbrev pub every_content : (Content → Bool) → Bool
 every_content test =
@@ -243,14 +243,14 @@ each_content test h content =
 
 -- the roles that a name with this usual one may have, after others or at the beginning
 abbrev pub roles_for : Bool → Role → List Role
-roles_for behind role.Item = role.Item ∷ role.OrderedItem ∷ role.FirstOrderedItem ∷ []
-roles_for behind role.Prefix = role.Prefix ∷ role.OrderedPrefix ∷ role.FirstOrderedPrefix ∷ []
-roles_for behind role.Label = role.Label ∷ role.CallLabel ∷ []
+roles_for earlier role.Item = role.Item ∷ role.OrderedItem ∷ role.FirstOrderedItem ∷ []
+roles_for earlier role.Prefix = role.Prefix ∷ role.OrderedPrefix ∷ role.FirstOrderedPrefix ∷ []
+roles_for earlier role.Label = role.Label ∷ role.CallLabel ∷ []
 roles_for true role.CodeFence = role.CodeFence ∷ []
 roles_for false role.CodeFence = role.FirstCodeFence ∷ []
 roles_for true role.MathFence = role.MathFence ∷ []
 roles_for false role.MathFence = role.FirstMathFence ∷ []
-roles_for behind usual = usual ∷ []
+roles_for earlier usual = usual ∷ []
 
 abbrev pub implies : Bool → Bool → Bool
 implies true holds = holds
@@ -258,12 +258,12 @@ implies false holds = true
 
 -- wherever a node may stand, what fits the patterns of its roles may stand in it
 abbrev pub holds_patterns : Bool → Name → Symbol → Role → Content → Bool
-holds_patterns behind name symbol usual content =
-    implies (may_show behind content symbol) (list_all (λ role. pattern_admits (pattern_of role) false
-    (content_of name content)) (roles_for behind usual))
+holds_patterns earlier name symbol usual content =
+    implies (may_show earlier content symbol) (list_all (λ role. pattern_admits (pattern_of role) false
+    (content_of name content)) (roles_for earlier usual))
 
 abbrev pub holds_patterns_everywhere : Bool → Name → Symbol → Role → Bool
-holds_patterns_everywhere behind name symbol usual = every_content (holds_patterns behind name symbol usual)
+holds_patterns_everywhere earlier name symbol usual = every_content (holds_patterns earlier name symbol usual)
 
 -- what names say, by how they stand
 abbrev pub Told : Standing → Name → Type 0

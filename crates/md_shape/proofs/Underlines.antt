@@ -40,12 +40,12 @@ abbrev pub underlined : Bool → List Symbol → Bool
 underlined waits [] = true
 underlined waits (s ∷ symbols) = may_follow waits s && underlined (next_waits waits s) symbols
 
-abbrev pub waits_behind : Bool → List Symbol → Bool
-waits_behind waits [] = waits
-waits_behind waits (s ∷ symbols) = waits_behind (next_waits waits s) symbols
+abbrev pub waits_after_symbols : Bool → List Symbol → Bool
+waits_after_symbols waits [] = waits
+waits_after_symbols waits (s ∷ symbols) = waits_after_symbols (next_waits waits s) symbols
 
 pub underlined-split : (waits : Bool) (xs ys : List Symbol) → underlined waits (xs ++ ys) ≡ true →
-    (underlined waits xs ≡ true) × (underlined (waits_behind waits xs) ys ≡ true)
+    (underlined waits xs ≡ true) × (underlined (waits_after_symbols waits xs) ys ≡ true)
 underlined-split waits [] ys h = (refl, h)
 underlined-split waits (x ∷ xs) ys h =
     let parts = and_parts (may_follow waits x) (underlined (next_waits waits x) (xs ++ ys)) h in
@@ -53,7 +53,7 @@ underlined-split waits (x ∷ xs) ys h =
     (and_from (may_follow waits x) (underlined (next_waits waits x) xs) parts.0 later.0, later.1)
 
 pub waits-append : (waits : Bool) (xs ys : List Symbol) →
-    waits_behind waits (xs ++ ys) ≡ waits_behind (waits_behind waits xs) ys
+    waits_after_symbols waits (xs ++ ys) ≡ waits_after_symbols (waits_after_symbols waits xs) ys
 waits-append waits [] ys = refl
 waits-append waits (x ∷ xs) ys = waits-append (next_waits waits x) xs ys
 
@@ -104,9 +104,9 @@ matches-underlined r spine m waits = grouped-underlined m.0 spine m.1
 -- a heading waits after a node as after what it shows
 node-waits : (name : Name) (children : Forest) (around : Role) (before : Option Symbol) (waits : Bool) →
     IsStanding (standing_of name) around before children →
-    waits_after waits children ≡ waits_behind waits (spine children)
+    waits_after waits children ≡ waits_after_symbols waits (spine children)
     → cond (is_transparent name) (waits_after waits children) (waits_past waits name)
-    ≡ waits_behind waits (shown (standing_of name) (spine children))
+    ≡ waits_after_symbols waits (shown (standing_of name) (spine children))
 node-waits (Other number) children around before waits is same = same
 node-waits BlockQuotePrefix children around before waits is same = same
 node-waits SpaceOrTab children around before waits is same = ap (λ f. waits_after waits f) is
@@ -119,12 +119,12 @@ node-waits _ children around before waits is same = refl
 
 -- and after some nodes as after their spine
 same-waits : (forest : Forest) (around : Role) (before : Option Symbol) (waits : Bool) →
-    AreShaped forest around before → waits_after waits forest ≡ waits_behind waits (spine forest)
+    AreShaped forest around before → waits_after waits forest ≡ waits_after_symbols waits (spine forest)
 same-waits Empty around before waits all = refl
 same-waits (Node name start end children rest) around before waits all =
     let here = node-waits name children around before waits all.0.1 (same-waits children _ _ waits all.1) in
     ap (λ b. waits_after b rest) here
-    ∙ same-waits rest _ _ (waits_behind waits (shown (standing_of name) (spine children))) all.2
+    ∙ same-waits rest _ _ (waits_after_symbols waits (shown (standing_of name) (spine children))) all.2
     ∙ sym (waits-append waits (shown (standing_of name) (spine children)) (spine rest))
 
 -- where two lists in a row are empty, each is

@@ -182,8 +182,8 @@ content_after content Empty = content
 content_after content (Node name start end children rest) =
     content_after (if is_transparent name then content_after content children else content_past content name) rest
 
-abbrev pub content_behind : Content → Name → Forest → Content
-content_behind content name children =
+abbrev pub content_after_node : Content → Name → Forest → Content
+content_after_node content name children =
     if is_transparent name then content_after content children else content_past content name
 
 -- a decimal digit
@@ -211,4 +211,4 @@ IsBuilt bytes content (Node name start end children rest) =
     IsTrue (is_transparent name || may_stand content name)
     × IsFit bytes name start end children
     × IsBuilt bytes (content_inside content name) children
-    × IsBuilt bytes (content_behind content name children) rest
+    × IsBuilt bytes (content_after_node content name children) rest

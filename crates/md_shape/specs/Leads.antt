@@ -8,7 +8,7 @@ use Rattle.md_base.specs.Place.{text_between, label_between, serialized_between}
 use Rattle.md_base.specs.Reference.{decoded}
 use Rattle.std.specs.Option.{option_map_or}
 use Rattle.md_meaning.specs.Given.{text_of}
-use Rattle.md_meaning.specs.Surroundings.{last_of, spine_inside, spine_behind}
+use Rattle.md_meaning.specs.Surroundings.{last_of, spine_inside, spine_after_node}
 use Rattle.md_meaning.specs.Meaning.Spans.{marker}
 use Rattle.md_tree.specs.declared.mention.Target.{Target}
 use Rattle.md_tree.specs.declared.mention.Target.TheVariants.{Missing, Label, Resource}
@@ -32,15 +32,17 @@ HasItsText bytes name start end children =
     → IsTrue (is_some (text_between bytes start end)) × IsTrue (is_some (serialized_between bytes start end))
 
 -- a claim holds of each node, at any depth, after the names on its spine
-abbrev pub EverywhereAfter : (List Name → Name → Point → Point → Forest → Type 0) → List Name → Forest → Type 0
+abbrev pub EverywhereAfter : (List Name → Name → Point → Point → Forest → Type 0) → List Name →
+    Forest → Type 0
 EverywhereAfter holds spine Empty = Unit {0}
 EverywhereAfter holds spine (Node name start end children rest) =
     holds spine name start end children
     × EverywhereAfter holds (spine_inside name spine) children
-    × EverywhereAfter holds (spine_behind name children spine) rest
+    × EverywhereAfter holds (spine_after_node name children spine) rest
 
 -- a reference's value stands for a text, by the mark before it
-abbrev pub Decodes : List ℕ → List (List ℕ × List ℕ) → List Name → Name → Point → Point → Forest → Type 0
+abbrev pub Decodes : List ℕ → List (List ℕ × List ℕ) → List Name → Name → Point → Point →
+    Forest → Type 0
 Decodes bytes names spine CharacterReferenceValue start end children =
     IsTrue (is_some (decoded names (option_map_or marker (last_of spine) 38) (text_of bytes start end)))
 Decodes bytes names spine _ start end children = Unit {0}

@@ -18,7 +18,7 @@ pub fn grammatical_documents_are_built()
 
 /// In a document of the grammar each underline stands after the text of its heading, with nothing printed between, and
 /// nothing stands in it.
-pub fn underlines_stand_behind_headings()
+pub fn underlines_stand_after_headings()
     ensures { (bytes : List ℕ) (names : List (List ℕ × List ℕ)) (forest : Forest)
         → IsGrammatical bytes names forest → IsUnderlined false forest }
 {}

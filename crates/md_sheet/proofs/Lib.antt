@@ -1,4 +1,4 @@
--- The lemmas on what is collected for a page: calls, places, definitions, ropes, line endings and lists.
+-- The lemmas on what is collected for a sheet: calls, places, definitions, ropes, line endings and lists.
 pub mod Tally
 pub mod Placing
 pub mod LookUps

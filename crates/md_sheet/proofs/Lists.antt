@@ -1,8 +1,8 @@
--- The rest of a list after an index, and pages laid on in parts.
+-- The rest of a list after an index, and sheets laid on in parts.
 use Rattle.std.proofs.Common.{◌≡◌, ℕ, ◌+◌, zero, suc, List, [], ◌∷◌, ◌++◌, Some, None, is_some, drop, refl, ap, sym, ◌∙◌, arith, unwrap_or}
 use Rattle.std.specs.Prelude.{slice_get}
 use Rattle.std.proofs.lemmas.Bool.{true≢false}
-use Rattle.md_meaning.specs.Piece.{Piece, Page, lay, lay_piece}
+use Rattle.md_meaning.specs.Piece.{Piece, Sheet, lay, lay_piece}
 
 pub drop-found : {A : Type 0} (xs : List A) (i : ℕ) (x : A) → slice_get xs i ≡ Some x → drop i xs ≡ x ∷ drop (i + 1) xs
 drop-found [] i x h = absurd (true≢false (sym (ap is_some h)))
@@ -19,7 +19,7 @@ drop-missing (y ∷ ys) zero h = absurd (true≢false (ap is_some h))
 drop-missing (y ∷ ys) (suc i) h = drop-missing ys i h
 
 -- pieces are laid one list after another
-pub lay-append : (ending : List ℕ) (page : Page) (xs ys : List Piece) →
-    lay ending page (xs ++ ys) ≡ lay ending (lay ending page xs) ys
-lay-append ending page [] ys = refl
-lay-append ending page (x ∷ xs) ys = lay-append ending (lay_piece ending page x) xs ys
+pub lay-append : (ending : List ℕ) (sheet : Sheet) (xs ys : List Piece) →
+    lay ending sheet (xs ++ ys) ≡ lay ending (lay ending sheet xs) ys
+lay-append ending sheet [] ys = refl
+lay-append ending sheet (x ∷ xs) ys = lay-append ending (lay_piece ending sheet x) xs ys

@@ -15,17 +15,17 @@ use Rattle.md_sheet.specs.Seen.{definitions_in}
 use Rattle.md_meaning.proofs.Identifiers.{bytes_eq-sym}
 
 -- what is found in two lists that begin alike
-pub found-behind : (first second third : List Defined) (identifier : List ℕ) →
+pub found-after : (first second third : List Defined) (identifier : List ℕ) →
     defined_target second identifier ≡ defined_target third identifier →
     defined_target (first ++ second) identifier ≡ defined_target (first ++ third) identifier
-found-behind [] second third identifier same = same
-found-behind (d ∷ first) second third identifier same =
+found-after [] second third identifier same = same
+found-after (d ∷ first) second third identifier same =
     elim (bytes_eq d.identifier identifier) as (λ b. option_map_or (λ defined. defined.target) (if b then Some d
     else find (λ defined. bytes_eq defined.identifier identifier) (first ++ second)) nowhere
     ≡ option_map_or (λ defined. defined.target) (if b then Some d
     else find (λ defined. bytes_eq defined.identifier identifier) (first ++ third)) nowhere) [
       | true ↦ refl
-      | false ↦ found-behind first second third identifier same
+      | false ↦ found-after first second third identifier same
     ]
 
 -- an entry of a map is found as the definition that it is
@@ -34,10 +34,10 @@ pub target-found : (entries : List (String Global × Target)) (identifier : List
     ≡ defined_target (definitions_in entries) identifier
 target-found [] identifier = refl
 target-found (e ∷ entries) identifier =
-    let behind : Option Target = lookup (is_at (λ k. slice_cmp nat_cmp identifier (string_bytes k))) entries in
-    ap (λ b. unwrap_or (cond b (Some e.1) behind) nowhere) (is_eq-slice_cmp identifier (string_bytes e.0)
+    let after : Option Target = lookup (is_at (λ k. slice_cmp nat_cmp identifier (string_bytes k))) entries in
+    ap (λ b. unwrap_or (cond b (Some e.1) after) nowhere) (is_eq-slice_cmp identifier (string_bytes e.0)
     ∙ bytes_eq-sym identifier (string_bytes e.0))
-    ∙ elim (bytes_eq (string_bytes e.0) identifier) as (λ b. unwrap_or (cond b (Some e.1) behind) nowhere
+    ∙ elim (bytes_eq (string_bytes e.0) identifier) as (λ b. unwrap_or (cond b (Some e.1) after) nowhere
     ≡ option_map_or (λ defined. defined.target) (if b then Some (record {
       identifier = string_bytes e.0;
       target = e.1;

@@ -117,10 +117,10 @@ counted-again (e ∷ entries) q i h =
         ((j : ℕ) → o ≡ Some j → calls_in (again entries j) ≡ counted (calls_in entries) q) →
         calls_in (again (e ∷ entries) i) ≡ record { identifier = string_bytes e.0; count = e.1 }
         ∷ counted (calls_in entries) q
-    later None t behind = absurd (none-some i t)
-    later (Some j) t behind =
+    later None t after = absurd (none-some i t)
+    later (Some j) t after =
         ap (λ n. calls_in (again (e ∷ entries) n)) (sym (ap (λ o. unwrap_or o 0) t))
-        ∙ ap (λ cs. record { identifier = string_bytes e.0; count = e.1 } ∷ cs) (behind j refl)
+        ∙ ap (λ cs. record { identifier = string_bytes e.0; count = e.1 } ∷ cs) (after j refl)
 
 pub counted-new : (entries : List (String Global × ℕ)) (key : String Global) →
     place_among entries (string_bytes key) ≡ None → calls_in (entries ++ (key, 1) ∷ [])
@@ -158,9 +158,9 @@ noted-present (e ∷ entries) q text i h =
         })) →
         footnotes_in (e ∷ entries) ≡ record { identifier = string_bytes e.0; text = string_bytes e.1 }
         ∷ noted (footnotes_in entries) (record { identifier = q; text = text })
-    later None t behind = absurd (none-some i t)
-    later (Some j) t behind = ap (λ fs. record { identifier = string_bytes e.0; text = string_bytes e.1 }
-        ∷ fs) (behind j refl)
+    later None t after = absurd (none-some i t)
+    later (Some j) t after = ap (λ fs. record { identifier = string_bytes e.0; text = string_bytes e.1 }
+        ∷ fs) (after j refl)
 
 pub noted-new : (entries : List (String Global × String Global)) (key text : String Global) →
     place_among entries (string_bytes key) ≡ None →

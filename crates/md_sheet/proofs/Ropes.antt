@@ -30,11 +30,11 @@ last-cons first next bytes =
     one_less : (n : ℕ) → n ≡ suc n - 1
     one_less n = omega arith
 
-pub last-behind : (front back : List ℕ) (byte : ℕ) → last back ≡ Some byte → last (front ++ back) ≡ Some byte
-last-behind [] back byte h = h
-last-behind (b ∷ []) (c ∷ back) byte h = last-cons b c back ∙ h
-last-behind (b ∷ []) [] byte h = absurd (none-some byte h)
-last-behind (b ∷ c ∷ front) back byte h = last-cons b c (front ++ back) ∙ last-behind (c ∷ front) back byte h
+pub last-after : (front back : List ℕ) (byte : ℕ) → last back ≡ Some byte → last (front ++ back) ≡ Some byte
+last-after [] back byte h = h
+last-after (b ∷ []) (c ∷ back) byte h = last-cons b c back ∙ h
+last-after (b ∷ []) [] byte h = absurd (none-some byte h)
+last-after (b ∷ c ∷ front) back byte h = last-cons b c (front ++ back) ∙ last-after (c ∷ front) back byte h
 
 -- how long a text is after another, as far as 64 bits count
 pub counted_up-append : (own rest : List ℕ) (n : ℕ) → n ≡ counted_up rest →

@@ -46,4 +46,5 @@ place_among (e ∷ entries) identifier =
 
 -- each look-up in a map finds an identifier's place
 abbrev pub FindsPlaces : {V : Type 0} → BTreeMap (String Global) ℕ → List (String Global × V) → Type 0
-FindsPlaces places entries = (identifier : List ℕ) → get_by_text places identifier ≡ place_among entries identifier
+FindsPlaces places entries = (identifier : List ℕ) →
+    get_by_text places identifier ≡ place_among entries identifier

@@ -1,4 +1,4 @@
-//! Pages that are laid out piece by piece, and what is seen of footnotes while they are.
+//! Sheets that are laid out piece by piece, and what is seen of footnotes while they are.
 #![tactic(auto)]
 
 mod body;

@@ -17,15 +17,15 @@ pub struct Sheet {
 }
 
 impl Model for Sheet {
-    ghost use Rattle.md_meaning.specs.Piece.{Page};
+    ghost use Rattle.md_meaning.specs.Piece as piece;
 
-    ghost Value = { Page };
+    ghost Value = { piece.Sheet };
 
     ghost view = { λ s. record { text = s.text; notes = s.notes } };
 }
 
 impl Sheet {
-    /// A blank page.
+    /// A blank sheet.
     pub fn new(alloc: Global) -> Sheet
         ensures { result ≡ blank }
     {

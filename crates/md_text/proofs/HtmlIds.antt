@@ -154,10 +154,10 @@ counts-element w n m name attributes inside h few within = record {
   few = few-element w n m name attributes within.forest few within.few;
 }
 
-pub counts-round : (w : List ℕ) (n m : ℕ) (name : List ℕ) (attributes : List Attribute) (inside : List ℕ) →
+pub counts-enclosed : (w : List ℕ) (n m : ℕ) (name : List ℕ) (attributes : List Attribute) (inside : List ℕ) →
     is_tag elements name attributes ≡ true → occurs w (ids_in attributes) ≤ m → Counts w n inside
     → Counts w (m + n) (opening_tag name attributes ++ inside ++ closing_tag name)
-counts-round w n m name attributes inside h few within =
+counts-enclosed w n m name attributes inside h few within =
     subst (Counts w (m + n)) (sym (append_assoc (opening_tag name attributes) inside (closing_tag name)
     ∙ opening-before name attributes (inside ++ closing_tag name)))
     (counts-element w n m name attributes inside h few within)
@@ -199,7 +199,7 @@ counts-made w x hx = record {
       ))
       (counts-join w (occurs w (ids_in attributes) + occurs w (ids children)) (occurs w (ids rest))
       (opening_tag name attributes ++ written children ++ closing_tag name) y
-      (counts-round w (occurs w (ids children)) (occurs w (ids_in attributes)) name attributes (written children) tag
+      (counts-enclosed w (occurs w (ids children)) (occurs w (ids_in attributes)) name attributes (written children) tag
       (omega arith) (counts-written w children forest)) later);
   insides = λ name attributes children rest tag forest rests.
       counts-more w (occurs w (ids_in attributes) + (occurs w (ids children) + 0) + occurs w (ids rest))
@@ -212,7 +212,7 @@ counts-made w x hx = record {
       ))
       (counts-join w (occurs w (ids_in attributes) + (occurs w (ids children) + 0)) (occurs w (ids rest))
       (opening_tag name attributes ++ (written children ++ x) ++ closing_tag name) (written rest)
-      (counts-round w (occurs w (ids children) + 0) (occurs w (ids_in attributes)) name attributes
+      (counts-enclosed w (occurs w (ids children) + 0) (occurs w (ids_in attributes)) name attributes
       (written children ++ x) tag (omega arith)
       (counts-join w (occurs w (ids children)) 0 (written children) x (counts-written w children forest)
       (counts-plain w x hx)))

@@ -102,10 +102,10 @@ opening-before name attributes x =
     ap (λ x. 60 ∷ x) (append_assoc name (written_attributes attributes ++ (62 ∷ [])) x
     ∙ ap (λ x. name ++ x) (append_assoc (written_attributes attributes) (62 ∷ []) x))
 
-pub round : (p : Attribute → Bool) (name : List ℕ) (attributes : List Attribute) (inside : List ℕ) →
+pub enclosed : (p : Attribute → Bool) (name : List ℕ) (attributes : List Attribute) (inside : List ℕ) →
     is_tag elements name attributes ≡ true → list_all p attributes ≡ true → HasReadingWith p inside
     → HasReadingWith p (opening_tag name attributes ++ inside ++ closing_tag name)
-round p name attributes inside h a within =
+enclosed p name attributes inside h a within =
     subst (HasReadingWith p) (sym (append_assoc (opening_tag name attributes) inside (closing_tag name)
     ∙ opening-before name attributes (inside ++ closing_tag name))) (element p name attributes inside h a within)
 

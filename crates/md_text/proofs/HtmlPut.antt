@@ -10,7 +10,7 @@ use Rattle.md_text.specs.Laws.{is_line_ends}
 use Rattle.md_text.specs.Html.{Attribute, Forest, Empty, Text, Void, Element, is_forest, is_tag, begins_with_text, elements, void_tags, written, written_attributes, opening_tag, closing_tag, IsReading, HasReadingWith, all_attributes}
 use Rattle.md_text.proofs.HtmlNames.{is_name, is_name_byte, no_angle, no_quote, are_tidy, element-tidy, void-tidy, escaped-angle}
 use Rattle.md_text.proofs.HtmlSplit.{name-not}
-use Rattle.md_text.proofs.HtmlJoin.{text, void, round, join, opening-before}
+use Rattle.md_text.proofs.HtmlJoin.{text, void, enclosed, join, opening-before}
 
 -- where one cut of a text is, seen from another cut
 abbrev Meets : List ℕ → List ℕ → List ℕ → List ℕ → Type 0
@@ -253,12 +253,12 @@ reading-made p x hx = record {
       (let parts = and_parts (list_all p attributes && all_attributes p children) (all_attributes p rest) passes in
       let own = and_parts (list_all p attributes) (all_attributes p children) parts.0 in
       join p (opening_tag name attributes ++ written children ++ closing_tag name) y
-      (round p name attributes (written children) tag own.0 (as_written p children forest own.1)) (later parts.1));
+      (enclosed p name attributes (written children) tag own.0 (as_written p children forest own.1)) (later parts.1));
   insides = λ name attributes children rest tag forest rests passes.
       (let parts = and_parts (list_all p attributes && all_attributes p children) (all_attributes p rest) passes in
       let own = and_parts (list_all p attributes) (all_attributes p children) parts.0 in
       join p (opening_tag name attributes ++ (written children ++ x) ++ closing_tag name) (written rest)
-      (round p name attributes (written children ++ x) tag own.0
+      (enclosed p name attributes (written children ++ x) tag own.0
       (join p (written children) x (as_written p children forest own.1) hx))
       (as_written p rest rests parts.1));
 }

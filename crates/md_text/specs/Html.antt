@@ -27,7 +27,8 @@ written_attributes (a ∷ rest) = 32 ∷ (a.name ++ (61 ∷ 34 ∷ (a.value ++ (
 abbrev pub written : Forest → List ℕ
 written Empty = []
 written (Text bytes rest) = bytes ++ written rest
-written (Void name attributes rest) = 60 ∷ (name ++ (written_attributes attributes ++ (32 ∷ 47 ∷ 62 ∷ written rest)))
+written (Void name attributes rest) =
+    60 ∷ (name ++ (written_attributes attributes ++ (32 ∷ 47 ∷ 62 ∷ written rest)))
 written (Element name attributes inner rest) = 60 ∷ (name ++ (written_attributes attributes
     ++ (62 ∷ (written inner ++ (60 ∷ 47 ∷ (name ++ (62 ∷ written rest)))))))
 
@@ -42,7 +43,8 @@ closing_tag name = 60 ∷ 47 ∷ (name ++ (62 ∷ []))
 -- the elements, each with the names of the attributes that it may have
 abbrev pub elements : List (List ℕ × List (List ℕ))
 elements = map (λ name. (name, [])) (codes "blockquote" ∷ codes "pre" ∷ codes "p" ∷ codes "ul" ∷ codes "em"
-    ∷ codes "strong" ∷ codes "del" ∷ codes "sup" ∷ codes "table" ∷ codes "thead" ∷ codes "tbody" ∷ codes "tr"
+    ∷ codes "strong" ∷ codes "del" ∷ codes "sup" ∷ codes "table" ∷ codes "thead" ∷ codes "tbody"
+    ∷ codes "tr"
     ∷ codes "h1" ∷ codes "h3" ∷ codes "h4" ∷ codes "h5" ∷ codes "h6" ∷ [])
     ++ (codes "code", codes "class" ∷ []) ∷ (codes "ol", codes "start" ∷ [])
     ∷ (codes "li", codes "id" ∷ []) ∷ (codes "h2", codes "id" ∷ codes "class" ∷ [])
@@ -56,7 +58,8 @@ elements = map (λ name. (name, [])) (codes "blockquote" ∷ codes "pre" ∷ cod
 
 -- the void tags, so
 abbrev pub void_tags : List (List ℕ × List (List ℕ))
-void_tags = (codes "br", []) ∷ (codes "hr", []) ∷ (codes "img", codes "src" ∷ codes "alt" ∷ codes "title" ∷ [])
+void_tags = (codes "br", []) ∷ (codes "hr", [])
+    ∷ (codes "img", codes "src" ∷ codes "alt" ∷ codes "title" ∷ [])
     ∷ (codes "input", codes "type" ∷ codes "disabled" ∷ codes "checked" ∷ []) ∷ []
 
 -- each has a listed name that no later one has, and a value that is escaped

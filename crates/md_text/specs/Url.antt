@@ -58,7 +58,8 @@ normalized_byte b rest = if stays b rest then b ∷ [] else percent b
 
 -- the protocols that a link may have
 abbrev pub link_protocols : List (List ℕ)
-link_protocols = codes "http" ∷ codes "https" ∷ codes "irc" ∷ codes "ircs" ∷ codes "mailto" ∷ codes "xmpp" ∷ []
+link_protocols = codes "http" ∷ codes "https" ∷ codes "irc" ∷ codes "ircs" ∷ codes "mailto"
+    ∷ codes "xmpp" ∷ []
 
 -- the protocols that an image may have
 abbrev pub image_protocols : List (List ℕ)

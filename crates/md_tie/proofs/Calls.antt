@@ -98,20 +98,20 @@ Numbered xs number [] = Unit {0}
 Numbered xs number (y ∷ ys) = (place_among xs y ≡ number) × Numbered xs (suc number) ys
 
 -- after one more, places are one further
-numbered-behind : (x : List ℕ) (xs : List (List ℕ)) (number : ℕ) (ys : List (List ℕ)) → is_in x ys ≡ false →
+numbered-after : (x : List ℕ) (xs : List (List ℕ)) (number : ℕ) (ys : List (List ℕ)) → is_in x ys ≡ false →
     Numbered xs number ys → Numbered (x ∷ xs) (suc number) ys
-numbered-behind x xs number [] h are = tt
-numbered-behind x xs number (y ∷ ys) h are =
+numbered-after x xs number [] h are = tt
+numbered-after x xs number (y ∷ ys) h are =
     let parts = or_parts (bytes_eq y x) (is_in x ys) h in (
       ap (λ b. if b then 1 else suc (place_among xs y)) (bytes_eq-sym x y ∙ parts.0) ∙ ap suc are.0,
-      numbered-behind x xs (suc number) ys parts.1 are.1,
+      numbered-after x xs (suc number) ys parts.1 are.1,
     )
 
 apart-numbered : (xs : List (List ℕ)) → Apart xs → Numbered xs 1 xs
 apart-numbered [] apart = tt
 apart-numbered (x ∷ xs) apart = (
   ap (λ b. if b then 1 else suc (place_among xs x)) (itself x),
-  numbered-behind x xs 1 xs apart.0 (apart-numbered xs apart.1),
+  numbered-after x xs 1 xs apart.0 (apart-numbered xs apart.1),
 )
 
 -- the distinct identifiers are numbered from 1 in their order

@@ -15,7 +15,7 @@ use Rattle.md_meaning.specs.Calls.{Called, number_among, count_among, distinct, 
 use Rattle.md_meaning.specs.Places.{identifier_at}
 use Rattle.md_meaning.specs.Places.{calls_of as calls_in}
 use Rattle.md_meaning.specs.Printed.{is_captured}
-use Rattle.md_meaning.specs.Piece.{Page, Notes, Target}
+use Rattle.md_meaning.specs.Piece.{Sheet, Notes, Target}
 use Rattle.md_meaning.specs.Piece.{Piece as Printed, Text as Said}
 use Rattle.md_meaning.specs.Texts as old
 use Rattle.md_meaning.specs.Media as old_media
@@ -51,10 +51,10 @@ After before notes found =
     × (notes.resource ≡ or_else found.resource before.resource)
     × (notes.heading ≡ unwrap_or found.heading before.heading)
 
-pub record Captured (given : Given) (at : At) (name : Name) (inner : List Piece) (page : Page) : Type 0 where
+pub record Captured (given : Given) (at : At) (name : Name) (inner : List Piece) (sheet : Sheet) : Type 0 where
   pub opens : opening_at given at name ≡ []
-  pub pieces : (notes : Notes) → read notes (closing_at given at page name) ≡ means given at name inner
-  pub after : (notes : Notes) → After notes (noted_after notes (closing_at given at page name))
+  pub pieces : (notes : Notes) → read notes (closing_at given at sheet name) ≡ means given at name inner
+  pub after : (notes : Notes) → After notes (noted_after notes (closing_at given at sheet name))
       (found_at given at name inner)
 
 -- nothing is noted
@@ -66,14 +66,14 @@ quiet before notes e = (
   ap (λ (n : Notes). n.heading) e,
 )
 
-quietly : (given : Given) (at : At) (name : Name) (inner : List Piece) (page : Page) → opening_at given at name ≡ [] →
-    ((notes : Notes) → Says notes (closing_at given at page name) (means given at name inner)) →
-    found_at given at name inner ≡ nothing_found → Captured given at name inner page
-quietly given at name inner page opens says nothing = record {
+quietly : (given : Given) (at : At) (name : Name) (inner : List Piece) (sheet : Sheet) → opening_at given at name ≡ [] →
+    ((notes : Notes) → Says notes (closing_at given at sheet name) (means given at name inner)) →
+    found_at given at name inner ≡ nothing_found → Captured given at name inner sheet
+quietly given at name inner sheet opens says nothing = record {
   opens = opens;
   pieces = λ notes. (says notes).0;
-  after = λ notes. subst (λ found. After notes (noted_after notes (closing_at given at page name)) found)
-      (sym nothing) (quiet notes (noted_after notes (closing_at given at page name)) (says notes).1);
+  after = λ notes. subst (λ found. After notes (noted_after notes (closing_at given at sheet name)) found)
+      (sym nothing) (quiet notes (noted_after notes (closing_at given at sheet name)) (says notes).1);
 }
 
 code-says : (in_image : Bool) (tag text : List ℕ) (notes : Notes) →
@@ -139,9 +139,9 @@ call-says false options identifier number occurrence notes = (refl, refl)
 -- a call, numbered among those so far and among all
 numbered : (given : Given) (at : At) (later : List (List ℕ)) →
     given.calls ≡ (at.before.calls ++ calls_of given.bytes at.children)
-    ++ identifier_at given.bytes (label_in_node at.children) ∷ later → (notes : Notes) (page : Page) →
-    Says notes (closing_at given at page GfmFootnoteCall) (means given at GfmFootnoteCall [])
-numbered given at later calls notes page =
+    ++ identifier_at given.bytes (label_in_node at.children) ∷ later → (notes : Notes) (sheet : Sheet) →
+    Says notes (closing_at given at sheet GfmFootnoteCall) (means given at GfmFootnoteCall [])
+numbered given at later calls notes sheet =
     let identifier : List ℕ = identifier_at given.bytes (label_in_node at.children) in
     let so_far : List (List ℕ) = at.before.calls ++ calls_of given.bytes at.children in
     let b : Bool = at.around.in_image in
@@ -160,105 +160,105 @@ numbered given at later calls notes page =
       says.1,
     )
 
-pub captured : (given : Given) (at : At) (name : Name) (inner : List Piece) (page : Page) (later : List (List ℕ)) →
+pub captured : (given : Given) (at : At) (name : Name) (inner : List Piece) (sheet : Sheet) (later : List (List ℕ)) →
     is_captured name ≡ true →
-    page.text ≡ layout given.ending inner → page.notes.resource ≡ at.found.resource →
-    page.notes.target ≡ target_in at.found →
+    sheet.text ≡ layout given.ending inner → sheet.notes.resource ≡ at.found.resource →
+    sheet.notes.target ≡ target_in at.found →
     (is_call name ≡ true → given.calls ≡ (at.before.calls ++ calls_of given.bytes at.children)
     ++ identifier_at given.bytes (label_in_node at.children) ∷ later) →
-    Captured given at name inner page
-captured given at CodeText inner page later h text resource target calls =
-    let same = code-same at.around.in_table page.text ∙ ap
+    Captured given at name inner sheet
+captured given at CodeText inner sheet later h text resource target calls =
+    let same = code-same at.around.in_table sheet.text ∙ ap
     (λ t. trimmed (if at.around.in_table then without_escapes t else t)) text in
-    quietly given at CodeText inner page refl
-    (λ n. let says = code-says at.around.in_image (codes "<code>") (old.code_text at.around page.text) n in (
+    quietly given at CodeText inner sheet refl
+    (λ n. let says = code-says at.around.in_image (codes "<code>") (old.code_text at.around sheet.text) n in (
       says.0 ∙ ap (λ t. if at.around.in_image then Text t ∷ [] else Text (codes "<code>") ∷ Text t
           ∷ Text (codes "</code>") ∷ []) same,
       says.1,
     )) refl
-captured given at MathText inner page later h text resource target calls =
-    let same = code-same at.around.in_table page.text ∙ ap
+captured given at MathText inner sheet later h text resource target calls =
+    let same = code-same at.around.in_table sheet.text ∙ ap
     (λ t. trimmed (if at.around.in_table then without_escapes t else t)) text in
-    quietly given at MathText inner page refl
+    quietly given at MathText inner sheet refl
     (λ n. let says = code-says at.around.in_image (codes "<code class=\"language-math math-inline\">")
-    (old.code_text at.around page.text) n in (
+    (old.code_text at.around sheet.text) n in (
       says.0 ∙ ap (λ t. if at.around.in_image then Text t ∷ []
           else Text (codes "<code class=\"language-math math-inline\">") ∷ Text t ∷ Text (codes "</code>") ∷ []) same,
       says.1,
     )) refl
-captured given at HeadingSetextText inner page later h text resource target calls = record {
+captured given at HeadingSetextText inner sheet later h text resource target calls = record {
   opens = refl;
   pieces = λ n. refl;
   after = λ n. (refl, refl, refl, text);
 }
-captured given at DefinitionDestinationString inner page later h text resource target calls = record {
+captured given at DefinitionDestinationString inner sheet later h text resource target calls = record {
   opens = refl;
   pieces = λ n. refl;
   after = λ n. (text, refl, refl, refl);
 }
-captured given at ResourceDestinationString inner page later h text resource target calls = record {
+captured given at ResourceDestinationString inner sheet later h text resource target calls = record {
   opens = refl;
   pieces = λ n. refl;
   after = λ n. (text, refl, refl, refl);
 }
-captured given at DefinitionTitleString inner page later h text resource target calls = record {
+captured given at DefinitionTitleString inner sheet later h text resource target calls = record {
   opens = refl;
   pieces = λ n. refl;
   after = λ n. (refl, ap Some text, refl, refl);
 }
-captured given at ResourceTitleString inner page later h text resource target calls = record {
+captured given at ResourceTitleString inner sheet later h text resource target calls = record {
   opens = refl;
   pieces = λ n. refl;
   after = λ n. (refl, ap Some text, refl, refl);
 }
-captured given at Resource inner page later h text resource target calls = record {
+captured given at Resource inner sheet later h text resource target calls = record {
   opens = refl;
   pieces = λ n. refl;
   after = λ n. (refl, refl, ap Some target, refl);
 }
-captured given at Link inner page later h text resource target calls =
+captured given at Link inner sheet later h text resource target calls =
     let leads : Option Target → Target = λ r. unwrap_or r
     (defined_by given (identifier_at given.bytes (referring_in at.children))) in
     let means_so : Target → List ℕ → List Piece = λ t l. if at.around.in_image then Text l ∷ []
     else anchor given.options t l in
-    quietly given at Link inner page refl
-    (λ n. let says = link-says at.around.in_image given.options (leads page.notes.resource) page.text n in (
-      says.0 ∙ ap (λ r. means_so (leads r) page.text) resource ∙ ap (λ l. means_so (leads at.found.resource) l) text,
+    quietly given at Link inner sheet refl
+    (λ n. let says = link-says at.around.in_image given.options (leads sheet.notes.resource) sheet.text n in (
+      says.0 ∙ ap (λ r. means_so (leads r) sheet.text) resource ∙ ap (λ l. means_so (leads at.found.resource) l) text,
       says.1,
     )) refl
-captured given at Image inner page later h text resource target calls =
+captured given at Image inner sheet later h text resource target calls =
     let leads : Option Target → Target = λ r. unwrap_or r
     (defined_by given (identifier_at given.bytes (referring_in at.children))) in
     let means_so : Target → List ℕ → List Piece = λ t l. if at.around.in_image then Text l ∷ []
     else picture given.options t l in
-    quietly given at Image inner page refl
-    (λ n. let says = image-says at.around.in_image given.options (leads page.notes.resource) page.text n in (
-      says.0 ∙ ap (λ r. means_so (leads r) page.text) resource ∙ ap (λ l. means_so (leads at.found.resource) l) text,
+    quietly given at Image inner sheet refl
+    (λ n. let says = image-says at.around.in_image given.options (leads sheet.notes.resource) sheet.text n in (
+      says.0 ∙ ap (λ r. means_so (leads r) sheet.text) resource ∙ ap (λ l. means_so (leads at.found.resource) l) text,
       says.1,
     )) refl
-captured given at GfmFootnoteCall inner page later h text resource target calls =
-    quietly given at GfmFootnoteCall inner page refl (λ n. numbered given at later (calls refl) n page) refl
-captured given at GfmTableCell inner page later h text resource target calls =
+captured given at GfmFootnoteCall inner sheet later h text resource target calls =
+    quietly given at GfmFootnoteCall inner sheet refl (λ n. numbered given at later (calls refl) n sheet) refl
+captured given at GfmTableCell inner sheet later h text resource target calls =
     let kind : Option AlignKind = slice_get at.before.columns (count_by is_cell at.before.spine) in
-    quietly given at GfmTableCell inner page refl
-    (λ n. let says = cell-says at.around.in_head kind page.text n in
+    quietly given at GfmTableCell inner sheet refl
+    (λ n. let says = cell-says at.around.in_head kind sheet.text n in
     (says.0 ∙ ap (λ t. option_map_or (λ k. cell_of at.around.in_head t k) kind []) text, says.1)) refl
-captured given at CodeFencedFenceMeta inner page later h text resource target calls =
-    quietly given at CodeFencedFenceMeta inner page refl (λ n. (refl, refl)) refl
-captured given at MathFlowFenceMeta inner page later h text resource target calls =
-    quietly given at MathFlowFenceMeta inner page refl (λ n. (refl, refl)) refl
-captured given at Frontmatter inner page later h text resource target calls =
-    quietly given at Frontmatter inner page refl (λ n. (refl, refl)) refl
-captured given at Definition inner page later h text resource target calls =
-    quietly given at Definition inner page refl (λ n. (refl, refl)) refl
-captured given at DefinitionLabelString inner page later h text resource target calls =
-    quietly given at DefinitionLabelString inner page refl (λ n. (refl, refl)) refl
-captured given at GfmFootnoteDefinition inner page later h text resource target calls =
-    quietly given at GfmFootnoteDefinition inner page refl (λ n. (refl, refl)) refl
-captured given at GfmFootnoteDefinitionLabelString inner page later h text resource target calls =
-    quietly given at GfmFootnoteDefinitionLabelString inner page refl (λ n. (refl, refl)) refl
-captured given at ReferenceString inner page later h text resource target calls =
-    quietly given at ReferenceString inner page refl (λ n. (refl, refl)) refl
-captured given at GfmTableDelimiterRow inner page later h text resource target calls =
-    quietly given at GfmTableDelimiterRow inner page refl (λ n. (refl, refl)) refl
-captured given at _ inner page later h text resource target calls = lie h
+captured given at CodeFencedFenceMeta inner sheet later h text resource target calls =
+    quietly given at CodeFencedFenceMeta inner sheet refl (λ n. (refl, refl)) refl
+captured given at MathFlowFenceMeta inner sheet later h text resource target calls =
+    quietly given at MathFlowFenceMeta inner sheet refl (λ n. (refl, refl)) refl
+captured given at Frontmatter inner sheet later h text resource target calls =
+    quietly given at Frontmatter inner sheet refl (λ n. (refl, refl)) refl
+captured given at Definition inner sheet later h text resource target calls =
+    quietly given at Definition inner sheet refl (λ n. (refl, refl)) refl
+captured given at DefinitionLabelString inner sheet later h text resource target calls =
+    quietly given at DefinitionLabelString inner sheet refl (λ n. (refl, refl)) refl
+captured given at GfmFootnoteDefinition inner sheet later h text resource target calls =
+    quietly given at GfmFootnoteDefinition inner sheet refl (λ n. (refl, refl)) refl
+captured given at GfmFootnoteDefinitionLabelString inner sheet later h text resource target calls =
+    quietly given at GfmFootnoteDefinitionLabelString inner sheet refl (λ n. (refl, refl)) refl
+captured given at ReferenceString inner sheet later h text resource target calls =
+    quietly given at ReferenceString inner sheet refl (λ n. (refl, refl)) refl
+captured given at GfmTableDelimiterRow inner sheet later h text resource target calls =
+    quietly given at GfmTableDelimiterRow inner sheet refl (λ n. (refl, refl)) refl
+captured given at _ inner sheet later h text resource target calls = lie h

@@ -11,7 +11,7 @@ use Rattle.md_meaning.specs.declared.facts.Surroundings.{Surroundings}
 use Rattle.md_meaning.specs.declared.facts.Container.{Container}
 use Rattle.md_meaning.specs.declared.facts.Container.TheVariants.{TightList}
 use Rattle.md_meaning.specs.declared.options.CompileOptions.{CompileOptions}
-use Rattle.md_meaning.specs.Surroundings.{Mark, Sets, inside, spine_inside, spine_behind, told_by, paragraph_marks}
+use Rattle.md_meaning.specs.Surroundings.{Mark, Sets, inside, spine_inside, spine_after_node, told_by, paragraph_marks}
 use Rattle.md_meaning.specs.Surroundings as machine
 use Rattle.md_meaning.specs.Places.{Before as Stood, before_next as next_stood}
 use Rattle.md_meaning.specs.Meaning.At.{Given, At, Found, is_tight}
@@ -23,7 +23,7 @@ paragraph-marks : (container : Container) → paragraph_marks container ≡ (if 
 paragraph-marks TightList = refl
 paragraph-marks _ = refl
 
-fence-marks : (behind : Bool) → machine.fence_marks behind ≡ (if not behind then Sets ∷ [] else [])
+fence-marks : (earlier : Bool) → machine.fence_marks earlier ≡ (if not earlier then Sets ∷ [] else [])
 fence-marks true = refl
 fence-marks false = refl
 
@@ -43,14 +43,14 @@ marks-same : (options : CompileOptions) (around : Surroundings) (spine : List Na
 marks-same options around spine Empty = refl
 marks-same options around spine (Node name start end children rest) =
     let own : List Mark → List Mark → List Mark → List Mark = λ later here inner. later ++ here ++ inner in
-    let round : Surroundings = inside options (is_loose children) name around in
+    let nested : Surroundings = inside options (is_loose children) name around in
     ap (λ ms. own ms (machine.own_marks around (told_by spine) name)
-    (machine.marks_of options round (spine_inside name spine) children))
-    (marks-same options around (spine_behind name children spine) rest)
-    ∙ ap (λ ms. own (marks_of options around (spine_behind name children spine) rest) ms
-    (machine.marks_of options round (spine_inside name spine) children)) (own-same around spine name)
-    ∙ ap (λ ms. own (marks_of options around (spine_behind name children spine) rest)
-    (own_marks around spine name) ms) (marks-same options round (spine_inside name spine) children)
+    (machine.marks_of options nested (spine_inside name spine) children))
+    (marks-same options around (spine_after_node name children spine) rest)
+    ∙ ap (λ ms. own (marks_of options around (spine_after_node name children spine) rest) ms
+    (machine.marks_of options nested (spine_inside name spine) children)) (own-same around spine name)
+    ∙ ap (λ ms. own (marks_of options around (spine_after_node name children spine) rest)
+    (own_marks around spine name) ms) (marks-same options nested (spine_inside name spine) children)
 
 -- what stands before the next sibling
 pub next-same : (given : Given) (at : At) (name : Name) (found : Found) →
@@ -61,15 +61,15 @@ next-same given at name found =
       calls = at.before.calls ++ cs;
       marks = ms;
       previous = Some name;
-      spine = spine_behind name at.children at.before.spine;
+      spine = spine_after_node name at.children at.before.spine;
       columns = at.before.columns;
     } in
     let node : Forest = Node name at.start at.end at.children Empty in
-    let round : Surroundings = inside given.options (is_loose at.children) name at.around in
+    let nested : Surroundings = inside given.options (is_loose at.children) name at.around in
     let marks : List Mark → List Mark → List Mark = λ own inner. own ++ inner ++ at.before.marks in
-    let inner : List Mark = machine.marks_of given.options round (spine_inside name at.before.spine) at.children in
+    let inner : List Mark = machine.marks_of given.options nested (spine_inside name at.before.spine) at.children in
     ap (λ cs. Made cs (marks (machine.own_marks at.around (told_by at.before.spine) name) inner))
     (calls-same given.bytes node)
     ∙ ap (λ ms. Made (calls_of given.bytes node) (marks ms inner)) (own-same at.around at.before.spine name)
     ∙ ap (λ ms. Made (calls_of given.bytes node) (marks (own_marks at.around at.before.spine name) ms))
-    (marks-same given.options round (spine_inside name at.before.spine) at.children)
+    (marks-same given.options nested (spine_inside name at.before.spine) at.children)

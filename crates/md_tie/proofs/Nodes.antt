@@ -13,17 +13,17 @@ use Rattle.md_pattern.specs.Spine.{shown}
 use Rattle.md_base.specs.Children.{or_else}
 use Rattle.md_base.specs.NameTests.{is_transparent}
 use Rattle.md_meaning.specs.Printed.{is_captured}
-use Rattle.md_meaning.specs.Piece.{Page, Notes, Target, blank, no_notes, lay}
+use Rattle.md_meaning.specs.Piece.{Sheet, Notes, Target, blank, no_notes, lay}
 use Rattle.md_meaning.specs.Piece.{Piece as Printed}
 use Rattle.md_meaning.specs.Meaning.Layout.{Piece, layout}
 use Rattle.md_meaning.specs.Meaning.Finds.{first}
-use Rattle.md_meaning.specs.Meaning.At.{Given, At, Before, Found, nothing_found, found_behind, target_in}
+use Rattle.md_meaning.specs.Meaning.At.{Given, At, Before, Found, nothing_found, found_after, target_in}
 use Rattle.md_meaning.specs.Meaning.Means.{means}
 use Rattle.md_meaning.specs.Meaning.Nodes.{found_at}
 use Rattle.md_tie.proofs.Reading.{read, noted_after, read-append, noted-append, laid-notes, captured-text}
 use Rattle.md_tie.proofs.Sides.{opening_at, closing_at, is_leaf, is_underline, Sides}
 use Rattle.md_tie.proofs.Captured.{Captured, captured, After}
-use Rattle.md_shape.proofs.Underlines.{underlined, waits_behind}
+use Rattle.md_shape.proofs.Underlines.{underlined, waits_after_symbols}
 use Rattle.md_tie.proofs.Silence.{Passes, through, found-through}
 
 -- what the machine prints for a node, by what it prints for the children
@@ -44,8 +44,8 @@ pub record Agree (before : Before) (notes : Notes) (waits : Bool) (printed : Lis
   pub heading : waits ≡ true → (noted_after notes printed).heading
       ≡ unwrap_or (or_else found.heading before.found.heading) []
 
--- a page of its own
-pub record OnPage (given : Given) (inner : List Printed) (pieces : List Piece) (found : Found) : Type 0 where
+-- a sheet of its own
+pub record OnSheet (given : Given) (inner : List Printed) (pieces : List Piece) (found : Found) : Type 0 where
   pub text : (lay given.ending blank inner).text ≡ layout given.ending pieces
   pub resource : (lay given.ending blank inner).notes.resource ≡ found.resource
   pub target : (lay given.ending blank inner).notes.target ≡ target_in found
@@ -54,9 +54,9 @@ or_none : {A : Type 0} (o : Option A) → or_else o None ≡ o
 or_none None = refl
 or_none (Some x) = refl
 
-pub on_page : (given : Given) (before : Before) (waits : Bool) (inner : List Printed) (pieces : List Piece)
-    (found : Found) → Agree before no_notes waits inner pieces found → OnPage given inner pieces found
-on_page given before waits inner pieces found agree =
+pub on_sheet : (given : Given) (before : Before) (waits : Bool) (inner : List Printed) (pieces : List Piece)
+    (found : Found) → Agree before no_notes waits inner pieces found → OnSheet given inner pieces found
+on_sheet given before waits inner pieces found agree =
     let notes : Notes = noted_after no_notes inner in
     let Made : List ℕ → Option (List ℕ) → Target = λ d t. record { destination = d; title = t } in
     record {
@@ -72,7 +72,8 @@ on_page given before waits inner pieces found agree =
 -- a heading that waits after a node that isn't transparent is what it found, or waited before
 waiting : (given : Given) (at : At) (name : Name) (inner : List Piece) (waits : Bool) (symbols : List Symbol) →
     is_transparent name ≡ false →
-    waits_behind waits (shown (standing_of name) symbols) ≡ true → (found_at given at name inner).heading ≡ None →
+    waits_after_symbols waits (shown (standing_of name) symbols) ≡ true →
+    (found_at given at name inner).heading ≡ None →
     waits ≡ true
 waiting given at HeadingSetextText inner waits symbols solid h none = lie (sym (ap is_some none))
 waiting given at LineEnding inner waits symbols solid h none = h
@@ -89,7 +90,8 @@ waiting given at _ inner waits symbols solid h none = lie h
 -- and where it isn't captured, it is a leaf
 waiting_leaf : (name : Name) (waits : Bool) (symbols : List Symbol) → is_captured name ≡ false →
     is_transparent name ≡ false → (standing_of name ≡ Mdx → ⊥) →
-    waits_behind waits (shown (standing_of name) symbols) ≡ true → (is_leaf (standing_of name) ≡ true) × (waits ≡ true)
+    waits_after_symbols waits (shown (standing_of name) symbols) ≡ true →
+    (is_leaf (standing_of name) ≡ true) × (waits ≡ true)
 waiting_leaf HeadingSetextText waits symbols streamed solid known h = lie (sym streamed)
 waiting_leaf LineEnding waits symbols streamed solid known h = (refl, h)
 waiting_leaf BlockQuotePrefix waits symbols streamed solid known h = lie (sym solid)
@@ -128,13 +130,13 @@ pub captured_node : (given : Given) (at : At) (name : Name) (notes : Notes) (wai
     (inner : List Printed) (pieces : List Piece) →
     is_transparent name ≡ false → (waits ≡ true → notes.heading ≡ unwrap_or at.before.found.heading []) →
     Captured given at name pieces (lay given.ending blank inner) →
-    Agree at.before notes (waits_behind waits (shown (standing_of name) symbols))
+    Agree at.before notes (waits_after_symbols waits (shown (standing_of name) symbols))
     (node_printed given at name inner true) (means given at name pieces) (found_at given at name pieces)
 captured_node given at name notes waits symbols inner pieces solid known c =
-    let page : Page = lay given.ending blank inner in
+    let sheet : Sheet = lay given.ending blank inner in
     let found : Found = found_at given at name pieces in
-    let shut : node_printed given at name inner true ≡ closing_at given at page name =
-    ap (λ ps. ps ++ closing_at given at page name) c.opens in
+    let shut : node_printed given at name inner true ≡ closing_at given at sheet name =
+    ap (λ ps. ps ++ closing_at given at sheet name) c.opens in
     let after : After notes (noted_after notes (node_printed given at name inner true)) found =
     subst (λ ps. After notes (noted_after notes ps) found) (sym shut) (c.after notes) in
     record {
@@ -161,22 +163,22 @@ pub streamed_node : (given : Given) (at : At) (name : Name) (notes : Notes) (wai
     ((noted_after notes inner).resource ≡ notes.resource) →
     (is_leaf (standing_of name) ≡ true → inner ≡ []) → (is_leaf (standing_of name) ≡ true → pieces ≡ []) →
     Sides given at name →
-    Agree at.before notes (waits_behind waits (shown (standing_of name) symbols))
+    Agree at.before notes (waits_after_symbols waits (shown (standing_of name) symbols))
     (node_printed given at name inner false) (means given at name pieces) (found_at given at name pieces)
 streamed_node given at name notes waits symbols inner pieces streamed solid standing known here pieces_are destination
     title resource none nothing s =
     let opened : List Printed = opening_at given at name in
     let closed : List Printed = closing_at given at blank name in
-    let behind : Notes = noted_after notes inner in
-    let recalls : is_underline name ≡ true → behind.heading ≡ unwrap_or at.before.found.heading [] = λ u.
+    let after : Notes = noted_after notes inner in
+    let recalls : is_underline name ≡ true → after.heading ≡ unwrap_or at.before.found.heading [] = λ u.
     ap (λ ps. (noted_after notes ps).heading) (none (underline_leaf name waits symbols u here).0)
     ∙ known (underline_leaf name waits symbols u here).1
     in
-    let noted : noted_after notes (opened ++ (inner ++ closed)) ≡ behind =
+    let noted : noted_after notes (opened ++ (inner ++ closed)) ≡ after =
     noted-append notes opened (inner ++ closed)
     ∙ ap (λ n. noted_after n (inner ++ closed)) (s.opens notes).1
     ∙ noted-append notes inner closed
-    ∙ (s.closes behind recalls).1
+    ∙ (s.closes after recalls).1
     in
     let found_is : found_at given at name pieces ≡ nothing_found = nothing_at given at name pieces streamed solid in
     record {
@@ -185,8 +187,8 @@ streamed_node given at name notes waits symbols inner pieces streamed solid stan
           ∙ ap (λ n. read notes opened ++ read n (inner ++ closed)) (s.opens notes).1
           ∙ ap (λ ps. ps ++ read notes (inner ++ closed)) (s.opens notes).0
           ∙ ap (λ ps. s.front ++ ps) (read-append notes inner closed)
-          ∙ ap (λ ps. s.front ++ (ps ++ read behind closed)) pieces_are
-          ∙ ap (λ ps. s.front ++ (pieces ++ ps)) (s.closes behind recalls).0
+          ∙ ap (λ ps. s.front ++ (ps ++ read after closed)) pieces_are
+          ∙ ap (λ ps. s.front ++ (pieces ++ ps)) (s.closes after recalls).0
           ∙ s.whole pieces nothing;
       destination = ap (λ (n : Notes). n.target.destination) noted ∙ destination
           ∙ ap (λ (f : Found). unwrap_or f.destination notes.target.destination) (sym found_is);
@@ -212,10 +214,10 @@ pub through_node : (given : Given) (at : At) (name : Name) (before : Before) (no
 through_node given at name before notes waits waits' inner pieces transparent heading same agree =
     let passes : Passes given at name = through given at name transparent in
     let c : Bool = is_captured name in
-    let page : Bool → Page = λ b. if b then lay given.ending blank inner else blank in
+    let sheet : Bool → Sheet = λ b. if b then lay given.ending blank inner else blank in
     let is : node_printed given at name inner c ≡ inner =
-    ap (λ ps. ps ++ ((if c then [] else inner) ++ closing_at given at (page c) name)) passes.opens
-    ∙ ap (λ ps. (if c then [] else inner) ++ ps) (passes.closes (page c))
+    ap (λ ps. ps ++ ((if c then [] else inner) ++ closing_at given at (sheet c) name)) passes.opens
+    ∙ ap (λ ps. (if c then [] else inner) ++ ps) (passes.closes (sheet c))
     ∙ ap (λ b. (if b then [] else inner) ++ []) passes.caught
     ∙ append-nil inner
     in
@@ -246,9 +248,9 @@ else_twice (Some x) p d = refl
 -- one after another
 pub agree_both : (before next : Before) (notes : Notes) (waits later_waits : Bool) (first later : List Printed)
     (pieces more : List Piece) (found rest : Found) →
-    next.found ≡ found_behind before.found found →
+    next.found ≡ found_after before.found found →
     Agree before notes waits first pieces found → Agree next (noted_after notes first) later_waits later more rest →
-    Agree before notes later_waits (first ++ later) (pieces ++ more) (found_behind found rest)
+    Agree before notes later_waits (first ++ later) (pieces ++ more) (found_after found rest)
 agree_both before next notes waits later_waits first later pieces more found rest is one two =
     let noted = noted-append notes first later in
     record {

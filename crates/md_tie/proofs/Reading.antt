@@ -3,9 +3,9 @@
 use Rattle.std.proofs.Common.{◌≡◌, ℕ, true, List, [], ◌∷◌, ◌++◌, refl, ap, ◌∙◌, Option, Some, None}
 use Rattle.std.specs.Prelude.{if◌then◌else◌, length, ◌-◌, slice_get, ◌||◌, ◌==◌}
 use Rattle.std.specs.Option.{option_map_or}
-use Rattle.md_meaning.specs.Piece.{Page, Notes, with_note, lay, blank, no_notes, ends_line, is_line_start}
+use Rattle.md_meaning.specs.Piece.{Sheet, Notes, with_note, lay, blank, no_notes, ends_line, is_line_start}
 use Rattle.md_meaning.specs.Piece.{Piece as Printed, Text as Said, Needed as Wanted, Forced as Added, Noted, Recalled}
-use Rattle.md_meaning.specs.Meaning.Layout.{Piece, Text, Needed, Forced, begins_line, behind, layout}
+use Rattle.md_meaning.specs.Meaning.Layout.{Piece, Text, Needed, Forced, begins_line, laid_after, layout}
 
 -- pieces of the meaning; a heading that is recalled is the one that was noted last
 abbrev pub read : Notes → List Printed → List Piece
@@ -50,32 +50,33 @@ ends-same (Some byte) = refl
 line-same : (text : List ℕ) → is_line_start text ≡ begins_line text
 line-same text = ends-same (slice_get text (length text - 1))
 
--- a page's text and its notes
-pub laid-text : (ending : List ℕ) (page : Page) (pieces : List Printed) →
-    (lay ending page pieces).text ≡ behind ending page.text (read page.notes pieces)
-laid-text ending page [] = refl
-laid-text ending page (Said text ∷ pieces) = laid-text ending (record page { text = page.text ++ text }) pieces
-laid-text ending page (Wanted ∷ pieces) =
-    laid-text ending (record page { text = if is_line_start page.text then page.text else page.text ++ ending }) pieces
-    ∙ ap (λ b. behind ending (if b then page.text else page.text ++ ending) (read page.notes pieces))
-    (line-same page.text)
-laid-text ending page (Added ∷ pieces) = laid-text ending (record page { text = page.text ++ ending }) pieces
-laid-text ending page (Noted note ∷ pieces) = laid-text ending
-    (record page { notes = with_note note page.notes }) pieces
-laid-text ending page (Recalled ∷ pieces) = laid-text ending
-    (record page { text = page.text ++ page.notes.heading }) pieces
+-- a sheet's text and its notes
+pub laid-text : (ending : List ℕ) (sheet : Sheet) (pieces : List Printed) →
+    (lay ending sheet pieces).text ≡ laid_after ending sheet.text (read sheet.notes pieces)
+laid-text ending sheet [] = refl
+laid-text ending sheet (Said text ∷ pieces) = laid-text ending (record sheet { text = sheet.text ++ text }) pieces
+laid-text ending sheet (Wanted ∷ pieces) =
+    laid-text ending
+    (record sheet { text = if is_line_start sheet.text then sheet.text else sheet.text ++ ending }) pieces
+    ∙ ap (λ b. laid_after ending (if b then sheet.text else sheet.text ++ ending) (read sheet.notes pieces))
+    (line-same sheet.text)
+laid-text ending sheet (Added ∷ pieces) = laid-text ending (record sheet { text = sheet.text ++ ending }) pieces
+laid-text ending sheet (Noted note ∷ pieces) = laid-text ending
+    (record sheet { notes = with_note note sheet.notes }) pieces
+laid-text ending sheet (Recalled ∷ pieces) = laid-text ending
+    (record sheet { text = sheet.text ++ sheet.notes.heading }) pieces
 
-pub laid-notes : (ending : List ℕ) (page : Page) (pieces : List Printed) →
-    (lay ending page pieces).notes ≡ noted_after page.notes pieces
-laid-notes ending page [] = refl
-laid-notes ending page (Said text ∷ pieces) = laid-notes ending (record page { text = page.text ++ text }) pieces
-laid-notes ending page (Wanted ∷ pieces) = laid-notes ending
-    (record page { text = if is_line_start page.text then page.text else page.text ++ ending }) pieces
-laid-notes ending page (Added ∷ pieces) = laid-notes ending (record page { text = page.text ++ ending }) pieces
-laid-notes ending page (Noted note ∷ pieces) = laid-notes ending
-    (record page { notes = with_note note page.notes }) pieces
-laid-notes ending page (Recalled ∷ pieces) = laid-notes ending
-    (record page { text = page.text ++ page.notes.heading }) pieces
+pub laid-notes : (ending : List ℕ) (sheet : Sheet) (pieces : List Printed) →
+    (lay ending sheet pieces).notes ≡ noted_after sheet.notes pieces
+laid-notes ending sheet [] = refl
+laid-notes ending sheet (Said text ∷ pieces) = laid-notes ending (record sheet { text = sheet.text ++ text }) pieces
+laid-notes ending sheet (Wanted ∷ pieces) = laid-notes ending
+    (record sheet { text = if is_line_start sheet.text then sheet.text else sheet.text ++ ending }) pieces
+laid-notes ending sheet (Added ∷ pieces) = laid-notes ending (record sheet { text = sheet.text ++ ending }) pieces
+laid-notes ending sheet (Noted note ∷ pieces) = laid-notes ending
+    (record sheet { notes = with_note note sheet.notes }) pieces
+laid-notes ending sheet (Recalled ∷ pieces) = laid-notes ending
+    (record sheet { text = sheet.text ++ sheet.notes.heading }) pieces
 
 -- by itself
 pub captured-text : (ending : List ℕ) (printed : List Printed) (pieces : List Piece) →

@@ -18,7 +18,7 @@ use Rattle.md_pattern.specs.Standing.{standing_of}
 use Rattle.md_pattern.specs.Pattern.{pattern_of}
 use Rattle.md_pattern.specs.Spine.{IsTail, Matches}
 use Rattle.md_pattern.specs.Shape.{role_for, prefix_in}
-use Rattle.md_shape.proofs.Letters.{letters, fits-all, grouped-all, followed-all, by_behind}
+use Rattle.md_shape.proofs.Letters.{letters, fits-all, grouped-all, followed-all, by_after}
 use Rattle.md_shape.proofs.Symbols.{roles_for}
 use Rattle.md_meaning.specs.Printed.{is_captured}
 use Rattle.md_tie.proofs.Sides.{is_leaf}
@@ -61,7 +61,7 @@ solid-quiet : (s : Symbol) (usual around : Role) (before : Option Symbol) (spine
     Matches (role_for around before usual) spine → list_all quiet spine ≡ true
 solid-quiet s usual around before spine h m =
     followed-all quiet refl m.0 spine m.1 (fits-all quiet (pattern_of (role_for around before usual)) m.0 m.2
-    (by_behind quiet_role around before usual h.0 h.1))
+    (by_after quiet_role around before usual h.0 h.1))
 
 abbrev pub QuietInside : Standing → Type 0
 QuietInside (Solid s usual reading) = (around : Role) (before : Option Symbol) (spine : List Symbol) →

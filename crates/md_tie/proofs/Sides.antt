@@ -26,7 +26,7 @@ use Rattle.md_meaning.specs.Given.{Given as Source}
 use Rattle.md_meaning.specs.Places.{ahead_of, left_of, passed_over, without_zeros}
 use Rattle.md_meaning.specs.Places.{Before as Stood}
 use Rattle.md_meaning.specs.Printed.{opening, closing, is_captured}
-use Rattle.md_meaning.specs.Piece.{Page, Notes, blank}
+use Rattle.md_meaning.specs.Piece.{Sheet, Notes, blank}
 use Rattle.md_meaning.specs.Piece.{Piece as Printed, Text as Said, Needed as Wanted, Forced as Added}
 use Rattle.md_meaning.specs.Blocks as old
 use Rattle.md_meaning.specs.Tables as old_tables
@@ -66,10 +66,10 @@ stood before = record {
 abbrev pub opening_at : Given → At → Name → List Printed
 opening_at given at name = opening (source_of given) at.around (ahead_of at.children) name
 
-abbrev pub closing_at : Given → At → Page → Name → List Printed
-closing_at given at page name =
+abbrev pub closing_at : Given → At → Sheet → Name → List Printed
+closing_at given at sheet name =
     closing (source_of given) at.around (left_of given.bytes (stood at.before) at.children) (ahead_of at.children)
-    (passed_over (spine_inside name at.before.spine) at.children) at.is_last at.start at.end page name
+    (passed_over (spine_inside name at.before.spine) at.children) at.is_last at.start at.end sheet name
 
 -- nothing that prints stands in a node
 abbrev pub is_leaf : Standing → Bool

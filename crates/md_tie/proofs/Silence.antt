@@ -24,10 +24,10 @@ use Rattle.md_meaning.specs.declared.facts.Surroundings.{Surroundings}
 use Rattle.md_meaning.specs.Surroundings.{inside}
 use Rattle.md_meaning.specs.Places.{Before as Stood, before_children as children_stood, before_next as next_stood}
 use Rattle.md_meaning.specs.Printed.{is_captured, printed}
-use Rattle.md_meaning.specs.Piece.{Page, blank, lay}
+use Rattle.md_meaning.specs.Piece.{Sheet, blank, lay}
 use Rattle.md_meaning.specs.Piece.{Piece as Printed}
 use Rattle.md_meaning.specs.Meaning.Layout.{Piece}
-use Rattle.md_meaning.specs.Meaning.At.{Given, At, Before, Found, nothing_found, found_behind}
+use Rattle.md_meaning.specs.Meaning.At.{Given, At, Before, Found, nothing_found, found_after}
 use Rattle.md_meaning.specs.Meaning.Before.{before_children, before_next}
 use Rattle.md_meaning.specs.Meaning.Means.{means}
 use Rattle.md_meaning.specs.Meaning.Nodes.{Meant, meant, found_at}
@@ -43,14 +43,14 @@ all-parts test xs ys h = and_parts (list_all test xs) (list_all test ys) (sym (l
 -- a node prints what its children do, and that is all
 pub record Passes (given : Given) (at : At) (name : Name) : Type 0 where
   pub opens : opening_at given at name ≡ []
-  pub closes : (page : Page) → closing_at given at page name ≡ []
+  pub closes : (sheet : Sheet) → closing_at given at sheet name ≡ []
   pub is : (inner : List Piece) → means given at name inner ≡ inner
   pub caught : is_captured name ≡ false
 
 pub through : (given : Given) (at : At) (name : Name) → is_transparent name ≡ true → Passes given at name
-through given at BlockQuotePrefix h = record { opens = refl; closes = λ page. refl; is = λ inner. refl; caught = refl }
-through given at SpaceOrTab h = record { opens = refl; closes = λ page. refl; is = λ inner. refl; caught = refl }
-through given at (Other number) h = record { opens = refl; closes = λ page. refl; is = λ inner. refl; caught = refl }
+through given at BlockQuotePrefix h = record { opens = refl; closes = λ sheet. refl; is = λ inner. refl; caught = refl }
+through given at SpaceOrTab h = record { opens = refl; closes = λ sheet. refl; is = λ inner. refl; caught = refl }
+through given at (Other number) h = record { opens = refl; closes = λ sheet. refl; is = λ inner. refl; caught = refl }
 through given at _ h = lie h
 
 pub found-through : (given : Given) (at : At) (name : Name) (inner : List Piece) → is_transparent name ≡ true →
@@ -65,10 +65,11 @@ silent_standing (Solid s usual reading) = silent s
 silent_standing _ = false
 
 silent_name : (given : Given) (at : At) (name : Name) → silent_standing (standing_of name) ≡ true → Passes given at name
-silent_name given at ListItemValue h = record { opens = refl; closes = λ page. refl; is = λ inner. refl; caught = refl }
+silent_name given at ListItemValue h =
+    record { opens = refl; closes = λ sheet. refl; is = λ inner. refl; caught = refl }
 silent_name given at ListItemMarker h = record {
   opens = refl;
-  closes = λ page. refl;
+  closes = λ sheet. refl;
   is = λ inner. refl;
   caught = refl;
 }
@@ -131,21 +132,21 @@ pub silent-printed : (given : Given) (forest : Forest) (around : Surroundings) (
 silent-printed given Empty around before r b shaped h = refl
 silent-printed given (Node name start end children rest) around before r b shaped h =
     let parts = all-parts silent (shown (standing_of name) (spine children)) (spine rest) h in
-    let round : Surroundings = inside given.options (is_loose children) name around in
-    let inner : List Printed = printed (source_of given) round (children_stood name children before) children in
+    let nested : Surroundings = inside given.options (is_loose children) name around in
+    let inner : List Printed = printed (source_of given) nested (children_stood name children before) children in
     let at : At = node_at around (before_of before) children start end (around.is_outermost
     && is_empty rest) nothing_found in
     let passes : Passes given at name = passes_by given at name children r b shaped.0.1 parts.0 in
-    let page : Bool → Page = λ c. if c then lay given.ending blank inner else blank in
-    let none : inner ≡ [] = inside_silent (λ f. printed (source_of given) round
+    let sheet : Bool → Sheet = λ c. if c then lay given.ending blank inner else blank in
+    let none : inner ≡ [] = inside_silent (λ f. printed (source_of given) nested
     (children_stood name children before) f ≡ []) (standing_of name) children r b
-    (λ r' b' shaped' h'. silent-printed given children round (children_stood name children before) r' b' shaped' h')
+    (λ r' b' shaped' h'. silent-printed given children nested (children_stood name children before) r' b' shaped' h')
     refl shaped.0.1 shaped.1 parts.0 (silent-leaf name) in
     let later : List Printed = printed (source_of given) around
     (next_stood (source_of given) around name start end children before) rest in
     let c : Bool = is_captured name in
-    ap (λ ps. (ps ++ ((if c then [] else inner) ++ closing_at given at (page c) name)) ++ later) passes.opens
-    ∙ ap (λ ps. ((if c then [] else inner) ++ ps) ++ later) (passes.closes (page c))
+    ap (λ ps. (ps ++ ((if c then [] else inner) ++ closing_at given at (sheet c) name)) ++ later) passes.opens
+    ∙ ap (λ ps. ((if c then [] else inner) ++ ps) ++ later) (passes.closes (sheet c))
     ∙ ap (λ b'. ((if b' then [] else inner) ++ []) ++ later) passes.caught
     ∙ ap (λ ps. (ps ++ []) ++ later) none
     ∙ silent-printed given rest around (next_stood (source_of given) around name start end children before) _ _
@@ -158,13 +159,13 @@ pub silent-meant : (given : Given) (forest : Forest) (around : Surroundings) (be
 silent-meant given Empty around before r b shaped h = refl
 silent-meant given (Node name start end children rest) around before r b shaped h =
     let parts = all-parts silent (shown (standing_of name) (spine children)) (spine rest) h in
-    let round : Surroundings = inside given.options (is_loose children) name around in
-    let inner : Meant = meant given round (before_children name children before) children in
+    let nested : Surroundings = inside given.options (is_loose children) name around in
+    let inner : Meant = meant given nested (before_children name children before) children in
     let at : At = node_at around before children start end (around.is_outermost && is_empty rest) inner.found in
     let passes : Passes given at name = passes_by given at name children r b shaped.0.1 parts.0 in
-    let none : inner.pieces ≡ [] = inside_silent (λ f. (meant given round
+    let none : inner.pieces ≡ [] = inside_silent (λ f. (meant given nested
     (before_children name children before) f).pieces ≡ []) (standing_of name) children r b
-    (λ r' b' shaped' h'. silent-meant given children round (before_children name children before) r' b' shaped' h')
+    (λ r' b' shaped' h'. silent-meant given children nested (before_children name children before) r' b' shaped' h')
     refl shaped.0.1 shaped.1 parts.0 (silent-leaf name) in
     let next : Before = before_next given at name (found_at given at name inner.pieces) in
     ap (λ ps. ps ++ (meant given around next rest).pieces) (passes.is inner.pieces ∙ none)
@@ -211,7 +212,7 @@ empty_found : (given : Given) (around : Surroundings) (before : Before) (childre
 empty_found given around before children e = subst (λ f. Untargeted (meant given around before f).found) (sym e)
     (refl, refl, refl)
 
-both_untargeted : (first later : Found) → Untargeted first → Untargeted later → Untargeted (found_behind first later)
+both_untargeted : (first later : Found) → Untargeted first → Untargeted later → Untargeted (found_after first later)
 both_untargeted first later f l = (
   ap (λ o. or_else o first.destination) l.0 ∙ f.0,
   ap (λ o. or_else o first.title) l.1 ∙ f.1,
@@ -224,14 +225,14 @@ pub quiet-found : (given : Given) (forest : Forest) (around : Surroundings) (bef
 quiet-found given Empty around before r b shaped h = (refl, refl, refl)
 quiet-found given (Node name start end children rest) around before r b shaped h =
     let parts = all-parts quiet (shown (standing_of name) (spine children)) (spine rest) h in
-    let round : Surroundings = inside given.options (is_loose children) name around in
-    let inner : Meant = meant given round (before_children name children before) children in
+    let nested : Surroundings = inside given.options (is_loose children) name around in
+    let inner : Meant = meant given nested (before_children name children before) children in
     let at : At = node_at around before children start end (around.is_outermost && is_empty rest) inner.found in
     let found : Found = found_at given at name inner.pieces in
     let next : Before = before_next given at name found in
     both_untargeted found (meant given around next rest).found
     (quiet_here given at (standing_of name) name children inner.pieces r b (told name) shaped.0.1 parts.0 shaped.1
-    (λ r' b' shaped' h'. quiet-found given children round (before_children name children before) r' b' shaped' h')
-    (empty_found given round (before_children name children before) children)
+    (λ r' b' shaped' h'. quiet-found given children nested (before_children name children before) r' b' shaped' h')
+    (empty_found given nested (before_children name children before) children)
     (quiet_own given at name inner.pieces))
     (quiet-found given rest around next _ _ shaped.2 parts.1)

@@ -4,7 +4,7 @@ use Rattle.std.specs.Prelude.{unwrap_or}
 use Rattle.md_base.specs.Tree.{Forest, Empty, Node}
 use Rattle.md_base.specs.NameTests.{contributes}
 use Rattle.md_base.specs.Children.{or_else}
-use Rattle.md_infer.specs.Partners.{behind, last_contributing_at}
+use Rattle.md_infer.specs.Partners.{index_after, last_contributing_at}
 use Rattle.md_infer.specs.Facts.{contributing_over}
 use Rattle.md_tree.specs.Found.{index_if}
 
@@ -18,7 +18,7 @@ contributing-over : (forest : Forest) (index before : ℕ) →
     contributing_over index forest before ≡ unwrap_or (last_contributing_at index forest) before
 contributing-over Empty index before = refl
 contributing-over (Node name start end children rest) index before =
-    let later = suc (behind (suc index) children) in
+    let later = suc (index_after (suc index) children) in
     contributing-over rest later (cond (contributes name) index before)
     ∙ one_more (last_contributing_at later rest) (contributes name) index before
 
@@ -34,8 +34,8 @@ there : (forest : Forest) (index : ℕ) → index_if (unwrap_or (last_contributi
     ≡ last_contributing_at (suc index) forest
 there Empty index = refl
 there (Node name start end children rest) index =
-    there_with (last_contributing_at (suc (behind (suc (suc index)) children)) rest) (contributes name) index
-    (there rest (behind (suc (suc index)) children))
+    there_with (last_contributing_at (suc (index_after (suc (suc index)) children)) rest) (contributes name) index
+    (there rest (index_after (suc (suc index)) children))
 
 pub contributing-found : (children : Forest) (index : ℕ) →
     index_if (contributing_over (suc index) children 0) ≡ last_contributing_at (suc index) children

@@ -9,11 +9,11 @@ use Rattle.md_base.specs.declared.event.Name.{Name}
 use Rattle.md_base.specs.declared.event.Name.TheVariants.{Definition}
 use Rattle.md_base.specs.Tree.{Forest, Empty, Node, flatten, entering, exiting}
 use Rattle.md_base.specs.NameTests.{is_link_definition}
-use Rattle.md_infer.specs.Partners.{behind, definitions_of}
+use Rattle.md_infer.specs.Partners.{index_after, definitions_of}
 use Rattle.md_tree.specs.Texts.{EntersAt}
 use Rattle.md_infer.proofs.Passing.{length_one}
 use Rattle.md_tree.proofs.Entering.{get_at}
-use Rattle.md_tree.proofs.Placing.{at_entry, in_node, behind_node, length_events}
+use Rattle.md_tree.proofs.Placing.{at_entry, in_node, after_node, length_events}
 
 own_definition : (events : List Event) (index : ℕ) (name : Name) (start : Point) →
     slice_get events index ≡ Some (entering name start) →
@@ -32,7 +32,7 @@ all_definitions : (events : List Event) (forest : Forest) (index : ℕ) (seen la
     All (λ i. EntersAt events i Definition) (definitions_of index forest)
 all_definitions events Empty index seen later e same = All-nil (λ i. EntersAt events i Definition)
 all_definitions events (Node name start end children rest) index seen later e same =
-    let exit = behind (suc index) children in
+    let exit = index_after (suc index) children in
     let first = entering name start in
     let last = exiting name end in
     let inner = flatten children in
@@ -49,7 +49,7 @@ all_definitions events (Node name start end children rest) index seen later e sa
     (All-append holds own (definitions_of (suc exit) rest) (own_definition events index name start there)
     (all_definitions events rest (suc exit) (((seen ++ first ∷ []) ++ inner) ++ last
     ∷ []) later (length_one ((seen ++ first ∷ []) ++ inner) last
-    ∙ ap suc inside) (behind_node events seen inner (flatten rest) later first last same)))
+    ∙ ap suc inside) (after_node events seen inner (flatten rest) later first last same)))
 
 -- those of a document
 pub definitions-entered : (events : List Event) (forest : Forest) → flatten forest ≡ events →

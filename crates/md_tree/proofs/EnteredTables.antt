@@ -18,8 +18,8 @@ use Rattle.md_tree.specs.Texts.{EntersAt}
 use Rattle.md_tree.specs.Entered.{children_of, IsEnteredAt}
 use Rattle.md_tree.specs.Tables.{IsTable}
 use Rattle.md_tree.proofs.Indexed.{flatten_one}
-use Rattle.md_infer.specs.Partners.{behind}
-use Rattle.md_infer.specs.Facts.{tables_with, tables_behind}
+use Rattle.md_infer.specs.Partners.{index_after}
+use Rattle.md_infer.specs.Facts.{tables_with, tables_after}
 use Rattle.md_tree.proofs.Entering.{Row, entry_row, exit_row, rows_of, past_row, inside_rows, event_there, children_there}
 
 -- a table has its shape
@@ -45,8 +45,8 @@ rows_shaped : (forest : Forest) (index tables : ℕ) (around : Role) (before : O
 rows_shaped Empty index tables around before shaped = All-nil IsTableRow
 rows_shaped (Node name start end children rest) index tables around before shaped =
     let st = standing_of name in
-    let exit_index = behind (suc index) children in
-    let more = tables_with name (tables_behind tables children) in
+    let exit_index = index_after (suc index) children in
+    let more = tables_with name (tables_after tables children) in
     let entry : Row = entry_row index tables name (entering name start) children in
     let exit : Row = exit_row exit_index index name start end in
     let exit_table : IsTableRow exit = λ is other e. cc in

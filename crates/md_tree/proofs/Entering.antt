@@ -20,9 +20,9 @@ use Rattle.md_tree.specs.Grammar.{Document}
 use Rattle.md_tree.specs.Rules.{place}
 use Rattle.md_tree.specs.Texts.{EntersAt, positions_of}
 use Rattle.md_tree.specs.Entered.{children_of, IsEnteredAt, EntersNode}
-use Rattle.md_infer.specs.Partners.{behind, partners_of}
+use Rattle.md_infer.specs.Partners.{index_after, partners_of}
 use Rattle.md_infer.specs.Columns.{tables_of}
-use Rattle.md_infer.specs.Facts.{partner_alone, tables_with, tables_behind, fact_at, facts_of, facts_at, tables_at}
+use Rattle.md_infer.specs.Facts.{partner_alone, tables_with, tables_after, fact_at, facts_of, facts_at, tables_at}
 use Rattle.md_infer.proofs.Passing.{facts-flatten, tables-flatten, length_table, length_tables}
 
 -- an event, its index, what is found at it, at an entry the node's children, and at an exit where the node lies
@@ -57,24 +57,24 @@ rows_of index tables Empty = []
 rows_of index tables (Node name start end children rest) =
     entry_row index tables name (entering name start) children
     ∷ rows_of (suc index) tables children
-    ++ exit_row (behind (suc index) children) index name start end
-    ∷ rows_of (suc (behind (suc index) children)) (tables_with name (tables_behind tables children)) rest
+    ++ exit_row (index_after (suc index) children) index name start end
+    ∷ rows_of (suc (index_after (suc index) children)) (tables_with name (tables_after tables children)) rest
 
 -- a column of the rows, where it is so of each node
 module _ {A : Type 0} (of_row : Row → A) (column : ℕ → ℕ → Forest → List A) (at_end : (index tables : ℕ) →
     column index tables Empty ≡ []) (at_node : (index tables : ℕ) (name : Name) (start end : Point)
     (children rest : Forest) → column index tables (Node name start end children rest)
     ≡ of_row (entry_row index tables name (entering name start) children)
-    ∷ (column (suc index) tables children ++ of_row (exit_row (behind (suc index) children) index name start end)
-    ∷ column (suc (behind (suc index) children)) (tables_with name (tables_behind tables children)) rest)) where
+    ∷ (column (suc index) tables children ++ of_row (exit_row (index_after (suc index) children) index name start end)
+    ∷ column (suc (index_after (suc index) children)) (tables_with name (tables_after tables children)) rest)) where
   pub column_rows : (forest : Forest) (index tables : ℕ) →
       map of_row (rows_of index tables forest) ≡ column index tables forest
   column_rows Empty index tables = sym (at_end index tables)
   column_rows (Node name start end children rest) index tables =
       let entry = of_row (entry_row index tables name (entering name start) children) in
-      let exit = exit_row (behind (suc index) children) index name start end in
-      let more = tables_with name (tables_behind tables children) in
-      let later = suc (behind (suc index) children) in
+      let exit = exit_row (index_after (suc index) children) index name start end in
+      let more = tables_with name (tables_after tables children) in
+      let later = suc (index_after (suc index) children) in
       ap (λ xs. entry ∷ xs)
       (map-append of_row (rows_of (suc index) tables children) (exit ∷ rows_of later more rest)
       ∙ ap (λ xs. xs ++ of_row exit ∷ map of_row (rows_of later more rest)) (column_rows children (suc index) tables)
@@ -112,17 +112,17 @@ numbered_append [] ys index middle next p q = subst (λ n. Numbered n ys next) (
 numbered_append (row ∷ xs) ys index middle next p q = (p.0, numbered_append xs ys (suc index) middle next p.1 q)
 
 pub numbered_rows : (forest : Forest) (index tables : ℕ) →
-    Numbered index (rows_of index tables forest) (behind index forest)
+    Numbered index (rows_of index tables forest) (index_after index forest)
 numbered_rows Empty index tables = refl
 numbered_rows (Node name start end children rest) index tables =
-    let exit = behind (suc index) children in (
+    let exit = index_after (suc index) children in (
       refl,
       numbered_append (rows_of (suc index) tables children) (exit_row exit index name start end
-          ∷ rows_of (suc exit) (tables_with name (tables_behind tables children)) rest) (suc index) exit
-          (behind (suc exit) rest)
+          ∷ rows_of (suc exit) (tables_with name (tables_after tables children)) rest) (suc index) exit
+          (index_after (suc exit) rest)
           (numbered_rows children (suc index) tables) (
             refl,
-            numbered_rows rest (suc exit) (tables_with name (tables_behind tables children)),
+            numbered_rows rest (suc exit) (tables_with name (tables_after tables children)),
           ),
     )
 
@@ -140,7 +140,7 @@ abbrev pub IsFound : List (List AlignKind) → Row → Type 0
 IsFound ended row =
     (children : Forest) → row.children ≡ Some children →
     (tables : ℕ) × (row.fact ≡ fact_at row.index tables row.event.name children)
-    × (is_table row.event.name ≡ true → slice_get ended (tables_behind tables children) ≡ Some (alignments children))
+    × (is_table row.event.name ≡ true → slice_get ended (tables_after tables children) ≡ Some (alignments children))
 
 pub get_at : {A : Type 0} (xs ys : List A) (y : A) (n : ℕ) → length xs ≡ n → slice_get (xs ++ y ∷ ys) n ≡ Some y
 get_at [] ys y n e = subst (λ i. slice_get (y ∷ ys) i ≡ Some y) e refl
@@ -153,12 +153,12 @@ table_there name before later own n e is =
     ap (λ b. slice_get (before ++ (cond b (own ∷ []) [] ++ later)) n) is ∙ get_at before later own n e
 
 entry_found : (ended : List (List AlignKind)) (index tables : ℕ) (name : Name) (start : Point) (children : Forest) →
-    (is_table name ≡ true → slice_get ended (tables_behind tables children) ≡ Some (alignments children)) →
+    (is_table name ≡ true → slice_get ended (tables_after tables children) ≡ Some (alignments children)) →
     IsFound ended (entry_row index tables name (entering name start) children)
 entry_found ended index tables name start children there other e =
     let one : children ≡ other = cc in
     subst (λ nodes. (t : ℕ) × (fact_at index tables name children ≡ fact_at index t name nodes)
-    × (is_table name ≡ true → slice_get ended (tables_behind t nodes) ≡ Some (alignments nodes))) one (
+    × (is_table name ≡ true → slice_get ended (tables_after t nodes) ≡ Some (alignments nodes))) one (
       tables,
       refl,
       there,
@@ -171,32 +171,32 @@ rows_found ended before later Empty index tables e is = All-nil (IsFound ended)
 rows_found ended before later (Node name start end children rest) index tables e is =
     let inner = tables_of children in
     let own = cond (is_table name) (alignments children ∷ []) [] in
-    let behind_rest = tables_of rest in
-    let exit = behind (suc index) children in
-    let more = tables_with name (tables_behind tables children) in
+    let after_rest = tables_of rest in
+    let exit = index_after (suc index) children in
+    let more = tables_with name (tables_after tables children) in
     let entry : Row = entry_row index tables name (entering name start) children in
     let last : Row = exit_row exit index name start end in
     let last_found : IsFound ended last = λ other none. cc in
-    let is_inside : ended ≡ before ++ (inner ++ (own ++ (behind_rest ++ later))) =
-    is ∙ ap (λ ts. before ++ ts) (append_assoc inner (own ++ behind_rest) later
-    ∙ ap (λ ts. inner ++ ts) (append_assoc own behind_rest later)) in
-    let is_own : ended ≡ (before ++ inner) ++ (own ++ (behind_rest ++ later)) = is_inside
-    ∙ sym (append_assoc before inner (own ++ (behind_rest ++ later))) in
-    let is_rest : ended ≡ ((before ++ inner) ++ own) ++ (behind_rest ++ later) = is_own
-    ∙ sym (append_assoc (before ++ inner) own (behind_rest ++ later)) in
+    let is_inside : ended ≡ before ++ (inner ++ (own ++ (after_rest ++ later))) =
+    is ∙ ap (λ ts. before ++ ts) (append_assoc inner (own ++ after_rest) later
+    ∙ ap (λ ts. inner ++ ts) (append_assoc own after_rest later)) in
+    let is_own : ended ≡ (before ++ inner) ++ (own ++ (after_rest ++ later)) = is_inside
+    ∙ sym (append_assoc before inner (own ++ (after_rest ++ later))) in
+    let is_rest : ended ≡ ((before ++ inner) ++ own) ++ (after_rest ++ later) = is_own
+    ∙ sym (append_assoc (before ++ inner) own (after_rest ++ later)) in
     let counted = length_tables children tables before e in
-    let there : is_table name ≡ true → slice_get ended (tables_behind tables children) ≡ Some (alignments children) =
-    λ is. ap (λ ts. slice_get ts (tables_behind tables children)) is_own
-    ∙ table_there name (before ++ inner) (behind_rest ++ later) (alignments children)
-    (tables_behind tables children) counted is in
+    let there : is_table name ≡ true → slice_get ended (tables_after tables children) ≡ Some (alignments children) =
+    λ is. ap (λ ts. slice_get ts (tables_after tables children)) is_own
+    ∙ table_there name (before ++ inner) (after_rest ++ later) (alignments children)
+    (tables_after tables children) counted is in
     All-cons (IsFound ended) entry (rows_of (suc index) tables children ++ last
     ∷ rows_of (suc exit) more rest) (entry_found ended index tables name start children there)
     (All-append (IsFound ended) (rows_of (suc index) tables children) (last
     ∷ rows_of (suc exit) more rest) (rows_found ended before (own
-    ++ (behind_rest ++ later)) children (suc index) tables e is_inside)
+    ++ (after_rest ++ later)) children (suc index) tables e is_inside)
     (All-cons (IsFound ended) last (rows_of (suc exit) more rest) last_found
     (rows_found ended ((before ++ inner) ++ own) later rest (suc exit) more
-    (length_table name (before ++ inner) (alignments children) (tables_behind tables children) counted) is_rest)))
+    (length_table name (before ++ inner) (alignments children) (tables_after tables children) counted) is_rest)))
 
 -- an entry has children
 abbrev HasChildren : Row → Type 0
@@ -205,15 +205,15 @@ HasChildren row = row.event.kind ≡ Enter → (children : Forest) × (row.child
 rows_have : (forest : Forest) (index tables : ℕ) → All HasChildren (rows_of index tables forest)
 rows_have Empty index tables = All-nil HasChildren
 rows_have (Node name start end children rest) index tables =
-    let exit = behind (suc index) children in
+    let exit = index_after (suc index) children in
     let entry : Row = entry_row index tables name (entering name start) children in
     let last : Row = exit_row exit index name start end in
     let last_has : HasChildren last = λ e. cc in
-    let later = rows_of (suc exit) (tables_with name (tables_behind tables children)) rest in
+    let later = rows_of (suc exit) (tables_with name (tables_after tables children)) rest in
     All-cons HasChildren entry (rows_of (suc index) tables children ++ last
     ∷ later) (λ e. (children, refl)) (All-append HasChildren (rows_of (suc index) tables children) (last
     ∷ later) (rows_have children (suc index) tables) (All-cons HasChildren last later last_has
-    (rows_have rest (suc exit) (tables_with name (tables_behind tables children)))))
+    (rows_have rest (suc exit) (tables_with name (tables_after tables children)))))
 
 pub got_inside : {A : Type 0} (xs : List A) (index : ℕ) (x : A) → slice_get xs index ≡ Some x → index < length xs
 got_inside {A = A} xs index x e = by_cases (slice_get_cases xs index).1
@@ -245,8 +245,8 @@ partners_there forest events facts index flattened is =
         ≡ partners_of index forest
     partners Empty index tables = refl
     partners (Node name start end children rest) index tables =
-        let exit = behind (suc index) children in
-        let more = tables_with name (tables_behind tables children) in
+        let exit = index_after (suc index) children in
+        let more = tables_with name (tables_after tables children) in
         ap (λ ps. exit ∷ ps)
         (map-append (λ (f : Fact). f.partner) (facts_of (suc index) tables children) (partner_alone index
         ∷ facts_of (suc exit) more rest)
@@ -298,7 +298,7 @@ module _ (given : Document) (index : ℕ) (name : Name) (enters : EntersAt given
   pub found-entered : (children : Forest) (fact : Fact) → IsEnteredAt given index children →
       slice_get (facts_at given.events) index ≡ Some fact →
       (tables : ℕ) × (fact ≡ fact_at index tables name children)
-      × (is_table name ≡ true → slice_get (tables_at given.events) (tables_behind tables children)
+      × (is_table name ≡ true → slice_get (tables_at given.events) (tables_after tables children)
       ≡ Some (alignments children))
   found-entered children fact entered got =
       let forest = entered.0 in
@@ -311,7 +311,7 @@ module _ (given : Document) (index : ℕ) (name : Name) (enters : EntersAt given
       let name_is : row.event.name ≡ name = ap (λ (e : Event). e.name) (event_there forest entered.1) ∙ enters.3 in
       let children_are : row.children ≡ Some children = children_there forest entered.1 children entered.2 in
       let none : 0 + index ≡ index = omega arith in
-      let index_is : row.index ≡ index = numbered_get rows 0 (behind 0 forest) index past_row
+      let index_is : row.index ≡ index = numbered_get rows 0 (index_after 0 forest) index past_row
       (numbered_rows forest 0 0) inside ∙ none in
       let fact_is : row.fact ≡ fact = got_mapped (λ (r : Row). r.fact) rows
       (facts_at given.events) index past_row fact (fact_rows forest 0 0

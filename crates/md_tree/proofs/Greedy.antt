@@ -74,14 +74,14 @@ only_many_here : (class : Class) (item : Item) (symbol : Symbol) → takes class
 only_many_here class item symbol taken true e = refl
 only_many_here class item symbol taken false e = not_taken (takes item.class) (members class) symbol taken e
 
-only_many_behind : (item : Item) (items : List Item) (symbol : Symbol) → takes item.class symbol ≡ true →
+only_many_after : (item : Item) (items : List Item) (symbol : Symbol) → takes item.class symbol ≡ true →
     list_all (leaves_order item) items ≡ true → only_many symbol items ≡ true
-only_many_behind item [] symbol taken e = refl
-only_many_behind item (later ∷ items) symbol taken e =
+only_many_after item [] symbol taken e = refl
+only_many_after item (later ∷ items) symbol taken e =
     and_both (is_many later.times || not (takes later.class symbol)) (only_many symbol items)
     (only_many_here item.class later symbol taken (is_many later.times)
     (and_left (leaves_order item later) (list_all (leaves_order item) items) e))
-    (only_many_behind item items symbol taken (and_right (leaves_order item later)
+    (only_many_after item items symbol taken (and_right (leaves_order item later)
     (list_all (leaves_order item) items) e))
 
 -- what is left of a pattern after a symbol
@@ -222,7 +222,7 @@ fits_here Many class items symbol symbols [] others taken ok e all count fit = (
   refl,
   tt,
   one_less items symbol symbols
-      (only_many_behind (record { times = Many; class = class }) items symbol taken
+      (only_many_after (record { times = Many; class = class }) items symbol taken
       (and_left (list_all (leaves_order (record { times = Many; class = class })) items) (settled items) ok))
       (subst (λ s. Fits items s) (sym e) fit),
 )
@@ -230,7 +230,7 @@ fits_here Many class items symbol symbols (first ∷ own) others taken ok e all 
     let rest : symbols ≡ own ++ others = cc in
     (own, others, rest, and_right (takes class first) (list_all (takes class) own) all, tt, fit)
 fits_here Maybe class items symbol symbols [] others taken ok e all count fit =
-    one_less items symbol symbols (only_many_behind (record { times = Maybe; class = class }) items symbol taken
+    one_less items symbol symbols (only_many_after (record { times = Maybe; class = class }) items symbol taken
     (and_left (list_all (leaves_order (record { times = Maybe; class = class })) items) (settled items) ok))
     (subst (λ s. Fits items s) (sym e) fit)
 fits_here Maybe class items symbol symbols (first ∷ own) others taken ok e all count fit =

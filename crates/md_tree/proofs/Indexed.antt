@@ -28,13 +28,13 @@ use Rattle.md_pattern.specs.Spine.{spine, shown}
 use Rattle.md_pattern.specs.Shape.{inner_role, inner_before, last_symbol}
 use Rattle.md_tree.specs.Rules.{place, broken_by, broken_rule, reading_of, MeetRules, target_of}
 use Rattle.md_tree.specs.Grammar.{Document, IsGrammatical, IsReadAs, IsChecked}
-use Rattle.md_infer.specs.Partners.{behind}
-use Rattle.md_infer.specs.Facts.{partner_alone, tables_with, tables_behind, facts_at}
+use Rattle.md_infer.specs.Partners.{index_after}
+use Rattle.md_infer.specs.Facts.{partner_alone, tables_with, tables_after, facts_at}
 use Rattle.md_tree.specs.Found.{position_from, partner_event, position_ended}
 use Rattle.md_tree.specs.Texts.{ExitsAt, positions_of, has_reading, is_text, is_identifier}
 use Rattle.md_infer.proofs.Passing.{length_one, facts-flatten}
 use Rattle.md_tree.proofs.Entering.{Row, entry_row, exit_row, rows_of, event_rows, fact_rows, position_rows, get_at, got_inside, got_mapped, mapped_long}
-use Rattle.md_tree.proofs.Placing.{at_entry, in_node, behind_node, length_events}
+use Rattle.md_tree.proofs.Placing.{at_entry, in_node, after_node, length_events}
 
 -- ---- a list of events is the flattening of at most one document
 
@@ -76,10 +76,10 @@ one_forest (Node name start end children rest) (Node other begin stop inner more
     ∙ first.1 ∙ append_assoc (flatten inner) (exiting other stop ∷ flatten more) (exiting m q ∷ ys)) in
     let second = list_parts (exiting name end) (exiting other stop) (flatten rest ++ exiting n p ∷ xs) (flatten more
     ++ exiting m q ∷ ys) within.1 in
-    let behind = one_forest rest more n m p q xs ys second.1 in (
+    let index_after = one_forest rest more n m p q xs ys second.1 in (
       node_same name other start begin end stop children inner rest more entry.1 entry.2
-          (event_parts (exiting name end) (exiting other stop) second.0).2 within.0 behind.0,
-      behind.1,
+          (event_parts (exiting name end) (exiting other stop) second.0).2 within.0 index_after.0,
+      index_after.1,
     )
 
 pub flatten_one : (n : Name) (p : Point) (one other : Forest) → flatten one ≡ flatten other → one ≡ other
@@ -112,13 +112,13 @@ rows_ended bytes names is text have events Empty around before meets index table
 rows_ended bytes names is text have events (Node name start end children rest) around before meets index tables seen
     later e same =
     let st = standing_of name in
-    let exit = behind (suc index) children in
-    let more = tables_with name (tables_behind tables children) in
+    let exit = index_after (suc index) children in
+    let more = tables_with name (tables_after tables children) in
     let first = entering name start in
     let last = exiting name end in
     let inner = flatten children in
     let holds = IsEnded events is text in
-    let rows_behind = rows_of (suc exit) more rest in
+    let rows_after = rows_of (suc exit) more rest in
     let one = length_one seen first ∙ ap suc e in
     let inside = length_events children (suc index) (seen ++ first ∷ []) one in
     let there : slice_get events index ≡ Some first = ap (λ es. slice_get es index)
@@ -133,16 +133,16 @@ rows_ended bytes names is text have events (Node name start end children rest) a
       λ reads. have st around before start end (target_of children Missing) meets.0 reads,
     ) in
     All-cons holds (entry_row index tables name first children) (rows_of (suc index) tables children
-    ++ exit_row exit index name start end ∷ rows_behind) entry_ended
-    (All-append holds (rows_of (suc index) tables children) (exit_row exit index name start end ∷ rows_behind)
+    ++ exit_row exit index name start end ∷ rows_after) entry_ended
+    (All-append holds (rows_of (suc index) tables children) (exit_row exit index name start end ∷ rows_after)
     (rows_ended bytes names is text have events children (inner_role st around before)
     (inner_before st before) meets.1 (suc index) tables (seen ++ first ∷ []) (last
     ∷ (flatten rest ++ later)) one (in_node events seen inner (flatten rest) later first last same))
-    (All-cons holds (exit_row exit index name start end) rows_behind exit_ended
+    (All-cons holds (exit_row exit index name start end) rows_after exit_ended
     (rows_ended bytes names is text have events rest around (last_symbol before (shown st (spine children))) meets.2
     (suc exit) more (((seen ++ first ∷ []) ++ inner) ++ last
     ∷ []) later (length_one ((seen ++ first ∷ []) ++ inner) last
-    ∙ ap suc inside) (behind_node events seen inner (flatten rest) later first last same))))
+    ∙ ap suc inside) (after_node events seen inner (flatten rest) later first last same))))
 
 -- ---- names with a text
 

@@ -77,17 +77,17 @@ module _ (inside : Inside) (given : Document) (index : ℕ) (kept : IsKept insid
   -- a table's columns
   pub columns-kept : EntersAt given.events index GfmTable → (fact : Fact) →
       slice_get inside.facts.items index ≡ Some fact → (children : Forest) → IsEnteredAt given index children →
-      slice_get (map (λ t. t.items) inside.tables.items) fact.place ≡ Some (alignments children)
+      slice_get (map (λ t. t.items) inside.tables.items) fact.read_at ≡ Some (alignments children)
   columns-kept enters fact got children entered =
       let found = found-entered given index GfmTable enters children fact entered
       (ap (λ xs. slice_get xs index) (sym facts_are) ∙ got) in
-      ap (λ (f : Fact). slice_get (map (λ t. t.items) inside.tables.items) f.place) found.1
-      ∙ ap (λ ts. slice_get ts (Fact.place (fact_at index found.0 GfmTable children))) tables_are ∙ found.2 refl
+      ap (λ (f : Fact). slice_get (map (λ t. t.items) inside.tables.items) f.read_at) found.1
+      ∙ ap (λ ts. slice_get ts (Fact.read_at (fact_at index found.0 GfmTable children))) tables_are ∙ found.2 refl
 
   pub columns-inside : EntersAt given.events index GfmTable → (fact : Fact) →
-      slice_get inside.facts.items index ≡ Some fact → fact.place < length inside.tables.items
+      slice_get inside.facts.items index ≡ Some fact → fact.read_at < length inside.tables.items
   columns-inside enters fact got =
       let node = node-entered (GfmTable, enters) in
-      subst (λ n. fact.place < n) (length-map inside.tables.items (λ t. t.items))
-      (got_inside (map (λ t. t.items) inside.tables.items) fact.place (alignments node.0)
+      subst (λ n. fact.read_at < n) (length-map inside.tables.items (λ t. t.items))
+      (got_inside (map (λ t. t.items) inside.tables.items) fact.read_at (alignments node.0)
       (columns-kept enters fact got node.0 node.1))

@@ -8,7 +8,7 @@ use Rattle.md_base.specs.declared.event.Event.{Event}
 use Rattle.md_base.specs.declared.event.Kind.{Kind}
 use Rattle.md_base.specs.declared.event.Kind.TheVariants.{Enter, Exit}
 use Rattle.md_tree.specs.declared.rule.CompileError.{CompileError}
-use Rattle.md_infer.specs.Ending.{first_index, ending_behind}
+use Rattle.md_infer.specs.Ending.{first_index, ending_after}
 use Rattle.md_infer.specs.Facts.{Passed, nothing_passed, passed, passed_entry, passed_exit, passed_over}
 use Rattle.md_infer.proofs.FirstIndex.{first_index-more}
 use Rattle.md_infer.proofs.Passing.{passed_more}
@@ -21,18 +21,18 @@ use Rattle.md_tree.proofs.Checking.{Runs-more, IsRefusal-stopped}
 
 -- an event that enters is no line ending's exit
 ending-entry : (found : Option ℕ) (index : ℕ) (event : Event) → event.kind ≡ Enter →
-    ending_behind found index event ≡ found
+    ending_after found index event ≡ found
 ending-entry (Some at) index event enters = refl
 ending-entry None index event enters =
-    subst (λ k. ending_behind None index (record event { kind = k }) ≡ None) (sym enters) refl
+    subst (λ k. ending_after None index (record event { kind = k }) ≡ None) (sym enters) refl
 
 module _ (given : Document) (index : ℕ) (entry exit : Event) (leaf : IsLeaf entry exit)
-    (here : slice_get given.events index ≡ Some entry) (behind : slice_get given.events (suc index) ≡ Some exit) where
+    (here : slice_get given.events index ≡ Some entry) (after : slice_get given.events (suc index) ≡ Some exit) where
   entry_is : get_or given.events index entry ≡ entry
   entry_is = get_or_from_slice_get given.events index entry entry here
 
   exit_is : get_or given.events (suc index) exit ≡ exit
-  exit_is = get_or_from_slice_get given.events (suc index) exit exit behind
+  exit_is = get_or_from_slice_get given.events (suc index) exit exit after
 
   -- a claim of the entry, by its parts
   of_entry : (P : Kind → Name → Point → Type 0) → P Enter entry.name (point_at given.events index) →
@@ -50,7 +50,7 @@ module _ (given : Document) (index : ℕ) (entry exit : Event) (leaf : IsLeaf en
       subst (λ e. P (Event.kind e) (Event.name e) (Event.point e)) (sym exit_is)
       (subst (λ k. P k exit.name exit.point) (sym (IsLeaf.exits leaf))
       (subst (λ n. P Exit n exit.point) (IsLeaf.same leaf)
-      (subst (λ o. P Exit entry.name (point_of o)) behind p)))
+      (subst (λ o. P Exit entry.name (point_of o)) after p)))
 
   module _ (from : Course)
       (runs : Runs (Unbroken given.bytes given.names) (take index given.events) beginning from) where
@@ -66,7 +66,7 @@ module _ (given : Document) (index : ℕ) (entry exit : Event) (leaf : IsLeaf en
         Runs (Unbroken given.bytes given.names) (take (suc (suc index)) given.events) beginning to
     Runs-leaf to passes =
         Runs-more (Unbroken given.bytes given.names) given.events (suc index) exit passes.0 to
-        (slice_get_within given.events (suc index) exit behind) (runs_entered passes.0 passes.1)
+        (slice_get_within given.events (suc index) exit after) (runs_entered passes.0 passes.1)
         (of_exit (λ kind name point. StepsBy (Unbroken given.bytes given.names) kind name point passes.0 to) passes.2)
 
     pub IsRefusal-leaf : (stopped : CompileError) → IsStopAtLeaf given.bytes given.names index entry.name
@@ -75,7 +75,7 @@ module _ (given : Document) (index : ℕ) (entry exit : Event) (leaf : IsLeaf en
         IsRefusal-stopped given index entry from (slice_get_within given.events index entry here) runs stopped
         (of_entry (λ kind name point. IsStop given.bytes given.names index kind name point from stopped) stops)
     IsRefusal-leaf stopped (inr stops) =
-        IsRefusal-stopped given (suc index) exit stops.0 (slice_get_within given.events (suc index) exit behind)
+        IsRefusal-stopped given (suc index) exit stops.0 (slice_get_within given.events (suc index) exit after)
         (runs_entered stops.0 stops.1) stopped
         (of_exit (λ kind name point. IsStop given.bytes given.names (suc index) kind name point stops.0 stopped)
         stops.2)
@@ -91,21 +91,21 @@ module _ (given : Document) (index : ℕ) (entry exit : Event) (leaf : IsLeaf en
       let entered_suc : passed_entry entry.name pass ≡ passed_over (take (suc index) given.events) nothing_passed
       = entered ∙ ap (λ n. passed_over (take n given.events) nothing_passed) (add-one index) in
       passed_more given.events (suc index) exit (passed_entry entry.name pass) nothing_passed next
-      (slice_get_within given.events (suc index) exit behind) entered_suc
+      (slice_get_within given.events (suc index) exit after) entered_suc
       (step ∙ of_exit (λ kind name point. passed_exit entry.name (passed_entry entry.name pass)
       ≡ passed kind name (passed_entry entry.name pass)) refl)
       ∙ ap (λ n. passed_over (take n given.events) nothing_passed) (add-one (suc index))
 
   pub first_index-leaf : (found : Option ℕ) → found ≡ first_index (take index given.events) →
-      ending_behind found (suc index) exit ≡ first_index (take (suc (suc index)) given.events)
+      ending_after found (suc index) exit ≡ first_index (take (suc (suc index)) given.events)
   first_index-leaf found so_far =
-      let entered : ending_behind found index (get_or given.events index entry)
+      let entered : ending_after found index (get_or given.events index entry)
       ≡ first_index (take (index + 1) given.events)
       = first_index-more given.events index entry found (slice_get_within given.events index entry here) so_far in
       let kept : found ≡ first_index (take (suc index) given.events)
-      = sym (ap (ending_behind found index) entry_is ∙ ending-entry found index entry (IsLeaf.enters leaf))
+      = sym (ap (ending_after found index) entry_is ∙ ending-entry found index entry (IsLeaf.enters leaf))
       ∙ entered ∙ ap (λ n. first_index (take n given.events)) (add-one index) in
-      sym (ap (ending_behind found (suc index)) exit_is)
+      sym (ap (ending_after found (suc index)) exit_is)
       ∙ first_index-more given.events (suc index) exit found
-      (slice_get_within given.events (suc index) exit behind) kept
+      (slice_get_within given.events (suc index) exit after) kept
       ∙ ap (λ n. first_index (take n given.events)) (add-one (suc index))

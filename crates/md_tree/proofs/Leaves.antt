@@ -135,16 +135,16 @@ module _ (name : Name) (symbol : Symbol) (usual : Role) (reading : Reading) (nex
   abbrev begins : Entry
   begins = record { state = inner; target = Missing; outer = Some outer }
 
-  abbrev behind : Course
-  behind = record from {
+  abbrev after : Course
+  after = record from {
     state = next;
     target = target_at reading from.target Missing (place start end);
     count = suc (suc from.count);
   }
 
-  exits-so : behind ≡ after_exit outer start end from.open_nodes (inside begins from)
+  exits-so : after ≡ after_exit outer start end from.open_nodes (inside begins from)
   exits-so =
-      ap (λ m. record behind { mentions = mentions_with (suc from.count) m from.mentions }) (sym (no-mention reading))
+      ap (λ m. record after { mentions = mentions_with (suc from.count) m from.mentions }) (sym (no-mention reading))
 
   pub Passes-solid : (bytes : List ℕ) (names : List (List ℕ × List ℕ)) (target : Target) → is_complete inner ≡ true →
       broken_rule bytes names reading next.role from.state.before start end Missing ≡ None →
@@ -157,7 +157,7 @@ module _ (name : Name) (symbol : Symbol) (usual : Role) (reading : Reading) (nex
       outer _ refl (
         complete,
         sound,
-        ap (λ t. record behind { target = t }) target_is ∙ exits-so,
+        ap (λ t. record after { target = t }) target_is ∙ exits-so,
       )
 
   stops-so : (bytes : List ℕ) (names : List (List ℕ × List ℕ)) (index : ℕ) (refusal : CompileError) →

@@ -11,7 +11,7 @@ use Rattle.md_tree.specs.declared.mention.Target.TheVariants.{Missing}
 use Rattle.md_base.specs.Tree.{Forest, Empty, Node}
 use Rattle.md_pattern.specs.Standing.{standing_of}
 use Rattle.md_tree.specs.Rules.{reading_of, target_of}
-use Rattle.md_infer.specs.Partners.{behind}
+use Rattle.md_infer.specs.Partners.{index_after}
 use Rattle.md_tree.specs.Mentions.{mention_of, mentions_of, mentions_with, mentions_among, identifier_at, defined, footnoted, IsResolved}
 use Rattle.md_tree.proofs.Trees.{mentions_over}
 
@@ -38,17 +38,17 @@ with_listed (FootnoteDefinition label) index before later =
     append_assoc before (record { index = index; mention = FootnoteDefinition label } ∷ []) (listed (suc index) later)
 
 over_listed : (forest : Forest) (index : ℕ) (before : List Mentioned) (later : List Mention) →
-    mentions_over index forest before ++ listed (behind index forest) later ≡ before
+    mentions_over index forest before ++ listed (index_after index forest) later ≡ before
     ++ listed index (mentions_of forest ++ later)
 over_listed Empty index before later = refl
 over_listed (Node name start end children rest) index before later =
-    let exit = behind (suc index) children in
+    let exit = index_after (suc index) children in
     let mention = mention_of (reading_of (standing_of name)) (target_of children Missing) in
     let inner = mentions_over (suc index) children before in
-    let behind_it = mentions_of rest ++ later in
+    let after_it = mentions_of rest ++ later in
     over_listed rest (suc exit) (mentions_with exit mention inner) later
-    ∙ with_listed mention exit inner behind_it
-    ∙ over_listed children (suc index) before (mention ∷ behind_it)
+    ∙ with_listed mention exit inner after_it
+    ∙ over_listed children (suc index) before (mention ∷ after_it)
     ∙ ap (λ ms. before ++ listed (suc index) ms)
     (sym (append_assoc (mentions_of children) (mention ∷ mentions_of rest) later))
 

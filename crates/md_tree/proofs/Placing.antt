@@ -13,8 +13,8 @@ use Rattle.md_tree.specs.Rules.{place}
 use Rattle.md_tree.specs.Grammar.{Document}
 use Rattle.md_tree.specs.Texts.{EntersAt}
 use Rattle.md_tree.specs.Entered.{IsEnteredAt}
-use Rattle.md_infer.specs.Partners.{behind}
-use Rattle.md_infer.specs.Facts.{partner_alone, tables_with, tables_behind, fact_at, facts_of, facts_at}
+use Rattle.md_infer.specs.Partners.{index_after}
+use Rattle.md_infer.specs.Facts.{partner_alone, tables_with, tables_after, fact_at, facts_of, facts_at}
 use Rattle.md_tree.specs.Found.{position_from, partner_event, position_there, position_at}
 use Rattle.md_infer.proofs.Passing.{length_one, length_facts, regrouped, facts-flatten}
 use Rattle.md_tree.proofs.Entering.{Row, entry_row, exit_row, rows_of, get_at, numbered_rows, numbered_get, past_row, inside_rows, children_there}
@@ -32,18 +32,18 @@ module _ {A : Type 0} (xs before inner rest later : List A) (entry exit : A) (is
   at_exit : xs ≡ ((before ++ entry ∷ []) ++ inner) ++ (exit ∷ (rest ++ later))
   at_exit = in_node ∙ sym (append_assoc (before ++ entry ∷ []) inner (exit ∷ (rest ++ later)))
 
-  pub behind_node : xs ≡ (((before ++ entry ∷ []) ++ inner) ++ exit ∷ []) ++ (rest ++ later)
-  behind_node = at_exit ∙ sym (append_assoc ((before ++ entry ∷ []) ++ inner) (exit ∷ []) (rest ++ later))
+  pub after_node : xs ≡ (((before ++ entry ∷ []) ++ inner) ++ exit ∷ []) ++ (rest ++ later)
+  after_node = at_exit ∙ sym (append_assoc ((before ++ entry ∷ []) ++ inner) (exit ∷ []) (rest ++ later))
 
 pub length_events : (forest : Forest) (index : ℕ) (events : List Event) → length events ≡ index →
-    length (events ++ flatten forest) ≡ behind index forest
+    length (events ++ flatten forest) ≡ index_after index forest
 length_events Empty index events e = ap length (append-nil events) ∙ e
 length_events (Node name start end children rest) index events e =
     let first = entering name start in
     let last = exiting name end in
     let inside = length_events children (suc index) (events ++ first ∷ []) (length_one events first ∙ ap suc e) in
     ap length (sym (regrouped events (flatten children) (flatten rest) first last))
-    ∙ length_events rest (suc (behind (suc index) children)) (((events ++ first ∷ []) ++ flatten children) ++ last
+    ∙ length_events rest (suc (index_after (suc index) children)) (((events ++ first ∷ []) ++ flatten children) ++ last
     ∷ []) (length_one ((events ++ first ∷ []) ++ flatten children) last ∙ ap suc inside)
 
 node_there : (events : List Event) (facts : List Fact) (index : ℕ) (fact : Fact) (name : Name) (start end : Point) →
@@ -60,15 +60,15 @@ all_there : (events : List Event) (facts : List Fact) (forest : Forest) (index t
     AllAt (position_there events facts) index forest
 all_there events facts Empty index tables before later found more e f is are = tt
 all_there events facts (Node name start end children rest) index tables before later found more e f is are =
-    let exit = behind (suc index) children in
+    let exit = index_after (suc index) children in
     let first = entering name start in
     let last = exiting name end in
     let fact = fact_at index tables name children in
     let other = partner_alone index in
-    let ended = tables_with name (tables_behind tables children) in
+    let ended = tables_with name (tables_after tables children) in
     let inner = flatten children in
     let facts_inside = facts_of (suc index) tables children in
-    let facts_behind = facts_of (suc exit) ended rest in
+    let facts_after = facts_of (suc exit) ended rest in
     let one = length_one before first ∙ ap suc e in
     let two = length_one found fact ∙ ap suc f in
     let inside = length_events children (suc index) (before ++ first ∷ []) one in
@@ -76,20 +76,20 @@ all_there events facts (Node name start end children rest) index tables before l
       node_there events facts index fact name start end
           (ap (λ es. slice_get es index) (at_entry events before inner (flatten rest) later first last is)
           ∙ get_at before (inner ++ (last ∷ (flatten rest ++ later))) first index e)
-          (ap (λ fs. slice_get fs index) (at_entry facts found facts_inside facts_behind more fact other are)
-          ∙ get_at found (facts_inside ++ (other ∷ (facts_behind ++ more))) fact index f)
+          (ap (λ fs. slice_get fs index) (at_entry facts found facts_inside facts_after more fact other are)
+          ∙ get_at found (facts_inside ++ (other ∷ (facts_after ++ more))) fact index f)
           (ap (λ es. slice_get es exit) (at_exit events before inner (flatten rest) later first last is)
           ∙ get_at ((before ++ first ∷ []) ++ inner) (flatten rest ++ later) last exit inside),
       all_there events facts children (suc index) tables (before ++ first ∷ []) (last
           ∷ (flatten rest ++ later)) (found ++ fact ∷ []) (other
-          ∷ (facts_behind ++ more)) one two (in_node events before inner (flatten rest) later first last is)
-          (in_node facts found facts_inside facts_behind more fact other are),
+          ∷ (facts_after ++ more)) one two (in_node events before inner (flatten rest) later first last is)
+          (in_node facts found facts_inside facts_after more fact other are),
       all_there events facts rest (suc exit) ended (((before ++ first ∷ []) ++ inner) ++ last
           ∷ []) later (((found ++ fact ∷ []) ++ facts_inside) ++ other
           ∷ []) more (length_one ((before ++ first ∷ []) ++ inner) last
           ∙ ap suc inside) (length_one ((found ++ fact ∷ []) ++ facts_inside) other
-          ∙ ap suc facts_to) (behind_node events before inner (flatten rest) later first last is)
-          (behind_node facts found facts_inside facts_behind more fact other are),
+          ∙ ap suc facts_to) (after_node events before inner (flatten rest) later first last is)
+          (after_node facts found facts_inside facts_after more fact other are),
     )
 
 -- of no node but the first of all the entry is 0
@@ -99,7 +99,7 @@ all_at events facts Empty index all = tt
 all_at events facts (Node name start end children rest) index all = (
   all.0,
   all_at events facts children (suc index) all.1,
-  all_at events facts rest (behind (suc (suc index)) children) all.2,
+  all_at events facts rest (index_after (suc (suc index)) children) all.2,
 )
 
 -- a row's children are there
@@ -111,8 +111,8 @@ rows_there : (events : List Event) (facts : List Fact) (forest : Forest) (index 
     AllAt (position_there events facts) index forest → All (HasThem events facts) (rows_of index tables forest)
 rows_there events facts Empty index tables all = All-nil (HasThem events facts)
 rows_there events facts (Node name start end children rest) index tables all =
-    let exit = behind (suc index) children in
-    let ended = tables_with name (tables_behind tables children) in
+    let exit = index_after (suc index) children in
+    let ended = tables_with name (tables_after tables children) in
     let entry : Row = entry_row index tables name (entering name start) children in
     let last : Row = exit_row exit index name start end in
     let entry_has : HasThem events facts entry = λ other e. let one : children ≡ other = cc in
@@ -140,7 +140,7 @@ children-placed given index name enters children entered =
     ∙ sym (append-nil (facts_of 0 0 forest))) in
     let none : 0 + index ≡ index = omega arith in
     let index_is : Row.index (get_or rows index past) ≡ index =
-    numbered_get rows 0 (behind 0 forest) index past (numbered_rows forest 0 0) inside ∙ none in
+    numbered_get rows 0 (index_after 0 forest) index past (numbered_rows forest 0 0) inside ∙ none in
     let there = rows_there events facts forest 0 0 all index past inside children
     (children_there given index name enters forest entered.1 children entered.2) in
     all_at events facts children index (subst (λ i. AllAt (position_there events facts) (suc i) children) index_is

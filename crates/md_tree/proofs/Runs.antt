@@ -46,20 +46,20 @@ some-weaken P Q weaken None holds = holds
 some-weaken P Q weaken (Some a) holds = weaken a holds
 
 -- a run and what lies after it, up to the next
-pub IsRun-chunk : (bytes text behind rest : List ℕ) (start : ℕ) → start ≤ length bytes →
-    drop start bytes ≡ text ++ (behind ++ rest) → (start + (length text + length behind) ≤ length bytes)
-    × (drop (start + (length text + length behind)) bytes ≡ rest) × (start + length text ≤ length bytes)
+pub IsRun-chunk : (bytes text after rest : List ℕ) (start : ℕ) → start ≤ length bytes →
+    drop start bytes ≡ text ++ (after ++ rest) → (start + (length text + length after) ≤ length bytes)
+    × (drop (start + (length text + length after)) bytes ≡ rest) × (start + length text ≤ length bytes)
     × (take (length text) (drop start bytes) ≡ text)
-IsRun-chunk bytes text behind rest start within is =
-    let lengths : length bytes - start ≡ length text + (length behind + length rest) =
-    sym (length-drop start bytes) ∙ ap length is ∙ length-append text (behind ++ rest)
-    ∙ ap (λ n. length text + n) (length-append behind rest) in
-    let next : drop (length text + length behind) (drop start bytes) ≡ rest =
-    ap (drop (length text + length behind)) is ∙ sym (drop-drop (length behind) (length text) (text
-    ++ (behind ++ rest))) ∙ ap (drop (length behind)) (drop_at text (behind ++ rest) (length text) refl)
-    ∙ drop_at behind rest (length behind) refl in (
+IsRun-chunk bytes text after rest start within is =
+    let lengths : length bytes - start ≡ length text + (length after + length rest) =
+    sym (length-drop start bytes) ∙ ap length is ∙ length-append text (after ++ rest)
+    ∙ ap (λ n. length text + n) (length-append after rest) in
+    let next : drop (length text + length after) (drop start bytes) ≡ rest =
+    ap (drop (length text + length after)) is ∙ sym (drop-drop (length after) (length text) (text
+    ++ (after ++ rest))) ∙ ap (drop (length after)) (drop_at text (after ++ rest) (length text) refl)
+    ∙ drop_at after rest (length after) refl in (
       omega arith,
-      sym (drop-drop (length text + length behind) start bytes) ∙ next,
+      sym (drop-drop (length text + length after) start bytes) ∙ next,
       omega arith,
-      ap (take (length text)) is ∙ take_at text (behind ++ rest) (length text) refl,
+      ap (take (length text)) is ∙ take_at text (after ++ rest) (length text) refl,
     )

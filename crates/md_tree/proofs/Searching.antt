@@ -16,9 +16,9 @@ use Rattle.md_base.specs.Tree.{Forest, Empty, Node}
 use Rattle.md_base.specs.NameTests.{is_transparent, is_heading_mark, is_item, is_item_prefix, is_item_value, is_label, is_label_text, is_reference, is_resource, is_definition_label, is_footnote_prefix, is_footnote_label}
 use Rattle.md_base.specs.Children.{or_else, first_on_spine, spine_names}
 use Rattle.md_tree.specs.Rules.{place}
-use Rattle.md_infer.specs.Partners.{behind}
+use Rattle.md_infer.specs.Partners.{index_after}
 use Rattle.md_infer.specs.Seeking.{wanted_by, search_of, sight, first_where, refer_where, seen_as, seen}
-use Rattle.md_infer.specs.Facts.{sought_inside, sought_behind, sought_over}
+use Rattle.md_infer.specs.Facts.{sought_inside, sought_after, sought_over}
 use Rattle.md_tree.specs.Reads.{first_place, number_in, label_in, reads, is_reader, has_resource}
 
 -- which node a search stops at, and what it finds there
@@ -80,7 +80,7 @@ At = ℕ → Option Position
 record Searched (at : At) (from to : Sought) (o r : Option (Option Position)) : Type 0 where
   wanted : to.wanted ≡ from.wanted
   found : to.found ≡ found_after from.found o r
-  places : at to.place ≡ place_after from.found (at from.place) o r
+  places : at to.read_at ≡ place_after from.found (at from.read_at) o r
 
 found_twice : (f : Found) (o r later more : Option (Option Position)) →
     found_after (found_after f o r) later more ≡ found_after f (or_else o later) (or_else r more)
@@ -115,16 +115,16 @@ joined : (at : At) (from middle to : Sought) (o r later more : Option (Option Po
 joined at from middle to o r later more a b = record {
   wanted = b.wanted ∙ a.wanted;
   found = b.found ∙ ap (λ f. found_after f later more) a.found ∙ found_twice from.found o r later more;
-  places = b.places ∙ ap (λ f. place_after f (at middle.place) later more) a.found
+  places = b.places ∙ ap (λ f. place_after f (at middle.read_at) later more) a.found
       ∙ ap (λ p. place_after (found_after from.found o r) p later more) a.places
-      ∙ place_twice from.found (at from.place) o r later more;
+      ∙ place_twice from.found (at from.read_at) o r later more;
 }
 
 nothing_where : (at : At) (w : Wanted) (f : Found) (n : ℕ) (has also : Bool) →
-    Searched at (record { wanted = w; found = f; place = n; has_resource = has }) (record {
+    Searched at (record { wanted = w; found = f; read_at = n; has_resource = has }) (record {
       wanted = w;
       found = f;
-      place = n;
+      read_at = n;
       has_resource = also;
     }) None None
 nothing_where at w so_far.Nothing n has also = record { wanted = refl; found = refl; places = refl }
@@ -132,18 +132,18 @@ nothing_where at w so_far.First n has also = record { wanted = refl; found = ref
 nothing_where at w so_far.Reference n has also = record { wanted = refl; found = refl; places = refl }
 
 nothing : (at : At) (s : Sought) → Searched at s s None None
-nothing at s = nothing_where at s.wanted s.found s.place s.has_resource s.has_resource
+nothing at s = nothing_where at s.wanted s.found s.read_at s.has_resource s.has_resource
 
 first_found : (at : At) (w : Wanted) (f : Found) (n : ℕ) (has : Bool) (m : ℕ) (o : Option Position) → at m ≡ o →
-    Searched at (record { wanted = w; found = f; place = n; has_resource = has })
-    (first_where f (record { wanted = w; found = f; place = n; has_resource = has }) m) (Some o) None
+    Searched at (record { wanted = w; found = f; read_at = n; has_resource = has })
+    (first_where f (record { wanted = w; found = f; read_at = n; has_resource = has }) m) (Some o) None
 first_found at w so_far.Nothing n has m o e = record { wanted = refl; found = refl; places = e }
 first_found at w so_far.First n has m o e = record { wanted = refl; found = refl; places = refl }
 first_found at w so_far.Reference n has m o e = record { wanted = refl; found = refl; places = refl }
 
 reference_found : (at : At) (w : Wanted) (f : Found) (n : ℕ) (has : Bool) (m : ℕ) (o : Option Position) → at m ≡ o →
-    Searched at (record { wanted = w; found = f; place = n; has_resource = has })
-    (refer_where f (record { wanted = w; found = f; place = n; has_resource = has }) m) None (Some o)
+    Searched at (record { wanted = w; found = f; read_at = n; has_resource = has })
+    (refer_where f (record { wanted = w; found = f; read_at = n; has_resource = has }) m) None (Some o)
 reference_found at w so_far.Nothing n has m o e = record { wanted = refl; found = refl; places = e }
 reference_found at w so_far.First n has m o e = record { wanted = refl; found = refl; places = e }
 reference_found at w so_far.Reference n has m o e = record { wanted = refl; found = refl; places = refl }
@@ -153,13 +153,13 @@ reference_found at w so_far.Reference n has m o e = record { wanted = refl; foun
 -- a node that is, or holds, what is sought, by a test
 itself_step : (at : At) (s : Sought) (passes : Bool) (m inner : ℕ) (o : Option Position) → at m ≡ o →
     Searched at s (seen_as (cond passes looks.Itself looks.Other) s m inner) (cond passes (Some o) None) None
-itself_step at s true m inner o e = first_found at s.wanted s.found s.place s.has_resource m o e
+itself_step at s true m inner o e = first_found at s.wanted s.found s.read_at s.has_resource m o e
 itself_step at s false m inner o e = nothing at s
 
 holder_step : (at : At) (s : Sought) (passes : Bool) (m inner : ℕ) (o : Option Position) →
     (passes ≡ true → at inner ≡ o) → Searched at s (seen_as (cond passes looks.Holder looks.Other) s m inner)
     (cond passes (Some o) None) None
-holder_step at s true m inner o e = first_found at s.wanted s.found s.place s.has_resource inner o (e refl)
+holder_step at s true m inner o e = first_found at s.wanted s.found s.read_at s.has_resource inner o (e refl)
 holder_step at s false m inner o e = nothing at s
 
 media_step : (at : At) (s : Sought) (name : Name) (start end : Point) (children : Forest) (m inner : ℕ) →
@@ -168,11 +168,11 @@ media_step : (at : At) (s : Sought) (name : Name) (start end : Point) (children 
     (cond (is_label name) (Some (finds want.Media start end children)) None)
     (cond (is_reference name) (Some (Some (place start end))) None)
 media_step at s Label start end children m inner here held =
-    first_found at s.wanted s.found s.place s.has_resource inner (finds want.Media start end children) (held refl)
+    first_found at s.wanted s.found s.read_at s.has_resource inner (finds want.Media start end children) (held refl)
 media_step at s ReferenceString start end children m inner here held =
-    reference_found at s.wanted s.found s.place s.has_resource m (Some (place start end)) here
+    reference_found at s.wanted s.found s.read_at s.has_resource m (Some (place start end)) here
 media_step at s Resource start end children m inner here held =
-    nothing_where at s.wanted s.found s.place s.has_resource true
+    nothing_where at s.wanted s.found s.read_at s.has_resource true
 media_step at s _ start end children m inner here held = nothing at s
 
 -- what a holder holds is found in it
@@ -399,7 +399,7 @@ abbrev pub AllAt : At → ℕ → Forest → Type 0
 AllAt at index Empty = Unit {0}
 AllAt at index (Node name start end children rest) =
     (at index ≡ Some (place start end)) × AllAt at (suc index) children
-    × AllAt at (suc (behind (suc index) children)) rest
+    × AllAt at (suc (index_after (suc index) children)) rest
 
 -- a search over some nodes
 abbrev Searches : At → ℕ → Forest → Type 0
@@ -410,7 +410,7 @@ node_step : (at : At) → at 0 ≡ None → (index : ℕ) (name : Name) (start e
     at index ≡ Some (place start end) → Searches at (suc index) children → (through : Bool) →
     is_transparent name ≡ through → Searched at s (cond through
     (sought_over (suc index) children (cond through s (search_of name)))
-    (seen s name index (Sought.place (sought_over (suc index) children (cond through s (search_of name))))))
+    (seen s name index (Sought.read_at (sought_over (suc index) children (cond through s (search_of name))))))
     (cond (seeks s.wanted name) (Some (finds s.wanted start end children))
     (cond through (spot s.wanted children) None)) (cond (refers s.wanted name) (Some (Some (place start end)))
     (cond through (reference s.wanted children) None))
@@ -423,26 +423,26 @@ node_step at none index name start end children s here inside true e =
     (cond b (Some (Some (place start end))) (reference s.wanted children))) (sym by_it.1) (inside s))
 node_step at none index name start end children s here inside false e =
     let own = sought_over (suc index) children (search_of name) in
-    let own_found : at own.place ≡ found_in name children =
+    let own_found : at own.read_at ≡ found_in name children =
     Searched.places (inside (search_of name)) ∙ ap (λ p. unwrap_or (reference (wanted_by name) children)
     (unwrap_or (spot (wanted_by name) children) p)) none in
-    solid_step at s.wanted s name start end children index own.place here
-    (held at s.wanted name start end children own.place own_found)
+    solid_step at s.wanted s name start end children index own.read_at here
+    (held at s.wanted name start end children own.read_at own_found)
 
 searched : (at : At) → at 0 ≡ None → (forest : Forest) (index : ℕ) → AllAt at index forest → Searches at index forest
 searched at none Empty index all s = nothing at s
 searched at none (Node name start end children rest) index all s =
-    let later = suc (behind (suc index) children) in
-    let middle = sought_behind name index (sought_over (suc index) children (sought_inside name s)) s in
+    let later = suc (index_after (suc index) children) in
+    let middle = sought_after name index (sought_over (suc index) children (sought_inside name s)) s in
     let here = node_step at none index name start end children s all.0 (searched at none children (suc index) all.1)
     (is_transparent name) refl in
-    let behind_it = subst (λ w. Searched at middle (sought_over later rest middle) (spot w rest) (reference w rest))
+    let after_it = subst (λ w. Searched at middle (sought_over later rest middle) (spot w rest) (reference w rest))
     (Searched.wanted here) (searched at none rest later all.2 middle) in
-    joined at s middle (sought_over later rest middle) _ _ (spot s.wanted rest) (reference s.wanted rest) here behind_it
+    joined at s middle (sought_over later rest middle) _ _ (spot s.wanted rest) (reference s.wanted rest) here after_it
 
 -- what a name reads
 pub reads-found : (at : At) → at 0 ≡ None → (name : Name) (children : Forest) (index : ℕ) → AllAt at index children →
-    is_reader name ≡ true → at (Sought.place (sought_over index children (search_of name))) ≡ reads name children
+    is_reader name ≡ true → at (Sought.read_at (sought_over index children (search_of name))) ≡ reads name children
 reads-found at none name children index all h =
     Searched.places (searched at none children index all (search_of name))
     ∙ ap (λ p. unwrap_or (reference (wanted_by name) children) (unwrap_or (spot (wanted_by name) children) p)) none
@@ -490,8 +490,8 @@ resources : (at : At) → at 0 ≡ None → (forest : Forest) (index : ℕ) → 
     ≡ (s.has_resource || list_any is_resource (spine_names forest))
 resources at none Empty index all s media = or-false s.has_resource
 resources at none (Node name start end children rest) index all s media =
-    let later = suc (behind (suc index) children) in
-    let middle = sought_behind name index (sought_over (suc index) children (sought_inside name s)) s in
+    let later = suc (index_after (suc index) children) in
+    let middle = sought_after name index (sought_over (suc index) children (sought_inside name s)) s in
     let here = node_step at none index name start end children s all.0 (searched at none children (suc index) all.1)
     (is_transparent name) refl in
     resources at none rest later all.2 middle (Searched.wanted here ∙ media)
@@ -505,13 +505,13 @@ resources at none (Node name start end children rest) index all s media =
     by : (through : Bool) → Sought.has_resource (sought_over (suc index) children s)
         ≡ (s.has_resource || list_any is_resource (spine_names children)) →
         Sought.has_resource (cond through (sought_over (suc index) children (cond through s (search_of name)))
-        (seen s name index (Sought.place (sought_over (suc index) children (cond through s (search_of name))))))
+        (seen s name index (Sought.read_at (sought_over (suc index) children (cond through s (search_of name))))))
         ≡ (s.has_resource || list_any is_resource (cond through (spine_names children) (name ∷ [])))
     by true inside = inside
     by false inside =
         ap (λ w. Sought.has_resource (seen_as (sight w name) s index
-        (Sought.place (sought_over (suc index) children (search_of name))))) media
-        ∙ media_resource s name index (Sought.place (sought_over (suc index) children (search_of name)))
+        (Sought.read_at (sought_over (suc index) children (search_of name))))) media
+        ∙ media_resource s name index (Sought.read_at (sought_over (suc index) children (search_of name)))
         ∙ ap (λ b. s.has_resource || b) (or-false (is_resource name))
 
 -- whether a link or an image has a resource

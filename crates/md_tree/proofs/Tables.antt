@@ -200,10 +200,10 @@ module _ (test : Name → Bool) (only : Name) (one : Symbol) (p : Symbol → Boo
       let both = sym (list_all-append p (shown st (spine children)) (spine rest)) ∙ all in
       let here = any_node name children around before (level children) shaped.0.1 shaped.1
       (and_left (list_all p (shown st (spine children))) (list_all p (spine rest)) both) (test name) refl in
-      let behind = level rest around (last_symbol before (shown st (spine children))) shaped.2
+      let after = level rest around (last_symbol before (shown st (spine children))) shaped.2
       (and_right (list_all p (shown st (spine children))) (list_all p (spine rest)) both) in
       ap (λ xs. xs ++ alignments rest) here ∙ ap (λ ys. cond (test name) (found children)
-      (cond (is_transparent name) (in_each test found children) []) ++ ys) behind
+      (cond (is_transparent name) (in_each test found children) []) ++ ys) after
 
 -- ---- the three levels
 

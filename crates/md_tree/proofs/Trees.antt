@@ -22,7 +22,7 @@ use Rattle.md_pattern.specs.Spine.{spine, shown, Matches}
 use Rattle.md_pattern.specs.Shape.{Claim, EachNode, IsShapedNode, IsStanding, inner_role, inner_before, last_symbol, role_for}
 use Rattle.md_tree.specs.Rules.{reading_of, place, target_after, target_of}
 use Rattle.md_tree.specs.Mentions.{mention_of, mentions_with}
-use Rattle.md_infer.specs.Partners.{behind}
+use Rattle.md_infer.specs.Partners.{index_after}
 use Rattle.md_pattern.specs.Steps.{may_hold, start_of, advance, is_complete}
 use Rattle.md_tree.specs.Machine.{Reads, Course, Runs, Exits, after_entry, entered, entered_on, beginning}
 use Rattle.md_tree.proofs.Groups.{Feeds, Feeds-split, Feeds-matches, advance_role}
@@ -74,8 +74,8 @@ may_hold-from _ ne = refl
 abbrev pub mentions_over : ℕ → Forest → List Mentioned → List Mentioned
 mentions_over index Empty before = before
 mentions_over index (Node name start end children rest) before =
-    mentions_over (suc (behind (suc index) children)) rest
-    (mentions_with (behind (suc index) children) (mention_of (reading_of (standing_of name))
+    mentions_over (suc (index_after (suc index) children)) rest
+    (mentions_with (index_after (suc index) children) (mention_of (reading_of (standing_of name))
     (target_of children Missing)) (mentions_over (suc index) children before))
 
 -- after nodes
@@ -85,7 +85,7 @@ after_nodes forest end from =
       state = end;
       target = target_of forest from.target;
       open_nodes = from.open_nodes;
-      count = behind from.count forest;
+      count = index_after from.count forest;
       mentions = mentions_over from.count forest from.mentions;
     }
 
@@ -101,8 +101,8 @@ pub record NodeRuns (holds : Reads) (standing : Standing) (name : Name) (start e
     state = middle;
     target = target_after standing from.target (target_of children) (place start end);
     open_nodes = from.open_nodes;
-    count = suc (behind (suc from.count) children);
-    mentions = mentions_with (behind (suc from.count) children)
+    count = suc (index_after (suc from.count) children);
+    mentions = mentions_with (index_after (suc from.count) children)
         (mention_of (reading_of standing) (target_of children Missing))
         (mentions_over (suc from.count) children from.mentions);
   })
@@ -163,7 +163,7 @@ node_space holds free name start end children from middle may reads fine empty s
             state = s;
             target = from.target;
             open_nodes = from.open_nodes;
-            count = suc (behind (suc from.count) children);
+            count = suc (index_after (suc from.count) children);
             mentions = mentions_over (suc from.count) children from.mentions;
           }) (sym same),
         ),
@@ -252,8 +252,8 @@ Runs-nodes holds free (Node name start stop children rest) from end fine feeds =
       state = middle;
       target = target_after st from.target (target_of children) (place start stop);
       open_nodes = from.open_nodes;
-      count = suc (behind (suc from.count) children);
-      mentions = mentions_with (behind (suc from.count) children)
+      count = suc (index_after (suc from.count) children);
+      mentions = mentions_with (index_after (suc from.count) children)
           (mention_of (reading_of st) (target_of children Missing))
           (mentions_over (suc from.count) children from.mentions);
     } in

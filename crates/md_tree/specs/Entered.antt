@@ -11,7 +11,8 @@ children_of (Node name start end children rest) = Some children ∷ children_of 
 -- the event at an index enters a node with these children, in the document that the events are
 abbrev pub IsEnteredAt : Document → ℕ → Forest → Type 0
 IsEnteredAt given index children =
-    (forest : Forest) × (flatten forest ≡ given.events) × (slice_get (children_of forest) index ≡ Some (Some children))
+    (forest : Forest) × (flatten forest ≡ given.events)
+    × (slice_get (children_of forest) index ≡ Some (Some children))
 
 -- it enters a node
 abbrev pub EntersNode : Document → ℕ → Type 0

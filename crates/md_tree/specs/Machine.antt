@@ -124,7 +124,8 @@ Exits holds (open_node ∷ others) name point from to =
 -- an entering event
 abbrev pub Enters : Name → Point → Course → Course → Type 0
 Enters name point from to =
-    MatchOption (entered (standing_of name) from.state from.target) ⊥ (λ entry. to ≡ after_entry entry name point from)
+    MatchOption (entered (standing_of name) from.state from.target) ⊥
+    (λ entry. to ≡ after_entry entry name point from)
 
 -- an event
 abbrev pub StepsBy : Reads → Kind → Name → Point → Course → Course → Type 0

@@ -53,7 +53,8 @@ defined bytes (mention ∷ mentions) = defined_by bytes mention (defined bytes m
 
 -- one more identifier, where a footnote definition is mentioned
 abbrev pub footnoted_by : List ℕ → Mention → List (Option (List ℕ)) → List (Option (List ℕ))
-footnoted_by bytes mention rest = elim mention [ FootnoteDefinition at ↦ identifier_at bytes at ∷ rest | _ ↦ rest ]
+footnoted_by bytes mention rest =
+    elim mention [ FootnoteDefinition at ↦ identifier_at bytes at ∷ rest | _ ↦ rest ]
 
 -- the identifiers of the footnote definitions
 abbrev pub footnoted : List ℕ → List Mention → List (Option (List ℕ))

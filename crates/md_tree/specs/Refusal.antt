@@ -45,7 +45,8 @@ before_in (level ∷ path) = inner_before (standing_of level.name) (symbol_after
 
 abbrev pub role_in : List Level → Role
 role_in [] = role.Flow
-role_in (level ∷ path) = inner_role (standing_of level.name) (role_in path) (symbol_after (before_in path) level.before)
+role_in (level ∷ path) =
+    inner_role (standing_of level.name) (role_in path) (symbol_after (before_in path) level.before)
 
 -- the whole nodes before each open one have the shape of the grammar
 abbrev pub IsShapedPath : List Level → Type 0
@@ -61,7 +62,8 @@ pub record Begins (events : List Event) (path : List Level) (nodes : Forest) : T
 
 -- no tree with the shape of the grammar has a flattening that begins with these events
 abbrev pub BeginNoTree : List Event → Type 0
-BeginNoTree events = (forest : Forest) (more : List Event) → IsShaped forest → flatten forest ≡ events ++ more → ⊥
+BeginNoTree events = (forest : Forest) (more : List Event) → IsShaped forest →
+    flatten forest ≡ events ++ more → ⊥
 
 -- a spine ends in a group that has begun and isn't complete
 abbrev pub EndsInGroup : List Symbol → Type 0

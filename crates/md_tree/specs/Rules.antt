@@ -94,7 +94,8 @@ broken_by_target target = elim target [ Missing ↦ Some rule.Target | _ ↦ Non
 
 -- the rule that a node breaks, by what is read of it, the role around it, the symbol before it, its place and its
 -- target
-abbrev pub broken_rule : List ℕ → List (List ℕ × List ℕ) → Reading → Role → Option Symbol → Point → Point → Target
+abbrev pub broken_rule : List ℕ → List (List ℕ × List ℕ) → Reading → Role → Option Symbol → Point →
+    Point → Target
     → Option Rule
 broken_rule bytes names read around before start end target = elim read [
   | reading.Text ↦ broken_by (text_between bytes start end) (λ text. None)
@@ -103,7 +104,8 @@ broken_rule bytes names read around before start end target = elim read [
   | reading.Number ↦
       broken_by (text_between bytes start end) (λ text. unless (is_list_number around before text) rule.ListNumber)
   | reading.Value ↦
-      broken_by (text_between bytes start end) (λ text. unless (is_decodable names before text) rule.CharacterReference)
+      broken_by (text_between bytes start end)
+      (λ text. unless (is_decodable names before text) rule.CharacterReference)
   | reading.Mark ↦
       if fits bytes start end then unless (is_rank around before (columns start end)) rule.HeadingMark
       else Some rule.Place
@@ -114,7 +116,8 @@ broken_rule bytes names read around before start end target = elim read [
 ]
 
 -- the rule that a node breaks, in a node of a role and after a symbol on its spine
-abbrev pub broken_at : List ℕ → List (List ℕ × List ℕ) → Role → Option Symbol → Name → Point → Point → Forest
+abbrev pub broken_at : List ℕ → List (List ℕ × List ℕ) → Role → Option Symbol → Name → Point →
+    Point → Forest
     → Option Rule
 broken_at bytes names around before name start end children =
     broken_rule bytes names (reading_of (standing_of name)) around before start end (target_of children Missing)

@@ -102,13 +102,15 @@ Broken bytes names broken reading around before start end target =
     broken_rule bytes names reading around before start end target ≡ Some broken
 
 -- the innermost open node would end here, and breaks the rule
-abbrev pub BreaksWhere : List ℕ → List (List ℕ × List ℕ) → Rule → Option Outer → Point → Point → Course → Type 0
+abbrev pub BreaksWhere : List ℕ → List (List ℕ × List ℕ) → Rule → Option Outer → Point → Point →
+    Course → Type 0
 BreaksWhere bytes names broken None start end course = ⊥
 BreaksWhere bytes names broken (Some outer) start end course =
     IsTrue (is_complete course.state) × Broken bytes names broken outer.reading outer.state.role outer.before start
     end course.target
 
-abbrev pub BreaksAtExit : List ℕ → List (List ℕ × List ℕ) → Rule → List Open → Name → Point → Course → Type 0
+abbrev pub BreaksAtExit : List ℕ → List (List ℕ × List ℕ) → Rule → List Open → Name → Point →
+    Course → Type 0
 BreaksAtExit bytes names broken [] name point course = ⊥
 BreaksAtExit bytes names broken (open_node ∷ others) name point course =
     (open_node.name ≡ name) × BreaksWhere bytes names broken open_node.outer open_node.start point course
@@ -139,13 +141,15 @@ StopsBy bytes names Enter broken name point course = StopsAtEntry broken name po
 StopsBy bytes names Exit broken name point course = StopsAtExit bytes names broken name point course
 
 -- out of memory, or a rule at this event
-abbrev pub IsStop : List ℕ → List (List ℕ × List ℕ) → ℕ → Kind → Name → Point → Course → CompileError → Type 0
+abbrev pub IsStop : List ℕ → List (List ℕ × List ℕ) → ℕ → Kind → Name → Point → Course →
+    CompileError → Type 0
 IsStop bytes names index kind name point course error.Memory = Unit {0}
 IsStop bytes names index kind name point course (error.Event named broken) =
     (named ≡ index) × StopsBy bytes names kind broken name point course
 
 -- the same of a node without children: its entry stops the walk, or its exit does
-abbrev pub IsStopAtLeaf : List ℕ → List (List ℕ × List ℕ) → ℕ → Name → Point → Point → Course → CompileError → Type 0
+abbrev pub IsStopAtLeaf : List ℕ → List (List ℕ × List ℕ) → ℕ → Name → Point → Point → Course →
+    CompileError → Type 0
 IsStopAtLeaf bytes names index name start end course stopped =
     IsStop bytes names index Enter name start course stopped
     ⊎ ((between : Course) × Enters name start course between
@@ -157,7 +161,8 @@ StopsInside bytes names rule.Order outer position course = is_complete course.st
 StopsInside bytes names broken outer position course = BreaksWhere bytes names broken
     (Some outer) position.start position.end course
 
-abbrev pub IsStopInside : List ℕ → List (List ℕ × List ℕ) → ℕ → Outer → Position → Course → CompileError → Type 0
+abbrev pub IsStopInside : List ℕ → List (List ℕ × List ℕ) → ℕ → Outer → Position → Course →
+    CompileError → Type 0
 IsStopInside bytes names index outer position course error.Memory = Unit {0}
 IsStopInside bytes names index outer position course (error.Event named broken) =
     (named ≡ index) × StopsInside bytes names broken outer position course

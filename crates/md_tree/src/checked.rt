@@ -245,7 +245,7 @@ impl<'a> Checked<'a> {
         ensures contributing { (children : Forest) → IsEnteredAt self.now index children
             → result ≡ last_contributing_at (suc index) children }
     {
-        unless_zero(self.fact(index).place)
+        unless_zero(self.fact(index).read_at)
     }
 
     /// The place of what is read of the node that the event at the index enters: of a heading its
@@ -265,7 +265,7 @@ impl<'a> Checked<'a> {
         ensures entered { EntersNode self.now index }
         ensures reads { IsReadAt self.now index result }
     {
-        position_of(self.events, &self.facts, self.fact(index).place)
+        position_of(self.events, &self.facts, self.fact(index).read_at)
     }
 
     /// Whether the link or the image that the event at the index enters has a resource.
@@ -301,7 +301,7 @@ impl<'a> Checked<'a> {
         ensures entered { EntersNode self.now index }
         ensures aligned { (children : Forest) → IsEnteredAt self.now index children → result.now ≡ alignments children }
     {
-        table_at(&self.tables, fact_at(&self.facts, index).place)
+        table_at(&self.tables, fact_at(&self.facts, index).read_at)
     }
 
     /// The text of the node that ends with the event at the index: only its bytes, without the

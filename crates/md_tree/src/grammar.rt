@@ -11,7 +11,7 @@ ghost use Rattle.md_tree.specs.Walk.{course_of, Unbroken};
 ghost use Rattle.md_infer.specs.Facts.{facts_at, tables_at, definitions_at};
 
 use crate::checked::Checked;
-use crate::judge::Source;
+use crate::judge::Input;
 use crate::reader::Reader;
 use crate::resolve::resolve;
 use crate::rule::{CompileError, Rule};
@@ -97,31 +97,31 @@ fn read_document(
     ensures refused { IfErr result (IsRefusal (handed events.now bytes.now names.now)) }
 {
     let texts = Texts::new(alloc, bytes)?;
-    let source = Source {
+    let input = Input {
         alloc,
         events,
         bytes: &texts,
         names,
     };
-    read_events(source)
+    read_events(input)
 }
 
 /// Reads all events, each by the walk and by the pass that finds what is read or inferred.
-fn read_events(source: Source) -> Result<Read, CompileError>
+fn read_events(input: Input) -> Result<Read, CompileError>
     ensures walked { IfOk result
-        (λ read. Runs (Unbroken source.entry.bytes.now (name_table source.entry.names.now)) source.entry.events.now beginning (course_of source.entry.events.now (length source.entry.events.now) read.walk)) }
-    ensures facts { IfOk result (λ read. read.found.facts.items ≡ facts_at source.entry.events.now) }
-    ensures tables { IfOk result (λ read. map (λ t. t.items) read.found.tables.items ≡ tables_at source.entry.events.now) }
-    ensures definitions { IfOk result (λ read. read.found.definitions.items ≡ definitions_at source.entry.events.now) }
-    ensures first_ending { IfOk result (λ read. read.found.first_ending ≡ first_index source.entry.events.now) }
-    ensures visits { IfOk result (λ read. read.found.visits ≡ length source.entry.events.now) }
-    ensures refused { IfErr result (IsRefusal (handed source.entry.events.now source.entry.bytes.now source.entry.names.now)) }
+        (λ read. Runs (Unbroken input.entry.bytes.now (name_table input.entry.names.now)) input.entry.events.now beginning (course_of input.entry.events.now (length input.entry.events.now) read.walk)) }
+    ensures facts { IfOk result (λ read. read.found.facts.items ≡ facts_at input.entry.events.now) }
+    ensures tables { IfOk result (λ read. map (λ t. t.items) read.found.tables.items ≡ tables_at input.entry.events.now) }
+    ensures definitions { IfOk result (λ read. read.found.definitions.items ≡ definitions_at input.entry.events.now) }
+    ensures first_ending { IfOk result (λ read. read.found.first_ending ≡ first_index input.entry.events.now) }
+    ensures visits { IfOk result (λ read. read.found.visits ≡ length input.entry.events.now) }
+    ensures refused { IfErr result (IsRefusal (handed input.entry.events.now input.entry.bytes.now input.entry.names.now)) }
 {
-    let mut reader = Reader::new(source)?;
+    let mut reader = Reader::new(input)?;
     let mut visits = 0;
     // Each turn visits an event, or an entry and its own exit.
-    while let Some(event) = source.events.get(visits) {
-        visits += reader.advance(source, visits, *event)?;
+    while let Some(event) = input.events.get(visits) {
+        visits += reader.advance(input, visits, *event)?;
     }
     let Reader {
         walk,

@@ -105,12 +105,12 @@ fn is_decimal(text: &str) -> bool
 /// The value of a character reference.
 #[inline(always)]
 fn broken_value(
-    source: Source,
+    input: Input,
     before: Option<Symbol>,
     text: Option<&str>,
 ) -> Result<Option<Rule>, AllocError>
     ensures { IfOk result
-        (λ broken. broken ≡ broken_by (option_copied text.entry) (λ t. unless (is_decodable (name_table source.entry.names.now) before t) rule.CharacterReference)) }
+        (λ broken. broken ≡ broken_by (option_copied text.entry) (λ t. unless (is_decodable (name_table input.entry.names.now) before t) rule.CharacterReference)) }
 {
     let Some(text) = text else {
         return Ok(Some(Rule::Place));
@@ -118,7 +118,7 @@ fn broken_value(
     let Some(marker) = marker(before) else {
         return Ok(None);
     };
-    let value = decode_character_reference(source.alloc, text, marker, source.names)?;
+    let value = decode_character_reference(input.alloc, text, marker, input.names)?;
     Ok(rule_unless(value.is_some(), Rule::CharacterReference))
 }
 
@@ -137,17 +137,17 @@ fn marker(before: Option<Symbol>) -> Option<u8>
 /// A mark of a heading that is entered and exited at two indices: the first one is its rank.
 #[inline(always)]
 fn broken_mark(
-    source: Source,
+    input: Input,
     around: Role,
     before: Option<Symbol>,
     entry: usize,
     exit: usize,
 ) -> Option<Rule>
-    ensures { (start end : Point) → start ≡ point_at source.entry.events.now entry → end ≡ point_at source.entry.events.now exit
-        → result ≡ (if fits source.entry.bytes.now start end then unless (is_rank around before (columns start end)) rule.HeadingMark else Some rule.Place) }
+    ensures { (start end : Point) → start ≡ point_at input.entry.events.now entry → end ≡ point_at input.entry.events.now exit
+        → result ≡ (if fits input.entry.bytes.now start end then unless (is_rank around before (columns start end)) rule.HeadingMark else Some rule.Place) }
 {
-    let position = place_at(source.events, entry, exit);
-    match Slice::from_position(source.bytes.bytes(), &position) {
+    let position = place_at(input.events, entry, exit);
+    match Slice::from_position(input.bytes.bytes(), &position) {
         None => Some(Rule::Place),
         Some(slice) => rule_unless(
             is_right_mark(around, before, slice.len()),
@@ -158,11 +158,11 @@ fn broken_mark(
 
 /// What identifies a link, an image, a footnote call or a definition, and is entered and exited at two indices.
 #[inline(always)]
-fn broken_identifier(source: Source, entry: usize, exit: usize) -> Option<Rule>
-    ensures { result ≡ broken_by (label_between source.entry.bytes.now (point_at source.entry.events.now entry) (point_at source.entry.events.now exit)) (λ _. None) }
+fn broken_identifier(input: Input, entry: usize, exit: usize) -> Option<Rule>
+    ensures { result ≡ broken_by (label_between input.entry.bytes.now (point_at input.entry.events.now entry) (point_at input.entry.events.now exit)) (λ _. None) }
 {
-    let position = place_at(source.events, entry, exit);
-    broken_text(source.bytes.label_at(&position))
+    let position = place_at(input.events, entry, exit);
+    broken_text(input.bytes.label_at(&position))
 }
 
 /// Whether a mark of this length may stand in a node of this role, after a symbol.
@@ -233,7 +233,7 @@ pub fn place_at(events: &[Event], entry: usize, exit: usize) -> Position
 
 /// A document's events and bytes, and the names of character references with their texts.
 #[derive(Clone, Copy)]
-pub struct Source<'t, 'a> {
+pub struct Input<'t, 'a> {
     /// Where what is kept of them gets its memory.
     pub alloc: Global,
     /// The events.
@@ -267,13 +267,13 @@ pub struct Spot {
 /// `AllocError`, only where memory runs out.
 #[inline(always)]
 pub fn read_node(
-    source: Source,
+    input: Input,
     spot: Spot,
     inner: Aim,
     target: &mut Aim,
 ) -> Result<Option<Rule>, AllocError>
     ensures broken { IfOk result
-        (λ broken. broken ≡ broken_rule source.entry.bytes.now (name_table source.entry.names.now) spot.reading spot.around spot.before (point_at source.entry.events.now spot.entry) (point_at source.entry.events.now spot.exit) (target_seen source.entry.events.now inner)) }
+        (λ broken. broken ≡ broken_rule input.entry.bytes.now (name_table input.entry.names.now) spot.reading spot.around spot.before (point_at input.entry.events.now spot.entry) (point_at input.entry.events.now spot.exit) (target_seen input.entry.events.now inner)) }
     ensures target { (events : List Event) → target_seen events target.new ≡ target_at spot.reading (target_seen events target.old) (target_seen events inner) (place_at events spot.entry spot.exit) }
 {
     let Spot {
@@ -283,17 +283,17 @@ pub fn read_node(
         entry,
         exit,
     } = spot;
-    let bytes = source.bytes.bytes();
+    let bytes = input.bytes.bytes();
     let rule = match reading {
-        Reading::Text => broken_text(text_of(source, entry, exit)),
-        Reading::LineEnding => broken_ending(text_of(source, entry, exit)),
-        Reading::Number => broken_number(around, before, text_of(source, entry, exit)),
-        Reading::Value => broken_value(source, before, text_of(source, entry, exit))?,
-        Reading::Mark => broken_mark(source, around, before, entry, exit),
-        Reading::Underline => broken_underline(bytes, point_at(source.events, entry)),
+        Reading::Text => broken_text(text_of(input, entry, exit)),
+        Reading::LineEnding => broken_ending(text_of(input, entry, exit)),
+        Reading::Number => broken_number(around, before, text_of(input, entry, exit)),
+        Reading::Value => broken_value(input, before, text_of(input, entry, exit))?,
+        Reading::Mark => broken_mark(input, around, before, entry, exit),
+        Reading::Underline => broken_underline(bytes, point_at(input.events, entry)),
         Reading::Identifier => {
             *target = Aim::Label(entry, exit);
-            broken_identifier(source, entry, exit)
+            broken_identifier(input, entry, exit)
         }
         Reading::Media => broken_target(inner),
         Reading::Holder => {
@@ -311,8 +311,8 @@ pub fn read_node(
 
 /// The text of a node that is entered and exited at two indices.
 #[inline(always)]
-fn text_of<'a>(source: Source<'_, 'a>, entry: usize, exit: usize) -> Option<&'a str>
-    ensures { option_copied result ≡ text_between source.entry.bytes.now (point_at source.entry.events.now entry) (point_at source.entry.events.now exit) }
+fn text_of<'a>(input: Input<'_, 'a>, entry: usize, exit: usize) -> Option<&'a str>
+    ensures { option_copied result ≡ text_between input.entry.bytes.now (point_at input.entry.events.now entry) (point_at input.entry.events.now exit) }
 {
-    source.bytes.text_at(&place_at(source.events, entry, exit))
+    input.bytes.text_at(&place_at(input.events, entry, exit))
 }

@@ -4,16 +4,16 @@ ghost use Rattle.std.specs.Prelude.{◌≡◌, ◌<◌, ◌≤◌, ◌+◌, true
 ghost use Rattle.md_base.specs.Reference.{name_table};
 ghost use Rattle.md_base.specs.declared.event.Event.{Event};
 ghost use Rattle.md_base.specs.declared.event.Kind.TheVariants as kind;
-ghost use Rattle.md_infer.specs.Ending.{ending_behind};
+ghost use Rattle.md_infer.specs.Ending.{ending_after};
 ghost use Rattle.md_tree.specs.Grammar.{handed};
 ghost use Rattle.md_tree.specs.Refusal.{IsRefusal};
 ghost use Rattle.md_tree.specs.Reader.{IsLeaf, HasRead};
 
-use crate::judge::Source;
+use crate::judge::Input;
 use crate::rule::CompileError;
 use crate::walk::Walk;
 use md_base::{Event, Kind, is_same_name};
-use md_infer::{Pass, ending_behind};
+use md_infer::{Pass, ending_after};
 use std::alloc::AllocError;
 
 /// What is known of the events that have been read.
@@ -33,13 +33,13 @@ impl Reader {
     /// # Errors
     ///
     /// `AllocError`, only where memory runs out.
-    pub fn new(source: Source) -> Result<Reader, AllocError>
+    pub fn new(input: Input) -> Result<Reader, AllocError>
         ensures { IfOk result
-            (λ reader. HasRead source.entry.bytes.now (name_table source.entry.names.now) source.entry.events.now 0 reader) }
+            (λ reader. HasRead input.entry.bytes.now (name_table input.entry.names.now) input.entry.events.now 0 reader) }
     {
         Ok(Reader {
-            walk: Walk::new(source.alloc),
-            pass: Pass::new(source.alloc, source.events.len())?,
+            walk: Walk::new(input.alloc),
+            pass: Pass::new(input.alloc, input.events.len())?,
             first_ending: None,
         })
     }
@@ -54,62 +54,62 @@ impl Reader {
     #[inline(always)]
     pub fn advance(
         &mut self,
-        source: Source,
+        input: Input,
         index: usize,
         event: Event,
     ) -> Result<usize, CompileError>
-        requires here { slice_get source.events.now index ≡ Some event }
-        requires before { HasRead source.bytes.now (name_table source.names.now) source.events.now index self.old }
+        requires here { slice_get input.events.now index ≡ Some event }
+        requires before { HasRead input.bytes.now (name_table input.names.now) input.events.now index self.old }
         ensures read { IfOk result
-            (λ count. HasRead source.entry.bytes.now (name_table source.entry.names.now) source.entry.events.now (index + count) self.new) }
-        ensures counted { IfOk result (λ count. (0 < count) × (index + count ≤ length source.entry.events.now)) }
-        ensures refused { IfErr result (IsRefusal (handed source.entry.events.now source.entry.bytes.now source.entry.names.now)) }
+            (λ count. HasRead input.entry.bytes.now (name_table input.entry.names.now) input.entry.events.now (index + count) self.new) }
+        ensures counted { IfOk result (λ count. (0 < count) × (index + count ≤ length input.entry.events.now)) }
+        ensures refused { IfErr result (IsRefusal (handed input.entry.events.now input.entry.bytes.now input.entry.names.now)) }
     {
-        match own_exit(source.events, index, &event) {
+        match own_exit(input.events, index, &event) {
             Some(exit) => {
-                self.read_leaf(source, index, event, exit)?;
+                self.read_leaf(input, index, event, exit)?;
                 Ok(2)
             }
             None => {
-                self.read(source, index, event)?;
+                self.read(input, index, event)?;
                 Ok(1)
             }
         }
     }
 
     /// Reads the event at an index.
-    fn read(&mut self, source: Source, index: usize, event: Event) -> Result<(), CompileError>
-        requires here { slice_get source.events.now index ≡ Some event }
-        requires before { HasRead source.bytes.now (name_table source.names.now) source.events.now index self.old }
+    fn read(&mut self, input: Input, index: usize, event: Event) -> Result<(), CompileError>
+        requires here { slice_get input.events.now index ≡ Some event }
+        requires before { HasRead input.bytes.now (name_table input.names.now) input.events.now index self.old }
         ensures read { OnOk result
-            (HasRead source.entry.bytes.now (name_table source.entry.names.now) source.entry.events.now (suc index) self.new) }
-        ensures refused { IfErr result (IsRefusal (handed source.entry.events.now source.entry.bytes.now source.entry.names.now)) }
+            (HasRead input.entry.bytes.now (name_table input.entry.names.now) input.entry.events.now (suc index) self.new) }
+        ensures refused { IfErr result (IsRefusal (handed input.entry.events.now input.entry.bytes.now input.entry.names.now)) }
     {
-        self.walk.step(source, index, &event)?;
-        self.pass.find(source.alloc, &event)?;
-        note_ending(&mut self.first_ending, source.events, index);
+        self.walk.step(input, index, &event)?;
+        self.pass.find(input.alloc, &event)?;
+        note_ending(&mut self.first_ending, input.events, index);
         Ok(())
     }
 
     /// Reads the two events of a node without children, of which the first has this index.
     fn read_leaf(
         &mut self,
-        source: Source,
+        input: Input,
         index: usize,
         event: Event,
         exit: &Event,
     ) -> Result<(), CompileError>
-        requires here { slice_get source.events.now index ≡ Some event }
-        requires behind { slice_get source.events.now (suc index) ≡ Some exit.now }
+        requires here { slice_get input.events.now index ≡ Some event }
+        requires after { slice_get input.events.now (suc index) ≡ Some exit.now }
         requires leaf { IsLeaf event exit.now }
-        requires before { HasRead source.bytes.now (name_table source.names.now) source.events.now index self.old }
+        requires before { HasRead input.bytes.now (name_table input.names.now) input.events.now index self.old }
         ensures read { OnOk result
-            (HasRead source.entry.bytes.now (name_table source.entry.names.now) source.entry.events.now (suc (suc index)) self.new) }
-        ensures refused { IfErr result (IsRefusal (handed source.entry.events.now source.entry.bytes.now source.entry.names.now)) }
+            (HasRead input.entry.bytes.now (name_table input.entry.names.now) input.entry.events.now (suc (suc index)) self.new) }
+        ensures refused { IfErr result (IsRefusal (handed input.entry.events.now input.entry.bytes.now input.entry.names.now)) }
     {
-        self.walk.leaf(source, index, event.name)?;
-        self.pass.leaf(source.alloc, event.name)?;
-        note_ending(&mut self.first_ending, source.events, index + 1);
+        self.walk.leaf(input, index, event.name)?;
+        self.pass.leaf(input.alloc, event.name)?;
+        note_ending(&mut self.first_ending, input.events, index + 1);
         Ok(())
     }
 }
@@ -117,7 +117,7 @@ impl Reader {
 /// Notes the first line ending, if it is the event at an index.
 #[inline(always)]
 fn note_ending(first: &mut Option<usize>, events: &[Event], index: usize)
-    ensures { (event : Event) → slice_get events.now index ≡ Some event → first.new ≡ ending_behind first.old index event }
+    ensures { (event : Event) → slice_get events.now index ≡ Some event → first.new ≡ ending_after first.old index event }
 {
     if first.is_none() {
         *first = ending_at(events, index);
@@ -127,15 +127,15 @@ fn note_ending(first: &mut Option<usize>, events: &[Event], index: usize)
 /// An index, where its event is a line ending's exit.
 #[inline(never)]
 fn ending_at(events: &[Event], index: usize) -> Option<usize>
-    ensures { (event : Event) → slice_get events.now index ≡ Some event → result ≡ ending_behind None index event }
+    ensures { (event : Event) → slice_get events.now index ≡ Some event → result ≡ ending_after None index event }
 {
-    ending_behind(None, index, events.get(index)?)
+    ending_after(None, index, events.get(index)?)
 }
 
 /// The event after the one at an index, where both enter and exit a node without children.
 fn own_exit<'a>(events: &'a [Event], index: usize, event: &Event) -> Option<&'a Event>
     requires { index < length events.now }
-    ensures behind { IfSome result (λ exit. slice_get events.entry.now (suc index) ≡ Some exit.now) }
+    ensures after { IfSome result (λ exit. slice_get events.entry.now (suc index) ≡ Some exit.now) }
     ensures leaf { IfSome result (λ exit. IsLeaf event.entry.now exit.now) }
 {
     if matches!(event.kind, Kind::Exit) {

@@ -133,10 +133,10 @@ impl<'a> Texts<'a> {
     fn run_before(&self, index: usize) -> Option<&Run<'a>>
         ensures { IfSome result (λ run. IsRun self.entry.now run.now) }
     {
-        let behind = self
+        let after = self
             .runs
             .partition_point(|run: &Run| -> bool { run.start <= index });
-        self.runs.get(behind.checked_sub(1)?)
+        self.runs.get(after.checked_sub(1)?)
     }
 }
 

@@ -5,7 +5,7 @@ ghost use Rattle.md_tree.specs.declared.rule.CompileError.TheVariants as error;
 ghost use Rattle.md_tree.specs.Mentions.{mention_of, mentions_with};
 ghost use Rattle.md_tree.specs.Walk.{target_seen, misplaced};
 
-use crate::judge::{Source, Spot, mention, place_at, read_node};
+use crate::judge::{Input, Spot, mention, place_at, read_node};
 use crate::mention::{Mention, Mentioned};
 use crate::rule::{CompileError, Rule};
 use crate::state::{Aim, Entry, Open, Outer};
@@ -60,25 +60,25 @@ impl Walk {
     /// a rule: `Rule::Mdx` where the event enters a node of MDX, `Rule::Order` where no other node
     /// may be entered there or none of this name may end, and any other rule where the node that
     /// ends breaks it.
-    pub fn step(&mut self, source: Source, index: usize, event: &Event) -> Result<(), CompileError>
-        requires { event.now.point ≡ point_at source.events.now index }
+    pub fn step(&mut self, input: Input, index: usize, event: &Event) -> Result<(), CompileError>
+        requires { event.now.point ≡ point_at input.events.now index }
         ensures ok { OnOk result
-            (Steps (Unbroken source.entry.bytes.now (name_table source.entry.names.now)) event.now (course_of source.entry.events.now index self.old) (course_of source.entry.events.now (suc index) self.new)) }
+            (Steps (Unbroken input.entry.bytes.now (name_table input.entry.names.now)) event.now (course_of input.entry.events.now index self.old) (course_of input.entry.events.now (suc index) self.new)) }
         ensures refused { IfErr result
-            (IsStop source.entry.bytes.now (name_table source.entry.names.now) index event.now.kind event.now.name event.now.point (course_of source.entry.events.now index self.old)) }
+            (IsStop input.entry.bytes.now (name_table input.entry.names.now) index event.now.kind event.now.name event.now.point (course_of input.entry.events.now index self.old)) }
     {
         match event.kind {
-            Kind::Enter => self.enter(source, index, event.name),
-            Kind::Exit => self.exit(source, index, event.name),
+            Kind::Enter => self.enter(input, index, event.name),
+            Kind::Exit => self.exit(input, index, event.name),
         }
     }
 
     /// Enters a node.
-    fn enter(&mut self, source: Source, index: usize, name: Name) -> Result<(), CompileError>
+    fn enter(&mut self, input: Input, index: usize, name: Name) -> Result<(), CompileError>
         ensures ok { OnOk result
-            (Enters name (point_at source.entry.events.now index) (course_of source.entry.events.now index self.old) (course_of source.entry.events.now (suc index) self.new)) }
+            (Enters name (point_at input.entry.events.now index) (course_of input.entry.events.now index self.old) (course_of input.entry.events.now (suc index) self.new)) }
         ensures refused { IfErr result
-            (IsStop source.entry.bytes.now (name_table source.entry.names.now) index kind.Enter name (point_at source.entry.events.now index) (course_of source.entry.events.now index self.old)) }
+            (IsStop input.entry.bytes.now (name_table input.entry.names.now) index kind.Enter name (point_at input.entry.events.now index) (course_of input.entry.events.now index self.old)) }
     {
         if !can_hold(self.state.role) {
             return refuse(index, misplaced(name));
@@ -95,7 +95,7 @@ impl Walk {
             }
             Standing::Space => {
                 let entry = self.inside(Role::Childless, self.state, Reading::Free);
-                self.open(source, index, name, entry)
+                self.open(input, index, name, entry)
             }
             Standing::Solid(symbol, usual, reading) => {
                 let Some(around) = advanced(self.state, symbol) else {
@@ -103,7 +103,7 @@ impl Walk {
                 };
                 let role = role_of(self.state.role, self.state.before, usual);
                 let entry = self.inside(role, around, reading);
-                self.open(source, index, name, entry)
+                self.open(input, index, name, entry)
             }
         }
     }
@@ -129,13 +129,13 @@ impl Walk {
     #[inline(always)]
     fn open(
         &mut self,
-        source: Source,
+        input: Input,
         index: usize,
         name: Name,
         entry: Entry,
     ) -> Result<(), CompileError>
         ensures ok { OnOk result
-            (course_of source.entry.events.now (suc index) self.new ≡ after_entry (entry_seen source.entry.events.now entry) name (point_at source.entry.events.now index) (course_of source.entry.events.now index self.old)) }
+            (course_of input.entry.events.now (suc index) self.new ≡ after_entry (entry_seen input.entry.events.now entry) name (point_at input.entry.events.now index) (course_of input.entry.events.now index self.old)) }
         ensures memory { IfErr result (λ error. error ≡ Memory) }
     {
         self.open_nodes.push(Open {
@@ -154,12 +154,12 @@ impl Walk {
     ///
     /// Those of `step`: with this index where the entry is refused, and with the next one where the
     /// exit is.
-    pub fn leaf(&mut self, source: Source, index: usize, name: Name) -> Result<(), CompileError>
-        requires { index + 1 < length source.events.now }
+    pub fn leaf(&mut self, input: Input, index: usize, name: Name) -> Result<(), CompileError>
+        requires { index + 1 < length input.events.now }
         ensures ok { OnOk result
-            (Passes (Unbroken source.entry.bytes.now (name_table source.entry.names.now)) name (point_at source.entry.events.now index) (point_at source.entry.events.now (suc index)) (course_of source.entry.events.now index self.old) (course_of source.entry.events.now (suc (suc index)) self.new)) }
+            (Passes (Unbroken input.entry.bytes.now (name_table input.entry.names.now)) name (point_at input.entry.events.now index) (point_at input.entry.events.now (suc index)) (course_of input.entry.events.now index self.old) (course_of input.entry.events.now (suc (suc index)) self.new)) }
         ensures refused { IfErr result
-            (IsStopAtLeaf source.entry.bytes.now (name_table source.entry.names.now) index name (point_at source.entry.events.now index) (point_at source.entry.events.now (suc index)) (course_of source.entry.events.now index self.old)) }
+            (IsStopAtLeaf input.entry.bytes.now (name_table input.entry.names.now) index name (point_at input.entry.events.now index) (point_at input.entry.events.now (suc index)) (course_of input.entry.events.now index self.old)) }
     {
         if !can_hold(self.state.role) {
             return refuse(index, misplaced(name));
@@ -181,7 +181,7 @@ impl Walk {
                     entry: index,
                     exit: index + 1,
                 };
-                if let Some(rule) = read_node(source, spot, Aim::Missing, &mut self.target)? {
+                if let Some(rule) = read_node(input, spot, Aim::Missing, &mut self.target)? {
                     return refuse(index + 1, rule);
                 }
                 self.state = state;
@@ -191,11 +191,11 @@ impl Walk {
     }
 
     /// Leaves the innermost open node.
-    fn exit(&mut self, source: Source, index: usize, name: Name) -> Result<(), CompileError>
+    fn exit(&mut self, input: Input, index: usize, name: Name) -> Result<(), CompileError>
         ensures ok { OnOk result
-            (Exits (Unbroken source.entry.bytes.now (name_table source.entry.names.now)) (opens_seen source.entry.events.now self.old.open_nodes.items) name (point_at source.entry.events.now index) (course_of source.entry.events.now index self.old) (course_of source.entry.events.now (suc index) self.new)) }
+            (Exits (Unbroken input.entry.bytes.now (name_table input.entry.names.now)) (opens_seen input.entry.events.now self.old.open_nodes.items) name (point_at input.entry.events.now index) (course_of input.entry.events.now index self.old) (course_of input.entry.events.now (suc index) self.new)) }
         ensures refused { IfErr result
-            (IsStop source.entry.bytes.now (name_table source.entry.names.now) index kind.Exit name (point_at source.entry.events.now index) (course_of source.entry.events.now index self.old)) }
+            (IsStop input.entry.bytes.now (name_table input.entry.names.now) index kind.Exit name (point_at input.entry.events.now index) (course_of input.entry.events.now index self.old)) }
     {
         let Some(open_node) = self.open_nodes.pop() else {
             return refuse(index, Rule::Order);
@@ -205,7 +205,7 @@ impl Walk {
         }
         match open_node.outer {
             None => Ok(()),
-            Some(outer) => self.leave(source, index, open_node.entry, outer),
+            Some(outer) => self.leave(input, index, open_node.entry, outer),
         }
     }
 
@@ -213,15 +213,15 @@ impl Walk {
     #[inline(always)]
     fn leave(
         &mut self,
-        source: Source,
+        input: Input,
         index: usize,
         entry: usize,
         outer: Outer,
     ) -> Result<(), CompileError>
         ensures ok { OnOk result
-            (ExitsWhere (Unbroken source.entry.bytes.now (name_table source.entry.names.now)) (Some (outer_seen source.entry.events.now outer)) (point_at source.entry.events.now entry) (point_at source.entry.events.now index) (opens_seen source.entry.events.now self.old.open_nodes.items) (course_of source.entry.events.now index self.old) (course_of source.entry.events.now (suc index) self.new)) }
+            (ExitsWhere (Unbroken input.entry.bytes.now (name_table input.entry.names.now)) (Some (outer_seen input.entry.events.now outer)) (point_at input.entry.events.now entry) (point_at input.entry.events.now index) (opens_seen input.entry.events.now self.old.open_nodes.items) (course_of input.entry.events.now index self.old) (course_of input.entry.events.now (suc index) self.new)) }
         ensures refused { IfErr result
-            (IsStopInside source.entry.bytes.now (name_table source.entry.names.now) index (outer_seen source.entry.events.now outer) (place_at source.entry.events.now entry index) (course_of source.entry.events.now index self.old)) }
+            (IsStopInside input.entry.bytes.now (name_table input.entry.names.now) index (outer_seen input.entry.events.now outer) (place_at input.entry.events.now entry index) (course_of input.entry.events.now index self.old)) }
     {
         if !can_end(self.state) {
             return refuse(index, Rule::Order);
@@ -235,12 +235,12 @@ impl Walk {
         };
         let inner = self.target;
         self.target = outer.target;
-        if let Some(rule) = read_node(source, spot, inner, &mut self.target)? {
+        if let Some(rule) = read_node(input, spot, inner, &mut self.target)? {
             return refuse(index, rule);
         }
         keep(
             &mut self.mentions,
-            source.events,
+            input.events,
             index,
             outer.reading,
             inner,

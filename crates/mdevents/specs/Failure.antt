@@ -16,11 +16,11 @@ line_of Options = codes "unsafe options"
 line_of Usage = codes "usage: mdevents [--page TITLE | --help | --version]"
 
 -- the status
-abbrev pub status_behind : Failure → ℕ
-status_behind (Run error) = status_of error
-status_behind InputOutput = 4
-status_behind Options = 5
-status_behind Usage = 64
+abbrev pub status_after : Failure → ℕ
+status_after (Run error) = status_of error
+status_after InputOutput = 4
+status_after Options = 5
+status_after Usage = 64
 
 -- why a script gives no safe text, as the program tells it
 abbrev pub failure_of : SafeRunError → Failure

@@ -116,7 +116,7 @@ fn section(alloc: Global, asked: &Asked<'_>, called: &str) -> Result<String, All
     let calls = calls_of_words(alloc, called)?;
     let footnotes = footnotes(alloc, asked)?;
     let mut sheet = Sheet::new(alloc);
-    lay_behind(alloc, &mut sheet, document(asked), &calls, &footnotes)?;
+    lay_after(alloc, &mut sheet, document(asked), &calls, &footnotes)?;
     sheet.into_text(alloc)
 }
 
@@ -130,7 +130,7 @@ fn calls_of_words(alloc: Global, words: &str) -> Result<Calls, AllocError> {
 }
 
 /// Puts a text, and lays the section of footnotes after it under the default options.
-fn lay_behind(
+fn lay_after(
     alloc: Global,
     sheet: &mut Sheet,
     text: &str,

@@ -81,7 +81,7 @@ pub(super) fn fault(alloc: Global, text: &str) -> Result<Option<&'static str>, A
             return Ok(Some("a tag without its end"));
         };
         if !is_plain(after) {
-            return Ok(Some("a text behind a tag"));
+            return Ok(Some("a text after a tag"));
         }
         if let Some(fault) = take_tag(alloc, &mut open, tag)? {
             return Ok(Some(fault));
@@ -180,10 +180,10 @@ fn value_fault(
 /// Whether a text has no character that would end it, and each ampersand starts a reference.
 fn is_plain(text: &str) -> bool {
     let is_free = !text.contains(['<', '>', '"', '\0']);
-    is_free && text.split('&').skip(1).all(is_behind_ampersand)
+    is_free && text.split('&').skip(1).all(is_after_ampersand)
 }
 
-fn is_behind_ampersand(text: &str) -> bool {
+fn is_after_ampersand(text: &str) -> bool {
     REFERENCES
         .iter()
         .any(|reference| text.starts_with(*reference))

@@ -35,8 +35,8 @@ abbrev pub nothing_found : Found
 nothing_found = record { heading = None; destination = None; title = None; resource = None }
 
 -- what is found after other things: of each kind the last
-abbrev pub found_behind : Found → Found → Found
-found_behind first later = record {
+abbrev pub found_after : Found → Found → Found
+found_after first later = record {
   heading = or_else later.heading first.heading;
   destination = or_else later.destination first.destination;
   title = or_else later.title first.title;

@@ -9,10 +9,10 @@ use Rattle.md_infer.specs.Alignments.{alignments}
 use Rattle.md_base.specs.NameTests.{is_fence, is_transparent, is_call, is_table}
 use Rattle.md_meaning.specs.declared.facts.Surroundings.{Surroundings}
 use Rattle.md_meaning.specs.declared.options.CompileOptions.{CompileOptions}
-use Rattle.md_meaning.specs.Surroundings.{Mark, Sets, Clears, inside, spine_inside, spine_behind}
+use Rattle.md_meaning.specs.Surroundings.{Mark, Sets, Clears, inside, spine_inside, spine_after_node}
 use Rattle.md_meaning.specs.Meaning.Finds.{label_in_node}
 use Rattle.md_meaning.specs.Places.{identifier_at}
-use Rattle.md_meaning.specs.Meaning.At.{Given, Found, nothing_found, found_behind, Before, At, is_tight}
+use Rattle.md_meaning.specs.Meaning.At.{Given, Found, nothing_found, found_after, Before, At, is_tight}
 
 -- the first fence of a raw flow
 abbrev pub is_first_fence : List Name → Bool
@@ -42,7 +42,7 @@ own_marks around spine name = if around.in_definition then [] else exit_marks ar
 abbrev pub marks_of : CompileOptions → Surroundings → List Name → Forest → List Mark
 marks_of options around spine Empty = []
 marks_of options around spine (Node name start end children rest) =
-    marks_of options around (spine_behind name children spine) rest
+    marks_of options around (spine_after_node name children spine) rest
     ++ own_marks around spine name
     ++ marks_of options (inside options (is_loose children) name around) (spine_inside name spine) children
 
@@ -81,6 +81,6 @@ before_next given at name found = record at.before {
       (spine_inside name at.before.spine) at.children
       ++ at.before.marks;
   previous = Some name;
-  spine = spine_behind name at.children at.before.spine;
-  found = found_behind at.before.found found;
+  spine = spine_after_node name at.children at.before.spine;
+  found = found_after at.before.found found;
 }

@@ -96,7 +96,8 @@ body text back =
 -- the text of the first footnote with an identifier
 abbrev pub text_with : List Footnote → List ℕ → List ℕ
 text_with footnotes identifier =
-    option_map_or (λ footnote. footnote.text) (find (λ footnote. bytes_eq footnote.identifier identifier) footnotes) []
+    option_map_or (λ footnote. footnote.text)
+    (find (λ footnote. bytes_eq footnote.identifier identifier) footnotes) []
 
 -- a footnote in the section; its number is that of its calls
 abbrev pub item : Given → List Footnote → List ℕ → List Piece

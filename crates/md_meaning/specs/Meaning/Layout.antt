@@ -13,15 +13,16 @@ abbrev pub begins_line : List ℕ → Bool
 begins_line text = option_map_or (λ byte. byte == 13 || byte == 10) (slice_get text (length text - 1)) true
 
 -- some pieces after a text, where lines end in `ending`
-abbrev pub behind : List ℕ → List ℕ → List Piece → List ℕ
-behind ending text [] = text
-behind ending text (Text more ∷ pieces) = behind ending (text ++ more) pieces
-behind ending text (Needed ∷ pieces) = behind ending (if begins_line text then text else text ++ ending) pieces
-behind ending text (Forced ∷ pieces) = behind ending (text ++ ending) pieces
+abbrev pub laid_after : List ℕ → List ℕ → List Piece → List ℕ
+laid_after ending text [] = text
+laid_after ending text (Text more ∷ pieces) = laid_after ending (text ++ more) pieces
+laid_after ending text (Needed ∷ pieces) =
+    laid_after ending (if begins_line text then text else text ++ ending) pieces
+laid_after ending text (Forced ∷ pieces) = laid_after ending (text ++ ending) pieces
 
 -- some pieces by themselves
 abbrev pub layout : List ℕ → List Piece → List ℕ
-layout ending pieces = behind ending [] pieces
+layout ending pieces = laid_after ending [] pieces
 
 -- a text as one piece
 abbrev pub said : List ℕ → List Piece

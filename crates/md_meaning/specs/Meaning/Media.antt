@@ -33,7 +33,8 @@ leads_to given at =
 
 -- ` title="` title `"`, where there is one
 abbrev pub title_attribute : Option (List ℕ) → List Piece
-title_attribute title = option_map_or (λ text. Text (codes " title=\"") ∷ Text text ∷ Text (codes "\"") ∷ []) title []
+title_attribute title =
+    option_map_or (λ text. Text (codes " title=\"") ∷ Text text ∷ Text (codes "\"") ∷ []) title []
 
 -- a link with a label
 abbrev pub anchor : CompileOptions → Target → List ℕ → List Piece
@@ -45,7 +46,8 @@ anchor options target label =
 abbrev pub picture : CompileOptions → Target → List ℕ → List Piece
 picture options target label =
     Text (codes "<img src=\"") ∷ Text (src options target.destination)
-    ∷ Text (codes "\" alt=\"") ∷ Text label ∷ Text (codes "\"") ∷ (title_attribute target.title ++ said (codes " />"))
+    ∷ Text (codes "\" alt=\"") ∷ Text label ∷ Text (codes "\"")
+    ∷ (title_attribute target.title ++ said (codes " />"))
 
 abbrev pub link : Given → At → List ℕ → List Piece
 link given at label = if at.around.in_image then said label else anchor given.options (leads_to given at) label

@@ -12,7 +12,7 @@ use Rattle.md_meaning.specs.Given.{Defined, Footnote}
 use Rattle.md_meaning.specs.Places.{identifier_at}
 use Rattle.md_meaning.specs.Meaning.Layout.{Piece, layout}
 use Rattle.md_meaning.specs.Meaning.Finds.{first, footnote_label}
-use Rattle.md_meaning.specs.Meaning.At.{Given, Found, nothing_found, found_behind, target_in, Before, At}
+use Rattle.md_meaning.specs.Meaning.At.{Given, Found, nothing_found, found_after, target_in, Before, At}
 use Rattle.md_meaning.specs.Meaning.Before.{one_where, before_children, before_next}
 use Rattle.md_meaning.specs.Meaning.Means.{means}
 
@@ -26,7 +26,7 @@ pub record Meant : Type 0 where
 abbrev pub both : Meant → Meant → Meant
 both first later = record {
   pieces = first.pieces ++ later.pieces;
-  found = found_behind first.found later.found;
+  found = found_after first.found later.found;
   definitions = first.definitions ++ later.definitions;
   footnotes = first.footnotes ++ later.footnotes;
 }

@@ -18,7 +18,8 @@ written at text = said (encoded at.around.is_escaping text)
 
 -- the marker that a name is: `x`, `#` or `&`
 abbrev pub marker : Name → ℕ
-marker name = elim name [ CharacterReferenceMarkerHexadecimal ↦ 120 | CharacterReferenceMarkerNumeric ↦ 35 | _ ↦ 38 ]
+marker name =
+    elim name [ CharacterReferenceMarkerHexadecimal ↦ 120 | CharacterReferenceMarkerNumeric ↦ 35 | _ ↦ 38 ]
 
 -- what a reference stands for: the last mark before its value says how to read it
 abbrev pub reference : Given → At → List ℕ
@@ -60,7 +61,8 @@ is_at byte text index = option_map_or (λ found. found == byte) (slice_get text 
 -- a text whose backslashes directly before pipes are gone
 abbrev pub without_escapes : List ℕ → List ℕ
 without_escapes [] = []
-without_escapes (byte ∷ bytes) = (if byte == 92 && is_at 124 bytes 0 then [] else byte ∷ []) ++ without_escapes bytes
+without_escapes (byte ∷ bytes) =
+    (if byte == 92 && is_at 124 bytes 0 then [] else byte ∷ []) ++ without_escapes bytes
 
 -- one space less at each end of a text that begins and ends with one and isn't all spaces
 abbrev pub trimmed : List ℕ → List ℕ

@@ -18,7 +18,8 @@ abbrev pub heading_with_emphasis_bytes : List ℕ
 heading_with_emphasis_bytes = codes "## Hi, *Saturn*! " ++ (240 ∷ []) ++ (159 ∷ []) ++ (170 ∷ []) ++ (144 ∷ [])
 
 abbrev pub heading_with_emphasis_text : List ℕ
-heading_with_emphasis_text = codes "<h2>Hi, <em>Saturn</em>! " ++ (240 ∷ []) ++ (159 ∷ []) ++ (170 ∷ []) ++ (144 ∷ [])
+heading_with_emphasis_text = codes "<h2>Hi, <em>Saturn</em>! " ++ (240 ∷ []) ++ (159 ∷ []) ++ (170 ∷ [])
+    ++ (144 ∷ [])
     ++ codes "</h2>"
 
 -- fence in a quote: the tree, its bytes and its text
@@ -151,17 +152,17 @@ abbrev pub filtered_html_text : List ℕ
 filtered_html_text = codes "&lt;xmp><i>"
 
 -- setext heading after two endings: the tree, its bytes and its text
-abbrev pub setext_heading_behind_two_endings : Forest
-setext_heading_behind_two_endings =
+abbrev pub setext_heading_after_two_endings : Forest
+setext_heading_after_two_endings =
     Node HeadingSetextText (at 0) (at 1) (Node Data (at 0) (at 1) (Empty) (Empty))
     (Node LineEnding (at 1) (at 2) (Empty) (Node LineEnding (at 2) (at 3) (Empty)
     (Node HeadingSetextUnderlineSequence (at 3) (at 4) (Empty) (Empty))))
 
-abbrev pub setext_heading_behind_two_endings_bytes : List ℕ
-setext_heading_behind_two_endings_bytes = codes "a" ++ (10 ∷ []) ++ (10 ∷ []) ++ codes "="
+abbrev pub setext_heading_after_two_endings_bytes : List ℕ
+setext_heading_after_two_endings_bytes = codes "a" ++ (10 ∷ []) ++ (10 ∷ []) ++ codes "="
 
-abbrev pub setext_heading_behind_two_endings_text : List ℕ
-setext_heading_behind_two_endings_text = (10 ∷ []) ++ codes "<h1>a</h1>"
+abbrev pub setext_heading_after_two_endings_text : List ℕ
+setext_heading_after_two_endings_text = (10 ∷ []) ++ codes "<h1>a</h1>"
 
 -- heading mark over a cut tab: the tree, its bytes and its text
 abbrev pub heading_mark_over_a_cut_tab : Forest

@@ -43,7 +43,8 @@ two_references_to_one_footnote_bytes = codes "[^b][^b][^b]:c"
 abbrev pub two_references_to_one_footnote_text : List ℕ
 two_references_to_one_footnote_text =
     codes "<p>" ++ call_tag "b" "b" "1" ++ call_tag "b" "b-2" "1" ++ codes "</p>" ++ (10 ∷ []) ++ section_head
-    ++ (10 ∷ []) ++ codes "<ol>" ++ (10 ∷ []) ++ codes "<li id=\"user-content-fn-b\">" ++ (10 ∷ []) ++ codes "<p>c "
+    ++ (10 ∷ []) ++ codes "<ol>" ++ (10 ∷ []) ++ codes "<li id=\"user-content-fn-b\">" ++ (10 ∷ [])
+    ++ codes "<p>c "
     ++ way_back "b" ++ codes " " ++ numbered_way_back "b-2" "2" ++ codes "</p>" ++ (10 ∷ []) ++ codes "</li>"
     ++ (10 ∷ []) ++ codes "</ol>" ++ (10 ∷ []) ++ codes "</section>" ++ (10 ∷ [])
 
@@ -107,7 +108,8 @@ footnotes_in_the_order_of_their_calls_bytes = codes "[^b][^a][^a]:x[^b]:y"
 abbrev pub footnotes_in_the_order_of_their_calls_text : List ℕ
 footnotes_in_the_order_of_their_calls_text =
     codes "<p>" ++ call_tag "b" "b" "1" ++ call_tag "a" "a" "2" ++ codes "</p>" ++ (10 ∷ []) ++ section_head
-    ++ (10 ∷ []) ++ codes "<ol>" ++ (10 ∷ []) ++ codes "<li id=\"user-content-fn-b\">" ++ (10 ∷ []) ++ codes "<p>y "
+    ++ (10 ∷ []) ++ codes "<ol>" ++ (10 ∷ []) ++ codes "<li id=\"user-content-fn-b\">" ++ (10 ∷ [])
+    ++ codes "<p>y "
     ++ way_back "b" ++ codes "</p>" ++ (10 ∷ []) ++ codes "</li>" ++ (10 ∷ [])
     ++ codes "<li id=\"user-content-fn-a\">" ++ (10 ∷ []) ++ codes "<p>x " ++ way_back "a" ++ codes "</p>"
     ++ (10 ∷ []) ++ codes "</li>" ++ (10 ∷ []) ++ codes "</ol>" ++ (10 ∷ []) ++ codes "</section>" ++ (10 ∷ [])
@@ -133,7 +135,8 @@ abbrev pub call_in_a_call_text : List ℕ
 call_in_a_call_text =
     codes "<p>" ++ call_tag "a" "a" "2" ++ codes "</p>" ++ (10 ∷ []) ++ section_head ++ (10 ∷ []) ++ codes "<ol>"
     ++ (10 ∷ []) ++ codes "<li id=\"user-content-fn-b\">" ++ (10 ∷ []) ++ codes "<p>y " ++ way_back "b"
-    ++ codes "</p>" ++ (10 ∷ []) ++ codes "</li>" ++ (10 ∷ []) ++ codes "<li id=\"user-content-fn-a\">" ++ (10 ∷ [])
+    ++ codes "</p>" ++ (10 ∷ []) ++ codes "</li>" ++ (10 ∷ []) ++ codes "<li id=\"user-content-fn-a\">"
+    ++ (10 ∷ [])
     ++ codes "<p>x " ++ way_back "a" ++ codes "</p>" ++ (10 ∷ []) ++ codes "</li>" ++ (10 ∷ []) ++ codes "</ol>"
     ++ (10 ∷ []) ++ codes "</section>" ++ (10 ∷ [])
 
@@ -161,7 +164,8 @@ call_in_an_image_bytes = codes "![i[^b]](u)[^c][^b]:x[^c]:y"
 abbrev pub call_in_an_image_text : List ℕ
 call_in_an_image_text =
     codes "<p><img src=\"u\" alt=\"i\" />" ++ call_tag "c" "c" "2" ++ codes "</p>" ++ (10 ∷ []) ++ section_head
-    ++ (10 ∷ []) ++ codes "<ol>" ++ (10 ∷ []) ++ codes "<li id=\"user-content-fn-b\">" ++ (10 ∷ []) ++ codes "<p>x "
+    ++ (10 ∷ []) ++ codes "<ol>" ++ (10 ∷ []) ++ codes "<li id=\"user-content-fn-b\">" ++ (10 ∷ [])
+    ++ codes "<p>x "
     ++ way_back "b" ++ codes "</p>" ++ (10 ∷ []) ++ codes "</li>" ++ (10 ∷ [])
     ++ codes "<li id=\"user-content-fn-c\">" ++ (10 ∷ []) ++ codes "<p>y " ++ way_back "c" ++ codes "</p>"
     ++ (10 ∷ []) ++ codes "</li>" ++ (10 ∷ []) ++ codes "</ol>" ++ (10 ∷ []) ++ codes "</section>" ++ (10 ∷ [])
@@ -274,7 +278,8 @@ empty_footnote_bytes = codes "[^b][^b]:"
 abbrev pub empty_footnote_text : List ℕ
 empty_footnote_text =
     codes "<p>" ++ call_tag "b" "b" "1" ++ codes "</p>" ++ (10 ∷ []) ++ section_head ++ (10 ∷ []) ++ codes "<ol>"
-    ++ (10 ∷ []) ++ codes "<li id=\"user-content-fn-b\">" ++ (10 ∷ []) ++ way_back "b" ++ (10 ∷ []) ++ codes "</li>"
+    ++ (10 ∷ []) ++ codes "<li id=\"user-content-fn-b\">" ++ (10 ∷ []) ++ way_back "b" ++ (10 ∷ [])
+    ++ codes "</li>"
     ++ (10 ∷ []) ++ codes "</ol>" ++ (10 ∷ []) ++ codes "</section>" ++ (10 ∷ [])
 
 -- empty identifier: the tree, its bytes and its text
@@ -352,7 +357,8 @@ identifiers_that_meet_bytes = codes "[^a][^a][^a-2][^a]:x[^a-2]:y"
 abbrev pub identifiers_that_meet_text : List ℕ
 identifiers_that_meet_text =
     codes "<p>" ++ call_tag "a" "a" "1" ++ call_tag "a" "a-2" "1" ++ call_tag "a-2" "a-2" "2" ++ codes "</p>"
-    ++ (10 ∷ []) ++ section_head ++ (10 ∷ []) ++ codes "<ol>" ++ (10 ∷ []) ++ codes "<li id=\"user-content-fn-a\">"
+    ++ (10 ∷ []) ++ section_head ++ (10 ∷ []) ++ codes "<ol>" ++ (10 ∷ [])
+    ++ codes "<li id=\"user-content-fn-a\">"
     ++ (10 ∷ []) ++ codes "<p>x " ++ way_back "a" ++ codes " " ++ numbered_way_back "a-2" "2" ++ codes "</p>"
     ++ (10 ∷ []) ++ codes "</li>" ++ (10 ∷ []) ++ codes "<li id=\"user-content-fn-a-2\">" ++ (10 ∷ [])
     ++ codes "<p>y " ++ way_back "a-2" ++ codes "</p>" ++ (10 ∷ []) ++ codes "</li>" ++ (10 ∷ []) ++ codes "</ol>"
@@ -361,7 +367,8 @@ identifiers_that_meet_text =
 abbrev pub identifiers_that_meet_by_number_text : List ℕ
 identifiers_that_meet_by_number_text =
     codes "<p>" ++ call_tag "1" "1-1" "1" ++ call_tag "1" "1-2" "1" ++ call_tag "2" "2-1" "2" ++ codes "</p>"
-    ++ (10 ∷ []) ++ section_head ++ (10 ∷ []) ++ codes "<ol>" ++ (10 ∷ []) ++ codes "<li id=\"user-content-fn-1\">"
+    ++ (10 ∷ []) ++ section_head ++ (10 ∷ []) ++ codes "<ol>" ++ (10 ∷ [])
+    ++ codes "<li id=\"user-content-fn-1\">"
     ++ (10 ∷ []) ++ codes "<p>x " ++ way_back "1-1" ++ codes " " ++ numbered_way_back "1-2" "2" ++ codes "</p>"
     ++ (10 ∷ []) ++ codes "</li>" ++ (10 ∷ []) ++ codes "<li id=\"user-content-fn-2\">" ++ (10 ∷ [])
     ++ codes "<p>y " ++ way_back "2-1" ++ codes "</p>" ++ (10 ∷ []) ++ codes "</li>" ++ (10 ∷ []) ++ codes "</ol>"

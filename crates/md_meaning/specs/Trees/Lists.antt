@@ -166,7 +166,8 @@ abbrev pub item_with_a_blank_line_bytes : List ℕ
 item_with_a_blank_line_bytes = codes "- a" ++ (10 ∷ []) ++ (10 ∷ []) ++ codes "  b"
 
 abbrev pub item_with_a_blank_line_text : List ℕ
-item_with_a_blank_line_text = codes "<ul>" ++ (10 ∷ []) ++ codes "<li>" ++ (10 ∷ []) ++ codes "<p>a</p>" ++ (10 ∷ [])
+item_with_a_blank_line_text = codes "<ul>" ++ (10 ∷ []) ++ codes "<li>" ++ (10 ∷ []) ++ codes "<p>a</p>"
+    ++ (10 ∷ [])
     ++ codes "<p>b</p>" ++ (10 ∷ []) ++ codes "</li>" ++ (10 ∷ []) ++ codes "</ul>"
 
 -- an item that ends in code, whose end stands on its own line: the tree, its bytes and its text
@@ -182,10 +183,12 @@ code_in_an_item =
     (Empty)) (Empty)
 
 abbrev pub code_in_an_item_bytes : List ℕ
-code_in_an_item_bytes = codes "- a" ++ (10 ∷ []) ++ codes "```" ++ (10 ∷ []) ++ codes "b" ++ (10 ∷ []) ++ codes "```"
+code_in_an_item_bytes = codes "- a" ++ (10 ∷ []) ++ codes "```" ++ (10 ∷ []) ++ codes "b" ++ (10 ∷ [])
+    ++ codes "```"
 
 abbrev pub code_in_an_item_text : List ℕ
-code_in_an_item_text = codes "<ul>" ++ (10 ∷ []) ++ codes "<li>a" ++ (10 ∷ []) ++ codes "<pre><code>b" ++ (10 ∷ [])
+code_in_an_item_text = codes "<ul>" ++ (10 ∷ []) ++ codes "<li>a" ++ (10 ∷ []) ++ codes "<pre><code>b"
+    ++ (10 ∷ [])
     ++ codes "</code></pre>" ++ (10 ∷ []) ++ codes "</li>" ++ (10 ∷ []) ++ codes "</ul>"
 
 -- start number with zeros: the tree, its bytes and its text
@@ -200,4 +203,5 @@ abbrev pub start_number_with_zeros_bytes : List ℕ
 start_number_with_zeros_bytes = codes "007. a"
 
 abbrev pub start_number_with_zeros_text : List ℕ
-start_number_with_zeros_text = codes "<ol start=\"7\">" ++ (10 ∷ []) ++ codes "<li>a</li>" ++ (10 ∷ []) ++ codes "</ol>"
+start_number_with_zeros_text = codes "<ol start=\"7\">" ++ (10 ∷ []) ++ codes "<li>a</li>" ++ (10 ∷ [])
+    ++ codes "</ol>"

@@ -58,8 +58,8 @@ abbrev pub nested_autolink_text : List ℕ
 nested_autolink_text = codes "<a href=\"b\"><a href=\"http://a\">http://a</a></a>"
 
 -- code, a break, a task, strong text, an autolink and a link in the label of an image: the tree, its bytes and its text
-abbrev pub image_round_other_names : Forest
-image_round_other_names =
+abbrev pub image_around_other_names : Forest
+image_around_other_names =
     Node Paragraph (at 0) (at 34) (Node Image (at 0) (at 34)
     (Node Label (at 0) (at 31) (Node LabelText (at 2) (at 30)
     (Node CodeText (at 2) (at 7) (Node CodeTextData (at 3) (at 6) (Empty) (Empty))
@@ -72,11 +72,11 @@ image_round_other_names =
     (Node Resource (at 31) (at 34) (Node ResourceDestinationString (at 32) (at 33)
     (Node Data (at 32) (at 33) (Empty) (Empty)) (Empty)) (Empty))) (Empty)) (Empty)
 
-abbrev pub image_round_other_names_bytes : List ℕ
-image_round_other_names_bytes = codes "![` a `\\[ ]**s**http://c[l](d)](u)"
+abbrev pub image_around_other_names_bytes : List ℕ
+image_around_other_names_bytes = codes "![` a `\\[ ]**s**http://c[l](d)](u)"
 
-abbrev pub image_round_other_names_text : List ℕ
-image_round_other_names_text = codes "<p><img src=\"u\" alt=\"ashttp://cl\" /></p>"
+abbrev pub image_around_other_names_text : List ℕ
+image_around_other_names_text = codes "<p><img src=\"u\" alt=\"ashttp://cl\" /></p>"
 
 -- reference beside a label: the tree, its bytes and its text
 abbrev pub reference_beside_a_label : Forest

@@ -22,7 +22,8 @@ short_table_row_bytes = codes "|a|" ++ (10 ∷ []) ++ codes "|-|" ++ (10 ∷ [])
 abbrev pub short_table_row_text : List ℕ
 short_table_row_text = codes "<table>" ++ (10 ∷ []) ++ codes "<thead>" ++ (10 ∷ []) ++ codes "<tr>" ++ (10 ∷ [])
     ++ codes "<th>a</th>" ++ (10 ∷ []) ++ codes "</tr>" ++ (10 ∷ []) ++ codes "</thead>" ++ (10 ∷ [])
-    ++ codes "<tbody>" ++ (10 ∷ []) ++ codes "<tr>" ++ (10 ∷ []) ++ codes "<td>b</td>" ++ (10 ∷ []) ++ codes "</tr>"
+    ++ codes "<tbody>" ++ (10 ∷ []) ++ codes "<tr>" ++ (10 ∷ []) ++ codes "<td>b</td>" ++ (10 ∷ [])
+    ++ codes "</tr>"
     ++ (10 ∷ []) ++ codes "</tbody>" ++ (10 ∷ []) ++ codes "</table>"
 
 -- call in a dropped cell: the tree, its bytes and its text
@@ -43,12 +44,14 @@ call_in_a_dropped_cell =
     (Node Paragraph (at 24) (at 25) (Node Data (at 24) (at 25) (Empty) (Empty)) (Empty))) (Empty))))
 
 abbrev pub call_in_a_dropped_cell_bytes : List ℕ
-call_in_a_dropped_cell_bytes = codes "|a|" ++ (10 ∷ []) ++ codes "|-|" ++ (10 ∷ []) ++ codes "|b|[^c]|" ++ (10 ∷ [])
+call_in_a_dropped_cell_bytes = codes "|a|" ++ (10 ∷ []) ++ codes "|-|" ++ (10 ∷ []) ++ codes "|b|[^c]|"
+    ++ (10 ∷ [])
     ++ (10 ∷ []) ++ codes "[^c]: d"
 
 abbrev pub call_in_a_dropped_cell_text : List ℕ
 call_in_a_dropped_cell_text =
-    codes "<table>" ++ (10 ∷ []) ++ codes "<thead>" ++ (10 ∷ []) ++ codes "<tr>" ++ (10 ∷ []) ++ codes "<th>a</th>"
+    codes "<table>" ++ (10 ∷ []) ++ codes "<thead>" ++ (10 ∷ []) ++ codes "<tr>" ++ (10 ∷ [])
+    ++ codes "<th>a</th>"
     ++ (10 ∷ []) ++ codes "</tr>" ++ (10 ∷ []) ++ codes "</thead>" ++ (10 ∷ []) ++ codes "<tbody>" ++ (10 ∷ [])
     ++ codes "<tr>" ++ (10 ∷ []) ++ codes "<td>b</td>" ++ (10 ∷ []) ++ codes "</tr>" ++ (10 ∷ [])
     ++ codes "</tbody>" ++ (10 ∷ []) ++ codes "</table>" ++ (10 ∷ []) ++ section_head ++ (10 ∷ []) ++ codes "<ol>"
@@ -70,7 +73,8 @@ code_with_a_pipe_in_a_table_bytes = codes "|`a\\|b`|" ++ (10 ∷ []) ++ codes "|
 
 abbrev pub code_with_a_pipe_in_a_table_text : List ℕ
 code_with_a_pipe_in_a_table_text = codes "<table>" ++ (10 ∷ []) ++ codes "<thead>" ++ (10 ∷ []) ++ codes "<tr>"
-    ++ (10 ∷ []) ++ codes "<th><code>a|b</code></th>" ++ (10 ∷ []) ++ codes "</tr>" ++ (10 ∷ []) ++ codes "</thead>"
+    ++ (10 ∷ []) ++ codes "<th><code>a|b</code></th>" ++ (10 ∷ []) ++ codes "</tr>" ++ (10 ∷ [])
+    ++ codes "</thead>"
     ++ (10 ∷ []) ++ codes "</table>"
 
 -- aligned column: the tree, its bytes and its text
@@ -87,7 +91,8 @@ aligned_column_bytes = codes "|a|" ++ (10 ∷ []) ++ codes "|:-|"
 
 abbrev pub aligned_column_text : List ℕ
 aligned_column_text = codes "<table>" ++ (10 ∷ []) ++ codes "<thead>" ++ (10 ∷ []) ++ codes "<tr>" ++ (10 ∷ [])
-    ++ codes "<th align=\"left\">a</th>" ++ (10 ∷ []) ++ codes "</tr>" ++ (10 ∷ []) ++ codes "</thead>" ++ (10 ∷ [])
+    ++ codes "<th align=\"left\">a</th>" ++ (10 ∷ []) ++ codes "</tr>" ++ (10 ∷ []) ++ codes "</thead>"
+    ++ (10 ∷ [])
     ++ codes "</table>"
 
 -- head without cells: the tree, its bytes and its text
@@ -101,8 +106,10 @@ abbrev pub head_without_cells_bytes : List ℕ
 head_without_cells_bytes = []
 
 abbrev pub head_without_cells_text : List ℕ
-head_without_cells_text = codes "<table>" ++ (10 ∷ []) ++ codes "<thead>" ++ (10 ∷ []) ++ codes "<tr>" ++ (10 ∷ [])
-    ++ codes "<th></th>" ++ (10 ∷ []) ++ codes "</tr>" ++ (10 ∷ []) ++ codes "</thead>" ++ (10 ∷ []) ++ codes "</table>"
+head_without_cells_text = codes "<table>" ++ (10 ∷ []) ++ codes "<thead>" ++ (10 ∷ []) ++ codes "<tr>"
+    ++ (10 ∷ [])
+    ++ codes "<th></th>" ++ (10 ∷ []) ++ codes "</tr>" ++ (10 ∷ []) ++ codes "</thead>" ++ (10 ∷ [])
+    ++ codes "</table>"
 
 -- a table of four columns, with a short row and a long one: the tree, its bytes and its text
 abbrev pub table_of_each_alignment : Forest
@@ -136,11 +143,13 @@ table_of_each_alignment_bytes = codes "|a|b|c|d" ++ (10 ∷ []) ++ codes "|:-|-:
 
 abbrev pub table_of_each_alignment_text : List ℕ
 table_of_each_alignment_text = codes "<table>" ++ (10 ∷ []) ++ codes "<thead>" ++ (10 ∷ []) ++ codes "<tr>"
-    ++ (10 ∷ []) ++ codes "<th align=\"left\">a</th>" ++ (10 ∷ []) ++ codes "<th align=\"right\">b</th>" ++ (10 ∷ [])
+    ++ (10 ∷ []) ++ codes "<th align=\"left\">a</th>" ++ (10 ∷ []) ++ codes "<th align=\"right\">b</th>"
+    ++ (10 ∷ [])
     ++ codes "<th align=\"center\">c</th>" ++ (10 ∷ []) ++ codes "<th>d</th>" ++ (10 ∷ []) ++ codes "</tr>"
     ++ (10 ∷ []) ++ codes "</thead>" ++ (10 ∷ []) ++ codes "<tbody>" ++ (10 ∷ []) ++ codes "<tr>" ++ (10 ∷ [])
     ++ codes "<td align=\"left\">e</td>" ++ (10 ∷ []) ++ codes "<td align=\"right\"></td>" ++ (10 ∷ [])
-    ++ codes "<td align=\"center\"></td>" ++ (10 ∷ []) ++ codes "<td></td>" ++ (10 ∷ []) ++ codes "</tr>" ++ (10 ∷ [])
+    ++ codes "<td align=\"center\"></td>" ++ (10 ∷ []) ++ codes "<td></td>" ++ (10 ∷ []) ++ codes "</tr>"
+    ++ (10 ∷ [])
     ++ codes "<tr>" ++ (10 ∷ []) ++ codes "<td align=\"left\">f</td>" ++ (10 ∷ [])
     ++ codes "<td align=\"right\">g</td>" ++ (10 ∷ []) ++ codes "<td align=\"center\">h</td>" ++ (10 ∷ [])
     ++ codes "<td>i</td>" ++ (10 ∷ []) ++ codes "</tr>" ++ (10 ∷ []) ++ codes "</tbody>" ++ (10 ∷ [])
@@ -225,6 +234,7 @@ abbrev pub table_in_a_footnote_text : List ℕ
 table_in_a_footnote_text =
     codes "<p>" ++ call_tag "b" "b" "1" ++ codes "</p>" ++ (10 ∷ []) ++ section_head ++ (10 ∷ []) ++ codes "<ol>"
     ++ (10 ∷ []) ++ codes "<li id=\"user-content-fn-b\">" ++ (10 ∷ []) ++ codes "<table>" ++ (10 ∷ [])
-    ++ codes "<thead>" ++ (10 ∷ []) ++ codes "<tr>" ++ (10 ∷ []) ++ codes "<th>a</th>" ++ (10 ∷ []) ++ codes "</tr>"
+    ++ codes "<thead>" ++ (10 ∷ []) ++ codes "<tr>" ++ (10 ∷ []) ++ codes "<th>a</th>" ++ (10 ∷ [])
+    ++ codes "</tr>"
     ++ (10 ∷ []) ++ codes "</thead>" ++ (10 ∷ []) ++ codes "</table>" ++ (10 ∷ []) ++ way_back "b" ++ (10 ∷ [])
     ++ codes "</li>" ++ (10 ∷ []) ++ codes "</ol>" ++ (10 ∷ []) ++ codes "</section>" ++ (10 ∷ [])

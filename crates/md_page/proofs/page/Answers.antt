@@ -2,21 +2,21 @@
 use Rattle.std.proofs.Common.{◌≡◌, ℕ, true, List, ◌++◌, ap, ◌∙◌}
 use Rattle.std.proofs.lemmas.List.{append_assoc}
 use Rattle.md_text.specs.Encode.{encoded}
-use Rattle.md_page.proofs.Pages.{before_title, before_body, behind_body}
+use Rattle.md_page.proofs.Pages.{before_title, before_body, after_body}
 use Rattle.md_page.proofs.Given.{page_given}
 use Rattle.md_page.proofs.page.Goals as goal
 
-joined : (title body : List ℕ) → ((before_title ++ title) ++ before_body) ++ body ++ behind_body ≡ before_title
-    ++ (title ++ (before_body ++ (body ++ behind_body)))
+joined : (title body : List ℕ) → ((before_title ++ title) ++ before_body) ++ body ++ after_body ≡ before_title
+    ++ (title ++ (before_body ++ (body ++ after_body)))
 joined title body =
-    append_assoc ((before_title ++ title) ++ before_body) body behind_body
-    ∙ append_assoc (before_title ++ title) before_body (body ++ behind_body)
-    ∙ append_assoc before_title title (before_body ++ (body ++ behind_body))
+    append_assoc ((before_title ++ title) ++ before_body) body after_body
+    ∙ append_assoc (before_title ++ title) before_body (body ++ after_body)
+    ∙ append_assoc before_title title (before_body ++ (body ++ after_body))
 
 pub returns-clause-text : goal.returns-clause-text
 returns-clause-text c =
     c.in_ok-push_str-5.ensures.bytes
-    ∙ ap (λ t. t ++ behind_body)
+    ∙ ap (λ t. t ++ after_body)
     (c.in_ok-push_str-4.ensures.bytes
     ∙ ap (λ t. t ++ c.as_str-2.result.now)
     (c.in_ok-push_str-3.ensures.bytes
@@ -25,9 +25,9 @@ returns-clause-text c =
     ∙ ap (λ t. t ++ c.as_str.result.now) (c.in_ok-push_str.ensures.bytes
     ∙ ap (λ t. t ++ before_title) c.new-text.ensures.bytes))))
     ∙ joined c.as_str.result.now c.as_str-2.result.now
-    ∙ ap (λ t. before_title ++ (t ++ (before_body ++ (c.as_str-2.result.now ++ behind_body)))) (c.as_str.ensures.value
+    ∙ ap (λ t. before_title ++ (t ++ (before_body ++ (c.as_str-2.result.now ++ after_body)))) (c.as_str.ensures.value
     ∙ c.in_ok-escaped.ensures.by_byte)
-    ∙ ap (λ t. before_title ++ (encoded true c.args.title.now ++ (before_body ++ (t ++ behind_body))))
+    ∙ ap (λ t. before_title ++ (encoded true c.args.title.now ++ (before_body ++ (t ++ after_body))))
     c.as_str-2.ensures.text
 
 pub returns-clause-page : goal.returns-clause-page

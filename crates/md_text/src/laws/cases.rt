@@ -198,7 +198,7 @@ pub fn equal_ids_are_told()
     ensures other_attribute { HasDistinctIds (codes "<a title=\"a\"></a><a title=\"a\"></a>") }
     ensures equal { ¬ HasDistinctIds (codes "<li id=\"a\"></li><li id=\"b\"></li><li id=\"a\"></li>") }
     ensures nested { ¬ HasDistinctIds (codes "<li id=\"a\"><a id=\"a\"></a></li>") }
-    ensures behind_others { ¬ HasDistinctIds (codes "<a href=\"#x\" id=\"a\"></a><a href=\"#y\" id=\"a\"></a>") }
+    ensures after_others { ¬ HasDistinctIds (codes "<a href=\"#x\" id=\"a\"></a><a href=\"#y\" id=\"a\"></a>") }
     ensures headings { ¬ HasDistinctIds (codes "<h2 id=\"a\"></h2><li id=\"a\"></li>") }
     ensures referenced { ¬ HasDistinctIds (codes "<li id=\"&amp;a\"></li>&lt;<li id=\"&amp;a\"></li>") }
 {}

@@ -25,9 +25,9 @@ returns-then-is_leaf-clause-runs c document flat =
     let beyond : List Event = c.in-Some.beyond.now in
     let nodes : List (Option Forest) = children_of document in
     let before : State = c.args.printer.now in
-    let behind : State = c.leaf.new.printer in
-    ap (λ es. machine.run given (drop 1 es) (drop (c.args.visit.index + 2) nodes) behind) c.in-Some.ensures.cases.0
-    ∙ run-leaf given document c.args.checked.now.events c.args.visit.index event exit beyond before behind flat
+    let after : State = c.leaf.new.printer in
+    ap (λ es. machine.run given (drop 1 es) (drop (c.args.visit.index + 2) nodes) after) c.in-Some.ensures.cases.0
+    ∙ run-leaf given document c.args.checked.now.events c.args.visit.index event exit beyond before after flat
     (ap (λ es. event ∷ es) (sym c.in-Some.ensures.cases.0) ∙ c.requires) c.if-is_leaf.ensures
     (λ (ahead : Ahead) (loose : Bool) (columns : List AlignKind).
     c.in_ok-leaf.ensures ahead loose columns

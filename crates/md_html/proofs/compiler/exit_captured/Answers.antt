@@ -6,7 +6,7 @@ use Rattle.md_printer.specs.Machine as machine
 use Rattle.md_printer.specs.Machine.{State}
 use Rattle.md_around.specs.Steps.{first_or}
 use Rattle.md_meaning.specs.declared.facts.Ahead.{Ahead}
-use Rattle.md_meaning.specs.Piece.{Page}
+use Rattle.md_meaning.specs.Piece.{Sheet}
 use Rattle.md_html.proofs.Groups.{no_table}
 use Rattle.md_html.proofs.compiler.exit_captured.Goals as goal
 
@@ -17,7 +17,7 @@ returns c =
     let name = c.args.name in
     let last = c.args.is_last in
     let end = c.args.end in
-    let after : Exit → Ahead → Page → State → State = λ exit ahead inner s.
+    let after : Exit → Ahead → Sheet → State → State = λ exit ahead inner s.
     machine.leaving name
     (machine.printing given.ending
     (closing_at given exit s.log.called (first_or [] s.tables) ahead s.frame.passed inner name)
@@ -25,17 +25,17 @@ returns c =
     let tabled : Bool → State = λ b.
     machine.leaving name
     (machine.printing given.ending
-    (machine.closing_in given last name end start.page (machine.leaving_table b start))
-    (machine.logging given.bytes start.frame.ahead name start.page
+    (machine.closing_in given last name end start.sheet (machine.leaving_table b start))
+    (machine.logging given.bytes start.frame.ahead name start.sheet
     (machine.leaving_table b (machine.releasing true start)))) in
     let whole : machine.leaving name c.close_and_log.new.printer ≡ machine.exited given last true name end start =
     ap (λ s. machine.leaving name s) c.in_ok-close_and_log.ensures
-    ∙ ap (λ exit. after exit (machine.ahead_by c.place-place.result) c.release-page.result c.release-page.new.self)
+    ∙ ap (λ exit. after exit (machine.ahead_by c.place-place.result) c.release-sheet.result c.release-sheet.new.self)
     c.exit-exit.ensures
-    ∙ ap (λ ahead. after (exit_in last end start) ahead c.release-page.result c.release-page.new.self)
+    ∙ ap (λ ahead. after (exit_in last end start) ahead c.release-sheet.result c.release-sheet.new.self)
     c.place-place.ensures
-    ∙ ap (λ inner. after (exit_in last end start) start.frame.ahead inner c.release-page.new.self)
-    c.release-page.ensures.page
-    ∙ ap (λ s. after (exit_in last end start) start.frame.ahead start.page s) c.release-page.ensures.state
+    ∙ ap (λ inner. after (exit_in last end start) start.frame.ahead inner c.release-sheet.new.self)
+    c.release-sheet.ensures.sheet
+    ∙ ap (λ s. after (exit_in last end start) start.frame.ahead start.sheet s) c.release-sheet.ensures.state
     ∙ sym (ap (λ b. tabled b) (no_table name c.requires)) in
     subst (λ s. OnOk c.leave.result (c.leave.new.self ≡ s)) whole c.leave.ensures

@@ -22,11 +22,11 @@ loop-event-preserved c =
     let later : List Event = c.in-Some.later.now in
     let more = c.in_ok-more.more in
     let split : event ∷ later ≡ drop index events = sym c.in-Some.ensures.cases.0 ∙ c.loop-event.invariant.0 in
-    let behind : later ≡ drop (index + 1) events = drop-later events index event later split in
+    let after : later ≡ drop (index + 1) events = drop-later events index event later split in
     let got : slice_get events index ≡ Some event = drop-first events index event later split in (
-      sliced later more ∙ ap (λ es. drop more es) behind ∙ drop-drop more (index + 1) events
+      sliced later more ∙ ap (λ es. drop more es) after ∙ drop-drop more (index + 1) events
           ∙ ap (λ n. drop n events) (next index more),
-      within index more (length events) (length later) (ap (λ es. length es) behind
+      within index more (length events) (length later) (ap (λ es. length es) after
           ∙ length-drop (index + 1) events) (slice_get_within events index event got) c.in_ok-more.ensures.within,
       λ document flat.
           ap (λ es. machine.run given es (drop (index + (1 + more)) (children_of document)) c.advance.new.printer)

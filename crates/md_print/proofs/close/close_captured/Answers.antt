@@ -39,10 +39,10 @@ returns-in-CodeText c =
     let start : State = c.args.printer.now in
     let P : State → Type 0 = λ s. OnOk c.code.result (c.code.new.printer ≡ s) in
     let Q : Name → Type 0 = λ n. P (printing ending (closing_at given exit start.log.called (first_or [] start.tables)
-    (ahead_by c.args.inner.place) start.frame.passed c.args.inner.page n) start) in
+    (ahead_by c.args.inner.place) start.frame.passed c.args.inner.sheet n) start) in
     subst Q (sym c.in-CodeText.is) (subst P (alone ending
-    (code_pieces exit.around (codes "<code>") c.args.inner.page.text) start
-    (code_ending ending exit.around (codes "<code>") c.args.inner.page.text start)) c.code.ensures)
+    (code_pieces exit.around (codes "<code>") c.args.inner.sheet.text) start
+    (code_ending ending exit.around (codes "<code>") c.args.inner.sheet.text start)) c.code.ensures)
 
 pub returns-in-MathText : goal.returns-in-MathText
 returns-in-MathText c =
@@ -52,8 +52,8 @@ returns-in-MathText c =
     let start : State = c.args.printer.now in
     let P : State → Type 0 = λ s. OnOk c.code-in-MathText.result (c.code-in-MathText.new.printer ≡ s) in
     let Q : Name → Type 0 = λ n. P (printing ending (closing_at given exit start.log.called (first_or [] start.tables)
-    (ahead_by c.args.inner.place) start.frame.passed c.args.inner.page n) start) in
+    (ahead_by c.args.inner.place) start.frame.passed c.args.inner.sheet n) start) in
     subst Q (sym c.in-MathText.is) (subst P (alone ending
-    (code_pieces exit.around (codes "<code class=\"language-math math-inline\">") c.args.inner.page.text) start
-    (code_ending ending exit.around (codes "<code class=\"language-math math-inline\">") c.args.inner.page.text start))
+    (code_pieces exit.around (codes "<code class=\"language-math math-inline\">") c.args.inner.sheet.text) start
+    (code_ending ending exit.around (codes "<code class=\"language-math math-inline\">") c.args.inner.sheet.text start))
     c.code-in-MathText.ensures)

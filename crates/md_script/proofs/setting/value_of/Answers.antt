@@ -8,6 +8,6 @@ use Rattle.md_script.proofs.setting.value_of.Goals as goal
 
 pub returns : goal.returns
 returns c =
-    ap option_copied c.ok.ensures.value ∙ read_text c.behind_equals.result.now _ c.from_utf8.result
+    ap option_copied c.ok.ensures.value ∙ read_text c.after_equals.result.now _ c.from_utf8.result
     c.from_utf8.ensures.cases
-    ∙ ap (text_when true) c.behind_equals.ensures
+    ∙ ap (text_when true) c.after_equals.ensures

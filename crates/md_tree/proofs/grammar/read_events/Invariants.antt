@@ -7,8 +7,8 @@ use Rattle.md_tree.proofs.grammar.read_events.Given as goal
 
 abbrev pub invariant-loop-event : goal.invariant-loop-event
 invariant-loop-event l =
-    HasRead l.source.bytes.now (name_table l.source.names.now) l.source.events.now l.visits l.reader
-    × (l.visits ≤ length l.source.events.now)
+    HasRead l.input.bytes.now (name_table l.input.names.now) l.input.events.now l.visits l.reader
+    × (l.visits ≤ length l.input.events.now)
 
 abbrev pub decreases-loop-event : goal.decreases-loop-event
-decreases-loop-event l = length l.source.events.now - l.visits
+decreases-loop-event l = length l.input.events.now - l.visits

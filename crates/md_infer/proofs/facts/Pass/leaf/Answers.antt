@@ -3,7 +3,7 @@
 use Rattle.std.proofs.Common.{rules, ◌≡◌, ◌<◌, ◌+◌, ◌-◌, ◌++◌, ◌∷◌, [], length, get_or, sym, ap, ◌∙◌, subst}
 use Rattle.std.specs.Prelude.{set}
 use Rattle.md_infer.specs.contracts.facts.Pass.{the_view}
-use Rattle.md_infer.specs.Facts.{opens, next_round, others_round, partner_alone}
+use Rattle.md_infer.specs.Facts.{opens, next_outer, others_outer, partner_alone}
 use Rattle.md_infer.proofs.Opens.{on_answer, opens-set, opens-last, opens-alone, passed_leaf-by}
 use Rattle.md_infer.proofs.facts.Pass.leaf.Goals as goal
 
@@ -45,8 +45,8 @@ returns-in-None c =
     let once_is : c.push.new.self.items ≡ pass.facts ++ partner_alone (entry + 1) ∷ [] = search rules in
     let twice_is : c.push-2.new.self.items ≡ c.push.new.self.items ++ partner_alone entry ∷ [] = search rules in
     let alone = opens-alone items document none in
-    let here_is = ap next_round (sym alone) in
-    let stack_is = opens-alone items after none ∙ ap (λ o. after ∷ others_round o) (sym alone) in
+    let here_is = ap next_outer (sym alone) in
+    let stack_is = opens-alone items after none ∙ ap (λ o. after ∷ others_outer o) (sym alone) in
     rw (← c.self.view_is) (on_answer _ _ _ _ (λ after_is columns_is definitions_is.
     passed_leaf-by name pass entry document after c.follow_leaf-in-None.new.ended.columns c.push.new.self.items
     c.push-2.new.self.items c.follow_leaf-in-None.new.ended.definitions.items _ plain entry_is once_is twice_is here_is

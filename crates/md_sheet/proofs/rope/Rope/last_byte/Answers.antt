@@ -3,7 +3,7 @@
 use Rattle.std.proofs.Common.{◌∷◌, ◌+◌, ap, sym, ◌∙◌, drop, string_bytes, String, Global, List}
 use Rattle.std.proofs.lemmas.List.{drop_more}
 use Rattle.md_sheet.specs.Ropes.{joined}
-use Rattle.md_sheet.proofs.Ropes.{last, last-behind}
+use Rattle.md_sheet.proofs.Ropes.{last, last-after}
 use Rattle.md_sheet.proofs.rope.Rope.last_byte.Goals as goal
 
 pub returns-in-Some-last : goal.returns-in-Some-last
@@ -14,5 +14,5 @@ returns-in-Some-last c =
     sym (c.loop-part.invariant
     ∙ ap (λ ps. last (joined ps)) (drop_more parts index part c.loop-part-test.true)
     ∙ ap (λ p. last (joined (p ∷ drop (index + 1) parts))) (sym c.part-item.is)
-    ∙ last-behind (joined (drop (index + 1) parts)) (string_bytes part) c.in-Some-last.byte.now
+    ∙ last-after (joined (drop (index + 1) parts)) (string_bytes part) c.in-Some-last.byte.now
     (sym (c.in-Some-last.ensures.value ∙ ap (λ t. last t) c.as_bytes-in-loop-part.ensures.value)))

@@ -11,10 +11,10 @@ text_before : (c : goal.After-self-1) → joined c.push.new.self.items ++ string
     ≡ string_bytes c.args.text ++ (joined c.self.inside.front.items ++ string_bytes c.self.inside.last)
 text_before c =
     let parts = c.self.inside.front.items in
-    let behind : List ℕ = string_bytes c.self.inside.last in
-    ap (λ items. joined items ++ behind) c.in_ok-push.ensures.items
-    ∙ ap (λ t. t ++ behind) (joined-push parts c.args.text)
-    ∙ append_assoc (string_bytes c.args.text) (joined parts) behind
+    let after : List ℕ = string_bytes c.self.inside.last in
+    ap (λ items. joined items ++ after) c.in_ok-push.ensures.items
+    ∙ ap (λ t. t ++ after) (joined-push parts c.args.text)
+    ∙ append_assoc (string_bytes c.args.text) (joined parts) after
 
 own_length : (c : goal.After-self-1) → c.len.result ≡ length (string_bytes c.args.text)
 own_length c = search rules

@@ -49,9 +49,9 @@ link : List ℕ → List ℕ → Forest → Forest
 link place value rest = Element (codes "a") (record { name = codes "href"; value = place }
     ∷ record { name = codes "id"; value = value } ∷ []) Empty rest
 
-pub returns-clause-behind_others : goal.returns-clause-behind_others
+pub returns-clause-after_others : goal.returns-clause-after_others
 unfolding link
-returns-clause-behind_others c = equal-by _ (link (codes "#x") (codes "a") (link (codes "#y") (codes "a") Empty))
+returns-clause-after_others c = equal-by _ (link (codes "#x") (codes "a") (link (codes "#y") (codes "a") Empty))
     (record { in_grammar = refl; written_so = refl }) refl
 
 pub returns-clause-headings : goal.returns-clause-headings

@@ -14,7 +14,7 @@ fact_at-requires c =
 
 pub table_at-requires : goal.table_at-requires
 table_at-requires c =
-    subst (λ xs. c.fact_at.result.place < length xs) (sym c.deref.ensures.value)
+    subst (λ xs. c.fact_at.result.read_at < length xs) (sym c.deref.ensures.value)
     (columns-inside c.self.inside c.args.self.now c.args.index c.self.invariant c.self.view_is c.requires
     c.fact_at.result (ap (λ xs. slice_get xs c.args.index) (sym c.deref-2.ensures.value) ∙ c.fact_at.ensures))
 
@@ -27,7 +27,7 @@ one_some o x y e f = cc
 
 pub returns-clause-aligned : goal.returns-clause-aligned
 returns-clause-aligned c = λ children entered.
-    one_some _ c.table_at.result.now _ (ap (λ xs. slice_get (map (λ t. t.items) xs) c.fact_at.result.place)
+    one_some _ c.table_at.result.now _ (ap (λ xs. slice_get (map (λ t. t.items) xs) c.fact_at.result.read_at)
     (sym c.deref.ensures.value) ∙ c.table_at.ensures)
     (columns-kept c.self.inside c.args.self.now c.args.index c.self.invariant c.self.view_is c.requires
     c.fact_at.result (ap (λ xs. slice_get xs c.args.index) (sym c.deref-2.ensures.value)

@@ -8,7 +8,7 @@ use Rattle.md_infer.specs.declared.seeking.Sought.{Sought}
 use Rattle.md_tree.specs.Grammar.{Document}
 use Rattle.md_tree.specs.Reads.{is_reader}
 use Rattle.md_infer.specs.Seeking.{search_of}
-use Rattle.md_infer.specs.Facts.{place_of, tables_behind, contributing_over, sought_over, facts_at}
+use Rattle.md_infer.specs.Facts.{read_at_of, tables_after, contributing_over, sought_over, facts_at}
 use Rattle.md_tree.specs.Found.{position_at}
 use Rattle.md_tree.proofs.Kept.{facts_are}
 use Rattle.md_tree.proofs.Placing.{children-placed}
@@ -19,7 +19,7 @@ lie : false ≡ true → ⊥
 lie h = cc
 
 reader_place : (name : Name) (tables contributing : ℕ) (sought : Sought) → is_reader name ≡ true →
-    place_of name tables contributing sought ≡ sought.place
+    read_at_of name tables contributing sought ≡ sought.read_at
 reader_place HeadingAtx tables contributing sought h = refl
 reader_place ListOrdered tables contributing sought h = refl
 reader_place Link tables contributing sought h = refl
@@ -35,12 +35,12 @@ returns-clause-reads c = λ name children enters reader entered.
     let index = c.args.index in
     let found = c.fact.ensures.fact name children enters entered in
     c.position_of.ensures
-    ∙ ap (λ (g : Document). position_at g.events c.deref.result.now c.fact.result.place) c.self.view_is
-    ∙ ap (λ fs. position_at given.events fs c.fact.result.place) (c.deref.ensures.value
+    ∙ ap (λ (g : Document). position_at g.events c.deref.result.now c.fact.result.read_at) c.self.view_is
+    ∙ ap (λ fs. position_at given.events fs c.fact.result.read_at) (c.deref.ensures.value
     ∙ facts_are c.self.inside given index c.self.invariant c.self.view_is)
-    ∙ ap (λ (f : Fact). position_at given.events (facts_at given.events) f.place) found.1
+    ∙ ap (λ (f : Fact). position_at given.events (facts_at given.events) f.read_at) found.1
     ∙ ap (λ n. position_at given.events (facts_at given.events) n)
-    (reader_place name (tables_behind found.0 children) (contributing_over (suc index) children 0)
+    (reader_place name (tables_after found.0 children) (contributing_over (suc index) children 0)
     (sought_over (suc index) children (search_of name)) reader)
     ∙ reads-found (position_at given.events (facts_at given.events)) refl name children (suc index)
     (children-placed given index name enters children entered) reader

@@ -14,22 +14,22 @@ one_more n = omega arith
 
 pub returns-in_ok-read_leaf-in-Some-clause-read : goal.returns-in_ok-read_leaf-in-Some-clause-read
 returns-in_ok-read_leaf-in-Some-clause-read c =
-    subst (λ n. HasRead c.args.source.bytes.now (name_table c.args.source.names.now) c.args.source.events.now n
+    subst (λ n. HasRead c.args.input.bytes.now (name_table c.args.input.names.now) c.args.input.events.now n
     c.read_leaf.new.self) (two_more c.args.index) c.in_ok-read_leaf-in-Some.ensures.read
 
 pub returns-in_ok-read_leaf-in-Some-clause-counted : goal.returns-in_ok-read_leaf-in-Some-clause-counted
 returns-in_ok-read_leaf-in-Some-clause-counted c =
-    let inside : suc c.args.index < length c.args.source.events.now
-    = slice_get_within c.args.source.events.now (suc c.args.index) _ c.in-Some.ensures.behind in
+    let inside : suc c.args.index < length c.args.input.events.now
+    = slice_get_within c.args.input.events.now (suc c.args.index) _ c.in-Some.ensures.after in
     (omega arith, omega (arith, inside))
 
 pub returns-in_ok-read-in-None-clause-read : goal.returns-in_ok-read-in-None-clause-read
 returns-in_ok-read-in-None-clause-read c =
-    subst (λ n. HasRead c.args.source.bytes.now (name_table c.args.source.names.now) c.args.source.events.now n
+    subst (λ n. HasRead c.args.input.bytes.now (name_table c.args.input.names.now) c.args.input.events.now n
     c.read.new.self) (one_more c.args.index) c.in_ok-read-in-None.ensures.read
 
 pub returns-in_ok-read-in-None-clause-counted : goal.returns-in_ok-read-in-None-clause-counted
 returns-in_ok-read-in-None-clause-counted c =
-    let inside : c.args.index < length c.args.source.events.now
-    = slice_get_within c.args.source.events.now c.args.index c.args.event c.requires.here in
+    let inside : c.args.index < length c.args.input.events.now
+    = slice_get_within c.args.input.events.now c.args.index c.args.event c.requires.here in
     (omega arith, omega (arith, inside))

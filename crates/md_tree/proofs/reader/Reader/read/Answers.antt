@@ -8,7 +8,7 @@ use Rattle.md_base.specs.declared.event.Event.{Event}
 use Rattle.md_tree.specs.Grammar.{handed}
 use Rattle.md_tree.specs.Machine.{Steps}
 use Rattle.md_tree.specs.Walk.{course_of, Unbroken, IsStop}
-use Rattle.md_infer.specs.Ending.{first_index, ending_behind}
+use Rattle.md_infer.specs.Ending.{first_index, ending_after}
 use Rattle.md_infer.specs.Facts.{passed, passed_over, nothing_passed}
 use Rattle.md_tree.proofs.Checking.{Runs-more, IsRefusal-stopped}
 use Rattle.md_infer.proofs.FirstIndex.{first_index-more}
@@ -18,9 +18,9 @@ use Rattle.md_tree.proofs.reader.Reader.read.Goals as goal
 pub returns-in_err-step-clause-refused : goal.returns-in_err-step-clause-refused
 returns-in_err-step-clause-refused c =
     let p = err_from_is_err_and c.from_residual.result c.from_residual.ensures.1 in
-    let events = c.args.source.events.now in
-    let bytes = c.args.source.bytes.now in
-    let names = c.args.source.names.now in
+    let events = c.args.input.events.now in
+    let bytes = c.args.input.bytes.now in
+    let names = c.args.input.names.now in
     let index = c.args.index in
     let event = c.args.event in
     let course = course_of events index c.args.self.now.walk in
@@ -33,23 +33,23 @@ returns-in_err-step-clause-refused c =
 
 pub returns-clause-read : goal.returns-clause-read
 returns-clause-read c =
-    let events = c.args.source.events.now in
-    let names = name_table c.args.source.names.now in
+    let events = c.args.input.events.now in
+    let names = name_table c.args.input.names.now in
     let index = c.args.index in
     let event = c.args.event in
     let self = c.args.self.now in
     let inside = slice_get_within events index event c.requires.here in
     let event_is = sym (get_or_from_slice_get events index event event c.requires.here) in
     record {
-      walked = Runs-more (Unbroken c.args.source.bytes.now names) events index event (course_of events index self.walk)
+      walked = Runs-more (Unbroken c.args.input.bytes.now names) events index event (course_of events index self.walk)
           (course_of events (suc index) c.step.new.self) inside c.requires.before.walked
-          (subst (λ e. Steps (Unbroken c.args.source.bytes.now names) e (course_of events index self.walk)
+          (subst (λ e. Steps (Unbroken c.args.input.bytes.now names) e (course_of events index self.walk)
           (course_of events (suc index) c.step.new.self)) event_is c.in_ok-step.ensures.ok);
       passed = passed_more events index event self.pass nothing_passed c.find.new.self inside c.requires.before.passed
           (subst (λ e. c.find.new.self ≡ passed (Event.kind e) (Event.name e) self.pass) event_is c.in_ok-find.ensures)
           ∙ ap (λ n. passed_over (take n events) nothing_passed) (add-one index);
       first_ending = c.note_ending.ensures event c.requires.here
-          ∙ ap (ending_behind self.first_ending index) event_is
+          ∙ ap (ending_after self.first_ending index) event_is
           ∙ first_index-more events index event self.first_ending inside c.requires.before.first_ending
           ∙ ap (λ n. first_index (take n events)) (add-one index);
     }

@@ -3,7 +3,7 @@
 use Rattle.std.proofs.Common.{rules, suc, ◌<◌, add-one, ap, ◌∙◌, length}
 use Rattle.std.proofs.lemmas.Option.{slice_get_within}
 use Rattle.std.proofs.lemmas.Result.{err_from_is_err_and}
-use Rattle.md_infer.specs.Ending.{ending_behind}
+use Rattle.md_infer.specs.Ending.{ending_after}
 use Rattle.md_tree.specs.Grammar.{handed}
 use Rattle.md_tree.specs.Walk.{course_of}
 use Rattle.md_tree.proofs.LeafRuns.{Runs-leaf, IsRefusal-leaf, passed-leaf_more, first_index-leaf}
@@ -12,35 +12,35 @@ use Rattle.md_tree.proofs.reader.Reader.read_leaf.Goals as goal
 pub returns-in_err-leaf-clause-refused : goal.returns-in_err-leaf-clause-refused
 returns-in_err-leaf-clause-refused c =
     let p = err_from_is_err_and c.from_residual.result c.from_residual.ensures.1 in
-    let events = c.args.source.events.now in
+    let events = c.args.input.events.now in
     rw (p.1, p.2)
-    (IsRefusal-leaf (handed events c.args.source.bytes.now c.args.source.names.now) c.args.index c.args.event
-    c.args.exit.now c.requires.leaf c.requires.here c.requires.behind
+    (IsRefusal-leaf (handed events c.args.input.bytes.now c.args.input.names.now) c.args.index c.args.event
+    c.args.exit.now c.requires.leaf c.requires.here c.requires.after
     (course_of events c.args.index c.args.self.now.walk) c.requires.before.walked c.in_err-leaf.field-0.0
     c.in_err-leaf.ensures.refused)
 
 pub overflow_add-index : goal.overflow_add-index
 overflow_add-index c =
-    let inside : suc c.args.index < length c.args.source.events.now
-    = slice_get_within c.args.source.events.now (suc c.args.index) c.args.exit.now c.requires.behind in
+    let inside : suc c.args.index < length c.args.input.events.now
+    = slice_get_within c.args.input.events.now (suc c.args.index) c.args.exit.now c.requires.after in
     search (rules, inside)
 
 pub returns-clause-read : goal.returns-clause-read
 returns-clause-read c =
-    let events = c.args.source.events.now in
-    let given = handed events c.args.source.bytes.now c.args.source.names.now in
+    let events = c.args.input.events.now in
+    let given = handed events c.args.input.bytes.now c.args.input.names.now in
     let index = c.args.index in
     let entry = c.args.event in
     let exit = c.args.exit.now in
     let self = c.args.self.now in
     record {
-      walked = Runs-leaf given index entry exit c.requires.leaf c.requires.here c.requires.behind
+      walked = Runs-leaf given index entry exit c.requires.leaf c.requires.here c.requires.after
           (course_of events index self.walk) c.requires.before.walked
           (course_of events (suc (suc index)) c.leaf.new.self) c.in_ok-leaf.ensures.ok;
-      passed = passed-leaf_more given index entry exit c.requires.leaf c.requires.here c.requires.behind self.pass
+      passed = passed-leaf_more given index entry exit c.requires.leaf c.requires.here c.requires.after self.pass
           c.leaf-2.new.self c.requires.before.passed c.in_ok-leaf-2.ensures;
-      first_ending = c.note_ending.ensures exit (rw (add-one index) c.requires.behind)
-          ∙ ap (λ n. ending_behind self.first_ending n exit) (add-one index)
-          ∙ first_index-leaf given index entry exit c.requires.leaf c.requires.here c.requires.behind self.first_ending
+      first_ending = c.note_ending.ensures exit (rw (add-one index) c.requires.after)
+          ∙ ap (λ n. ending_after self.first_ending n exit) (add-one index)
+          ∙ first_index-leaf given index entry exit c.requires.leaf c.requires.here c.requires.after self.first_ending
           c.requires.before.first_ending;
     }

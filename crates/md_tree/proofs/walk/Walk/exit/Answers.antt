@@ -24,11 +24,11 @@ opens_pushed events left open_node =
 
 pub returns-in-Some-outer-clause-refused : goal.returns-in-Some-outer-clause-refused
 returns-in-Some-outer-clause-refused c =
-    let events = c.args.source.events.now in
+    let events = c.args.input.events.now in
     let left = c.pop.new.self.items in
     let self = c.args.self.now in
-    let bytes = c.args.source.bytes.now in
-    let names = name_table c.args.source.names.now in
+    let bytes = c.args.input.bytes.now in
+    let names = name_table c.args.input.names.now in
     let open_node = c.in-Some.open_node in
     let outer = outer_seen events c.in-Some-outer.outer in
     let opens_are = ap (opens_seen events) c.in-Some.ensures.items ∙ opens_pushed events left open_node in

@@ -13,20 +13,20 @@ use Rattle.md_tree.proofs.walk.Walk.leaf.Goals as goal
 
 pub returns-in-Through-clause-ok : goal.returns-in-Through-clause-ok
 returns-in-Through-clause-ok c =
-    let events = c.args.source.events.now in
+    let events = c.args.input.events.now in
     let self = c.args.self.now in
     let over = c.in-Through.is in
-    passes-over c.args.source.bytes.now (name_table c.args.source.names.now) c.args.name
+    passes-over c.args.input.bytes.now (name_table c.args.input.names.now) c.args.name
     (point_at events c.args.index) (point_at events (suc c.args.index)) (course_of events c.args.index self)
     (sym c.can_hold.ensures ∙ c.if-not-can_hold.false)
     (subst (λ s. (s ≡ Through) ⊎ (s ≡ Space)) c.standing.ensures over)
 
 pub returns-then-not-can_be_leaf-clause-refused : goal.returns-then-not-can_be_leaf-clause-refused
 returns-then-not-can_be_leaf-clause-refused c =
-    let events = c.args.source.events.now in
+    let events = c.args.input.events.now in
     let self = c.args.self.now in
-    let bytes = c.args.source.bytes.now in
-    let names = name_table c.args.source.names.now in
+    let bytes = c.args.input.bytes.now in
+    let names = name_table c.args.input.names.now in
     let index = c.args.index in
     let unfinished = sym c.can_be_leaf.ensures ∙ c.if-not-can_be_leaf.true in
     rw c.refuse-then-not-can_be_leaf.ensures (subst (λ n. IsStopAtLeaf bytes names index c.args.name
@@ -38,10 +38,10 @@ returns-then-not-can_be_leaf-clause-refused c =
 
 pub returns-in-Some-2-clause-refused : goal.returns-in-Some-2-clause-refused
 returns-in-Some-2-clause-refused c =
-    let events = c.args.source.events.now in
+    let events = c.args.input.events.now in
     let self = c.args.self.now in
-    let bytes = c.args.source.bytes.now in
-    let names = name_table c.args.source.names.now in
+    let bytes = c.args.input.bytes.now in
+    let names = name_table c.args.input.names.now in
     let index = c.args.index in
     let broken = c.in-Some-2.rule in
     let complete = sym c.can_be_leaf.ensures ∙ c.if-not-can_be_leaf.false in
@@ -57,10 +57,10 @@ returns-in-Some-2-clause-refused c =
 
 pub returns-in_default-2-clause-ok : goal.returns-in_default-2-clause-ok
 returns-in_default-2-clause-ok c =
-    let events = c.args.source.events.now in
+    let events = c.args.input.events.now in
     let self = c.args.self.now in
-    let bytes = c.args.source.bytes.now in
-    let names = name_table c.args.source.names.now in
+    let bytes = c.args.input.bytes.now in
+    let names = name_table c.args.input.names.now in
     let index = c.args.index in
     let reading = c.in-Solid.reading in
     let complete = sym c.can_be_leaf.ensures ∙ c.if-not-can_be_leaf.false in

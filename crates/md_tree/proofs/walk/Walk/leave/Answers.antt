@@ -8,10 +8,10 @@ use Rattle.md_tree.proofs.walk.Walk.leave.Goals as goal
 
 pub returns-in-Some-clause-refused : goal.returns-in-Some-clause-refused
 returns-in-Some-clause-refused c =
-    let events = c.args.source.events.now in
+    let events = c.args.input.events.now in
     rw c.refuse-in-Some.ensures (
       refl,
-      StopsInside-broken c.args.source.bytes.now (name_table c.args.source.names.now) c.in-Some.rule
+      StopsInside-broken c.args.input.bytes.now (name_table c.args.input.names.now) c.in-Some.rule
           (outer_seen events c.args.outer) (point_at events c.args.entry) (point_at events c.args.index)
           (course_of events c.args.index c.args.self.now) (sym c.can_end.ensures
           ∙ c.if-not-can_end.false) (sym c.in_ok-rule.ensures.broken ∙ c.in-Some.is),

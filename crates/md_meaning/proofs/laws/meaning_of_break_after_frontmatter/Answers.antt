@@ -3,9 +3,8 @@ use Rattle.std.proofs.Common.{refl}
 use Rattle.std.specs.Str.{is_utf8, chars}
 use lib.Utf8.{encode}
 use Rattle.caseless.proofs.Computing.{caseless}
-use Rattle.std.specs.Fmt.{digits}
-use Rattle.md_meaning.proofs.laws.meaning_of_setext_heading_behind_two_endings.Goals as goal
+use Rattle.md_meaning.proofs.laws.meaning_of_break_after_frontmatter.Goals as goal
 
 pub returns : goal.returns
-unfolding is_utf8 chars encode caseless digits
+unfolding is_utf8 chars encode caseless
 returns c = refl

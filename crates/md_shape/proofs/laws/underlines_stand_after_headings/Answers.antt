@@ -1,6 +1,6 @@
 -- By the patterns of spines.
 use Rattle.md_shape.proofs.Underlines.{grammatical-underlined}
-use Rattle.md_shape.proofs.laws.underlines_stand_behind_headings.Goals as goal
+use Rattle.md_shape.proofs.laws.underlines_stand_after_headings.Goals as goal
 
 pub returns : goal.returns
 returns c = grammatical-underlined

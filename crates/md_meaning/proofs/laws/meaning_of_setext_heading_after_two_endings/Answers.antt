@@ -3,8 +3,9 @@ use Rattle.std.proofs.Common.{refl}
 use Rattle.std.specs.Str.{is_utf8, chars}
 use lib.Utf8.{encode}
 use Rattle.caseless.proofs.Computing.{caseless}
-use Rattle.md_meaning.proofs.laws.meaning_of_image_round_other_names.Goals as goal
+use Rattle.std.specs.Fmt.{digits}
+use Rattle.md_meaning.proofs.laws.meaning_of_setext_heading_after_two_endings.Goals as goal
 
 pub returns : goal.returns
-unfolding is_utf8 chars encode caseless
+unfolding is_utf8 chars encode caseless digits
 returns c = refl
