@@ -52,11 +52,11 @@ pub struct Counted {
 
 /// The HTML of a list of Markdown events over a document's bytes: the meaning of the document that the list is.
 ///
-/// `names` is the table of named character references. Nothing is assumed of events, bytes, options or names. Where HTML isn't
-/// allowed and the heading of the footnotes is the usual one, the text has exactly one reading in the HTML grammar. Where
-/// dangerous protocols aren't allowed either, each link in it has no protocol or a permitted one; where any image source
-/// isn't allowed either, so has each image. The default options are such. Where footnote ids go by
-/// number and the text has one reading, no two ids in it are equal, with any prefix and any protocols.
+/// `names` is the table of named character references. Nothing is assumed of events, bytes, options or names. Where
+/// HTML isn't allowed and the heading of the footnotes is the usual one, the text has exactly one reading in the HTML
+/// grammar. Where dangerous protocols aren't allowed either, each link in it has no protocol or a permitted one;
+/// where any image source isn't allowed either, so has each image. The default options are such. Where footnote ids
+/// go by number and the text has one reading, no two ids in it are equal, with any prefix and any protocols.
 ///
 /// # Errors
 ///
@@ -85,9 +85,12 @@ pub fn compile(
     ensures grammatical { OnOk result (IsChecked (handed events.now bytes.now names.now)) }
     ensures meaning { IfOk result (λ text. (document : Forest) → flatten document ≡ events.now →
         string_bytes text ≡ meaning options.now (name_table names.now) bytes.now document) }
-    ensures one_reading { IfOk result (λ text. KeepsGrammar options.now → HasOneReadingWith any_attribute (string_bytes text)) }
-    ensures safe_links { IfOk result (λ text. KeepsLinks options.now → HasOneReadingWith is_safe_link (string_bytes text)) }
-    ensures safe_images { IfOk result (λ text. KeepsImages options.now → HasOneReadingWith is_safe_image (string_bytes text)) }
+    ensures one_reading { IfOk result (λ text. KeepsGrammar options.now
+        → HasOneReadingWith any_attribute (string_bytes text)) }
+    ensures safe_links { IfOk result (λ text. KeepsLinks options.now
+        → HasOneReadingWith is_safe_link (string_bytes text)) }
+    ensures safe_images { IfOk result (λ text. KeepsImages options.now
+        → HasOneReadingWith is_safe_image (string_bytes text)) }
     ensures distinct_ids { IfOk result (λ text. KeepsIds options.now → HasDistinctIds (string_bytes text)) }
 
     ensures outside { IfErr result (IsOutside (handed events.now bytes.now names.now)) }
@@ -123,9 +126,12 @@ pub fn compile_counted(
     ensures grammatical { OnOk result (IsChecked (handed events.now bytes.now names.now)) }
     ensures meaning { IfOk result (λ counted. (document : Forest) → flatten document ≡ events.now →
         string_bytes counted.text ≡ meaning options.now (name_table names.now) bytes.now document) }
-    ensures one_reading { IfOk result (λ counted. KeepsGrammar options.now → HasOneReadingWith any_attribute (string_bytes counted.text)) }
-    ensures safe_links { IfOk result (λ counted. KeepsLinks options.now → HasOneReadingWith is_safe_link (string_bytes counted.text)) }
-    ensures safe_images { IfOk result (λ counted. KeepsImages options.now → HasOneReadingWith is_safe_image (string_bytes counted.text)) }
+    ensures one_reading { IfOk result (λ counted. KeepsGrammar options.now
+        → HasOneReadingWith any_attribute (string_bytes counted.text)) }
+    ensures safe_links { IfOk result (λ counted. KeepsLinks options.now
+        → HasOneReadingWith is_safe_link (string_bytes counted.text)) }
+    ensures safe_images { IfOk result (λ counted. KeepsImages options.now
+        → HasOneReadingWith is_safe_image (string_bytes counted.text)) }
     ensures distinct_ids { IfOk result (λ counted. KeepsIds options.now → HasDistinctIds (string_bytes counted.text)) }
     ensures least { IfOk result (λ counted. 2 * length events.now ≤ counted.visits) }
     ensures most { IfOk result (λ counted. counted.visits ≤ 3 * length events.now) }
@@ -160,9 +166,12 @@ pub fn compile_checked(
 ) -> Result<String, AllocError>
     ensures meaning { IfOk result (λ text. (document : Forest) → flatten document ≡ checked.now.events →
         string_bytes text ≡ meaning options.now checked.now.names checked.now.bytes document) }
-    ensures one_reading { IfOk result (λ text. KeepsGrammar options.now → HasOneReadingWith any_attribute (string_bytes text)) }
-    ensures safe_links { IfOk result (λ text. KeepsLinks options.now → HasOneReadingWith is_safe_link (string_bytes text)) }
-    ensures safe_images { IfOk result (λ text. KeepsImages options.now → HasOneReadingWith is_safe_image (string_bytes text)) }
+    ensures one_reading { IfOk result (λ text. KeepsGrammar options.now
+        → HasOneReadingWith any_attribute (string_bytes text)) }
+    ensures safe_links { IfOk result (λ text. KeepsLinks options.now
+        → HasOneReadingWith is_safe_link (string_bytes text)) }
+    ensures safe_images { IfOk result (λ text. KeepsImages options.now
+        → HasOneReadingWith is_safe_image (string_bytes text)) }
     ensures distinct_ids { IfOk result (λ text. KeepsIds options.now → HasDistinctIds (string_bytes text)) }
 {
     let counted = count_checked(alloc, checked, options)?;
@@ -177,9 +186,12 @@ fn count_checked(
 ) -> Result<Counted, AllocError>
     ensures meaning { IfOk result (λ counted. (document : Forest) → flatten document ≡ checked.now.events →
         string_bytes counted.text ≡ meaning options.now checked.now.names checked.now.bytes document) }
-    ensures one_reading { IfOk result (λ counted. KeepsGrammar options.now → HasOneReadingWith any_attribute (string_bytes counted.text)) }
-    ensures safe_links { IfOk result (λ counted. KeepsLinks options.now → HasOneReadingWith is_safe_link (string_bytes counted.text)) }
-    ensures safe_images { IfOk result (λ counted. KeepsImages options.now → HasOneReadingWith is_safe_image (string_bytes counted.text)) }
+    ensures one_reading { IfOk result (λ counted. KeepsGrammar options.now
+        → HasOneReadingWith any_attribute (string_bytes counted.text)) }
+    ensures safe_links { IfOk result (λ counted. KeepsLinks options.now
+        → HasOneReadingWith is_safe_link (string_bytes counted.text)) }
+    ensures safe_images { IfOk result (λ counted. KeepsImages options.now
+        → HasOneReadingWith is_safe_image (string_bytes counted.text)) }
     ensures distinct_ids { IfOk result (λ counted. KeepsIds options.now → HasDistinctIds (string_bytes counted.text)) }
     ensures least { IfOk result (λ counted. 2 * length checked.now.events ≤ counted.visits) }
     ensures most { IfOk result (λ counted. counted.visits ≤ 3 * length checked.now.events) }
@@ -208,7 +220,8 @@ fn count_checked(
 
 /// The line ending that is used: the text of the document's first, else that of the options.
 fn ending_of<'a>(checked: &Checked<'a>, options: &'a CompileOptions) -> &'a str
-    ensures ending { (document : Forest) → flatten document ≡ checked.now.events → result.now ≡ ending_at options.now checked.now.bytes (first_place document) }
+    ensures ending { (document : Forest) → flatten document ≡ checked.now.events
+        → result.now ≡ ending_at options.now checked.now.bytes (first_place document) }
     ensures grammatical { IsChecked checked.now }
 {
     match checked.first_ending() {
@@ -225,7 +238,8 @@ fn enter(
     name: Name,
     start: Point,
 ) -> Result<(), AllocError>
-    ensures { OnOk result (printer.new ≡ machine.entered (given_of source.now) (machine.ahead_by told.place) told.loose told.columns.items (is_captured name) name start printer.old) }
+    ensures { OnOk result (printer.new ≡ machine.entered (given_of source.now) (machine.ahead_by told.place)
+        told.loose told.columns.items (is_captured name) name start printer.old) }
 {
     let around = printer.around();
     open(printer, source, around, told.place, name)?;
@@ -237,7 +251,8 @@ fn enter(
 /// The place that a name reads in the children of the node that is entered; of another name none.
 fn place_read(checked: &Checked, index: usize, name: Name) -> Option<Position>
     requires { EntersAt checked.now.events index name }
-    ensures { (told : Option Forest) → IsToldAt checked.now index told → machine.ahead_by result ≡ machine.ahead_told name told }
+    ensures { (told : Option Forest) → IsToldAt checked.now index told
+        → machine.ahead_by result ≡ machine.ahead_told name told }
 {
     if is_reader(name) {
         checked.reads(index)
@@ -300,7 +315,8 @@ fn close_and_log(
 ) -> Result<(), AllocError>
     requires { is_captured name ≡ true }
     ensures { OnOk result (printer.new ≡ machine.printing source.now.ending.now
-        (closing_at (given_of source.now) exit.now printer.old.log.called (steps.first_or [] printer.old.tables) (machine.ahead_by inner.place) printer.old.frame.passed inner.sheet name)
+        (closing_at (given_of source.now) exit.now printer.old.log.called (steps.first_or [] printer.old.tables)
+        (machine.ahead_by inner.place) printer.old.frame.passed inner.sheet name)
         (machine.logging source.now.bytes.now (machine.ahead_by inner.place) name inner.sheet printer.old)) }
 {
     match name {
@@ -366,7 +382,8 @@ fn exit(
     name: Name,
     end: Point,
 ) -> Result<(), AllocError>
-    ensures { OnOk result (printer.new ≡ machine.exited (given_of source.now) is_last (is_captured name) name end printer.old) }
+    ensures { OnOk result (printer.new ≡ machine.exited (given_of source.now) is_last
+        (is_captured name) name end printer.old) }
 {
     if is_captured(name) {
         exit_captured(printer, source, is_last, name, end)
@@ -395,7 +412,9 @@ pub(crate) fn step(
 ) -> Result<(), AllocError>
     requires { slice_get checked.now.events visit.index ≡ Some visit.event.now }
     ensures { OnOk result ((told : Option Forest) → IsToldAt checked.now visit.entry.index told → printer.new
-        ≡ machine.stepped (given_of source.now) visit.entry.event.now.kind visit.entry.event.now.name visit.entry.event.now.point told (machine.is_nil visit.entry.later.now) printer.old) }
+        ≡ machine.stepped (given_of source.now)
+        visit.entry.event.now.kind visit.entry.event.now.name visit.entry.event.now.point told
+        (machine.is_nil visit.entry.later.now) printer.old) }
 {
     let event = visit.event;
     match event.kind {
@@ -417,7 +436,8 @@ fn enter_visited(
 ) -> Result<(), AllocError>
     requires { EntersAt checked.now.events visit.index visit.event.now.name }
     ensures { OnOk result ((told : Option Forest) → IsToldAt checked.now visit.entry.index told → printer.new
-        ≡ machine.stepped (given_of source.now) Enter visit.entry.event.now.name visit.entry.event.now.point told (machine.is_nil visit.entry.later.now) printer.old) }
+        ≡ machine.stepped (given_of source.now) Enter visit.entry.event.now.name visit.entry.event.now.point told
+        (machine.is_nil visit.entry.later.now) printer.old) }
 {
     let event = visit.event;
     let place = place_read(checked, visit.index, event.name);
@@ -441,7 +461,8 @@ fn leaf(
 ) -> Result<(), AllocError>
     requires { is_light (group_of name) ≡ true }
     ensures { OnOk result ((ahead : Ahead) (loose : Bool) (columns : List AlignKind) → printer.new
-        ≡ machine.exited (given_of source.now) is_last false name place.end (machine.entered (given_of source.now) ahead loose columns false name place.start printer.old)) }
+        ≡ machine.exited (given_of source.now) is_last false name place.end
+        (machine.entered (given_of source.now) ahead loose columns false name place.start printer.old)) }
 {
     let exit = printer.leaf(place.start, is_last, place.end);
     close(printer, source, &exit, name)?;
@@ -468,8 +489,10 @@ fn advance(
     requires { visit.event.now ∷ visit.later.now ≡ drop visit.index checked.now.events }
     ensures within { IfOk result (λ more. more ≤ length visit.entry.later.now) }
     ensures runs { IfOk result (λ more. (document : Forest) → flatten document ≡ checked.now.events
-        → machine.run (given_of source.now) (drop more visit.entry.later.now) (drop (visit.entry.index + (1 + more)) (children_of document)) printer.new
-        ≡ machine.run (given_of source.now) (visit.entry.event.now ∷ visit.entry.later.now) (drop visit.entry.index (children_of document)) printer.old) }
+        → machine.run (given_of source.now) (drop more visit.entry.later.now)
+        (drop (visit.entry.index + (1 + more)) (children_of document)) printer.new
+        ≡ machine.run (given_of source.now) (visit.entry.event.now ∷ visit.entry.later.now)
+        (drop visit.entry.index (children_of document)) printer.old) }
 {
     let entry = visit.event;
     if let Some((exit, beyond)) = visit.later.split_first() {

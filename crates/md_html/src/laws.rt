@@ -7,7 +7,9 @@ ghost use Rattle.md_meaning.specs.Meaning.{meaning};
 
 /// Where HTML isn't allowed, the tag filter changes no meaning.
 pub fn tagfilter_is_moot_when_escaped()
-    ensures { (filter : Bool) (options : CompileOptions) (names : List (List ℕ × List ℕ)) (bytes : List ℕ) (document : Forest)
+    ensures { (filter : Bool) (options : CompileOptions) (names : List (List ℕ × List ℕ)) (bytes : List ℕ)
+        (document : Forest)
         → options.allow_dangerous_html ≡ false
-        → meaning (record options { gfm_tagfilter = filter }) names bytes document ≡ meaning options names bytes document }
+        → meaning (record options { gfm_tagfilter = filter }) names bytes document
+        ≡ meaning options names bytes document }
 {}

@@ -59,7 +59,8 @@ fn node_events(events: &[Event], entry: usize, partner: Option<usize>) -> &[Even
 fn run_node(source: &Source, checked: &Checked, entry: usize) -> Result<Printer, AllocError>
     ensures grammatical { IsChecked checked.now }
     ensures printed { IfOk result (λ printer. (document : Forest) → flatten document ≡ checked.now.events
-        → printer ≡ machine.run (given_of source.now) (events_at checked.now.events entry (slice_get (partners_of 0 document) entry))
+        → printer ≡ machine.run (given_of source.now)
+        (events_at checked.now.events entry (slice_get (partners_of 0 document) entry))
         (drop entry (children_of document)) machine.beginning) }
 {
     let events = checked.events();
@@ -87,7 +88,8 @@ fn defined_at(
     entry: usize,
 ) -> Result<Option<Defined>, AllocError>
     ensures { IfOk result (λ defined. (document : Forest) → flatten document ≡ checked.now.events → (place : ℕ)
-        → slice_get (entries_of 0 document) place ≡ Some entry → defined ≡ slice_get (own_definitions (given_of source.now) document) place) }
+        → slice_get (entries_of 0 document) place ≡ Some entry
+        → defined ≡ slice_get (own_definitions (given_of source.now) document) place) }
 {
     let printer = run_node(source, checked, entry)?;
     let mut logged = printer.into_definitions();
@@ -129,7 +131,8 @@ pub(crate) fn definitions_at(
     checked: &Checked,
     entries: &[usize],
 ) -> Result<Own, AllocError>
-    ensures definitions { IfOk result (λ own. (document : Forest) → flatten document ≡ checked.now.events → entries.now ≡ entries_of 0 document
+    ensures definitions { IfOk result (λ own. (document : Forest) → flatten document ≡ checked.now.events
+        → entries.now ≡ entries_of 0 document
         → own.definitions.items ≡ own_definitions (given_of source.now) document) }
     ensures visits { IfOk result (λ own. (document : Forest) → IsShaped document → flatten document ≡ checked.now.events
         → entries.now ≡ entries_of 0 document → own.visits ≤ length checked.now.events) }

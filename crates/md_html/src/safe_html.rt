@@ -19,8 +19,8 @@ use std::error::Error;
 use std::fmt;
 use std::marker::Model;
 
-/// A text that has exactly one reading in the HTML grammar, in which each `href` and `src` has no protocol or a permitted
-/// one. Only [`compile_safe`] makes one.
+/// A text that has exactly one reading in the HTML grammar, in which each `href` and `src` has no protocol or a
+/// permitted one. Only [`compile_safe`] makes one.
 #[derive(Drop)]
 pub struct SafeHtml {
     text: String,
@@ -102,7 +102,8 @@ impl From<CompileError> for SafeError {
 ///
 /// # Errors
 ///
-/// [`SafeError::Options`] exactly where the options aren't safe, whatever else is handed in; else the refusal of [`compile`].
+/// [`SafeError::Options`] exactly where the options aren't safe, whatever else is handed in; else the refusal of
+/// [`compile`].
 ///
 /// # Examples
 ///

@@ -63,7 +63,11 @@ impl Model for Columns {
 
     ghost Value = { Collected };
 
-    ghost view = { λ c. record { tables = map (λ t. t.items) c.tables.items; pending = c.pending.items; starts = reverse c.starts.items } };
+    ghost view = { λ c. record {
+      tables = map (λ t. t.items) c.tables.items;
+      pending = c.pending.items;
+      starts = reverse c.starts.items;
+    } };
 }
 
 impl Columns {

@@ -156,8 +156,8 @@ fn search_after(sought: &mut Sought, name: Name, entry: usize, own: &Sought)
     }
 }
 
-/// Where what is read of a node is found: which table it is, the last contributing child, or what was sought; and whether a resource
-/// was found on the node's own spine.
+/// Where what is read of a node is found: which table it is, the last contributing child, or what was sought; and
+/// whether a resource was found on the node's own spine.
 #[inline(always)]
 fn read_at_of(name: Name, table: usize, own: &OpenNode) -> (usize, bool)
     ensures read_at { result.0 ≡ spec.read_at_of name table own.now.contributing own.now.sought }
@@ -251,7 +251,13 @@ impl Model for Pass {
 
     ghost Value = { Passed };
 
-    ghost view = { λ p. record { facts = p.facts.items; columns = p.ended.columns; definitions = p.ended.definitions.items; here = next_outer (opens p.open_nodes.items p.document); outer = others_outer (opens p.open_nodes.items p.document) } };
+    ghost view = { λ p. record {
+      facts = p.facts.items;
+      columns = p.ended.columns;
+      definitions = p.ended.definitions.items;
+      here = next_outer (opens p.open_nodes.items p.document);
+      outer = others_outer (opens p.open_nodes.items p.document);
+    } };
 }
 
 impl Pass {
@@ -388,7 +394,8 @@ fn innermost<'a>(open_nodes: &'a [OpenNode], document: &'a OpenNode) -> &'a Open
 #[inline(always)]
 fn leave_innermost(open_nodes: &mut Vec<OpenNode>, document: &mut OpenNode) -> OpenNode
     ensures own { result ≡ spec.next_outer (spec.opens open_nodes.old.items document.old) }
-    ensures left { spec.opens open_nodes.new.items document.new ≡ spec.grounded (spec.others_outer (spec.opens open_nodes.old.items document.old)) }
+    ensures left { spec.opens open_nodes.new.items document.new
+        ≡ spec.grounded (spec.others_outer (spec.opens open_nodes.old.items document.old)) }
 {
     match open_nodes.pop() {
         Some(own) => own,
@@ -410,8 +417,10 @@ fn follow(
     own: &OpenNode,
 ) -> Result<(), AllocError>
     ensures here { OnOk result (here.new ≡ spec.followed name own.now here.old) }
-    ensures columns { OnOk result (ended.new.columns ≡ columns_exited name own.now.told here.old.collects ended.old.columns) }
-    ensures definitions { OnOk result (ended.new.definitions.items ≡ spec.definitions_with name own.now.entry ended.old.definitions.items) }
+    ensures columns { OnOk result (ended.new.columns
+        ≡ columns_exited name own.now.told here.old.collects ended.old.columns) }
+    ensures definitions { OnOk result (ended.new.definitions.items
+        ≡ spec.definitions_with name own.now.entry ended.old.definitions.items) }
 {
     search_after(&mut here.sought, name, own.entry, &own.sought);
     if is_common(name) {
@@ -440,8 +449,10 @@ fn follow_leaf(
     entry: usize,
 ) -> Result<(), AllocError>
     ensures here { OnOk result (here.new ≡ spec.followed name (spec.opened entry name here.old) here.old) }
-    ensures columns { OnOk result (ended.new.columns ≡ columns_exited name nothing_told here.old.collects ended.old.columns) }
-    ensures definitions { OnOk result (ended.new.definitions.items ≡ spec.definitions_with name entry ended.old.definitions.items) }
+    ensures columns { OnOk result (ended.new.columns
+        ≡ columns_exited name nothing_told here.old.collects ended.old.columns) }
+    ensures definitions { OnOk result (ended.new.definitions.items
+        ≡ spec.definitions_with name entry ended.old.definitions.items) }
 {
     if is_simple(name) {
         follow_simple(here, name, entry);

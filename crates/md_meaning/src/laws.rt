@@ -82,12 +82,14 @@ pub fn meaning_of_trimmed_code()
 
 /// The meaning of backslash before a pipe.
 pub fn meaning_of_backslash_before_a_pipe()
-    ensures { Means spans.backslash_before_a_pipe_bytes spans.backslash_before_a_pipe spans.backslash_before_a_pipe_text }
+    ensures { Means spans.backslash_before_a_pipe_bytes spans.backslash_before_a_pipe
+        spans.backslash_before_a_pipe_text }
 {}
 
 /// The meaning of two endings after a definition.
 pub fn meaning_of_two_endings_after_a_definition()
-    ensures { Means endings.two_endings_after_a_definition_bytes endings.two_endings_after_a_definition endings.two_endings_after_a_definition_text }
+    ensures { Means endings.two_endings_after_a_definition_bytes endings.two_endings_after_a_definition
+        endings.two_endings_after_a_definition_text }
 {}
 
 /// The meaning of setext heading.
@@ -107,7 +109,8 @@ pub fn meaning_of_short_table_row()
 
 /// The meaning of call in a dropped cell.
 pub fn meaning_of_call_in_a_dropped_cell()
-    ensures { Means tables.call_in_a_dropped_cell_bytes tables.call_in_a_dropped_cell tables.call_in_a_dropped_cell_text }
+    ensures { Means tables.call_in_a_dropped_cell_bytes tables.call_in_a_dropped_cell
+        tables.call_in_a_dropped_cell_text }
 {}
 
 /// The meaning of footnote.
@@ -117,22 +120,26 @@ pub fn meaning_of_footnote()
 
 /// The meaning of two references to one footnote.
 pub fn meaning_of_two_references_to_one_footnote()
-    ensures { Means footnotes.two_references_to_one_footnote_bytes footnotes.two_references_to_one_footnote footnotes.two_references_to_one_footnote_text }
+    ensures { Means footnotes.two_references_to_one_footnote_bytes footnotes.two_references_to_one_footnote
+        footnotes.two_references_to_one_footnote_text }
 {}
 
 /// The meaning of nested footnote definition.
 pub fn meaning_of_nested_footnote_definition()
-    ensures { Means footnotes.nested_footnote_definition_bytes footnotes.nested_footnote_definition footnotes.nested_footnote_definition_text }
+    ensures { Means footnotes.nested_footnote_definition_bytes footnotes.nested_footnote_definition
+        footnotes.nested_footnote_definition_text }
 {}
 
 /// The meaning of footnote without a paragraph.
 pub fn meaning_of_footnote_without_a_paragraph()
-    ensures { Means footnotes.footnote_without_a_paragraph_bytes footnotes.footnote_without_a_paragraph footnotes.footnote_without_a_paragraph_text }
+    ensures { Means footnotes.footnote_without_a_paragraph_bytes footnotes.footnote_without_a_paragraph
+        footnotes.footnote_without_a_paragraph_text }
 {}
 
 /// The meaning of code with a pipe in a table.
 pub fn meaning_of_code_with_a_pipe_in_a_table()
-    ensures { Means tables.code_with_a_pipe_in_a_table_bytes tables.code_with_a_pipe_in_a_table tables.code_with_a_pipe_in_a_table_text }
+    ensures { Means tables.code_with_a_pipe_in_a_table_bytes tables.code_with_a_pipe_in_a_table
+        tables.code_with_a_pipe_in_a_table_text }
 {}
 
 /// The meaning of aligned column.
@@ -147,17 +154,20 @@ pub fn meaning_of_head_without_cells()
 
 /// The meaning of HTML where it is left as it is.
 pub fn meaning_of_html_as_it_is()
-    ensures { MeansWith blocks.html_as_it_is_options blocks.html_as_it_is_bytes blocks.html_as_it_is blocks.html_as_it_is_text }
+    ensures { MeansWith blocks.html_as_it_is_options blocks.html_as_it_is_bytes blocks.html_as_it_is
+        blocks.html_as_it_is_text }
 {}
 
 /// The meaning of checkable task.
 pub fn meaning_of_checkable_task()
-    ensures { MeansWith lists.checkable_task_options lists.checkable_task_bytes lists.checkable_task lists.checkable_task_text }
+    ensures { MeansWith lists.checkable_task_options lists.checkable_task_bytes lists.checkable_task
+        lists.checkable_task_text }
 {}
 
 /// The meaning of footnotes in the order of their calls.
 pub fn meaning_of_footnotes_in_the_order_of_their_calls()
-    ensures { Means footnotes.footnotes_in_the_order_of_their_calls_bytes footnotes.footnotes_in_the_order_of_their_calls footnotes.footnotes_in_the_order_of_their_calls_text }
+    ensures { Means footnotes.footnotes_in_the_order_of_their_calls_bytes
+        footnotes.footnotes_in_the_order_of_their_calls footnotes.footnotes_in_the_order_of_their_calls_text }
 {}
 
 /// The meaning of a call in the label of a call, which has the lower number and prints nothing.
@@ -172,7 +182,8 @@ pub fn meaning_of_call_in_an_image()
 
 /// The meaning of call in its own footnote.
 pub fn meaning_of_call_in_its_own_footnote()
-    ensures { Means footnotes.call_in_its_own_footnote_bytes footnotes.call_in_its_own_footnote footnotes.call_in_its_own_footnote_text }
+    ensures { Means footnotes.call_in_its_own_footnote_bytes footnotes.call_in_its_own_footnote
+        footnotes.call_in_its_own_footnote_text }
 {}
 
 /// The meaning of an identifier with a capital letter and white space.
@@ -182,17 +193,20 @@ pub fn meaning_of_folded_identifier()
 
 /// The meaning of footnote without a call.
 pub fn meaning_of_footnote_without_a_call()
-    ensures { Means footnotes.footnote_without_a_call_bytes footnotes.footnote_without_a_call footnotes.footnote_without_a_call_text }
+    ensures { Means footnotes.footnote_without_a_call_bytes footnotes.footnote_without_a_call
+        footnotes.footnote_without_a_call_text }
 {}
 
 /// The meaning of footnote that ends in a quote.
 pub fn meaning_of_footnote_that_ends_in_a_quote()
-    ensures { Means footnotes.footnote_that_ends_in_a_quote_bytes footnotes.footnote_that_ends_in_a_quote footnotes.footnote_that_ends_in_a_quote_text }
+    ensures { Means footnotes.footnote_that_ends_in_a_quote_bytes footnotes.footnote_that_ends_in_a_quote
+        footnotes.footnote_that_ends_in_a_quote_text }
 {}
 
 /// The meaning of a footnote with CR and LF after its last paragraph.
 pub fn meaning_of_footnote_that_ends_in_line_endings()
-    ensures { Means footnotes.footnote_that_ends_in_line_endings_bytes footnotes.footnote_that_ends_in_line_endings footnotes.footnote_that_ends_in_line_endings_text }
+    ensures { Means footnotes.footnote_that_ends_in_line_endings_bytes footnotes.footnote_that_ends_in_line_endings
+        footnotes.footnote_that_ends_in_line_endings_text }
 {}
 
 /// The meaning of empty footnote.
@@ -202,22 +216,26 @@ pub fn meaning_of_empty_footnote()
 
 /// The meaning of two line endings after a footnote definition, of which the first is dropped.
 pub fn meaning_of_endings_after_a_footnote_definition()
-    ensures { Means endings.endings_after_a_footnote_definition_bytes endings.endings_after_a_footnote_definition endings.endings_after_a_footnote_definition_text }
+    ensures { Means endings.endings_after_a_footnote_definition_bytes endings.endings_after_a_footnote_definition
+        endings.endings_after_a_footnote_definition_text }
 {}
 
 /// The meaning of a table of four columns, with a short row and a long one.
 pub fn meaning_of_table_of_each_alignment()
-    ensures { Means tables.table_of_each_alignment_bytes tables.table_of_each_alignment tables.table_of_each_alignment_text }
+    ensures { Means tables.table_of_each_alignment_bytes tables.table_of_each_alignment
+        tables.table_of_each_alignment_text }
 {}
 
 /// The meaning of head without delimiter values.
 pub fn meaning_of_head_without_delimiter_values()
-    ensures { Means tables.head_without_delimiter_values_bytes tables.head_without_delimiter_values tables.head_without_delimiter_values_text }
+    ensures { Means tables.head_without_delimiter_values_bytes tables.head_without_delimiter_values
+        tables.head_without_delimiter_values_text }
 {}
 
 /// The meaning of body without an ending before it.
 pub fn meaning_of_body_without_an_ending_before_it()
-    ensures { Means tables.body_without_an_ending_before_it_bytes tables.body_without_an_ending_before_it tables.body_without_an_ending_before_it_text }
+    ensures { Means tables.body_without_an_ending_before_it_bytes tables.body_without_an_ending_before_it
+        tables.body_without_an_ending_before_it_text }
 {}
 
 /// The meaning of call in a head.
@@ -232,12 +250,14 @@ pub fn meaning_of_table_in_a_footnote()
 
 /// The meaning of code, a break, a task, strong text, an autolink and a link in the label of an image.
 pub fn meaning_of_image_around_other_names()
-    ensures { Means media.image_around_other_names_bytes media.image_around_other_names media.image_around_other_names_text }
+    ensures { Means media.image_around_other_names_bytes media.image_around_other_names
+        media.image_around_other_names_text }
 {}
 
 /// The meaning of reference beside a label.
 pub fn meaning_of_reference_beside_a_label()
-    ensures { Means media.reference_beside_a_label_bytes media.reference_beside_a_label media.reference_beside_a_label_text }
+    ensures { Means media.reference_beside_a_label_bytes media.reference_beside_a_label
+        media.reference_beside_a_label_text }
 {}
 
 /// The meaning of empty title.
@@ -247,12 +267,14 @@ pub fn meaning_of_empty_title()
 
 /// The meaning of protocols that are not permitted.
 pub fn meaning_of_protocols_that_are_not_permitted()
-    ensures { Means media.protocols_that_are_not_permitted_bytes media.protocols_that_are_not_permitted media.protocols_that_are_not_permitted_text }
+    ensures { Means media.protocols_that_are_not_permitted_bytes media.protocols_that_are_not_permitted
+        media.protocols_that_are_not_permitted_text }
 {}
 
 /// The meaning of closed fence with an info.
 pub fn meaning_of_closed_fence_with_an_info()
-    ensures { Means blocks.closed_fence_with_an_info_bytes blocks.closed_fence_with_an_info blocks.closed_fence_with_an_info_text }
+    ensures { Means blocks.closed_fence_with_an_info_bytes blocks.closed_fence_with_an_info
+        blocks.closed_fence_with_an_info_text }
 {}
 
 /// The meaning of item with a blank line.
@@ -277,7 +299,8 @@ pub fn meaning_of_math()
 
 /// The meaning of a thematic break after frontmatter, whose line ending is slurped.
 pub fn meaning_of_break_after_frontmatter()
-    ensures { Means endings.break_after_frontmatter_bytes endings.break_after_frontmatter endings.break_after_frontmatter_text }
+    ensures { Means endings.break_after_frontmatter_bytes endings.break_after_frontmatter
+        endings.break_after_frontmatter_text }
 {}
 
 /// The meaning of unclosed fence.
@@ -287,7 +310,8 @@ pub fn meaning_of_unclosed_fence()
 
 /// The meaning of unclosed fence alone in a quote.
 pub fn meaning_of_unclosed_fence_alone_in_a_quote()
-    ensures { Means blocks.unclosed_fence_alone_in_a_quote_bytes blocks.unclosed_fence_alone_in_a_quote blocks.unclosed_fence_alone_in_a_quote_text }
+    ensures { Means blocks.unclosed_fence_alone_in_a_quote_bytes blocks.unclosed_fence_alone_in_a_quote
+        blocks.unclosed_fence_alone_in_a_quote_text }
 {}
 
 /// The meaning of code without a chunk.
@@ -307,12 +331,14 @@ pub fn meaning_of_html_by_default()
 
 /// The meaning of HTML where it is left, and disarmed by the tag filter.
 pub fn meaning_of_filtered_html()
-    ensures { MeansWith blocks.filtered_html_options blocks.filtered_html_bytes blocks.filtered_html blocks.filtered_html_text }
+    ensures { MeansWith blocks.filtered_html_options blocks.filtered_html_bytes blocks.filtered_html
+        blocks.filtered_html_text }
 {}
 
 /// The meaning of blank line at the end.
 pub fn meaning_of_blank_line_at_the_end()
-    ensures { Means endings.blank_line_at_the_end_bytes endings.blank_line_at_the_end endings.blank_line_at_the_end_text }
+    ensures { Means endings.blank_line_at_the_end_bytes endings.blank_line_at_the_end
+        endings.blank_line_at_the_end_text }
 {}
 
 /// The meaning of number references.
@@ -322,7 +348,8 @@ pub fn meaning_of_number_references()
 
 /// The meaning of setext heading after two endings.
 pub fn meaning_of_setext_heading_after_two_endings()
-    ensures { Means blocks.setext_heading_after_two_endings_bytes blocks.setext_heading_after_two_endings blocks.setext_heading_after_two_endings_text }
+    ensures { Means blocks.setext_heading_after_two_endings_bytes blocks.setext_heading_after_two_endings
+        blocks.setext_heading_after_two_endings_text }
 {}
 
 /// The meaning of links and images of any protocol, where the options let them.
@@ -332,12 +359,14 @@ pub fn meaning_of_any_protocol()
 
 /// The meaning of default line ending.
 pub fn meaning_of_default_line_ending()
-    ensures { MeansWith endings.default_line_ending_options endings.default_line_ending_bytes endings.default_line_ending endings.default_line_ending_text }
+    ensures { MeansWith endings.default_line_ending_options endings.default_line_ending_bytes
+        endings.default_line_ending endings.default_line_ending_text }
 {}
 
 /// The meaning of a list before a definition with the only line ending, which is the one that is used.
 pub fn meaning_of_line_ending_in_a_definition()
-    ensures { Means endings.line_ending_in_a_definition_bytes endings.line_ending_in_a_definition endings.line_ending_in_a_definition_text }
+    ensures { Means endings.line_ending_in_a_definition_bytes endings.line_ending_in_a_definition
+        endings.line_ending_in_a_definition_text }
 {}
 
 /// The meaning of an item that ends in code, whose end stands on its own line.
@@ -347,7 +376,8 @@ pub fn meaning_of_code_in_an_item()
 
 /// The meaning of a line ending after frontmatter and a blank line, which clears.
 pub fn meaning_of_ending_after_a_blank_line()
-    ensures { Means endings.ending_after_a_blank_line_bytes endings.ending_after_a_blank_line endings.ending_after_a_blank_line_text }
+    ensures { Means endings.ending_after_a_blank_line_bytes endings.ending_after_a_blank_line
+        endings.ending_after_a_blank_line_text }
 {}
 
 /// The meaning of a line ending after frontmatter and a block quote, which clears.
@@ -357,12 +387,14 @@ pub fn meaning_of_ending_after_a_quote()
 
 /// The meaning of a line ending after frontmatter and indented code, which clears.
 pub fn meaning_of_ending_after_indented_code()
-    ensures { Means endings.ending_after_indented_code_bytes endings.ending_after_indented_code endings.ending_after_indented_code_text }
+    ensures { Means endings.ending_after_indented_code_bytes endings.ending_after_indented_code
+        endings.ending_after_indented_code_text }
 {}
 
 /// The meaning of a line ending after fenced code, which clears what its fence sets.
 pub fn meaning_of_ending_after_fenced_code()
-    ensures { Means endings.ending_after_fenced_code_bytes endings.ending_after_fenced_code endings.ending_after_fenced_code_text }
+    ensures { Means endings.ending_after_fenced_code_bytes endings.ending_after_fenced_code
+        endings.ending_after_fenced_code_text }
 {}
 
 /// The meaning of a line ending after math, which clears what its fence sets.
@@ -372,17 +404,20 @@ pub fn meaning_of_ending_after_math()
 
 /// The meaning of a line ending after a tight list, whose item clears what its paragraph sets.
 pub fn meaning_of_ending_after_a_tight_list()
-    ensures { Means endings.ending_after_a_tight_list_bytes endings.ending_after_a_tight_list endings.ending_after_a_tight_list_text }
+    ensures { Means endings.ending_after_a_tight_list_bytes endings.ending_after_a_tight_list
+        endings.ending_after_a_tight_list_text }
 {}
 
 /// The meaning of a line ending after frontmatter and code with a line ending, which is no mark.
 pub fn meaning_of_ending_after_code_with_an_ending()
-    ensures { Means endings.ending_after_code_with_an_ending_bytes endings.ending_after_code_with_an_ending endings.ending_after_code_with_an_ending_text }
+    ensures { Means endings.ending_after_code_with_an_ending_bytes endings.ending_after_code_with_an_ending
+        endings.ending_after_code_with_an_ending_text }
 {}
 
 /// The meaning of a line ending after frontmatter and a definition with a line ending, which is no mark.
 pub fn meaning_of_ending_after_a_definition_with_an_ending()
-    ensures { Means endings.ending_after_a_definition_with_an_ending_bytes endings.ending_after_a_definition_with_an_ending endings.ending_after_a_definition_with_an_ending_text }
+    ensures { Means endings.ending_after_a_definition_with_an_ending_bytes
+        endings.ending_after_a_definition_with_an_ending endings.ending_after_a_definition_with_an_ending_text }
 {}
 
 /// The meaning of a title with a line ending after frontmatter, which is not slurped in a definition.
@@ -392,12 +427,14 @@ pub fn meaning_of_title_on_two_lines()
 
 /// The meaning of heading mark over a cut tab.
 pub fn meaning_of_heading_mark_over_a_cut_tab()
-    ensures { Means blocks.heading_mark_over_a_cut_tab_bytes blocks.heading_mark_over_a_cut_tab blocks.heading_mark_over_a_cut_tab_text }
+    ensures { Means blocks.heading_mark_over_a_cut_tab_bytes blocks.heading_mark_over_a_cut_tab
+        blocks.heading_mark_over_a_cut_tab_text }
 {}
 
 /// The meaning of start number with zeros.
 pub fn meaning_of_start_number_with_zeros()
-    ensures { Means lists.start_number_with_zeros_bytes lists.start_number_with_zeros lists.start_number_with_zeros_text }
+    ensures { Means lists.start_number_with_zeros_bytes lists.start_number_with_zeros
+        lists.start_number_with_zeros_text }
 {}
 
 /// The meaning of a tag that is split between two data nodes, which passes the tag filter.
@@ -412,7 +449,8 @@ pub fn meaning_of_empty_identifier()
 
 /// The meaning of a footnote that ends in a paragraph of HTML.
 pub fn meaning_of_footnote_that_ends_in_html()
-    ensures { MeansWith footnotes.footnote_that_ends_in_html_options footnotes.footnote_that_ends_in_html_bytes footnotes.footnote_that_ends_in_html footnotes.footnote_that_ends_in_html_text }
+    ensures { MeansWith footnotes.footnote_that_ends_in_html_options footnotes.footnote_that_ends_in_html_bytes
+        footnotes.footnote_that_ends_in_html footnotes.footnote_that_ends_in_html_text }
 {}
 
 /// The meaning of an unclosed fence in a transparent node, which is not the last child.
@@ -422,12 +460,14 @@ pub fn meaning_of_fence_in_another_name()
 
 /// The meaning of a line ending after a transparent node that holds a definition.
 pub fn meaning_of_definition_in_another_name()
-    ensures { Means endings.definition_in_another_name_bytes endings.definition_in_another_name endings.definition_in_another_name_text }
+    ensures { Means endings.definition_in_another_name_bytes endings.definition_in_another_name
+        endings.definition_in_another_name_text }
 {}
 
 /// The meaning of a line ending in a cell that prints nothing, which clears.
 pub fn meaning_of_ending_in_a_dropped_cell()
-    ensures { Means endings.ending_in_a_dropped_cell_bytes endings.ending_in_a_dropped_cell endings.ending_in_a_dropped_cell_text }
+    ensures { Means endings.ending_in_a_dropped_cell_bytes endings.ending_in_a_dropped_cell
+        endings.ending_in_a_dropped_cell_text }
 {}
 
 /// No option is on.
@@ -437,7 +477,8 @@ pub fn meaning_under_no_option()
 
 /// Images may have any source; links keep to their protocols.
 pub fn meaning_under_any_image_source()
-    ensures { MeansWith options.any_image_source options.each_name_bytes options.each_name options.any_image_source_text }
+    ensures { MeansWith options.any_image_source options.each_name_bytes options.each_name
+        options.any_image_source_text }
 {}
 
 /// Links and images may have any protocol.
@@ -447,7 +488,8 @@ pub fn meaning_under_any_protocol()
 
 /// Both of these together.
 pub fn meaning_under_any_protocol_and_source()
-    ensures { MeansWith options.any_protocol_and_source options.each_name_bytes options.each_name options.any_protocol_and_source_text }
+    ensures { MeansWith options.any_protocol_and_source options.each_name_bytes options.each_name
+        options.any_protocol_and_source_text }
 {}
 
 /// HTML stays as it is, and other text is escaped.
@@ -472,12 +514,14 @@ pub fn meaning_under_checkable_tasks()
 
 /// Lines end in CR.
 pub fn meaning_under_carriage_returns()
-    ensures { MeansWith options.carriage_returns options.each_name_bytes options.each_name options.carriage_returns_text }
+    ensures { MeansWith options.carriage_returns options.each_name_bytes options.each_name
+        options.carriage_returns_text }
 {}
 
 /// Lines end in CR and LF.
 pub fn meaning_under_both_ends_of_line()
-    ensures { MeansWith options.both_ends_of_line options.each_name_bytes options.each_name options.both_ends_of_line_text }
+    ensures { MeansWith options.both_ends_of_line options.each_name_bytes options.each_name
+        options.both_ends_of_line_text }
 {}
 
 /// Footnotes' ids go by number.
@@ -487,15 +531,18 @@ pub fn meaning_under_ids_by_number()
 
 /// The meaning of a footnote with its ids by number.
 pub fn meaning_of_footnote_by_number()
-    ensures { MeansWith footnotes.ids_by_number footnotes.footnote_bytes footnotes.footnote footnotes.footnote_by_number_text }
+    ensures { MeansWith footnotes.ids_by_number footnotes.footnote_bytes footnotes.footnote
+        footnotes.footnote_by_number_text }
 {}
 
 /// The meaning of two footnotes of which one's second call has the id of the other's first.
 pub fn meaning_of_identifiers_that_meet()
-    ensures { Means footnotes.identifiers_that_meet_bytes footnotes.identifiers_that_meet footnotes.identifiers_that_meet_text }
+    ensures { Means footnotes.identifiers_that_meet_bytes footnotes.identifiers_that_meet
+        footnotes.identifiers_that_meet_text }
 {}
 
 /// The meaning of the same two with ids by number, where no two are equal.
 pub fn meaning_of_identifiers_that_meet_by_number()
-    ensures { MeansWith footnotes.ids_by_number footnotes.identifiers_that_meet_bytes footnotes.identifiers_that_meet footnotes.identifiers_that_meet_by_number_text }
+    ensures { MeansWith footnotes.ids_by_number footnotes.identifiers_that_meet_bytes footnotes.identifiers_that_meet
+        footnotes.identifiers_that_meet_by_number_text }
 {}

@@ -10,8 +10,8 @@ use std::alloc::{AllocError, Global};
 
 /// A whole page: `title`, escaped, in its head, and `body` as it is.
 ///
-/// The page can be read in exactly one way. Its title, the references read back, is `title` with U+FFFD for each NUL; its
-/// body is the one reading of `body`, so each `href` and `src` in the page has no protocol or a permitted one.
+/// The page can be read in exactly one way. Its title, the references read back, is `title` with U+FFFD for each NUL;
+/// its body is the one reading of `body`, so each `href` and `src` in the page has no protocol or a permitted one.
 ///
 /// # Errors
 ///

@@ -23,7 +23,9 @@ fn tags(
     footnote: &NumberedFootnote,
     occurrence: usize,
 ) -> Result<(), AllocError>
-    ensures { OnOk result (printer.new ≡ printing [] (footnotes.call_tags options.now footnote.now.identifier.now footnote.now.number occurrence) printer.old) }
+    ensures { OnOk result (printer.new
+        ≡ printing [] (footnotes.call_tags options.now footnote.now.identifier.now footnote.now.number occurrence)
+        printer.old) }
 {
     let target = footnote_id(alloc, options, footnote)?;
     let id = call_id(alloc, options, footnote, occurrence)?;
@@ -33,8 +35,10 @@ fn tags(
 
 /// Prints the tags of a call around its number.
 fn put_tags(printer: &mut Printer, footnote: &str, id: &str, number: &str) -> Result<(), AllocError>
-    ensures { OnOk result (printer.new ≡ printing [] (Text (codes "<sup><a href=\"#") ∷ Text footnote.now ∷ Text (codes "\" id=\"") ∷ Text id.now
-        ∷ Text (codes "\" data-footnote-ref=\"\" aria-describedby=\"footnote-label\">") ∷ Text number.now ∷ Text (codes "</a></sup>") ∷ []) printer.old) }
+    ensures { OnOk result (printer.new ≡ printing [] (Text (codes "<sup><a href=\"#") ∷ Text footnote.now
+        ∷ Text (codes "\" id=\"") ∷ Text id.now
+        ∷ Text (codes "\" data-footnote-ref=\"\" aria-describedby=\"footnote-label\">") ∷ Text number.now
+        ∷ Text (codes "</a></sup>") ∷ []) printer.old) }
 {
     printer.put("<sup><a href=\"#")?;
     printer.put(footnote)?;
@@ -57,7 +61,9 @@ pub fn call(
     exit: &Exit,
     place: Option<Position>,
 ) -> Result<(), AllocError>
-    ensures { OnOk result (printer.new ≡ printing [] (footnotes.call_pieces (given_of source.now) exit.now.around (left_at exit.now printer.old.log.called []) (ahead_by place)) printer.old) }
+    ensures { OnOk result (printer.new
+        ≡ printing [] (footnotes.call_pieces (given_of source.now) exit.now.around
+        (left_at exit.now printer.old.log.called []) (ahead_by place)) printer.old) }
 {
     if exit.around.in_image {
         return Ok(());

@@ -40,7 +40,8 @@ fn unescape_pipes(alloc: Global, text: &str) -> Result<String, AllocError>
 /// Writes a character by what follows it.
 fn push_unescaped(out: &mut String, c: char, rest: &str) -> Result<(), AllocError>
     ensures { OnOk result
-        (string_bytes out.new ++ texts.unescaped_pipes rest.now ≡ string_bytes out.old ++ texts.unescaped_pipes (encode_utf8 c ++ rest.now)) }
+        (string_bytes out.new ++ texts.unescaped_pipes rest.now ≡ string_bytes out.old
+        ++ texts.unescaped_pipes (encode_utf8 c ++ rest.now)) }
 {
     if escapes_pipe(c, rest.as_bytes()) {
         Ok(())

@@ -137,7 +137,8 @@ fn link_to(
     target: Option<&Target>,
     label: Rope,
 ) -> Result<(), AllocError>
-    ensures { OnOk result (printer.new ≡ printing [] (media.link_to options.now (unwrap_or (option_copied target.entry) nowhere) label) printer.old) }
+    ensures { OnOk result (printer.new
+        ≡ printing [] (media.link_to options.now (unwrap_or (option_copied target.entry) nowhere) label) printer.old) }
 {
     link_start(alloc, printer, options, destination_of(target))?;
     title(printer, title_of(target))?;
@@ -155,7 +156,9 @@ pub fn link(
     exit: &Exit,
     inner: Inner,
 ) -> Result<(), AllocError>
-    ensures { OnOk result (printer.new ≡ printing [] (media.link_pieces (given_of source.now) exit.now.around (ahead_by inner.place) inner.sheet) printer.old) }
+    ensures { OnOk result (printer.new
+        ≡ printing [] (media.link_pieces (given_of source.now) exit.now.around (ahead_by inner.place) inner.sheet)
+        printer.old) }
 {
     let Inner { place, sheet } = inner;
     let (label, notes) = sheet.into_parts();
@@ -180,7 +183,8 @@ fn image_start(
     destination: &str,
     label: Rope,
 ) -> Result<(), AllocError>
-    ensures { OnOk result (printer.new ≡ printing [] (media.image_start options.now destination.now label) printer.old) }
+    ensures { OnOk result (printer.new ≡ printing [] (media.image_start options.now destination.now label)
+        printer.old) }
 {
     let url = src_of(alloc, options, destination)?;
     printer.put("<img src=\"")?;
@@ -198,7 +202,8 @@ fn image_of(
     target: Option<&Target>,
     label: Rope,
 ) -> Result<(), AllocError>
-    ensures { OnOk result (printer.new ≡ printing [] (media.image_of options.now (unwrap_or (option_copied target.entry) nowhere) label) printer.old) }
+    ensures { OnOk result (printer.new
+        ≡ printing [] (media.image_of options.now (unwrap_or (option_copied target.entry) nowhere) label) printer.old) }
 {
     image_start(alloc, printer, options, destination_of(target), label)?;
     title(printer, title_of(target))?;
@@ -216,7 +221,9 @@ pub fn image(
     exit: &Exit,
     inner: Inner,
 ) -> Result<(), AllocError>
-    ensures { OnOk result (printer.new ≡ printing [] (media.image_pieces (given_of source.now) exit.now.around (ahead_by inner.place) inner.sheet) printer.old) }
+    ensures { OnOk result (printer.new
+        ≡ printing [] (media.image_pieces (given_of source.now) exit.now.around (ahead_by inner.place) inner.sheet)
+        printer.old) }
 {
     let Inner { place, sheet } = inner;
     let (label, notes) = sheet.into_parts();
@@ -254,7 +261,9 @@ pub fn autolink(
     prefix: &str,
     plain: bool,
 ) -> Result<(), AllocError>
-    ensures { OnOk result (printer.new ≡ printing [] (media.autolink_pieces (given_of source.now) prefix.now plain exit.now.start exit.now.end) printer.old) }
+    ensures { OnOk result (printer.new
+        ≡ printing [] (media.autolink_pieces (given_of source.now) prefix.now plain exit.now.start exit.now.end)
+        printer.old) }
 {
     let text = text_of(source.bytes, exit.start, exit.end);
     let encoded = encode(source.alloc, text, true)?;

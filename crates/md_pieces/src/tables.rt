@@ -67,7 +67,10 @@ pub fn close_cell(
     exit: &Exit,
     inner: &Sheet,
 ) -> Result<(), AllocError>
-    ensures { OnOk result (printer.new ≡ printing ending.now (tables.cell_in exit.now.around.in_head (slice_get (first_or [] printer.old.tables) exit.now.spine.cells) inner.now.text) printer.old) }
+    ensures { OnOk result (printer.new
+        ≡ printing ending.now
+        (tables.cell_in exit.now.around.in_head (slice_get (first_or [] printer.old.tables) exit.now.spine.cells)
+        inner.now.text) printer.old) }
 {
     match printer.column(exit.spine.cells) {
         Some(kind) => {
@@ -85,7 +88,8 @@ fn empty_cells(
     in_head: bool,
     first: usize,
 ) -> Result<(), AllocError>
-    ensures { OnOk result (printer.new ≡ printing ending.now (tables.empty_cells in_head (drop first (first_or [] printer.old.tables))) printer.old) }
+    ensures { OnOk result (printer.new
+        ≡ printing ending.now (tables.empty_cells in_head (drop first (first_or [] printer.old.tables))) printer.old) }
 {
     let mut index = first;
     while let Some(kind) = printer.column(index) {
@@ -101,7 +105,9 @@ fn empty_cells(
 ///
 /// `AllocError`, only where memory runs out.
 pub fn close_row(printer: &mut Printer, ending: &str, exit: &Exit) -> Result<(), AllocError>
-    ensures { OnOk result (printer.new ≡ printing ending.now (tables.row_closing exit.now.around (left_at exit.now [] (first_or [] printer.old.tables)) printer.old.frame.passed) printer.old) }
+    ensures { OnOk result (printer.new
+        ≡ printing ending.now (tables.row_closing exit.now.around (left_at exit.now [] (first_or [] printer.old.tables))
+        printer.old.frame.passed) printer.old) }
 {
     let passed = printer.passed();
     empty_cells(printer, ending, exit.around.in_head, passed.spine.cells)?;

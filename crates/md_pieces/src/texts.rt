@@ -20,7 +20,9 @@ use std::alloc::AllocError;
 ///
 /// `AllocError`, only where memory runs out.
 pub fn data(printer: &mut Printer, source: &Source, exit: &Exit) -> Result<(), AllocError>
-    ensures { OnOk result (printer.new ≡ printing [] (texts.data_pieces (given_of source.now) exit.now.around exit.now.start exit.now.end) printer.old) }
+    ensures { OnOk result (printer.new
+        ≡ printing [] (texts.data_pieces (given_of source.now) exit.now.around exit.now.start exit.now.end)
+        printer.old) }
 {
     let text = text_of(source.bytes, exit.start, exit.end);
     put_encoded(printer, text, exit.around.is_escaping)
@@ -32,7 +34,9 @@ pub fn data(printer: &mut Printer, source: &Source, exit: &Exit) -> Result<(), A
 ///
 /// `AllocError`, only where memory runs out.
 pub fn html(printer: &mut Printer, source: &Source, exit: &Exit) -> Result<(), AllocError>
-    ensures { OnOk result (printer.new ≡ printing [] (texts.html_pieces (given_of source.now) exit.now.around exit.now.start exit.now.end) printer.old) }
+    ensures { OnOk result (printer.new
+        ≡ printing [] (texts.html_pieces (given_of source.now) exit.now.around exit.now.start exit.now.end)
+        printer.old) }
 {
     let text = text_of(source.bytes, exit.start, exit.end);
     let escaping = exit.around.is_escaping;
@@ -60,7 +64,9 @@ fn marker_of(name: Option<Name>) -> u8
 ///
 /// `AllocError`, only where memory runs out.
 pub fn reference(printer: &mut Printer, source: &Source, exit: &Exit) -> Result<(), AllocError>
-    ensures { OnOk result (printer.new ≡ printing [] (texts.reference_pieces (given_of source.now) exit.now.around (left_at exit.now [] []) exit.now.start exit.now.end) printer.old) }
+    ensures { OnOk result (printer.new
+        ≡ printing [] (texts.reference_pieces (given_of source.now) exit.now.around (left_at exit.now [] [])
+        exit.now.start exit.now.end) printer.old) }
 {
     let value = text_of(source.bytes, exit.start, exit.end);
     let marker = marker_of(exit.spine.last);
@@ -96,7 +102,9 @@ fn is_dropped(exit: &Exit) -> bool
 ///
 /// `AllocError`, only where memory runs out.
 pub fn line_ending(printer: &mut Printer, source: &Source, exit: &Exit) -> Result<(), AllocError>
-    ensures { OnOk result (printer.new ≡ printing [] (texts.line_ending_pieces (given_of source.now) exit.now.around (left_at exit.now [] []) exit.now.start exit.now.end) printer.old) }
+    ensures { OnOk result (printer.new
+        ≡ printing [] (texts.line_ending_pieces (given_of source.now) exit.now.around (left_at exit.now [] [])
+        exit.now.start exit.now.end) printer.old) }
 {
     if exit.around.in_code {
         printer.put(" ")

@@ -44,7 +44,8 @@ pub fn close(
 ) -> Result<(), AllocError>
     requires { is_captured name ≡ false }
     ensures { OnOk result (printer.new ≡ printing source.now.ending.now
-        (closing_at (given_of source.now) exit.now printer.old.log.called (first_or [] printer.old.tables) printer.old.frame.ahead printer.old.frame.passed blank name) printer.old) }
+        (closing_at (given_of source.now) exit.now printer.old.log.called (first_or [] printer.old.tables)
+        printer.old.frame.ahead printer.old.frame.passed blank name) printer.old) }
 {
     match group_of(name) {
         Group::Text => close_text(printer, source, exit, name),
@@ -65,7 +66,9 @@ fn close_text(
 ) -> Result<(), AllocError>
     requires { group_of name ≡ group.Text }
     ensures { OnOk result (printer.new ≡ printing source.now.ending.now
-        (printed.text_closing (given_of source.now) exit.now.around (left_at exit.now printer.old.log.called (first_or [] printer.old.tables)) exit.now.is_last exit.now.start exit.now.end blank name) printer.old) }
+        (printed.text_closing (given_of source.now) exit.now.around
+        (left_at exit.now printer.old.log.called (first_or [] printer.old.tables))
+        exit.now.is_last exit.now.start exit.now.end blank name) printer.old) }
 {
     match name {
         Name::LineEnding => line_ending(printer, source, exit),
@@ -95,7 +98,9 @@ fn close_span(
 ) -> Result<(), AllocError>
     requires { group_of name ≡ group.Span }
     ensures { OnOk result (printer.new ≡ printing source.now.ending.now
-        (printed.text_closing (given_of source.now) exit.now.around (left_at exit.now printer.old.log.called (first_or [] printer.old.tables)) exit.now.is_last exit.now.start exit.now.end blank name) printer.old) }
+        (printed.text_closing (given_of source.now) exit.now.around
+        (left_at exit.now printer.old.log.called (first_or [] printer.old.tables))
+        exit.now.is_last exit.now.start exit.now.end blank name) printer.old) }
 {
     match name {
         Name::Emphasis => outside_images(printer, exit.around, "</em>"),
@@ -114,7 +119,9 @@ fn close_block(
     name: Name,
 ) -> Result<(), AllocError>
     ensures { OnOk result (printer.new ≡ printing source.now.ending.now
-        (printed.block_closing (given_of source.now) exit.now.around (left_at exit.now printer.old.log.called (first_or [] printer.old.tables)) printer.old.frame.ahead printer.old.frame.passed exit.now.start exit.now.end name) printer.old) }
+        (printed.block_closing (given_of source.now) exit.now.around
+        (left_at exit.now printer.old.log.called (first_or [] printer.old.tables))
+        printer.old.frame.ahead printer.old.frame.passed exit.now.start exit.now.end name) printer.old) }
 {
     match name {
         Name::BlockQuote => on_own_line(printer, source.ending, "</blockquote>"),
@@ -146,7 +153,8 @@ fn close_autolink(
 ) -> Result<(), AllocError>
     requires { group_of name ≡ group.Autolink }
     ensures { OnOk result (printer.new ≡ printing source.now.ending.now
-        (printed.media_closing (given_of source.now) exit.now.around printer.old.frame.ahead exit.now.start exit.now.end blank name) printer.old) }
+        (printed.media_closing (given_of source.now)
+        exit.now.around printer.old.frame.ahead exit.now.start exit.now.end blank name) printer.old) }
 {
     let around = exit.around;
     match name {
@@ -176,7 +184,9 @@ fn close_table(
 ) -> Result<(), AllocError>
     requires { group_of name ≡ group.Table }
     ensures { OnOk result (printer.new ≡ printing source.now.ending.now
-        (printed.gfm_closing (given_of source.now) exit.now.around (left_at exit.now printer.old.log.called (first_or [] printer.old.tables)) printer.old.frame.ahead printer.old.frame.passed blank name) printer.old) }
+        (printed.gfm_closing (given_of source.now) exit.now.around
+        (left_at exit.now printer.old.log.called (first_or [] printer.old.tables))
+        printer.old.frame.ahead printer.old.frame.passed blank name) printer.old) }
 {
     match name {
         Name::GfmTable => on_own_line(printer, source.ending, "</table>"),
@@ -202,7 +212,8 @@ pub fn close_captured(
 ) -> Result<(), AllocError>
     requires { is_captured name ≡ true }
     ensures { OnOk result (printer.new ≡ printing source.now.ending.now
-        (closing_at (given_of source.now) exit.now printer.old.log.called (first_or [] printer.old.tables) (ahead_by inner.place) printer.old.frame.passed inner.sheet name) printer.old) }
+        (closing_at (given_of source.now) exit.now printer.old.log.called (first_or [] printer.old.tables)
+        (ahead_by inner.place) printer.old.frame.passed inner.sheet name) printer.old) }
 {
     match name {
         Name::CodeText => code(source.alloc, printer, exit.around, "<code>", &inner.sheet),
@@ -262,7 +273,8 @@ fn list(printer: &mut Printer, ending: &str, tag: &str) -> Result<(), AllocError
 
 /// An item's end stands on its own line, unless the item ends in its prefix, or in a paragraph of a tight list.
 fn item(printer: &mut Printer, ending: &str, around: Surroundings) -> Result<(), AllocError>
-    ensures { OnOk result (printer.new ≡ printing ending.now (blocks.item_closing around printer.old.frame.passed) printer.old) }
+    ensures { OnOk result (printer.new ≡ printing ending.now (blocks.item_closing around printer.old.frame.passed)
+        printer.old) }
 {
     let tight = is_tight(around.container);
     let joins = match printer.passed().contributing {
@@ -293,7 +305,9 @@ fn paragraph(printer: &mut Printer, around: Surroundings) -> Result<(), AllocErr
 
 /// Prints a heading's end, with the rank that its mark tells.
 fn heading(printer: &mut Printer, bytes: &[u8]) -> Result<(), AllocError>
-    ensures { OnOk result (printer.new ≡ printing [] (said (blocks.heading_closing (blocks.rank_of bytes.now printer.old.frame.ahead.mark))) printer.old) }
+    ensures { OnOk result (printer.new
+        ≡ printing [] (said (blocks.heading_closing (blocks.rank_of bytes.now printer.old.frame.ahead.mark)))
+        printer.old) }
 {
     let place = printer.place();
     printer.put(heading_closing(rank_of(bytes, place)))
@@ -315,7 +329,8 @@ fn heading_closing(rank: usize) -> &'static str
 
 /// Prints a setext heading, whose text was noted, with the rank that its underline tells.
 fn setext(printer: &mut Printer, source: &Source, exit: &Exit) -> Result<(), AllocError>
-    ensures { OnOk result (printer.new ≡ printing source.now.ending.now (blocks.setext_pieces (given_of source.now) exit.now.start) printer.old) }
+    ensures { OnOk result (printer.new
+        ≡ printing source.now.ending.now (blocks.setext_pieces (given_of source.now) exit.now.start) printer.old) }
 {
     let dashed = is_dash_at(source.bytes, exit.start.index);
     on_own_line(printer, source.ending, if dashed { "<h2>" } else { "<h1>" })?;
@@ -333,7 +348,8 @@ fn is_dash_at(bytes: &[u8], index: usize) -> bool
 }
 
 fn indented(printer: &mut Printer, ending: &str) -> Result<(), AllocError>
-    ensures { OnOk result (printer.new ≡ printing ending.now (blocks.indented_closing printer.old.frame.passed) printer.old) }
+    ensures { OnOk result (printer.new ≡ printing ending.now (blocks.indented_closing printer.old.frame.passed)
+        printer.old) }
 {
     if printer.passed().spine.has_chunk {
         printer.need(ending)?;
@@ -398,7 +414,8 @@ fn runs_out(around: Surroundings, passed: Passed, unclosed: bool) -> bool
 }
 
 fn fenced(printer: &mut Printer, ending: &str, around: Surroundings) -> Result<(), AllocError>
-    ensures { OnOk result (printer.new ≡ printing ending.now (blocks.fenced_closing around printer.old.frame.passed) printer.old) }
+    ensures { OnOk result (printer.new ≡ printing ending.now (blocks.fenced_closing around printer.old.frame.passed)
+        printer.old) }
 {
     let passed = printer.passed();
     let unclosed = unless(passed.spine.has_fence, passed.spine.has_second_fence);
@@ -409,7 +426,8 @@ fn fenced(printer: &mut Printer, ending: &str, around: Surroundings) -> Result<(
 }
 
 fn chunk(printer: &mut Printer, source: &Source, exit: &Exit) -> Result<(), AllocError>
-    ensures { OnOk result (printer.new ≡ printing [] (blocks.chunk_pieces (given_of source.now) exit.now.start exit.now.end) printer.old) }
+    ensures { OnOk result (printer.new
+        ≡ printing [] (blocks.chunk_pieces (given_of source.now) exit.now.start exit.now.end) printer.old) }
 {
     let text = serialized_of(source.alloc, source.bytes, exit.start, exit.end)?;
     put_encoded(printer, text.as_str(), true)

@@ -28,7 +28,9 @@ pub fn open(
     place: Option<Position>,
     name: Name,
 ) -> Result<(), AllocError>
-    ensures { OnOk result (printer.new ≡ printing source.now.ending.now (printed.opening (given_of source.now) around (ahead_by place) name) printer.old) }
+    ensures { OnOk result (printer.new
+        ≡ printing source.now.ending.now (printed.opening (given_of source.now) around (ahead_by place) name)
+        printer.old) }
 {
     match name {
         Name::BlockQuote => on_own_line(printer, source.ending, "<blockquote>"),
@@ -107,7 +109,8 @@ fn ordered_list(
     source: &Source,
     number: Option<Position>,
 ) -> Result<(), AllocError>
-    ensures { OnOk result (printer.new ≡ printing source.now.ending.now (blocks.on_own_line (codes "<ol") ++ (blocks.start_pieces source.now.bytes.now number ++ said (codes ">"))) printer.old) }
+    ensures { OnOk result (printer.new ≡ printing source.now.ending.now (blocks.on_own_line (codes "<ol")
+        ++ (blocks.start_pieces source.now.bytes.now number ++ said (codes ">"))) printer.old) }
 {
     on_own_line(printer, source.ending, "<ol")?;
     start(printer, source, number)?;
@@ -116,7 +119,8 @@ fn ordered_list(
 
 /// Prints the number of a list's first item, where there is one.
 fn start(printer: &mut Printer, source: &Source, number: Option<Position>) -> Result<(), AllocError>
-    ensures { OnOk result (printer.new ≡ printing source.now.ending.now (blocks.start_pieces source.now.bytes.now number) printer.old) }
+    ensures { OnOk result (printer.new
+        ≡ printing source.now.ending.now (blocks.start_pieces source.now.bytes.now number) printer.old) }
 {
     match number {
         Some(place) => {

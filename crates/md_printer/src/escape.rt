@@ -28,7 +28,8 @@ pub fn put_encoded(printer: &mut Printer, text: &str, escaping: bool) -> Result<
 /// The index of the first byte that doesn't stay, and what stands in its place.
 fn first_replaced(bytes: &[u8], escaping: bool) -> Option<(usize, &'static str)>
     ensures { MatchOption result (encoded escaping bytes.now ≡ bytes.now)
-        (λ found. (found.0 < length bytes.now) × (get_or bytes.now found.0 0 < 128) × (encoded escaping (take found.0 bytes.now) ≡ take found.0 bytes.now)
+        (λ found. (found.0 < length bytes.now) × (get_or bytes.now found.0 0 < 128)
+        × (encoded escaping (take found.0 bytes.now) ≡ take found.0 bytes.now)
         × (encoded_byte escaping (get_or bytes.now found.0 0) ≡ found.1.now)) }
 {
     let mut index = 0;
@@ -43,7 +44,8 @@ fn first_replaced(bytes: &[u8], escaping: bool) -> Option<(usize, &'static str)>
 
 /// What stands in place of a byte, if it doesn't stay.
 fn replacement(byte: u8, escaping: bool) -> Option<&'static str>
-    ensures { MatchOption result (encoded_byte escaping byte ≡ byte ∷ []) (λ text. (byte < 128) × (encoded_byte escaping byte ≡ text.now)) }
+    ensures { MatchOption result (encoded_byte escaping byte ≡ byte ∷ []) (λ text. (byte < 128)
+        × (encoded_byte escaping byte ≡ text.now)) }
 {
     if byte == 0 {
         return Some("\u{FFFD}");

@@ -39,7 +39,15 @@ impl Model for Printer {
 
     ghost Value = { State };
 
-    ghost view = { λ p. record { sheet = p.sheet; below = reverse p.below.items; log = record { called = p.calls; definitions = p.definitions.items; footnotes = p.footnotes }; is_slurping = p.is_slurping; frame = frame_of p.frame; frames = reverse (map frame_of p.frames.items); tables = reverse (map (λ v. v.items) p.tables.items) } };
+    ghost view = { λ p. record {
+      sheet = p.sheet;
+      below = reverse p.below.items;
+      log = record { called = p.calls; definitions = p.definitions.items; footnotes = p.footnotes };
+      is_slurping = p.is_slurping;
+      frame = frame_of p.frame;
+      frames = reverse (map frame_of p.frames.items);
+      tables = reverse (map (λ v. v.items) p.tables.items);
+    } };
 }
 
 impl Printer {
@@ -124,7 +132,13 @@ impl Printer {
     /// `AllocError`, only where memory runs out, or where one identifier is called more often than
     /// a `usize` counts.
     pub fn log_call(&mut self, identifier: String) -> Result<(), AllocError>
-        ensures { OnOk result (self.new ≡ record self.old { log = record self.old.log { called = counted self.old.log.called (string_bytes identifier) } }) }
+        ensures { OnOk result
+            (self.new ≡ record self.old {
+              log = record self.old.log {
+                called = counted self.old.log.called
+                    (string_bytes identifier);
+              };
+            }) }
     {
         self.calls.count(identifier)
     }
@@ -135,7 +149,13 @@ impl Printer {
     ///
     /// `AllocError`, only where memory runs out.
     pub fn log_footnote(&mut self, identifier: String, text: String) -> Result<(), AllocError>
-        ensures { OnOk result (self.new ≡ record self.old { log = record self.old.log { footnotes = noted self.old.log.footnotes (record { identifier = string_bytes identifier; text = string_bytes text }) } }) }
+        ensures { OnOk result
+            (self.new ≡ record self.old {
+              log = record self.old.log {
+                footnotes = noted self.old.log.footnotes
+                    (record { identifier = string_bytes identifier; text = string_bytes text });
+              };
+            }) }
     {
         self.footnotes.note(identifier, text)
     }
@@ -205,7 +225,13 @@ impl Printer {
     ///
     /// `AllocError`, only where memory runs out.
     pub fn log_definition(&mut self, definition: Defined) -> Result<(), AllocError>
-        ensures { OnOk result (self.new ≡ record self.old { log = record self.old.log { definitions = self.old.log.definitions ++ definition ∷ [] } }) }
+        ensures { OnOk result
+            (self.new ≡ record self.old {
+              log = record self.old.log {
+                definitions = self.old.log.definitions
+                    ++ definition ∷ [];
+              };
+            }) }
     {
         self.definitions.push(definition)?;
         Ok(())
@@ -328,7 +354,8 @@ impl Printer {
         name: Name,
         start: Point,
     ) -> Result<(), AllocError>
-        ensures { OnOk result (self.new ≡ machine.opening_frame options.now (machine.ahead_by told.now.place) told.now.loose name start self.old) }
+        ensures { OnOk result (self.new ≡ machine.opening_frame options.now (machine.ahead_by told.now.place)
+            told.now.loose name start self.old) }
     {
         self.frames.push(self.frame)?;
         let frame = &mut self.frame;
@@ -415,7 +442,8 @@ impl Printer {
         options: &CompileOptions,
         ending: &str,
     ) -> Result<String, AllocError>
-        ensures { IfOk result (λ text. string_bytes text ≡ (lay ending.now self.sheet (section_pieces options.now self.log.footnotes self.log.called)).text) }
+        ensures { IfOk result (λ text. string_bytes text
+            ≡ (lay ending.now self.sheet (section_pieces options.now self.log.footnotes self.log.called)).text) }
     {
         let Printer {
             mut sheet,

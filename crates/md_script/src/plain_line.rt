@@ -8,8 +8,8 @@ use crate::line::read_kind;
 use crate::name::read_name;
 use md_base::{Event, Point};
 
-/// The event of the first line and what follows its line feed, where the line is plain: a sign, a name, one space and an
-/// index. Nothing where it is another one, also where it can be read in parts.
+/// The event of the first line and what follows its line feed, where the line is plain: a sign, a name, one space and
+/// an index. Nothing where it is another one, also where it can be read in parts.
 pub(crate) fn read_plain_line(input: &[u8]) -> Option<(Event, &[u8])>
     ensures { IfSome result (λ read. BeginsWithEvent input.now read.0 read.1.now) }
 {

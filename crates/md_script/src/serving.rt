@@ -96,9 +96,9 @@ impl From<AllocError> for ServeError {
 ///
 /// # Errors
 ///
-/// `ServeError::Run` where the script gives no text, or memory runs out; `ServeError::Input` where a read fails, or none of
-/// 16,777,216 reads meets the end. With both nothing was written. `ServeError::Output` where a write fails; the front of
-/// the text was written then, or nothing.
+/// `ServeError::Run` where the script gives no text, or memory runs out; `ServeError::Input` where a read fails, or
+/// none of 16,777,216 reads meets the end. With both nothing was written. `ServeError::Output` where a write fails;
+/// the front of the text was written then, or nothing.
 ///
 /// # Examples
 ///
@@ -128,8 +128,8 @@ pub fn serve<R: Read, W: Write>(
 ///
 /// # Errors
 ///
-/// `ServeError::Input` where a read fails, or none of 16,777,216 reads meets the end, and `ServeError::Run` where memory
-/// runs out.
+/// `ServeError::Input` where a read fails, or none of 16,777,216 reads meets the end, and `ServeError::Run` where
+/// memory runs out.
 ///
 /// # Examples
 ///

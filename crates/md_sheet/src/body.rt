@@ -17,7 +17,9 @@ fn is_break(byte: u8) -> bool
 
 /// A text without the CR or LF at its end, if there is one.
 fn without_break(text: &[u8]) -> Option<&[u8]>
-    ensures { MatchOption result (notes.without_endings text.now ≡ text.now) (λ rest. (notes.without_endings rest.now ≡ notes.without_endings text.now) × (length rest.now < length text.now)) }
+    ensures { MatchOption result (notes.without_endings text.now ≡ text.now)
+        (λ rest. (notes.without_endings rest.now ≡ notes.without_endings text.now)
+        × (length rest.now < length text.now)) }
 {
     match text.split_last() {
         Some((last, rest)) => { if is_break(*last) { Some(rest) } else { None } }

@@ -105,7 +105,8 @@ impl Calls {
 
     /// The identifier with the number after an index, and how often it is called.
     pub fn at(&self, index: usize) -> Option<(&str, usize)>
-        ensures call { option_map (λ c. record { identifier = c.0.now; count = c.1 }) result ≡ slice_get self.now index }
+        ensures call { option_map (λ c. record { identifier = c.0.now; count = c.1 }) result
+            ≡ slice_get self.now index }
         ensures within { IfSome result (λ c. index < length self.now) }
         ensures fits { IfSome result (λ c. index + 1 < 2 ^ 63) }
     {

@@ -41,7 +41,8 @@ impl Definitions {
     ///
     /// Only where memory runs out.
     pub fn first_of(alloc: Global, list: Vec<Defined>) -> Result<Definitions, AllocError>
-        ensures { IfOk result (λ definitions. (identifier : List ℕ) → defined_target definitions identifier ≡ defined_target list.items identifier) }
+        ensures { IfOk result (λ definitions. (identifier : List ℕ)
+            → defined_target definitions identifier ≡ defined_target list.items identifier) }
     {
         let mut definitions = Definitions::new(alloc);
         let mut rest = list;
@@ -53,7 +54,8 @@ impl Definitions {
 
     /// Puts a definition before all others.
     fn put_before(&mut self, definition: Defined) -> Result<(), AllocError>
-        ensures { OnOk result ((identifier : List ℕ) → defined_target self.new identifier ≡ defined_target (definition ∷ self.old) identifier) }
+        ensures { OnOk result ((identifier : List ℕ)
+            → defined_target self.new identifier ≡ defined_target (definition ∷ self.old) identifier) }
     {
         let Defined { identifier, target } = definition;
         self.targets.insert(identifier, target)?;

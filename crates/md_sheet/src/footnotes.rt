@@ -56,7 +56,8 @@ impl Footnotes {
     ///
     /// Only where memory runs out.
     pub fn note(&mut self, identifier: String, text: String) -> Result<(), AllocError>
-        ensures { OnOk result (self.new ≡ noted self.old (record { identifier = string_bytes identifier; text = string_bytes text })) }
+        ensures { OnOk result
+            (self.new ≡ noted self.old (record { identifier = string_bytes identifier; text = string_bytes text })) }
     {
         match place_of(&self.places, identifier.as_str()) {
             Some(_) => Ok(()),

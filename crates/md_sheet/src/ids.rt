@@ -27,7 +27,8 @@ pub fn escaped_option(
     given: &Option<String>,
     default: &str,
 ) -> Result<String, AllocError>
-    ensures { IfOk result (λ text. string_bytes text ≡ notes.escaped_option (option_map string_bytes given.now) default.now) }
+    ensures { IfOk result (λ text. string_bytes text
+        ≡ notes.escaped_option (option_map string_bytes given.now) default.now) }
 {
     match given {
         Some(text) => encode(alloc, text.as_str(), true),
@@ -75,7 +76,8 @@ pub fn footnote_id(
     options: &CompileOptions,
     footnote: &NumberedFootnote,
 ) -> Result<String, AllocError>
-    ensures { IfOk result (λ id. string_bytes id ≡ notes.footnote_id options.now footnote.now.identifier.now footnote.now.number) }
+    ensures { IfOk result (λ id. string_bytes id
+        ≡ notes.footnote_id options.now footnote.now.identifier.now footnote.now.number) }
 {
     if options.gfm_footnote_number_ids {
         numbered_id_of(alloc, options, "fn-", footnote.number)
@@ -102,8 +104,8 @@ fn push_suffix(alloc: Global, text: &mut String, occurrence: usize) -> Result<()
     push_occurrence(alloc, text, occurrence)
 }
 
-/// The id of one of a footnote's calls, by its occurrence from 1: where ids go by number it has the number in place of the
-/// identifier, and the occurrence also where that is 1.
+/// The id of one of a footnote's calls, by its occurrence from 1: where ids go by number it has the number in place
+/// of the identifier, and the occurrence also where that is 1.
 ///
 /// # Errors
 ///
@@ -114,7 +116,8 @@ pub fn call_id(
     footnote: &NumberedFootnote,
     occurrence: usize,
 ) -> Result<String, AllocError>
-    ensures { IfOk result (λ id. string_bytes id ≡ notes.call_id options.now footnote.now.identifier.now footnote.now.number occurrence) }
+    ensures { IfOk result (λ id. string_bytes id
+        ≡ notes.call_id options.now footnote.now.identifier.now footnote.now.number occurrence) }
 {
     if options.gfm_footnote_number_ids {
         let mut id = numbered_id_of(alloc, options, "fnref-", footnote.number)?;

@@ -37,7 +37,8 @@ fn item_start(sheet: &mut Sheet, ending: &str, id: &str) -> Result<(), AllocErro
 
 /// Lays a footnote with an id, its text and the ways back.
 fn item(sheet: &mut Sheet, ending: &str, id: &str, text: &str, back: &str) -> Result<(), AllocError>
-    ensures { OnOk result (sheet.new ≡ lay ending.now sheet.old (notes.item_opening id.now ++ (notes.body_pieces text.now back.now ++ notes.item_closing))) }
+    ensures { OnOk result (sheet.new ≡ lay ending.now sheet.old (notes.item_opening id.now
+        ++ (notes.body_pieces text.now back.now ++ notes.item_closing))) }
 {
     item_start(sheet, ending, id)?;
     lay_body(sheet, ending, text, back)?;
@@ -59,7 +60,9 @@ fn items(
     calls: &Calls,
     footnotes: &Footnotes,
 ) -> Result<(), AllocError>
-    ensures { OnOk result (sheet.new ≡ lay settings.now.ending.now sheet.old (notes.items_pieces settings.now.options.now footnotes.now 1 calls.now)) }
+    ensures { OnOk result
+        (sheet.new ≡ lay settings.now.ending.now sheet.old
+        (notes.items_pieces settings.now.options.now footnotes.now 1 calls.now)) }
 {
     let Settings {
         alloc,
@@ -83,7 +86,8 @@ fn items(
 
 /// Lays the beginning of the section, up to its footnotes.
 fn section_start(settings: &Settings, sheet: &mut Sheet) -> Result<(), AllocError>
-    ensures { OnOk result (sheet.new ≡ lay settings.now.ending.now sheet.old (notes.section_opening settings.now.options.now)) }
+    ensures { OnOk result
+        (sheet.new ≡ lay settings.now.ending.now sheet.old (notes.section_opening settings.now.options.now)) }
 {
     let Settings {
         alloc,
@@ -103,7 +107,9 @@ fn heading_start(
     tag: &str,
     attributes: &str,
 ) -> Result<(), AllocError>
-    ensures { OnOk result (sheet.new ≡ lay ending.now sheet.old (Needed ∷ Text (codes "<section data-footnotes=\"\" class=\"footnotes\"><") ∷ Text tag.now
+    ensures { OnOk result
+        (sheet.new ≡ lay ending.now sheet.old
+        (Needed ∷ Text (codes "<section data-footnotes=\"\" class=\"footnotes\"><") ∷ Text tag.now
         ∷ Text (codes " id=\"footnote-label\" ") ∷ Text attributes.now ∷ Text (codes ">") ∷ [])) }
 {
     sheet.need(ending)?;
@@ -116,7 +122,8 @@ fn heading_start(
 
 /// Lays the closing tag of the section's heading and the list's tag.
 fn heading_end(sheet: &mut Sheet, ending: &str, tag: &str) -> Result<(), AllocError>
-    ensures { OnOk result (sheet.new ≡ lay ending.now sheet.old (Text (codes "</") ∷ Text tag.now ∷ Text (codes ">") ∷ Forced ∷ Text (codes "<ol>") ∷ [])) }
+    ensures { OnOk result (sheet.new ≡ lay ending.now sheet.old (Text (codes "</") ∷ Text tag.now ∷ Text (codes ">")
+        ∷ Forced ∷ Text (codes "<ol>") ∷ [])) }
 {
     sheet.put("</")?;
     sheet.put(tag)?;
@@ -154,7 +161,8 @@ fn section_end(sheet: &mut Sheet, ending: &str) -> Result<(), AllocError>
     sheet.put(ending)
 }
 
-/// Lays the section of footnotes, where there is a call: the footnotes that are called, in the order of their first calls.
+/// Lays the section of footnotes, where there is a call: the footnotes that are called, in the order of their first
+/// calls.
 ///
 /// # Errors
 ///
@@ -165,7 +173,9 @@ pub fn lay_section(
     calls: &Calls,
     footnotes: &Footnotes,
 ) -> Result<(), AllocError>
-    ensures { OnOk result (sheet.new ≡ lay settings.now.ending.now sheet.old (notes.section_pieces settings.now.options.now footnotes.now calls.now)) }
+    ensures { OnOk result
+        (sheet.new ≡ lay settings.now.ending.now sheet.old
+        (notes.section_pieces settings.now.options.now footnotes.now calls.now)) }
 {
     if calls.is_empty() {
         return Ok(());

@@ -27,7 +27,9 @@ fn push_href(
     footnote: &NumberedFootnote,
     occurrence: usize,
 ) -> Result<(), AllocError>
-    ensures { OnOk result (string_bytes text.new ≡ string_bytes text.old ++ (codes "<a href=\"#" ++ (notes.call_id options.now footnote.now.identifier.now footnote.now.number occurrence ++ codes "\" data-footnote-backref=\"\" aria-label=\""))) }
+    ensures { OnOk result (string_bytes text.new ≡ string_bytes text.old
+        ++ (codes "<a href=\"#" ++ (notes.call_id options.now footnote.now.identifier.now footnote.now.number occurrence
+        ++ codes "\" data-footnote-backref=\"\" aria-label=\""))) }
 {
     let id = call_id(alloc, options, footnote, occurrence)?;
     text.push_str("<a href=\"#")?;
@@ -45,7 +47,9 @@ fn push_label(alloc: Global, text: &mut String, options: &CompileOptions) -> Res
 
 /// Adds the rest of a way back, from the end of its label on.
 fn push_arrow(alloc: Global, text: &mut String, occurrence: usize) -> Result<(), AllocError>
-    ensures { OnOk result (string_bytes text.new ≡ string_bytes text.old ++ (codes "\" class=\"data-footnote-backref\">" ++ (notes.arrow ++ (notes.occurrence_mark occurrence ++ codes "</a>")))) }
+    ensures { OnOk result (string_bytes text.new ≡ string_bytes text.old
+        ++ (codes "\" class=\"data-footnote-backref\">"
+        ++ (notes.arrow ++ (notes.occurrence_mark occurrence ++ codes "</a>")))) }
 {
     text.push_str("\" class=\"data-footnote-backref\">")?;
     text.push_str("\u{21A9}")?;
@@ -61,7 +65,8 @@ fn push_backreference(
     footnote: &NumberedFootnote,
     occurrence: usize,
 ) -> Result<(), AllocError>
-    ensures { OnOk result (string_bytes text.new ≡ string_bytes text.old ++ notes.backreference options.now footnote.now.identifier.now footnote.now.number occurrence) }
+    ensures { OnOk result (string_bytes text.new ≡ string_bytes text.old
+        ++ notes.backreference options.now footnote.now.identifier.now footnote.now.number occurrence) }
 {
     push_href(alloc, text, options, footnote, occurrence)?;
     push_label(alloc, text, options)?;
@@ -90,7 +95,8 @@ pub fn backreferences(
     footnote: &NumberedFootnote,
     count: usize,
 ) -> Result<String, AllocError>
-    ensures { IfOk result (λ text. string_bytes text ≡ notes.backreferences options.now footnote.now.identifier.now footnote.now.number count) }
+    ensures { IfOk result (λ text. string_bytes text
+        ≡ notes.backreferences options.now footnote.now.identifier.now footnote.now.number count) }
 {
     let mut text = String::new(alloc);
     let mut done = 0;

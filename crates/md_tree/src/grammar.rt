@@ -88,7 +88,8 @@ fn read_document(
     names: &[(&str, &str)],
 ) -> Result<Read, CompileError>
     ensures walked { IfOk result
-        (λ read. Runs (Unbroken bytes.now (name_table names.now)) events.now beginning (course_of events.now (length events.now) read.walk)) }
+        (λ read. Runs (Unbroken bytes.now (name_table names.now)) events.now beginning
+        (course_of events.now (length events.now) read.walk)) }
     ensures facts { IfOk result (λ read. read.found.facts.items ≡ facts_at events.now) }
     ensures tables { IfOk result (λ read. map (λ t. t.items) read.found.tables.items ≡ tables_at events.now) }
     ensures definitions { IfOk result (λ read. read.found.definitions.items ≡ definitions_at events.now) }
@@ -109,13 +110,16 @@ fn read_document(
 /// Reads all events, each by the walk and by the pass that finds what is read or inferred.
 fn read_events(input: Input) -> Result<Read, CompileError>
     ensures walked { IfOk result
-        (λ read. Runs (Unbroken input.entry.bytes.now (name_table input.entry.names.now)) input.entry.events.now beginning (course_of input.entry.events.now (length input.entry.events.now) read.walk)) }
+        (λ read. Runs (Unbroken input.entry.bytes.now (name_table input.entry.names.now))
+        input.entry.events.now beginning (course_of input.entry.events.now (length input.entry.events.now) read.walk)) }
     ensures facts { IfOk result (λ read. read.found.facts.items ≡ facts_at input.entry.events.now) }
-    ensures tables { IfOk result (λ read. map (λ t. t.items) read.found.tables.items ≡ tables_at input.entry.events.now) }
+    ensures tables { IfOk result (λ read. map (λ t. t.items) read.found.tables.items
+        ≡ tables_at input.entry.events.now) }
     ensures definitions { IfOk result (λ read. read.found.definitions.items ≡ definitions_at input.entry.events.now) }
     ensures first_ending { IfOk result (λ read. read.found.first_ending ≡ first_index input.entry.events.now) }
     ensures visits { IfOk result (λ read. read.found.visits ≡ length input.entry.events.now) }
-    ensures refused { IfErr result (IsRefusal (handed input.entry.events.now input.entry.bytes.now input.entry.names.now)) }
+    ensures refused { IfErr result
+        (IsRefusal (handed input.entry.events.now input.entry.bytes.now input.entry.names.now)) }
 {
     let mut reader = Reader::new(input)?;
     let mut visits = 0;

@@ -16,7 +16,8 @@ use std::alloc::{AllocError, Global};
 /// Whether the list that the event at the index enters is loose. Whether its items are loose counts
 /// where they are included.
 pub fn list_loose(checked: &Checked, index: usize, include_items: bool) -> bool
-    requires { EntersAt checked.now.events index name.ListOrdered ⊎ EntersAt checked.now.events index name.ListUnordered }
+    requires { EntersAt checked.now.events index name.ListOrdered
+        ⊎ EntersAt checked.now.events index name.ListUnordered }
     ensures entered { EntersNode checked.now index }
     ensures loose { (children : Forest) → IsEnteredAt checked.now index children
         → result ≡ (if include_items then is_loose children else is_loose_without_items children) }

@@ -73,7 +73,8 @@ fn is_ending(text: &str) -> bool
 /// The value of an item, which is a number in the first one of an ordered list.
 #[inline(always)]
 fn broken_number(around: Role, before: Option<Symbol>, text: Option<&str>) -> Option<Rule>
-    ensures { result ≡ broken_by (option_copied text.entry) (λ t. unless (is_list_number around before t) rule.ListNumber) }
+    ensures { result ≡ broken_by (option_copied text.entry)
+        (λ t. unless (is_list_number around before t) rule.ListNumber) }
 {
     match text {
         None => Some(Rule::Place),
@@ -110,7 +111,8 @@ fn broken_value(
     text: Option<&str>,
 ) -> Result<Option<Rule>, AllocError>
     ensures { IfOk result
-        (λ broken. broken ≡ broken_by (option_copied text.entry) (λ t. unless (is_decodable (name_table input.entry.names.now) before t) rule.CharacterReference)) }
+        (λ broken. broken ≡ broken_by (option_copied text.entry)
+        (λ t. unless (is_decodable (name_table input.entry.names.now) before t) rule.CharacterReference)) }
 {
     let Some(text) = text else {
         return Ok(Some(Rule::Place));
@@ -143,8 +145,10 @@ fn broken_mark(
     entry: usize,
     exit: usize,
 ) -> Option<Rule>
-    ensures { (start end : Point) → start ≡ point_at input.entry.events.now entry → end ≡ point_at input.entry.events.now exit
-        → result ≡ (if fits input.entry.bytes.now start end then unless (is_rank around before (columns start end)) rule.HeadingMark else Some rule.Place) }
+    ensures { (start end : Point) → start ≡ point_at input.entry.events.now entry
+        → end ≡ point_at input.entry.events.now exit
+        → result ≡ (if fits input.entry.bytes.now start end
+        then unless (is_rank around before (columns start end)) rule.HeadingMark else Some rule.Place) }
 {
     let position = place_at(input.events, entry, exit);
     match Slice::from_position(input.bytes.bytes(), &position) {
@@ -159,7 +163,8 @@ fn broken_mark(
 /// What identifies a link, an image, a footnote call or a definition, and is entered and exited at two indices.
 #[inline(always)]
 fn broken_identifier(input: Input, entry: usize, exit: usize) -> Option<Rule>
-    ensures { result ≡ broken_by (label_between input.entry.bytes.now (point_at input.entry.events.now entry) (point_at input.entry.events.now exit)) (λ _. None) }
+    ensures { result ≡ broken_by (label_between input.entry.bytes.now (point_at input.entry.events.now entry)
+        (point_at input.entry.events.now exit)) (λ _. None) }
 {
     let position = place_at(input.events, entry, exit);
     broken_text(input.bytes.label_at(&position))
@@ -273,8 +278,12 @@ pub fn read_node(
     target: &mut Aim,
 ) -> Result<Option<Rule>, AllocError>
     ensures broken { IfOk result
-        (λ broken. broken ≡ broken_rule input.entry.bytes.now (name_table input.entry.names.now) spot.reading spot.around spot.before (point_at input.entry.events.now spot.entry) (point_at input.entry.events.now spot.exit) (target_seen input.entry.events.now inner)) }
-    ensures target { (events : List Event) → target_seen events target.new ≡ target_at spot.reading (target_seen events target.old) (target_seen events inner) (place_at events spot.entry spot.exit) }
+        (λ broken. broken ≡ broken_rule input.entry.bytes.now (name_table input.entry.names.now)
+        spot.reading spot.around spot.before (point_at input.entry.events.now spot.entry)
+        (point_at input.entry.events.now spot.exit) (target_seen input.entry.events.now inner)) }
+    ensures target { (events : List Event)
+        → target_seen events target.new ≡ target_at spot.reading (target_seen events target.old)
+        (target_seen events inner) (place_at events spot.entry spot.exit) }
 {
     let Spot {
         around,
@@ -312,7 +321,8 @@ pub fn read_node(
 /// The text of a node that is entered and exited at two indices.
 #[inline(always)]
 fn text_of<'a>(input: Input<'_, 'a>, entry: usize, exit: usize) -> Option<&'a str>
-    ensures { option_copied result ≡ text_between input.entry.bytes.now (point_at input.entry.events.now entry) (point_at input.entry.events.now exit) }
+    ensures { option_copied result ≡ text_between input.entry.bytes.now (point_at input.entry.events.now entry)
+        (point_at input.entry.events.now exit) }
 {
     input.bytes.text_at(&place_at(input.events, entry, exit))
 }

@@ -15,7 +15,8 @@ pub fn events_flatten_one_document()
 
 /// Where nodes have the shape of the grammar, their spine is the same by names and by symbols.
 pub fn names_and_symbols_tell_one_spine()
-    ensures { (forest : Forest) (around : Role) (before : Option Symbol) → AreShaped forest around before → HasOneSpine forest }
+    ensures { (forest : Forest) (around : Role) (before : Option Symbol) → AreShaped forest around before
+        → HasOneSpine forest }
 {}
 
 /// A list that is loose without its items is loose with them.

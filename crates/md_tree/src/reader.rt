@@ -35,7 +35,8 @@ impl Reader {
     /// `AllocError`, only where memory runs out.
     pub fn new(input: Input) -> Result<Reader, AllocError>
         ensures { IfOk result
-            (λ reader. HasRead input.entry.bytes.now (name_table input.entry.names.now) input.entry.events.now 0 reader) }
+            (λ reader. HasRead input.entry.bytes.now (name_table input.entry.names.now)
+            input.entry.events.now 0 reader) }
     {
         Ok(Reader {
             walk: Walk::new(input.alloc),
@@ -61,9 +62,11 @@ impl Reader {
         requires here { slice_get input.events.now index ≡ Some event }
         requires before { HasRead input.bytes.now (name_table input.names.now) input.events.now index self.old }
         ensures read { IfOk result
-            (λ count. HasRead input.entry.bytes.now (name_table input.entry.names.now) input.entry.events.now (index + count) self.new) }
+            (λ count. HasRead input.entry.bytes.now (name_table input.entry.names.now) input.entry.events.now
+            (index + count) self.new) }
         ensures counted { IfOk result (λ count. (0 < count) × (index + count ≤ length input.entry.events.now)) }
-        ensures refused { IfErr result (IsRefusal (handed input.entry.events.now input.entry.bytes.now input.entry.names.now)) }
+        ensures refused { IfErr result
+            (IsRefusal (handed input.entry.events.now input.entry.bytes.now input.entry.names.now)) }
     {
         match own_exit(input.events, index, &event) {
             Some(exit) => {
@@ -82,8 +85,10 @@ impl Reader {
         requires here { slice_get input.events.now index ≡ Some event }
         requires before { HasRead input.bytes.now (name_table input.names.now) input.events.now index self.old }
         ensures read { OnOk result
-            (HasRead input.entry.bytes.now (name_table input.entry.names.now) input.entry.events.now (suc index) self.new) }
-        ensures refused { IfErr result (IsRefusal (handed input.entry.events.now input.entry.bytes.now input.entry.names.now)) }
+            (HasRead input.entry.bytes.now (name_table input.entry.names.now) input.entry.events.now
+            (suc index) self.new) }
+        ensures refused { IfErr result
+            (IsRefusal (handed input.entry.events.now input.entry.bytes.now input.entry.names.now)) }
     {
         self.walk.step(input, index, &event)?;
         self.pass.find(input.alloc, &event)?;
@@ -104,8 +109,10 @@ impl Reader {
         requires leaf { IsLeaf event exit.now }
         requires before { HasRead input.bytes.now (name_table input.names.now) input.events.now index self.old }
         ensures read { OnOk result
-            (HasRead input.entry.bytes.now (name_table input.entry.names.now) input.entry.events.now (suc (suc index)) self.new) }
-        ensures refused { IfErr result (IsRefusal (handed input.entry.events.now input.entry.bytes.now input.entry.names.now)) }
+            (HasRead input.entry.bytes.now (name_table input.entry.names.now) input.entry.events.now
+            (suc (suc index)) self.new) }
+        ensures refused { IfErr result
+            (IsRefusal (handed input.entry.events.now input.entry.bytes.now input.entry.names.now)) }
     {
         self.walk.leaf(input, index, event.name)?;
         self.pass.leaf(input.alloc, event.name)?;
@@ -117,7 +124,8 @@ impl Reader {
 /// Notes the first line ending, if it is the event at an index.
 #[inline(always)]
 fn note_ending(first: &mut Option<usize>, events: &[Event], index: usize)
-    ensures { (event : Event) → slice_get events.now index ≡ Some event → first.new ≡ ending_after first.old index event }
+    ensures { (event : Event) → slice_get events.now index ≡ Some event
+        → first.new ≡ ending_after first.old index event }
 {
     if first.is_none() {
         *first = ending_at(events, index);

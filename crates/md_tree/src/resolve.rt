@@ -97,9 +97,11 @@ fn unresolved(
     footnotes: &Identifiers,
 ) -> Result<Option<Rule>, AllocError>
     ensures none { IfOk result
-        (λ rule. rule ≡ None → IsFound bytes.now (identifiers_of definitions.now) (identifiers_of footnotes.now) mention) }
+        (λ rule. rule ≡ None
+        → IsFound bytes.now (identifiers_of definitions.now) (identifiers_of footnotes.now) mention) }
     ensures some { IfOk result
-        (λ broken. IfSome broken (λ rule. IsLost bytes.now (identifiers_of definitions.now) (identifiers_of footnotes.now) mention rule)) }
+        (λ broken. IfSome broken (λ rule. IsLost bytes.now (identifiers_of definitions.now)
+        (identifiers_of footnotes.now) mention rule)) }
 {
     match mention {
         Mention::Reference(label) => {

@@ -22,7 +22,8 @@ impl<'a> Run<'a> {
     /// The text between two indices of the bytes, where it lies in this part.
     fn text_between(&self, start: usize, end: usize) -> Option<&'a str>
         ensures { IfSome result
-            (λ text. (bytes : List ℕ) → IsRun bytes self.now → text_when (nat_le start end && nat_le end (length bytes)) (slice_range bytes start end) ≡ Some text.now) }
+            (λ text. (bytes : List ℕ) → IsRun bytes self.now
+            → text_when (nat_le start end && nat_le end (length bytes)) (slice_range bytes start end) ≡ Some text.now) }
     {
         let from = start.checked_sub(self.start)?;
         let to = end.checked_sub(self.start)?;
@@ -60,7 +61,8 @@ impl<'a> Model for Texts<'a> {
 
     ghost view = { λ t. t.bytes.now };
 
-    ghost invariant = { λ t. IsRun t.bytes.now (record { start = 0; text = t.front }) × AreRuns t.bytes.now t.runs.items };
+    ghost invariant = { λ t. IsRun t.bytes.now (record { start = 0; text = t.front })
+        × AreRuns t.bytes.now t.runs.items };
 }
 
 impl<'a> Texts<'a> {
@@ -120,7 +122,8 @@ impl<'a> Texts<'a> {
     #[inline(always)]
     fn text_between(&self, start: usize, end: usize) -> Option<&'a str>
         ensures { IfSome result
-            (λ text. text_when (nat_le start end && nat_le end (length self.now)) (slice_range self.now start end) ≡ Some text.now) }
+            (λ text. text_when (nat_le start end && nat_le end (length self.now)) (slice_range self.now start end)
+            ≡ Some text.now) }
     {
         // Few documents have a byte that is in no character.
         match part(self.front, start, end) {

@@ -63,9 +63,11 @@ impl Walk {
     pub fn step(&mut self, input: Input, index: usize, event: &Event) -> Result<(), CompileError>
         requires { event.now.point ≡ point_at input.events.now index }
         ensures ok { OnOk result
-            (Steps (Unbroken input.entry.bytes.now (name_table input.entry.names.now)) event.now (course_of input.entry.events.now index self.old) (course_of input.entry.events.now (suc index) self.new)) }
+            (Steps (Unbroken input.entry.bytes.now (name_table input.entry.names.now)) event.now
+            (course_of input.entry.events.now index self.old) (course_of input.entry.events.now (suc index) self.new)) }
         ensures refused { IfErr result
-            (IsStop input.entry.bytes.now (name_table input.entry.names.now) index event.now.kind event.now.name event.now.point (course_of input.entry.events.now index self.old)) }
+            (IsStop input.entry.bytes.now (name_table input.entry.names.now)
+            index event.now.kind event.now.name event.now.point (course_of input.entry.events.now index self.old)) }
     {
         match event.kind {
             Kind::Enter => self.enter(input, index, event.name),
@@ -76,9 +78,11 @@ impl Walk {
     /// Enters a node.
     fn enter(&mut self, input: Input, index: usize, name: Name) -> Result<(), CompileError>
         ensures ok { OnOk result
-            (Enters name (point_at input.entry.events.now index) (course_of input.entry.events.now index self.old) (course_of input.entry.events.now (suc index) self.new)) }
+            (Enters name (point_at input.entry.events.now index) (course_of input.entry.events.now index self.old)
+            (course_of input.entry.events.now (suc index) self.new)) }
         ensures refused { IfErr result
-            (IsStop input.entry.bytes.now (name_table input.entry.names.now) index kind.Enter name (point_at input.entry.events.now index) (course_of input.entry.events.now index self.old)) }
+            (IsStop input.entry.bytes.now (name_table input.entry.names.now) index kind.Enter name
+            (point_at input.entry.events.now index) (course_of input.entry.events.now index self.old)) }
     {
         if !can_hold(self.state.role) {
             return refuse(index, misplaced(name));
@@ -111,7 +115,16 @@ impl Walk {
     /// Where the children of a node of this role begin, by the spine around it with the node.
     #[inline(always)]
     fn inside(&self, role: Role, around: State, reading: Reading) -> Entry
-        ensures { result ≡ record { state = start_of role; target = Missing; outer = Some (record { state = around; before = self.now.state.before; target = self.now.target; reading = reading }) } }
+        ensures { result ≡ record {
+          state = start_of role;
+          target = Missing;
+          outer = Some (record {
+            state = around;
+            before = self.now.state.before;
+            target = self.now.target;
+            reading = reading;
+          });
+        } }
     {
         Entry {
             state: start(role),
@@ -135,7 +148,9 @@ impl Walk {
         entry: Entry,
     ) -> Result<(), CompileError>
         ensures ok { OnOk result
-            (course_of input.entry.events.now (suc index) self.new ≡ after_entry (entry_seen input.entry.events.now entry) name (point_at input.entry.events.now index) (course_of input.entry.events.now index self.old)) }
+            (course_of input.entry.events.now (suc index) self.new
+            ≡ after_entry (entry_seen input.entry.events.now entry) name (point_at input.entry.events.now index)
+            (course_of input.entry.events.now index self.old)) }
         ensures memory { IfErr result (λ error. error ≡ Memory) }
     {
         self.open_nodes.push(Open {
@@ -157,9 +172,14 @@ impl Walk {
     pub fn leaf(&mut self, input: Input, index: usize, name: Name) -> Result<(), CompileError>
         requires { index + 1 < length input.events.now }
         ensures ok { OnOk result
-            (Passes (Unbroken input.entry.bytes.now (name_table input.entry.names.now)) name (point_at input.entry.events.now index) (point_at input.entry.events.now (suc index)) (course_of input.entry.events.now index self.old) (course_of input.entry.events.now (suc (suc index)) self.new)) }
+            (Passes (Unbroken input.entry.bytes.now (name_table input.entry.names.now)) name
+            (point_at input.entry.events.now index) (point_at input.entry.events.now (suc index))
+            (course_of input.entry.events.now index self.old)
+            (course_of input.entry.events.now (suc (suc index)) self.new)) }
         ensures refused { IfErr result
-            (IsStopAtLeaf input.entry.bytes.now (name_table input.entry.names.now) index name (point_at input.entry.events.now index) (point_at input.entry.events.now (suc index)) (course_of input.entry.events.now index self.old)) }
+            (IsStopAtLeaf input.entry.bytes.now (name_table input.entry.names.now) index name
+            (point_at input.entry.events.now index) (point_at input.entry.events.now (suc index))
+            (course_of input.entry.events.now index self.old)) }
     {
         if !can_hold(self.state.role) {
             return refuse(index, misplaced(name));
@@ -193,9 +213,12 @@ impl Walk {
     /// Leaves the innermost open node.
     fn exit(&mut self, input: Input, index: usize, name: Name) -> Result<(), CompileError>
         ensures ok { OnOk result
-            (Exits (Unbroken input.entry.bytes.now (name_table input.entry.names.now)) (opens_seen input.entry.events.now self.old.open_nodes.items) name (point_at input.entry.events.now index) (course_of input.entry.events.now index self.old) (course_of input.entry.events.now (suc index) self.new)) }
+            (Exits (Unbroken input.entry.bytes.now (name_table input.entry.names.now))
+            (opens_seen input.entry.events.now self.old.open_nodes.items) name (point_at input.entry.events.now index)
+            (course_of input.entry.events.now index self.old) (course_of input.entry.events.now (suc index) self.new)) }
         ensures refused { IfErr result
-            (IsStop input.entry.bytes.now (name_table input.entry.names.now) index kind.Exit name (point_at input.entry.events.now index) (course_of input.entry.events.now index self.old)) }
+            (IsStop input.entry.bytes.now (name_table input.entry.names.now) index kind.Exit name
+            (point_at input.entry.events.now index) (course_of input.entry.events.now index self.old)) }
     {
         let Some(open_node) = self.open_nodes.pop() else {
             return refuse(index, Rule::Order);
@@ -219,9 +242,14 @@ impl Walk {
         outer: Outer,
     ) -> Result<(), CompileError>
         ensures ok { OnOk result
-            (ExitsWhere (Unbroken input.entry.bytes.now (name_table input.entry.names.now)) (Some (outer_seen input.entry.events.now outer)) (point_at input.entry.events.now entry) (point_at input.entry.events.now index) (opens_seen input.entry.events.now self.old.open_nodes.items) (course_of input.entry.events.now index self.old) (course_of input.entry.events.now (suc index) self.new)) }
+            (ExitsWhere (Unbroken input.entry.bytes.now (name_table input.entry.names.now))
+            (Some (outer_seen input.entry.events.now outer)) (point_at input.entry.events.now entry)
+            (point_at input.entry.events.now index) (opens_seen input.entry.events.now self.old.open_nodes.items)
+            (course_of input.entry.events.now index self.old) (course_of input.entry.events.now (suc index) self.new)) }
         ensures refused { IfErr result
-            (IsStopInside input.entry.bytes.now (name_table input.entry.names.now) index (outer_seen input.entry.events.now outer) (place_at input.entry.events.now entry index) (course_of input.entry.events.now index self.old)) }
+            (IsStopInside input.entry.bytes.now (name_table input.entry.names.now) index
+            (outer_seen input.entry.events.now outer) (place_at input.entry.events.now entry index)
+            (course_of input.entry.events.now index self.old)) }
     {
         if !can_end(self.state) {
             return refuse(index, Rule::Order);
@@ -276,7 +304,8 @@ fn keep(
     reading: Reading,
     target: Aim,
 ) -> Result<(), AllocError>
-    ensures { OnOk result (mentions.new.items ≡ mentions_with index (mention_of reading (target_seen events.now target)) mentions.old.items) }
+    ensures { OnOk result (mentions.new.items ≡ mentions_with index (mention_of reading (target_seen events.now target))
+        mentions.old.items) }
 {
     let Aim::Label(entry, exit) = target else {
         return Ok(());

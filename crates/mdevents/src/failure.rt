@@ -21,8 +21,8 @@ impl Failure {
     ghost use Rattle.std.specs.Prelude.{◌≡◌};
     ghost use Rattle.mdevents.specs.Failure.{status_after};
 
-    /// The status with which the program ends: that of the script's error, 4 where reading or writing failed, 5 for unsafe
-    /// options, 64 for other arguments.
+    /// The status with which the program ends: that of the script's error, 4 where reading or writing failed, 5 for
+    /// unsafe options, 64 for other arguments.
     pub fn status(&self) -> u8
         ensures { result ≡ status_after self.now }
     {

@@ -191,7 +191,8 @@ fn is_after_ampersand(text: &str) -> bool {
 
 /// Whether a URL has no protocol or a permitted one, as a browser takes it.
 ///
-/// A browser reads references back, drops tabs and line endings anywhere, and control characters and spaces at the start.
+/// A browser reads references back, drops tabs and line endings anywhere, and control characters and spaces at the
+/// start.
 fn leads_where_permitted(
     alloc: Global,
     value: &str,

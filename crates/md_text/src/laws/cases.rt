@@ -53,7 +53,8 @@ pub fn listed_attributes_are_allowed()
     ensures th { HasReading (codes "<th align=\"left\"></th>") }
     ensures td { HasReading (codes "<td align=\"right\"></td>") }
     ensures section { HasReading (codes "<section data-footnotes=\"\" class=\"footnotes\"></section>") }
-    ensures a { HasReading (codes "<a href=\"a\" title=\"b\" id=\"c\" class=\"d\" data-footnote-ref=\"\" data-footnote-backref=\"\" aria-describedby=\"e\" aria-label=\"f\">"
+    ensures a { HasReading
+        (codes "<a href=\"a\" title=\"b\" id=\"c\" class=\"d\" data-footnote-ref=\"\" data-footnote-backref=\"\" aria-describedby=\"e\" aria-label=\"f\">"
         ++ codes "</a>") }
     ensures img { HasReading (codes "<img src=\"a\" alt=\"b\" title=\"c\" />") }
     ensures input { HasReading (codes "<input type=\"checkbox\" disabled=\"\" checked=\"\" />") }
