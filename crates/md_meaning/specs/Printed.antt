@@ -165,8 +165,7 @@ closing given around left ahead passed last start end inner name =
 
 -- what a node prints: `inner` is what its children print
 abbrev pub printed_node : Given → Surroundings → Left → Ahead → Passed → Bool → Point → Point → Name →
-    List Piece →
-    List Piece
+    List Piece → List Piece
 printed_node given around left ahead passed last start end name inner =
     opening given around ahead name
     ++ ((if is_captured name then [] else inner)

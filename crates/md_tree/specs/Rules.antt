@@ -95,8 +95,7 @@ broken_by_target target = elim target [ Missing ↦ Some rule.Target | _ ↦ Non
 -- the rule that a node breaks, by what is read of it, the role around it, the symbol before it, its place and its
 -- target
 abbrev pub broken_rule : List ℕ → List (List ℕ × List ℕ) → Reading → Role → Option Symbol → Point →
-    Point → Target
-    → Option Rule
+    Point → Target → Option Rule
 broken_rule bytes names read around before start end target = elim read [
   | reading.Text ↦ broken_by (text_between bytes start end) (λ text. None)
   | reading.LineEnding ↦
@@ -117,8 +116,7 @@ broken_rule bytes names read around before start end target = elim read [
 
 -- the rule that a node breaks, in a node of a role and after a symbol on its spine
 abbrev pub broken_at : List ℕ → List (List ℕ × List ℕ) → Role → Option Symbol → Name → Point →
-    Point → Forest
-    → Option Rule
+    Point → Forest → Option Rule
 broken_at bytes names around before name start end children =
     broken_rule bytes names (reading_of (standing_of name)) around before start end (target_of children Missing)
 

@@ -4,9 +4,14 @@ use Rattle.std.specs.Prelude.{if◌then◌else◌}
 use Rattle.md_base.specs.declared.event.Name.{Name}
 use Rattle.md_meaning.specs.declared.facts.Surroundings.{Surroundings}
 use Rattle.md_printer.specs.Machine.{State, ahead_by, printing}
-use Rattle.md_meaning.specs.Piece.{Piece, Text}
+use Rattle.md_meaning.specs.Piece.{Piece, Text, Sheet, Target}
 use Rattle.md_meaning.specs.Texts.{said, code_pieces, code_text}
 use Rattle.md_printer.specs.Sources.{given_of, closing_at}
+use Rattle.std.specs.Prelude.{Option, None, Some}
+use Rattle.md_meaning.specs.declared.facts.Ahead.{Ahead}
+use Rattle.md_meaning.specs.Given.{Given}
+use Rattle.md_meaning.specs.Media.{link_pieces, image_pieces, link_to, image_of, link_start, link_end, image_start, title_pieces, target_of}
+use Rattle.md_meaning.specs.declared.options.CompileOptions.{CompileOptions}
 use Rattle.md_printer.specs.declared.facts.Exit.{Exit}
 use Rattle.md_around.specs.Steps.{first_or}
 use Rattle.std.proofs.lemmas.List.{append-nil}
@@ -24,6 +29,36 @@ code_ending : (ending : List ℕ) (around : Surroundings) (tag text : List ℕ) 
 code_ending ending around tag text state =
     chosen ending around.in_image (code_text around text) (Text tag ∷ Text (code_text around text)
     ∷ said (codes "</code>")) state refl
+
+-- a link or an image outside an image, with a title or without one
+link_to_ending : (ending : List ℕ) (options : CompileOptions) (to : List ℕ) (title : Option (List ℕ)) (label : List ℕ)
+    (state : State) → printing [] (link_start options to ++ (title_pieces title ++ link_end label)) state
+    ≡ printing ending (link_start options to ++ (title_pieces title ++ link_end label)) state
+link_to_ending ending options to None label state = refl
+link_to_ending ending options to (Some title) label state = refl
+
+image_of_ending : (ending : List ℕ) (options : CompileOptions) (from : List ℕ) (title : Option (List ℕ))
+    (label : List ℕ) (state : State) →
+    printing [] (image_start options from label ++ (title_pieces title ++ said (codes " />"))) state
+    ≡ printing ending (image_start options from label ++ (title_pieces title ++ said (codes " />"))) state
+image_of_ending ending options from None label state = refl
+image_of_ending ending options from (Some title) label state = refl
+
+link_ending : (ending : List ℕ) (given : Given) (around : Surroundings) (ahead : Ahead) (inner : Sheet) (state : State) →
+    printing [] (link_pieces given around ahead inner) state
+    ≡ printing ending (link_pieces given around ahead inner) state
+link_ending ending given around ahead inner state =
+    let target : Target = target_of given ahead inner.notes in
+    chosen ending around.in_image inner.text (link_to given.options target inner.text) state
+    (link_to_ending ending given.options target.destination target.title inner.text state)
+
+image_ending : (ending : List ℕ) (given : Given) (around : Surroundings) (ahead : Ahead) (inner : Sheet) (state : State) →
+    printing [] (image_pieces given around ahead inner) state
+    ≡ printing ending (image_pieces given around ahead inner) state
+image_ending ending given around ahead inner state =
+    let target : Target = target_of given ahead inner.notes in
+    chosen ending around.in_image inner.text (image_of given.options target inner.text) state
+    (image_of_ending ending given.options target.destination target.title inner.text state)
 
 -- nothing more is printed
 alone : (ending : List ℕ) (pieces : List Piece) (state : State) →
@@ -57,3 +92,29 @@ returns-in-MathText c =
     (code_pieces exit.around (codes "<code class=\"language-math math-inline\">") c.args.inner.sheet.text) start
     (code_ending ending exit.around (codes "<code class=\"language-math math-inline\">") c.args.inner.sheet.text start))
     c.code-in-MathText.ensures)
+
+pub returns-in-Link : goal.returns-in-Link
+returns-in-Link c =
+    let exit : Exit = c.args.exit.now in
+    let given = given_of c.args.source.now in
+    let ending = c.args.source.now.ending.now in
+    let start : State = c.args.printer.now in
+    let ahead : Ahead = ahead_by c.args.inner.place in
+    let P : State → Type 0 = λ s. OnOk c.link.result (c.link.new.printer ≡ s) in
+    let Q : Name → Type 0 = λ n. P (printing ending (closing_at given exit start.log.called (first_or [] start.tables)
+    ahead start.frame.passed c.args.inner.sheet n) start) in
+    subst Q (sym c.in-Link.is) (subst P (alone ending (link_pieces given exit.around ahead c.args.inner.sheet) start
+    (link_ending ending given exit.around ahead c.args.inner.sheet start)) c.link.ensures)
+
+pub returns-in-Image : goal.returns-in-Image
+returns-in-Image c =
+    let exit : Exit = c.args.exit.now in
+    let given = given_of c.args.source.now in
+    let ending = c.args.source.now.ending.now in
+    let start : State = c.args.printer.now in
+    let ahead : Ahead = ahead_by c.args.inner.place in
+    let P : State → Type 0 = λ s. OnOk c.image.result (c.image.new.printer ≡ s) in
+    let Q : Name → Type 0 = λ n. P (printing ending (closing_at given exit start.log.called (first_or [] start.tables)
+    ahead start.frame.passed c.args.inner.sheet n) start) in
+    subst Q (sym c.in-Image.is) (subst P (alone ending (image_pieces given exit.around ahead c.args.inner.sheet) start
+    (image_ending ending given exit.around ahead c.args.inner.sheet start)) c.image.ensures)
