@@ -2,8 +2,8 @@
 use Rattle.std.specs.Prelude.{◌+◌, Bool, true, false, ◌&&◌, ◌||◌, if◌then◌else◌, List, [], ◌∷◌, Some, None}
 use Rattle.md_base.specs.declared.event.Name.{Name}
 use Rattle.md_base.specs.NameTests.{is_cell, is_transparent, contributes, is_fence, is_chunk}
-use Rattle.md_meaning.specs.declared.facts.Spine.{Spine}
-use Rattle.md_meaning.specs.declared.facts.Passed.{Passed}
+use Rattle.md_meaning.specs.declared.context.Spine.{Spine}
+use Rattle.md_meaning.specs.declared.context.Passed.{Passed}
 use Rattle.md_meaning.specs.Surroundings.{Mark, Sets, Clears}
 
 -- the first, or a default

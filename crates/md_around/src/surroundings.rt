@@ -1,7 +1,7 @@
 //! What a node knows of the nodes around it and before it.
 
 ghost use Rattle.std.specs.Prelude.{◌≡◌, ◌+◌, IfOk, OnOk, ◌||◌, ◌&&◌, if◌then◌else◌, Some};
-ghost use Rattle.md_meaning.specs.declared.facts.Container.TheVariants.{TightList, Another};
+ghost use Rattle.md_meaning.specs.declared.context.Container.TheVariants.{TightList, Another};
 ghost use Rattle.md_meaning.specs.Surroundings as spec;
 ghost use Rattle.md_around.specs.Steps as machine;
 ghost use Rattle.md_base.specs.NameTests.{is_transparent, is_cell, contributes};

@@ -9,9 +9,9 @@ use Rattle.md_base.specs.declared.event.Event.{Event}
 use Rattle.md_base.specs.Tree.{Forest, flatten}
 use Rattle.md_tree.specs.Entered.{children_of}
 use Rattle.md_base.specs.NameTests.{is_table}
-use Rattle.md_meaning.specs.declared.facts.Ahead.{Ahead}
-use Rattle.md_meaning.specs.declared.facts.Passed.{Passed}
-use Rattle.md_meaning.specs.declared.facts.Surroundings.{Surroundings}
+use Rattle.md_meaning.specs.declared.context.Ahead.{Ahead}
+use Rattle.md_meaning.specs.declared.context.Passed.{Passed}
+use Rattle.md_meaning.specs.declared.context.Surroundings.{Surroundings}
 use Rattle.md_meaning.specs.Piece.{Piece, blank}
 use Rattle.md_meaning.specs.Given.{Given}
 use Rattle.md_meaning.specs.Places.{Left}
@@ -19,7 +19,7 @@ use Rattle.md_meaning.specs.Printed.{opening, closing, is_captured}
 use Rattle.md_print.specs.declared.groups.Group.{Group}
 use Rattle.md_print.specs.declared.groups.Group.TheVariants.{Silent, Text, Span, Block, Autolink, Table, Captured}
 use Rattle.md_print.specs.Closings.{group_of, in_group, is_light, is_captured_group}
-use Rattle.md_printer.specs.Machine.{State, printing, opening_frame, entering_table, leaving_table, entered, exited, leaving, logging, closing_in, passing_leaf, ahead_told, loose_told, columns_told, is_nil, stepped, run}
+use Rattle.md_printer.specs.Machine.{Printer, printing, opening_frame, entering_table, leaving_table, entered, exited, leaving, logging, closing_in, passing_leaf, ahead_told, loose_told, columns_told, is_nil, stepped, run}
 use Rattle.md_around.specs.Steps.{first_or}
 use Rattle.md_print.proofs.Closings.{At, closing-group, captured-group, text, block, medium, table}
 use Rattle.md_sheet.proofs.Lists.{drop-found}
@@ -101,7 +101,7 @@ closing-alone given around left ahead other_ahead passed other_passed last start
 
 -- its entry and its exit, in one step
 pub leaf-steps : (given : Given) (ahead other_ahead : Ahead) (passed : Passed) (loose : Bool)
-    (columns : List AlignKind) (last : Bool) (name : Name) (start end : Point) (state : State) →
+    (columns : List AlignKind) (last : Bool) (name : Name) (start end : Point) (state : Printer) →
     is_light (group_of name) ≡ true →
     passing_leaf name (printing given.ending
     (closing given state.frame.around
@@ -122,9 +122,9 @@ leaf-steps given ahead other_ahead passed loose columns last name start end stat
       spine = state.frame.passed.spine;
       columns = first_or [] state.tables;
     } in
-    let inside : Bool → List Piece → State = λ b pieces. entering_table b columns
+    let inside : Bool → List Piece → Printer = λ b pieces. entering_table b columns
     (opening_frame given.options ahead loose name start (printing given.ending pieces state)) in
-    let whole : Bool → List Piece → State = λ b pieces.
+    let whole : Bool → List Piece → Printer = λ b pieces.
     leaving name (printing given.ending (closing_in given last name end blank (leaving_table b (inside b pieces)))
     (logging given.bytes ahead name blank (leaving_table b (inside b pieces)))) in
     let opened : List Piece = opening given state.frame.around ahead name in
@@ -138,7 +138,7 @@ leaf-steps given ahead other_ahead passed loose columns last name start end stat
 
 -- the two events of such a node, in one step
 pub run-leaf : (given : Given) (document : Forest) (events : List Event) (index : ℕ) (entry exit : Event)
-    (beyond : List Event) (state after : State) →
+    (beyond : List Event) (state after : Printer) →
     flatten document ≡ events → entry ∷ exit ∷ beyond ≡ drop index events → IsLightLeaf entry exit →
     ((ahead : Ahead) (loose : Bool) (columns : List AlignKind) →
     after ≡ exited given (is_nil beyond) false entry.name exit.point
@@ -154,7 +154,7 @@ run-leaf given document events index entry exit beyond state after flat split le
     (drop-first events index entry (exit ∷ beyond) split) in
     let beside : slice_get nodes (index + 1) ≡ Some other =
     told-at document events (index + 1) exit flat (drop-first events (index + 1) exit beyond later) in
-    let enter : Bool → State = λ captured. entered given (ahead_told entry.name told) (loose_told entry.name told)
+    let enter : Bool → Printer = λ captured. entered given (ahead_told entry.name told) (loose_told entry.name told)
     (columns_told entry.name told) captured entry.name entry.point state in
     let last : Bool = is_nil beyond in
     ap (λ s. run given beyond (drop (index + 2) nodes) s)

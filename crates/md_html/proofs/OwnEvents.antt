@@ -23,9 +23,9 @@ use Rattle.md_base.specs.Children.{is_empty}
 use Rattle.md_base.specs.NameTests.{is_definition, is_link_definition, is_transparent}
 use Rattle.md_infer.specs.Looseness.{is_loose}
 use Rattle.md_meaning.specs.declared.options.CompileOptions.{CompileOptions}
-use Rattle.md_meaning.specs.declared.facts.Surroundings.{Surroundings}
-use Rattle.md_meaning.specs.declared.facts.Ahead.{Ahead}
-use Rattle.md_meaning.specs.declared.facts.Passed.{Passed}
+use Rattle.md_meaning.specs.declared.context.Surroundings.{Surroundings}
+use Rattle.md_meaning.specs.declared.context.Ahead.{Ahead}
+use Rattle.md_meaning.specs.declared.context.Passed.{Passed}
 use Rattle.md_meaning.specs.Piece.{Piece, Target, blank, lay}
 use Rattle.md_meaning.specs.Surroundings.{inside, outermost, spine_inside}
 use Rattle.md_meaning.specs.Given.{Given, Defined}
@@ -33,7 +33,7 @@ use Rattle.md_meaning.specs.Places.{Before, nothing_before, before_children, bef
 use Rattle.md_meaning.specs.Texts.{said, is_slurped}
 use Rattle.md_meaning.specs.Given.{text_of}
 use Rattle.md_meaning.specs.Printed.{printed_node, printed, definitions_of}
-use Rattle.md_printer.specs.Machine.{State, run, beginning}
+use Rattle.md_printer.specs.Machine.{Printer, run, beginning}
 use Rattle.md_html.proofs.Spines.{AllLetters, spine-all}
 use Rattle.md_html.specs.OwnDefinitions.{defined_alone, own_definitions}
 use Rattle.md_html.proofs.Runs.{Knows, run-flatten}
@@ -424,7 +424,7 @@ definition-run given start end children more shaped match =
       first = refl;
     }) match in
     ap (λ es. (run given es (children_of node ++ more) beginning).log.definitions) (sym (append-nil (flatten node)))
-    ∙ ap (λ (s : State). s.log.definitions) (run-flatten given node nothing_before [] more beginning begins refl)
+    ∙ ap (λ (s : Printer). s.log.definitions) (run-flatten given node nothing_before [] more beginning begins refl)
     ∙ ap (λ ds. ds ++ defined_alone given children ∷ [])
     (definitions-own given children nested own role.Definition None shaped (inr free)
     ∙ none-defined given children role.Definition None shaped free)

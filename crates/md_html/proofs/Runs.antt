@@ -17,10 +17,10 @@ use Rattle.md_base.specs.NameTests.{is_call, is_table, is_cell, is_link_definiti
 use Rattle.md_base.specs.Children.{spine_names, is_empty, last_name, last_contributing, or_else}
 use Rattle.md_infer.specs.Looseness.{is_loose}
 use Rattle.md_meaning.specs.declared.options.CompileOptions.{CompileOptions}
-use Rattle.md_meaning.specs.declared.facts.Surroundings.{Surroundings}
-use Rattle.md_meaning.specs.declared.facts.Spine.{Spine}
-use Rattle.md_meaning.specs.declared.facts.Ahead.{Ahead}
-use Rattle.md_meaning.specs.declared.facts.Passed.{Passed}
+use Rattle.md_meaning.specs.declared.context.Surroundings.{Surroundings}
+use Rattle.md_meaning.specs.declared.context.Spine.{Spine}
+use Rattle.md_meaning.specs.declared.context.Ahead.{Ahead}
+use Rattle.md_meaning.specs.declared.context.Passed.{Passed}
 use Rattle.md_meaning.specs.Piece.{Piece, Sheet, blank, lay}
 use Rattle.md_meaning.specs.Surroundings.{Mark, Sets, Clears, is_slurping, own_marks, marks_of, inside, two_pass, last_of, told_by, spine_inside, spine_after_node}
 use Rattle.md_meaning.specs.Given.{Given, Defined}
@@ -31,7 +31,7 @@ use Rattle.md_sheet.proofs.Lists.{lay-append}
 use Rattle.md_sheet.proofs.Tally.{fold-tally}
 use Rattle.md_meaning.specs.Calls.{Called, tally}
 use Rattle.md_meaning.specs.Footnotes.{Footnote}
-use Rattle.md_printer.specs.Machine.{State, Log, ahead_by, ahead_told, columns_told, loose_told, entering_table, leaving_table, entered, exited, is_nil, run, beginning}
+use Rattle.md_printer.specs.Machine.{Printer, Log, ahead_by, ahead_told, columns_told, loose_told, entering_table, leaving_table, entered, exited, is_nil, run, beginning}
 use Rattle.md_around.specs.Steps.{first_or, others_of, no_spine, with_name, passing, slurps_after}
 
 -- marks before marks
@@ -145,7 +145,7 @@ last-event (Node name start end children rest) [] = refl
 last-event (Node name start end children rest) (e ∷ es) = refl
 
 -- the state after some nodes
-abbrev pub after : Given → Before → Forest → State → State
+abbrev pub after : Given → Before → Forest → Printer → Printer
 after given before forest state = record state {
   log = record {
     called = fold counted state.log.called (calls_of given.bytes forest);
@@ -164,14 +164,14 @@ after given before forest state = record state {
 }
 
 -- the state knows what stands before
-pub record Knows (state : State) (before : Before) : Type 0 where
+pub record Knows (state : Printer) (before : Before) : Type 0 where
   pub calls : state.log.called ≡ tally before.calls
   pub slurping : state.is_slurping ≡ is_slurping before.marks
   pub previous : state.frame.passed.last ≡ before.previous
   pub spine : state.frame.passed.spine ≡ told_by before.spine
   pub columns : first_or [] state.tables ≡ before.columns
 
-after-nothing : (given : Given) (before : Before) (state : State) → Knows state before →
+after-nothing : (given : Given) (before : Before) (state : Printer) → Knows state before →
     after given before Empty state ≡ state
 after-nothing given before state knows =
     ap (λ ds. record (after given before Empty state) { log = record state.log { definitions = ds } })
@@ -192,7 +192,7 @@ inside-told options _ children around = refl
 
 -- the children's state, from the node's
 children_know : (given : Given) (ahead : Ahead) (before : Before) (name : Name) (start : Point) (children : Forest)
-    (captured : Bool) (state : State) → Knows state before →
+    (captured : Bool) (state : Printer) → Knows state before →
     Knows (entered given ahead (is_loose children) (columns_told name (Some children)) captured name start state)
     (before_children name children before)
 children_know given ahead before name start children captured state knows = record {
@@ -233,7 +233,7 @@ inner_sheet given around before captured name children =
     (before_children name children before) children) else blank
 
 -- what stands before a node's next sibling, as the state knows it when the node is left
-abbrev pub after_node : Given → Ahead → Before → Bool → Bool → Name → Point → Point → Forest → State → State
+abbrev pub after_node : Given → Ahead → Before → Bool → Bool → Name → Point → Point → Forest → Printer → Printer
 after_node given ahead before last captured name start end children state = record state {
   log = record {
     called =
@@ -295,7 +295,7 @@ lay_two ending sheet xs zs = sym (lay-append ending sheet xs zs)
 
 -- what is known of the node when it is left
 left-known : (given : Given) (before : Before) (name : Name) (start : Point) (children : Forest) (captured : Bool)
-    (state : State) → Knows state before →
+    (state : Printer) → Knows state before →
     (record {
       called = fold counted state.log.called (calls_of given.bytes children);
       is_slurping = state.is_slurping;
@@ -319,7 +319,7 @@ left-known given before name start children captured state knows =
 
 -- a node is left after its children, whose text is not captured
 node_step-streamed : (given : Given) (ahead : Ahead) (before : Before) (last : Bool) (name : Name) (start end : Point)
-    (children : Forest) (state : State) → Knows state before →
+    (children : Forest) (state : Printer) → Knows state before →
     exited given last false name end (after given (before_children name children before) children
     (entered given ahead (is_loose children) (columns_told name (Some children)) false name start state))
     ≡ after_node given ahead before last false name start end children state
@@ -337,7 +337,7 @@ node_step-streamed given ahead before last name start end children state knows =
       contributing = p;
       spine = spine;
     }) last start end blank name in
-    let at : List (List AlignKind) → Sheet → Spine → State = λ tables sheet told. record state {
+    let at : List (List AlignKind) → Sheet → Spine → Printer = λ tables sheet told. record state {
       tables = tables;
       log = (after_node given ahead before last false name start end children state).log;
       sheet = sheet;
@@ -352,7 +352,7 @@ node_step-streamed given ahead before last name start end children state knows =
       columns = first_or [] tables;
     } in
     let laid : List (List AlignKind) → Left → Option Name → Option Name → Spine →
-    State = λ tables l o p told. at tables (lay given.ending
+    Printer = λ tables l o p told. at tables (lay given.ending
     (lay given.ending (lay given.ending state.sheet opened) inner) (close l o p)) told in
     ap (λ tables. laid tables (left tables) (or_else (last_name children) None)
     (or_else (last_contributing children) None) state.frame.passed.spine) (tables-restored name children state.tables)
@@ -371,7 +371,7 @@ node_step-streamed given ahead before last name start end children state knows =
 
 -- a node is left after its children, whose text is captured
 node_step-captured : (given : Given) (ahead : Ahead) (before : Before) (last : Bool) (name : Name) (start end : Point)
-    (children : Forest) (state : State) → Knows state before →
+    (children : Forest) (state : Printer) → Knows state before →
     exited given last true name end (after given (before_children name children before) children
     (entered given ahead (is_loose children) (columns_told name (Some children)) true name start state))
     ≡ after_node given ahead before last true name start end children state
@@ -389,7 +389,7 @@ node_step-captured given ahead before last name start end children state knows =
       contributing = p;
       spine = spine;
     }) last start end (lay given.ending blank inner) name in
-    let at : List (List AlignKind) → Sheet → Spine → State = λ tables sheet told. record state {
+    let at : List (List AlignKind) → Sheet → Spine → Printer = λ tables sheet told. record state {
       tables = tables;
       log = (after_node given ahead before last true name start end children state).log;
       sheet = sheet;
@@ -404,7 +404,7 @@ node_step-captured given ahead before last name start end children state knows =
       columns = first_or [] tables;
     } in
     let laid : List (List AlignKind) → Left → Option Name → Option Name → Spine →
-    State = λ tables l o p told. at tables (lay given.ending (lay given.ending state.sheet opened) (close l o p))
+    Printer = λ tables l o p told. at tables (lay given.ending (lay given.ending state.sheet opened) (close l o p))
     told in
     ap (λ tables. laid tables (left tables) (or_else (last_name children) None)
     (or_else (last_contributing children) None) state.frame.passed.spine) (tables-restored name children state.tables)
@@ -489,13 +489,13 @@ noted-told bytes footnotes sheet GfmFootnoteDefinition children = refl
 noted-told bytes footnotes sheet _ children = refl
 
 after_node-told : (given : Given) (before : Before) (last captured : Bool) (name : Name) (start end : Point)
-    (children : Forest) (state : State) →
+    (children : Forest) (state : Printer) →
     after_node given (ahead_told name (Some children)) before last captured name start end children state
     ≡ after_node given (ahead_of children) before last captured name start end children state
 after_node-told given before last captured name start end children state =
     let around = state.frame.around in
     let told : Ahead = ahead_told name (Some children) in
-    let whole : State = after_node given told before last captured name start end children state in
+    let whole : Printer = after_node given told before last captured name start end children state in
     let inner : List Piece = if captured then [] else printed given
     (inside given.options (is_loose children) name around) (before_children name children before) children in
     let sheet : Sheet = inner_sheet given around before captured name children in
@@ -504,7 +504,7 @@ after_node-told given before last captured name start end children state =
     (if captured then lay given.ending blank (printed given (inside given.options (is_loose children) name around)
     (before_children name children before) children) else blank) name in
     let made : List Piece → List Piece → List Called → List Defined → List Footnote →
-    State = λ opened closed called definitions footnotes. record whole {
+    Printer = λ opened closed called definitions footnotes. record whole {
       sheet = lay given.ending state.sheet (opened ++ (inner ++ closed));
       log = record { called = called; definitions = definitions; footnotes = footnotes };
     } in
@@ -532,7 +532,7 @@ after_node-told given before last captured name start end children state =
     (noted-told given.bytes footnotes sheet name children)
 
 node_step : (given : Given) (before : Before) (last captured : Bool) (name : Name) (start end : Point)
-    (children : Forest) (state : State) → Knows state before →
+    (children : Forest) (state : Printer) → Knows state before →
     exited given last captured name end (after given (before_children name children before) children
     (entered given (ahead_told name (Some children)) (is_loose children)
     (columns_told name (Some children)) captured name start state))
@@ -580,7 +580,7 @@ fold-step f false seen xs ys x = sym (fold-append f seen xs ys)
 
 -- the next sibling's state knows what stands before it
 next_knows : (given : Given) (before : Before) (last captured : Bool) (name : Name) (start end : Point)
-    (children : Forest) (state : State) → Knows state before →
+    (children : Forest) (state : Printer) → Knows state before →
     Knows (after_node given (ahead_of children) before last captured name start end children state)
     (before_next given state.frame.around name start end children before)
 next_knows given before last captured name start end children state knows =
@@ -609,7 +609,7 @@ next_knows given before last captured name start end children state knows =
 
 -- a node and then its siblings
 after-node : (given : Given) (before : Before) (name : Name) (start end : Point) (children rest : Forest)
-    (state : State) →
+    (state : Printer) →
     after given (before_next given state.frame.around name start end children before) rest
     (after_node given (ahead_of children) before (state.frame.around.is_outermost
     && is_empty rest) (is_captured name) name start end children state)
@@ -643,9 +643,9 @@ after-node given before name start end children rest state =
     let left : Log = (after_node given (ahead_of children) before (around.is_outermost
     && is_empty rest) (is_captured name) name start end children state).log in
     let logged : List Called → List Defined → List Footnote →
-    State = λ cs ds fs. record (after given before (Node name start end children rest) state)
+    Printer = λ cs ds fs. record (after given before (Node name start end children rest) state)
     { log = record { called = cs; definitions = ds; footnotes = fs } } in
-    let made : Sheet → Bool → Option Name → Option Name → List Name → State = λ sheet slurping o p names. record state {
+    let made : Sheet → Bool → Option Name → Option Name → List Name → Printer = λ sheet slurping o p names. record state {
       log = (after given next rest (after_node given (ahead_of children) before (around.is_outermost
           && is_empty rest) (is_captured name) name start end children state)).log;
       sheet = sheet;
@@ -695,7 +695,7 @@ after-node given before name start end children rest state =
 
 -- running the events of some nodes, and what follows them
 pub run-flatten : (given : Given) (forest : Forest) (before : Before) (tail : List Event)
-    (nodes : List (Option Forest)) (state : State) →
+    (nodes : List (Option Forest)) (state : Printer) →
     Knows state before → state.frame.around.is_outermost ≡ is_nil tail →
     run given (flatten forest ++ tail) (children_of forest ++ nodes) state
     ≡ run given tail nodes (after given before forest state)
@@ -704,12 +704,12 @@ run-flatten given Empty before tail nodes state knows outer =
 run-flatten given (Node name start end children rest) before tail nodes state knows outer =
     let captured : Bool = is_captured name in
     let told : Ahead = ahead_told name (Some children) in
-    let inner : State = entered given told (is_loose children)
+    let inner : Printer = entered given told (is_loose children)
     (columns_told name (Some children)) captured name start state in
     let last : Bool = state.frame.around.is_outermost && is_empty rest in
-    let left : State = after_node given (ahead_of children) before last captured name start end children state in
+    let left : Printer = after_node given (ahead_of children) before last captured name start end children state in
     let next : Before = before_next given state.frame.around name start end children before in
-    let entered_in : Surroundings → State = λ around. record inner { frame = record inner.frame { around = around } } in
+    let entered_in : Surroundings → Printer = λ around. record inner { frame = record inner.frame { around = around } } in
     ap (λ around. run given ((flatten children ++ exiting name end ∷ flatten rest)
     ++ tail) ((children_of children ++ None ∷ children_of rest) ++ nodes) (entered_in around))
     (inside-told given.options name children state.frame.around)

@@ -20,7 +20,7 @@ ghost use Rattle.md_safe.specs.Options.{KeepsGrammar, KeepsLinks, KeepsImages, K
 ghost use Rattle.md_printer.specs.Sources.{given_of};
 ghost use Rattle.md_meaning.specs.Places.{first_ending as first_place};
 ghost use Rattle.md_meaning.specs.Printed.{is_captured};
-ghost use Rattle.md_meaning.specs.declared.facts.Ahead.{Ahead};
+ghost use Rattle.md_meaning.specs.declared.context.Ahead.{Ahead};
 ghost use Rattle.md_print.specs.Closings.{group_of, is_light};
 ghost use Rattle.md_html.specs.Leaf.{IsLightLeaf};
 ghost use Rattle.std.specs.Bool.{OnTrue};
@@ -34,9 +34,9 @@ use md_meaning::CompileOptions;
 use md_print::close::{close, close_captured};
 use md_print::groups::{group_of, is_light};
 use md_print::open::open;
-use md_printer::facts::{Exit, Inner, Lookahead};
+use md_printer::frames::{Exit, Inner, Lookahead};
+use md_printer::given::{Given, identifier_at};
 use md_printer::printer::Printer;
-use md_printer::source::{Source, identifier_at};
 use md_sheet::{Defined, Definitions};
 use md_tree::{Checked, CompileError, check, gfm_table_align, list_loose};
 use std::alloc::{AllocError, Global};
@@ -197,7 +197,7 @@ fn count_checked(
     ensures most { IfOk result (λ counted. counted.visits ≤ 3 * length checked.now.events) }
 {
     let none = Definitions::new(alloc);
-    let alone = Source {
+    let alone = Given {
         alloc,
         bytes: checked.bytes(),
         names: checked.names(),
@@ -208,13 +208,13 @@ fn count_checked(
     let own = definitions_at(&alone, checked, checked.definitions())?;
     let visits = checked.visits().saturating_add(own.visits);
     let definitions = Definitions::first_of(alloc, own.definitions)?;
-    let source = Source {
+    let given = Given {
         definitions: &definitions,
         ..alone
     };
-    let ran = run(&source, checked)?;
+    let ran = run(&given, checked)?;
     let visits = visits.saturating_add(ran.visits);
-    let text = ran.printer.into_text(alloc, options, source.ending)?;
+    let text = ran.printer.into_text(alloc, options, given.ending)?;
     Ok(Counted { text, visits })
 }
 
@@ -233,18 +233,18 @@ fn ending_of<'a>(checked: &Checked<'a>, options: &'a CompileOptions) -> &'a str
 /// Enters a node, which is told this of its children.
 fn enter(
     printer: &mut Printer,
-    source: &Source,
+    given: &Given,
     told: Lookahead,
     name: Name,
     start: Point,
 ) -> Result<(), AllocError>
-    ensures { OnOk result (printer.new ≡ machine.entered (given_of source.now) (machine.ahead_by told.place)
+    ensures { OnOk result (printer.new ≡ machine.entered (given_of given.now) (machine.ahead_by told.place)
         told.loose told.columns.items (is_captured name) name start printer.old) }
 {
     let around = printer.around();
-    open(printer, source, around, told.place, name)?;
-    printer.capture_if(source.alloc, is_captured(name))?;
-    printer.open_frame(source.options, &told, name, start)?;
+    open(printer, given, around, told.place, name)?;
+    printer.capture_if(given.alloc, is_captured(name))?;
+    printer.open_frame(given.options, &told, name, start)?;
     printer.enter_table_if(is_table(name), told.columns)
 }
 
@@ -308,33 +308,33 @@ fn columns_of(
 /// Prints what a node whose children are captured prints after them, and logs what it is seen for.
 fn close_and_log(
     printer: &mut Printer,
-    source: &Source,
+    given: &Given,
     exit: &Exit,
     inner: Inner,
     name: Name,
 ) -> Result<(), AllocError>
     requires { is_captured name ≡ true }
-    ensures { OnOk result (printer.new ≡ machine.printing source.now.ending.now
-        (closing_at (given_of source.now) exit.now printer.old.log.called (steps.first_or [] printer.old.tables)
+    ensures { OnOk result (printer.new ≡ machine.printing given.now.ending.now
+        (closing_at (given_of given.now) exit.now printer.old.log.called (steps.first_or [] printer.old.tables)
         (machine.ahead_by inner.place) printer.old.frame.passed inner.sheet name)
-        (machine.logging source.now.bytes.now (machine.ahead_by inner.place) name inner.sheet printer.old)) }
+        (machine.logging given.now.bytes.now (machine.ahead_by inner.place) name inner.sheet printer.old)) }
 {
     match name {
         Name::GfmFootnoteCall => {
             let place = inner.place;
-            close_captured(printer, source, exit, inner, name)?;
-            printer.log_call(identifier_at(source.alloc, source.bytes, place)?)
+            close_captured(printer, given, exit, inner, name)?;
+            printer.log_call(identifier_at(given.alloc, given.bytes, place)?)
         }
         Name::GfmFootnoteDefinition => {
-            let identifier = identifier_at(source.alloc, source.bytes, inner.place)?;
-            printer.log_footnote(identifier, inner.sheet.into_text(source.alloc)?)
+            let identifier = identifier_at(given.alloc, given.bytes, inner.place)?;
+            printer.log_footnote(identifier, inner.sheet.into_text(given.alloc)?)
         }
         Name::Definition => {
-            let identifier = identifier_at(source.alloc, source.bytes, inner.place)?;
+            let identifier = identifier_at(given.alloc, given.bytes, inner.place)?;
             let target = inner.sheet.into_target();
             printer.log_definition(Defined { identifier, target })
         }
-        _ => close_captured(printer, source, exit, inner, name),
+        _ => close_captured(printer, given, exit, inner, name),
     }
 }
 
@@ -342,53 +342,53 @@ fn close_and_log(
 #[inline(never)]
 fn exit_captured(
     printer: &mut Printer,
-    source: &Source,
+    given: &Given,
     is_last: bool,
     name: Name,
     end: Point,
 ) -> Result<(), AllocError>
     requires { is_captured name ≡ true }
-    ensures { OnOk result (printer.new ≡ machine.exited (given_of source.now) is_last true name end printer.old) }
+    ensures { OnOk result (printer.new ≡ machine.exited (given_of given.now) is_last true name end printer.old) }
 {
     let exit = printer.exit(is_last, end);
     let place = printer.place();
-    let sheet = printer.release(source.alloc);
-    close_and_log(printer, source, &exit, Inner { place, sheet }, name)?;
+    let sheet = printer.release(given.alloc);
+    close_and_log(printer, given, &exit, Inner { place, sheet }, name)?;
     printer.leave(name)
 }
 
 /// Exits a node whose children aren't captured.
 fn exit_streamed(
     printer: &mut Printer,
-    source: &Source,
+    given: &Given,
     is_last: bool,
     name: Name,
     end: Point,
 ) -> Result<(), AllocError>
     requires { is_captured name ≡ false }
-    ensures { OnOk result (printer.new ≡ machine.exited (given_of source.now) is_last false name end printer.old) }
+    ensures { OnOk result (printer.new ≡ machine.exited (given_of given.now) is_last false name end printer.old) }
 {
     let exit = printer.exit(is_last, end);
     printer.leave_table_if(is_table(name));
-    close(printer, source, &exit, name)?;
+    close(printer, given, &exit, name)?;
     printer.leave(name)
 }
 
 /// Exits a node; `is_last` says that nothing follows in the document.
 fn exit(
     printer: &mut Printer,
-    source: &Source,
+    given: &Given,
     is_last: bool,
     name: Name,
     end: Point,
 ) -> Result<(), AllocError>
-    ensures { OnOk result (printer.new ≡ machine.exited (given_of source.now) is_last
+    ensures { OnOk result (printer.new ≡ machine.exited (given_of given.now) is_last
         (is_captured name) name end printer.old) }
 {
     if is_captured(name) {
-        exit_captured(printer, source, is_last, name, end)
+        exit_captured(printer, given, is_last, name, end)
     } else {
-        exit_streamed(printer, source, is_last, name, end)
+        exit_streamed(printer, given, is_last, name, end)
     }
 }
 
@@ -406,22 +406,22 @@ pub(crate) struct Visit<'a> {
 /// Goes one event further.
 pub(crate) fn step(
     printer: &mut Printer,
-    source: &Source,
+    given: &Given,
     checked: &Checked,
     visit: Visit,
 ) -> Result<(), AllocError>
     requires { slice_get checked.now.events visit.index ≡ Some visit.event.now }
     ensures { OnOk result ((told : Option Forest) → IsToldAt checked.now visit.entry.index told → printer.new
-        ≡ machine.stepped (given_of source.now)
+        ≡ machine.stepped (given_of given.now)
         visit.entry.event.now.kind visit.entry.event.now.name visit.entry.event.now.point told
         (machine.is_nil visit.entry.later.now) printer.old) }
 {
     let event = visit.event;
     match event.kind {
-        Kind::Enter => enter_visited(printer, source, checked, visit),
+        Kind::Enter => enter_visited(printer, given, checked, visit),
         Kind::Exit => {
             let is_last = visit.later.is_empty();
-            exit(printer, source, is_last, event.name, event.point)
+            exit(printer, given, is_last, event.name, event.point)
         }
     }
 }
@@ -430,42 +430,42 @@ pub(crate) fn step(
 #[inline(always)]
 fn enter_visited(
     printer: &mut Printer,
-    source: &Source,
+    given: &Given,
     checked: &Checked,
     visit: Visit,
 ) -> Result<(), AllocError>
     requires { EntersAt checked.now.events visit.index visit.event.now.name }
     ensures { OnOk result ((told : Option Forest) → IsToldAt checked.now visit.entry.index told → printer.new
-        ≡ machine.stepped (given_of source.now) Enter visit.entry.event.now.name visit.entry.event.now.point told
+        ≡ machine.stepped (given_of given.now) Enter visit.entry.event.now.name visit.entry.event.now.point told
         (machine.is_nil visit.entry.later.now) printer.old) }
 {
     let event = visit.event;
     let place = place_read(checked, visit.index, event.name);
     let loose = is_loose(checked, visit.index, event.name);
-    let columns = columns_of(source.alloc, checked, visit.index, event.name)?;
+    let columns = columns_of(given.alloc, checked, visit.index, event.name)?;
     let told = Lookahead {
         place,
         loose,
         columns,
     };
-    enter(printer, source, told, event.name, event.point)
+    enter(printer, given, told, event.name, event.point)
 }
 
 /// Goes over a node without children that prints only at its exit, if at all.
 fn leaf(
     printer: &mut Printer,
-    source: &Source,
+    given: &Given,
     is_last: bool,
     name: Name,
     place: Position,
 ) -> Result<(), AllocError>
     requires { is_light (group_of name) ≡ true }
     ensures { OnOk result ((ahead : Ahead) (loose : Bool) (columns : List AlignKind) → printer.new
-        ≡ machine.exited (given_of source.now) is_last false name place.end
-        (machine.entered (given_of source.now) ahead loose columns false name place.start printer.old)) }
+        ≡ machine.exited (given_of given.now) is_last false name place.end
+        (machine.entered (given_of given.now) ahead loose columns false name place.start printer.old)) }
 {
     let exit = printer.leaf(place.start, is_last, place.end);
-    close(printer, source, &exit, name)?;
+    close(printer, given, &exit, name)?;
     printer.pass(name)
 }
 
@@ -482,16 +482,16 @@ fn is_leaf(entry: &Event, exit: &Event) -> bool
 /// Goes one event further, or two where they enter and exit a node without children: then it answers 1, else 0.
 fn advance(
     printer: &mut Printer,
-    source: &Source,
+    given: &Given,
     checked: &Checked,
     visit: Visit,
 ) -> Result<usize, AllocError>
     requires { visit.event.now ∷ visit.later.now ≡ drop visit.index checked.now.events }
     ensures within { IfOk result (λ more. more ≤ length visit.entry.later.now) }
     ensures runs { IfOk result (λ more. (document : Forest) → flatten document ≡ checked.now.events
-        → machine.run (given_of source.now) (drop more visit.entry.later.now)
+        → machine.run (given_of given.now) (drop more visit.entry.later.now)
         (drop (visit.entry.index + (1 + more)) (children_of document)) printer.new
-        ≡ machine.run (given_of source.now) (visit.entry.event.now ∷ visit.entry.later.now)
+        ≡ machine.run (given_of given.now) (visit.entry.event.now ∷ visit.entry.later.now)
         (drop visit.entry.index (children_of document)) printer.old) }
 {
     let entry = visit.event;
@@ -502,11 +502,11 @@ fn advance(
                 start: entry.point,
                 end: exit.point,
             };
-            leaf(printer, source, is_last, entry.name, place)?;
+            leaf(printer, given, is_last, entry.name, place)?;
             return Ok(1);
         }
     }
-    step(printer, source, checked, visit)?;
+    step(printer, given, checked, visit)?;
     Ok(0)
 }
 
@@ -518,13 +518,13 @@ struct Ran {
 }
 
 /// Prints the events, one after another.
-fn run(source: &Source, checked: &Checked) -> Result<Ran, AllocError>
+fn run(given: &Given, checked: &Checked) -> Result<Ran, AllocError>
     ensures printed { IfOk result (λ ran. (document : Forest) → flatten document ≡ checked.now.events
-        → ran.printer ≡ machine.run (given_of source.now) checked.now.events (children_of document) machine.beginning) }
+        → ran.printer ≡ machine.run (given_of given.now) checked.now.events (children_of document) machine.beginning) }
     ensures visits { IfOk result (λ ran. ran.visits ≡ length checked.now.events) }
     ensures fits { OnOk result (length checked.now.events < 2 ^ 63) }
 {
-    let mut printer = Printer::new(source.alloc);
+    let mut printer = Printer::new(given.alloc);
     let mut rest = checked.events();
     let mut index = 0;
     while let Some((event, later)) = rest.split_first() {
@@ -533,7 +533,7 @@ fn run(source: &Source, checked: &Checked) -> Result<Ran, AllocError>
             event,
             later,
         };
-        let more = advance(&mut printer, source, checked, visit)?;
+        let more = advance(&mut printer, given, checked, visit)?;
         rest = &later[more..];
         // Each turn visits an event, or an entry and its own exit.
         index += 1 + more;

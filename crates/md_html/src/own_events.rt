@@ -14,8 +14,8 @@ ghost use Rattle.md_infer.specs.Partners.{definitions_of as entries_of};
 
 use crate::compiler::{Visit, step};
 use md_base::Event;
+use md_printer::given::Given;
 use md_printer::printer::Printer;
-use md_printer::source::Source;
 use md_sheet::Defined;
 use md_tree::Checked;
 use std::alloc::AllocError;
@@ -56,15 +56,15 @@ fn node_events(events: &[Event], entry: usize, partner: Option<usize>) -> &[Even
 }
 
 /// Prints the events of the node that is entered at an index, as if nothing stood before it and around it.
-fn run_node(source: &Source, checked: &Checked, entry: usize) -> Result<Printer, AllocError>
+fn run_node(given: &Given, checked: &Checked, entry: usize) -> Result<Printer, AllocError>
     ensures grammatical { IsChecked checked.now }
     ensures printed { IfOk result (λ printer. (document : Forest) → flatten document ≡ checked.now.events
-        → printer ≡ machine.run (given_of source.now)
+        → printer ≡ machine.run (given_of given.now)
         (events_at checked.now.events entry (slice_get (partners_of 0 document) entry))
         (drop entry (children_of document)) machine.beginning) }
 {
     let events = checked.events();
-    let mut printer = Printer::new(source.alloc);
+    let mut printer = Printer::new(given.alloc);
     let mut rest = node_events(events, entry, checked.partner(entry));
     let mut index = entry;
     // Each turn visits an event, which `visits_at` counts.
@@ -74,7 +74,7 @@ fn run_node(source: &Source, checked: &Checked, entry: usize) -> Result<Printer,
             event,
             later,
         };
-        step(&mut printer, source, checked, visit)?;
+        step(&mut printer, given, checked, visit)?;
         rest = later;
         index += 1;
     }
@@ -82,16 +82,12 @@ fn run_node(source: &Source, checked: &Checked, entry: usize) -> Result<Printer,
 }
 
 /// What the definition whose entry is at an index defines.
-fn defined_at(
-    source: &Source,
-    checked: &Checked,
-    entry: usize,
-) -> Result<Option<Defined>, AllocError>
+fn defined_at(given: &Given, checked: &Checked, entry: usize) -> Result<Option<Defined>, AllocError>
     ensures { IfOk result (λ defined. (document : Forest) → flatten document ≡ checked.now.events → (place : ℕ)
         → slice_get (entries_of 0 document) place ≡ Some entry
-        → defined ≡ slice_get (own_definitions (given_of source.now) document) place) }
+        → defined ≡ slice_get (own_definitions (given_of given.now) document) place) }
 {
-    let printer = run_node(source, checked, entry)?;
+    let printer = run_node(given, checked, entry)?;
     let mut logged = printer.into_definitions();
     Ok(logged.pop())
 }
@@ -127,22 +123,22 @@ pub(crate) struct Own {
 ///
 /// Only where memory runs out.
 pub(crate) fn definitions_at(
-    source: &Source,
+    given: &Given,
     checked: &Checked,
     entries: &[usize],
 ) -> Result<Own, AllocError>
     ensures definitions { IfOk result (λ own. (document : Forest) → flatten document ≡ checked.now.events
         → entries.now ≡ entries_of 0 document
-        → own.definitions.items ≡ own_definitions (given_of source.now) document) }
+        → own.definitions.items ≡ own_definitions (given_of given.now) document) }
     ensures visits { IfOk result (λ own. (document : Forest) → IsShaped document → flatten document ≡ checked.now.events
         → entries.now ≡ entries_of 0 document → own.visits ≤ length checked.now.events) }
 {
-    let mut definitions = Vec::new(source.alloc);
+    let mut definitions = Vec::new(given.alloc);
     let mut visits: usize = 0;
     for entry in entries {
         // Each event of the definition is visited once.
         visits = visits.saturating_add(visits_at(checked, *entry));
-        let defined = defined_at(source, checked, *entry)?;
+        let defined = defined_at(given, checked, *entry)?;
         push_found(&mut definitions, defined)?;
     }
     Ok(Own {

@@ -6,10 +6,10 @@ use Rattle.md_base.specs.declared.event.Position.{Position}
 use Rattle.md_text.specs.Encode.{encoded}
 use Rattle.md_base.specs.NameTests.{is_fence, is_item_prefix, is_paragraph}
 use Rattle.md_meaning.specs.Piece.{Piece, Text, Needed, Forced, Recalled}
-use Rattle.md_meaning.specs.declared.facts.Container.{Container}
-use Rattle.md_meaning.specs.declared.facts.Container.TheVariants.{Nothing, TightList}
-use Rattle.md_meaning.specs.declared.facts.Surroundings.{Surroundings}
-use Rattle.md_meaning.specs.declared.facts.Passed.{Passed}
+use Rattle.md_meaning.specs.declared.context.Container.{Container}
+use Rattle.md_meaning.specs.declared.context.Container.TheVariants.{Nothing, TightList}
+use Rattle.md_meaning.specs.declared.context.Surroundings.{Surroundings}
+use Rattle.md_meaning.specs.declared.context.Passed.{Passed}
 use Rattle.md_meaning.specs.Given.{Given, text_of, serialized_of}
 use Rattle.md_meaning.specs.Places.{Left, without_zeros, length_of}
 use Rattle.md_meaning.specs.Texts.{said}

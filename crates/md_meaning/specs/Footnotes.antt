@@ -7,8 +7,8 @@ use Rattle.md_text.specs.Encode.{encoded}
 use Rattle.md_text.specs.Url.{sanitized}
 use Rattle.md_text.specs.Laws.{is_line_ends}
 use Rattle.md_meaning.specs.declared.options.CompileOptions.{CompileOptions}
-use Rattle.md_meaning.specs.declared.facts.Surroundings.{Surroundings}
-use Rattle.md_meaning.specs.declared.facts.Ahead.{Ahead}
+use Rattle.md_meaning.specs.declared.context.Surroundings.{Surroundings}
+use Rattle.md_meaning.specs.declared.context.Ahead.{Ahead}
 use Rattle.md_meaning.specs.Piece.{Piece, Text, Needed, Forced}
 use Rattle.md_meaning.specs.Given.{Given}
 use Rattle.md_meaning.specs.Calls.{Called, number_among, count_among}

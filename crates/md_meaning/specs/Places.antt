@@ -14,10 +14,10 @@ use Rattle.md_infer.specs.Looseness.{is_loose}
 use Rattle.md_infer.specs.Alignments.{alignments}
 use Rattle.md_base.specs.declared.event.AlignKind.{AlignKind}
 use Rattle.md_meaning.specs.Surroundings.{Mark, is_slurping, told_by, spine_inside, spine_after_node, own_marks, marks_of, inside}
-use Rattle.md_meaning.specs.declared.facts.Surroundings.{Surroundings}
-use Rattle.md_meaning.specs.declared.facts.Spine.{Spine}
-use Rattle.md_meaning.specs.declared.facts.Ahead.{Ahead}
-use Rattle.md_meaning.specs.declared.facts.Passed.{Passed}
+use Rattle.md_meaning.specs.declared.context.Surroundings.{Surroundings}
+use Rattle.md_meaning.specs.declared.context.Spine.{Spine}
+use Rattle.md_meaning.specs.declared.context.Ahead.{Ahead}
+use Rattle.md_meaning.specs.declared.context.Passed.{Passed}
 use Rattle.md_meaning.specs.Given.{Given, label_of}
 use Rattle.md_meaning.specs.Calls.{Called, tally}
 

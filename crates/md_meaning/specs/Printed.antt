@@ -10,9 +10,9 @@ use Rattle.md_base.specs.NameTests.{is_link_definition, is_footnote_definition}
 use Rattle.md_infer.specs.Looseness.{is_loose}
 use Rattle.md_meaning.specs.Piece.{Piece, Text, Needed, Forced, Noted, Heading, Destination, Title, Sheet, blank, lay}
 use Rattle.md_meaning.specs.Piece.{Resource as noted_resource}
-use Rattle.md_meaning.specs.declared.facts.Surroundings.{Surroundings}
-use Rattle.md_meaning.specs.declared.facts.Ahead.{Ahead}
-use Rattle.md_meaning.specs.declared.facts.Passed.{Passed}
+use Rattle.md_meaning.specs.declared.context.Surroundings.{Surroundings}
+use Rattle.md_meaning.specs.declared.context.Ahead.{Ahead}
+use Rattle.md_meaning.specs.declared.context.Passed.{Passed}
 use Rattle.md_meaning.specs.Surroundings.{inside, spine_inside}
 use Rattle.md_meaning.specs.Given.{Given, Defined}
 use Rattle.md_meaning.specs.Places.{Before, identifier_at, before_children, before_next, ahead_of, passed_over, Left, left_of}

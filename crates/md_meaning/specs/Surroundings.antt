@@ -8,10 +8,10 @@ use Rattle.md_base.specs.Tree.{Forest, Empty, Node}
 use Rattle.md_base.specs.NameTests.{is_transparent, is_fence, is_chunk, is_cell}
 use Rattle.md_base.specs.Children.{spine_names}
 use Rattle.md_infer.specs.Looseness.{is_loose}
-use Rattle.md_meaning.specs.declared.facts.Container.{Container}
-use Rattle.md_meaning.specs.declared.facts.Container.TheVariants.{Nothing, TightList, Another}
-use Rattle.md_meaning.specs.declared.facts.Surroundings.{Surroundings}
-use Rattle.md_meaning.specs.declared.facts.Spine.{Spine}
+use Rattle.md_meaning.specs.declared.context.Container.{Container}
+use Rattle.md_meaning.specs.declared.context.Container.TheVariants.{Nothing, TightList, Another}
+use Rattle.md_meaning.specs.declared.context.Surroundings.{Surroundings}
+use Rattle.md_meaning.specs.declared.context.Spine.{Spine}
 use Rattle.md_meaning.specs.declared.options.CompileOptions.{CompileOptions}
 
 -- the surroundings of the document's own nodes

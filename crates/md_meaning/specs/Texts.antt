@@ -10,7 +10,7 @@ use Rattle.md_text.specs.Encode.{encoded}
 use Rattle.md_text.specs.Filter.{tag_filtered}
 use Rattle.md_base.specs.NameTests.{is_definition}
 use Rattle.md_meaning.specs.Piece.{Piece, Text, Needed}
-use Rattle.md_meaning.specs.declared.facts.Surroundings.{Surroundings}
+use Rattle.md_meaning.specs.declared.context.Surroundings.{Surroundings}
 use Rattle.md_meaning.specs.Given.{Given, text_of}
 use Rattle.md_meaning.specs.Places.{Left}
 

@@ -9,9 +9,9 @@ ghost use Rattle.md_meaning.specs.Piece.{Text};
 
 use md_base::Position;
 use md_meaning::CompileOptions;
-use md_printer::facts::Exit;
+use md_printer::frames::Exit;
+use md_printer::given::{Given, identifier_at};
 use md_printer::printer::Printer;
-use md_printer::source::{Source, identifier_at};
 use md_sheet::{NumberedFootnote, call_id, footnote_id};
 use std::alloc::{AllocError, Global};
 
@@ -57,23 +57,23 @@ fn put_tags(printer: &mut Printer, footnote: &str, id: &str, number: &str) -> Re
 /// `usize` counts.
 pub fn call(
     printer: &mut Printer,
-    source: &Source,
+    given: &Given,
     exit: &Exit,
     place: Option<Position>,
 ) -> Result<(), AllocError>
     ensures { OnOk result (printer.new
-        ≡ printing [] (footnotes.call_pieces (given_of source.now) exit.now.around
+        ≡ printing [] (footnotes.call_pieces (given_of given.now) exit.now.around
         (left_at exit.now printer.old.log.called []) (ahead_by place)) printer.old) }
 {
     if exit.around.in_image {
         return Ok(());
     }
-    let identifier = identifier_at(source.alloc, source.bytes, place)?;
+    let identifier = identifier_at(given.alloc, given.bytes, place)?;
     let footnote = NumberedFootnote {
         identifier: identifier.as_str(),
         number: printer.number(identifier.as_str()),
     };
     let before = printer.count_of(identifier.as_str());
     let occurrence = before.checked_add(1).ok_or(AllocError)?;
-    tags(source.alloc, printer, source.options, &footnote, occurrence)
+    tags(given.alloc, printer, given.options, &footnote, occurrence)
 }

@@ -9,9 +9,9 @@ ghost use Rattle.md_printer.specs.Sources.{given_of};
 
 use md_base::{Position, SAFE_PROTOCOL_HREF, SAFE_PROTOCOL_SRC};
 use md_meaning::{CompileOptions, Surroundings};
-use md_printer::facts::{Exit, Inner};
+use md_printer::frames::{Exit, Inner};
+use md_printer::given::{Given, identifier_at, text_of};
 use md_printer::printer::Printer;
-use md_printer::source::{Source, identifier_at, text_of};
 use md_sheet::{Definitions, Notes, Rope, Target};
 use md_text::{encode, sanitize, sanitize_with_protocols};
 use std::alloc::{AllocError, Global};
@@ -152,27 +152,21 @@ fn link_to(
 /// `AllocError`, only where memory runs out.
 pub fn link(
     printer: &mut Printer,
-    source: &Source,
+    given: &Given,
     exit: &Exit,
     inner: Inner,
 ) -> Result<(), AllocError>
     ensures { OnOk result (printer.new
-        ≡ printing [] (media.link_pieces (given_of source.now) exit.now.around (ahead_by inner.place) inner.sheet)
+        ≡ printing [] (media.link_pieces (given_of given.now) exit.now.around (ahead_by inner.place) inner.sheet)
         printer.old) }
 {
     let Inner { place, sheet } = inner;
     let (label, notes) = sheet.into_parts();
     if exit.around.in_image {
-        return printer.append(source.alloc, label);
+        return printer.append(given.alloc, label);
     }
-    let target = target_of(
-        source.alloc,
-        source.bytes,
-        source.definitions,
-        place,
-        &notes,
-    )?;
-    link_to(source.alloc, printer, source.options, target, label)
+    let target = target_of(given.alloc, given.bytes, given.definitions, place, &notes)?;
+    link_to(given.alloc, printer, given.options, target, label)
 }
 
 /// Prints the beginning of an image, up to its title.
@@ -217,27 +211,21 @@ fn image_of(
 /// `AllocError`, only where memory runs out.
 pub fn image(
     printer: &mut Printer,
-    source: &Source,
+    given: &Given,
     exit: &Exit,
     inner: Inner,
 ) -> Result<(), AllocError>
     ensures { OnOk result (printer.new
-        ≡ printing [] (media.image_pieces (given_of source.now) exit.now.around (ahead_by inner.place) inner.sheet)
+        ≡ printing [] (media.image_pieces (given_of given.now) exit.now.around (ahead_by inner.place) inner.sheet)
         printer.old) }
 {
     let Inner { place, sheet } = inner;
     let (label, notes) = sheet.into_parts();
     if exit.around.in_image {
-        return printer.append(source.alloc, label);
+        return printer.append(given.alloc, label);
     }
-    let target = target_of(
-        source.alloc,
-        source.bytes,
-        source.definitions,
-        place,
-        &notes,
-    )?;
-    image_of(source.alloc, printer, source.options, target, label)
+    let target = target_of(given.alloc, given.bytes, given.definitions, place, &notes)?;
+    image_of(given.alloc, printer, given.options, target, label)
 }
 
 /// A prefix and a text, as one.
@@ -256,25 +244,25 @@ fn joined(alloc: Global, prefix: &str, text: &str) -> Result<String, AllocError>
 /// `AllocError`, only where memory runs out.
 pub fn autolink(
     printer: &mut Printer,
-    source: &Source,
+    given: &Given,
     exit: &Exit,
     prefix: &str,
     plain: bool,
 ) -> Result<(), AllocError>
     ensures { OnOk result (printer.new
-        ≡ printing [] (media.autolink_pieces (given_of source.now) prefix.now plain exit.now.start exit.now.end)
+        ≡ printing [] (media.autolink_pieces (given_of given.now) prefix.now plain exit.now.start exit.now.end)
         printer.old) }
 {
-    let text = text_of(source.bytes, exit.start, exit.end);
-    let encoded = encode(source.alloc, text, true)?;
+    let text = text_of(given.bytes, exit.start, exit.end);
+    let encoded = encode(given.alloc, text, true)?;
     if plain {
         return printer.put(encoded.as_str());
     }
-    let destination = joined(source.alloc, prefix, text)?;
-    link_start(source.alloc, printer, source.options, destination.as_str())?;
+    let destination = joined(given.alloc, prefix, text)?;
+    link_start(given.alloc, printer, given.options, destination.as_str())?;
     link_end(
-        source.alloc,
+        given.alloc,
         printer,
-        Rope::from_string(source.alloc, encoded),
+        Rope::from_string(given.alloc, encoded),
     )
 }

@@ -7,7 +7,7 @@ ghost use Rattle.md_printer.specs.Sources.{left_at};
 ghost use Rattle.md_meaning.specs.Tables as tables;
 
 use md_base::AlignKind;
-use md_printer::facts::Exit;
+use md_printer::frames::Exit;
 use md_printer::lines::on_own_line;
 use md_printer::printer::Printer;
 use md_sheet::Sheet;

@@ -8,9 +8,9 @@ ghost use Rattle.md_printer.specs.Sources.{given_of, left_at};
 use md_around::names::is_definition;
 use md_base::{Name, decode_character_reference};
 use md_printer::escape::put_encoded;
-use md_printer::facts::Exit;
+use md_printer::frames::Exit;
+use md_printer::given::{Given, text_of};
 use md_printer::printer::Printer;
-use md_printer::source::{Source, text_of};
 use md_text::gfm_tagfilter;
 use std::alloc::AllocError;
 
@@ -19,12 +19,12 @@ use std::alloc::AllocError;
 /// # Errors
 ///
 /// `AllocError`, only where memory runs out.
-pub fn data(printer: &mut Printer, source: &Source, exit: &Exit) -> Result<(), AllocError>
+pub fn data(printer: &mut Printer, given: &Given, exit: &Exit) -> Result<(), AllocError>
     ensures { OnOk result (printer.new
-        ≡ printing [] (texts.data_pieces (given_of source.now) exit.now.around exit.now.start exit.now.end)
+        ≡ printing [] (texts.data_pieces (given_of given.now) exit.now.around exit.now.start exit.now.end)
         printer.old) }
 {
-    let text = text_of(source.bytes, exit.start, exit.end);
+    let text = text_of(given.bytes, exit.start, exit.end);
     put_encoded(printer, text, exit.around.is_escaping)
 }
 
@@ -33,15 +33,15 @@ pub fn data(printer: &mut Printer, source: &Source, exit: &Exit) -> Result<(), A
 /// # Errors
 ///
 /// `AllocError`, only where memory runs out.
-pub fn html(printer: &mut Printer, source: &Source, exit: &Exit) -> Result<(), AllocError>
+pub fn html(printer: &mut Printer, given: &Given, exit: &Exit) -> Result<(), AllocError>
     ensures { OnOk result (printer.new
-        ≡ printing [] (texts.html_pieces (given_of source.now) exit.now.around exit.now.start exit.now.end)
+        ≡ printing [] (texts.html_pieces (given_of given.now) exit.now.around exit.now.start exit.now.end)
         printer.old) }
 {
-    let text = text_of(source.bytes, exit.start, exit.end);
+    let text = text_of(given.bytes, exit.start, exit.end);
     let escaping = exit.around.is_escaping;
-    if source.options.gfm_tagfilter && source.options.allow_dangerous_html {
-        let filtered = gfm_tagfilter(source.alloc, text)?;
+    if given.options.gfm_tagfilter && given.options.allow_dangerous_html {
+        let filtered = gfm_tagfilter(given.alloc, text)?;
         return put_encoded(printer, filtered.as_str(), escaping);
     }
     put_encoded(printer, text, escaping)
@@ -63,15 +63,15 @@ fn marker_of(name: Option<Name>) -> u8
 /// # Errors
 ///
 /// `AllocError`, only where memory runs out.
-pub fn reference(printer: &mut Printer, source: &Source, exit: &Exit) -> Result<(), AllocError>
+pub fn reference(printer: &mut Printer, given: &Given, exit: &Exit) -> Result<(), AllocError>
     ensures { OnOk result (printer.new
-        ≡ printing [] (texts.reference_pieces (given_of source.now) exit.now.around (left_at exit.now [] [])
+        ≡ printing [] (texts.reference_pieces (given_of given.now) exit.now.around (left_at exit.now [] [])
         exit.now.start exit.now.end) printer.old) }
 {
-    let value = text_of(source.bytes, exit.start, exit.end);
+    let value = text_of(given.bytes, exit.start, exit.end);
     let marker = marker_of(exit.spine.last);
-    let decoded = decode_character_reference(source.alloc, value, marker, source.names)?;
-    let text = decoded.unwrap_or(String::new(source.alloc));
+    let decoded = decode_character_reference(given.alloc, value, marker, given.names)?;
+    let text = decoded.unwrap_or(String::new(given.alloc));
     put_encoded(printer, text.as_str(), exit.around.is_escaping)
 }
 
@@ -101,9 +101,9 @@ fn is_dropped(exit: &Exit) -> bool
 /// # Errors
 ///
 /// `AllocError`, only where memory runs out.
-pub fn line_ending(printer: &mut Printer, source: &Source, exit: &Exit) -> Result<(), AllocError>
+pub fn line_ending(printer: &mut Printer, given: &Given, exit: &Exit) -> Result<(), AllocError>
     ensures { OnOk result (printer.new
-        ≡ printing [] (texts.line_ending_pieces (given_of source.now) exit.now.around (left_at exit.now [] [])
+        ≡ printing [] (texts.line_ending_pieces (given_of given.now) exit.now.around (left_at exit.now [] [])
         exit.now.start exit.now.end) printer.old) }
 {
     if exit.around.in_code {
@@ -111,6 +111,6 @@ pub fn line_ending(printer: &mut Printer, source: &Source, exit: &Exit) -> Resul
     } else if is_dropped(exit) {
         Ok(())
     } else {
-        printer.put(text_of(source.bytes, exit.start, exit.end))
+        printer.put(text_of(given.bytes, exit.start, exit.end))
     }
 }

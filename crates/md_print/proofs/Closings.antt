@@ -8,11 +8,11 @@ use Rattle.md_meaning.specs.Piece.{Piece, Sheet}
 use Rattle.md_base.specs.declared.event.Point.{Point}
 use Rattle.md_meaning.specs.Given.{Given}
 use Rattle.md_meaning.specs.Places.{Left}
-use Rattle.md_meaning.specs.declared.facts.Surroundings.{Surroundings}
-use Rattle.md_meaning.specs.declared.facts.Ahead.{Ahead}
-use Rattle.md_meaning.specs.declared.facts.Passed.{Passed}
+use Rattle.md_meaning.specs.declared.context.Surroundings.{Surroundings}
+use Rattle.md_meaning.specs.declared.context.Ahead.{Ahead}
+use Rattle.md_meaning.specs.declared.context.Passed.{Passed}
 use Rattle.md_meaning.specs.Printed.{text_closing, block_closing, media_closing, gfm_closing, is_captured}
-use Rattle.md_printer.specs.Machine.{State, printing}
+use Rattle.md_printer.specs.Machine.{Printer, printing}
 use Rattle.md_print.specs.declared.groups.Group.{Group}
 use Rattle.md_print.specs.Closings.{group_of, in_group, is_captured_group}
 
@@ -75,7 +75,7 @@ captured-group _ = refl
 
 -- what a node's group prints is what the node prints
 pub printing-group : (ending : List ℕ) (at : At) (name : Name) (group : Group) → group ≡ group_of name →
-    (state : State) →
+    (state : Printer) →
     printing ending (in_group group (text at name) (block at name) (medium at name) (table at name)) state
     ≡ printing ending (text at name ++ (block at name ++ (medium at name ++ table at name))) state
 printing-group ending at name group same state =

@@ -24,10 +24,10 @@ use md_pieces::media::{autolink, image, is_plain, link};
 use md_pieces::tables::{close_cell, close_row};
 use md_pieces::texts::{data, html, line_ending, reference};
 use md_printer::escape::put_encoded;
-use md_printer::facts::{Exit, Inner};
+use md_printer::frames::{Exit, Inner};
+use md_printer::given::{Given, serialized_of};
 use md_printer::lines::on_own_line;
 use md_printer::printer::Printer;
-use md_printer::source::{Source, serialized_of};
 use md_sheet::Sheet;
 use std::alloc::{AllocError, Global};
 
@@ -38,21 +38,21 @@ use std::alloc::{AllocError, Global};
 /// `AllocError`, only where memory runs out.
 pub fn close(
     printer: &mut Printer,
-    source: &Source,
+    given: &Given,
     exit: &Exit,
     name: Name,
 ) -> Result<(), AllocError>
     requires { is_captured name ≡ false }
-    ensures { OnOk result (printer.new ≡ printing source.now.ending.now
-        (closing_at (given_of source.now) exit.now printer.old.log.called (first_or [] printer.old.tables)
+    ensures { OnOk result (printer.new ≡ printing given.now.ending.now
+        (closing_at (given_of given.now) exit.now printer.old.log.called (first_or [] printer.old.tables)
         printer.old.frame.ahead printer.old.frame.passed blank name) printer.old) }
 {
     match group_of(name) {
-        Group::Text => close_text(printer, source, exit, name),
-        Group::Span => close_span(printer, source, exit, name),
-        Group::Block => close_block(printer, source, exit, name),
-        Group::Autolink => close_autolink(printer, source, exit, name),
-        Group::Table => close_table(printer, source, exit, name),
+        Group::Text => close_text(printer, given, exit, name),
+        Group::Span => close_span(printer, given, exit, name),
+        Group::Block => close_block(printer, given, exit, name),
+        Group::Autolink => close_autolink(printer, given, exit, name),
+        Group::Table => close_table(printer, given, exit, name),
         Group::Silent | Group::Captured => Ok(()),
     }
 }
@@ -60,26 +60,26 @@ pub fn close(
 /// Prints what a text or a break prints after its children.
 fn close_text(
     printer: &mut Printer,
-    source: &Source,
+    given: &Given,
     exit: &Exit,
     name: Name,
 ) -> Result<(), AllocError>
     requires { group_of name ≡ group.Text }
-    ensures { OnOk result (printer.new ≡ printing source.now.ending.now
-        (printed.text_closing (given_of source.now) exit.now.around
+    ensures { OnOk result (printer.new ≡ printing given.now.ending.now
+        (printed.text_closing (given_of given.now) exit.now.around
         (left_at exit.now printer.old.log.called (first_or [] printer.old.tables))
         exit.now.is_last exit.now.start exit.now.end blank name) printer.old) }
 {
     match name {
-        Name::LineEnding => line_ending(printer, source, exit),
-        Name::BlankLineEnding => blank_line_ending(printer, source.ending, exit.is_last),
-        Name::Data => data(printer, source, exit),
-        Name::CharacterEscapeValue => data(printer, source, exit),
-        Name::CodeTextData => data(printer, source, exit),
-        Name::MathTextData => data(printer, source, exit),
-        Name::CharacterReferenceValue => reference(printer, source, exit),
-        Name::HtmlFlowData => html(printer, source, exit),
-        Name::HtmlTextData => html(printer, source, exit),
+        Name::LineEnding => line_ending(printer, given, exit),
+        Name::BlankLineEnding => blank_line_ending(printer, given.ending, exit.is_last),
+        Name::Data => data(printer, given, exit),
+        Name::CharacterEscapeValue => data(printer, given, exit),
+        Name::CodeTextData => data(printer, given, exit),
+        Name::MathTextData => data(printer, given, exit),
+        Name::CharacterReferenceValue => reference(printer, given, exit),
+        Name::HtmlFlowData => html(printer, given, exit),
+        Name::HtmlTextData => html(printer, given, exit),
         Name::HardBreakEscape => outside_images(printer, exit.around, "<br />"),
         Name::HardBreakTrailing => outside_images(printer, exit.around, "<br />"),
         Name::GfmTaskListItemValueChecked => {
@@ -92,13 +92,13 @@ fn close_text(
 /// Prints what a span prints after its children.
 fn close_span(
     printer: &mut Printer,
-    source: &Source,
+    given: &Given,
     exit: &Exit,
     name: Name,
 ) -> Result<(), AllocError>
     requires { group_of name ≡ group.Span }
-    ensures { OnOk result (printer.new ≡ printing source.now.ending.now
-        (printed.text_closing (given_of source.now) exit.now.around
+    ensures { OnOk result (printer.new ≡ printing given.now.ending.now
+        (printed.text_closing (given_of given.now) exit.now.around
         (left_at exit.now printer.old.log.called (first_or [] printer.old.tables))
         exit.now.is_last exit.now.start exit.now.end blank name) printer.old) }
 {
@@ -114,32 +114,32 @@ fn close_span(
 /// Prints what a block prints after its children.
 fn close_block(
     printer: &mut Printer,
-    source: &Source,
+    given: &Given,
     exit: &Exit,
     name: Name,
 ) -> Result<(), AllocError>
-    ensures { OnOk result (printer.new ≡ printing source.now.ending.now
-        (printed.block_closing (given_of source.now) exit.now.around
+    ensures { OnOk result (printer.new ≡ printing given.now.ending.now
+        (printed.block_closing (given_of given.now) exit.now.around
         (left_at exit.now printer.old.log.called (first_or [] printer.old.tables))
         printer.old.frame.ahead printer.old.frame.passed exit.now.start exit.now.end name) printer.old) }
 {
     match name {
-        Name::BlockQuote => on_own_line(printer, source.ending, "</blockquote>"),
-        Name::ListOrdered => list(printer, source.ending, "</ol>"),
-        Name::ListUnordered => list(printer, source.ending, "</ul>"),
-        Name::ListItem => item(printer, source.ending, exit.around),
+        Name::BlockQuote => on_own_line(printer, given.ending, "</blockquote>"),
+        Name::ListOrdered => list(printer, given.ending, "</ol>"),
+        Name::ListUnordered => list(printer, given.ending, "</ul>"),
+        Name::ListItem => item(printer, given.ending, exit.around),
         Name::Paragraph => paragraph(printer, exit.around),
-        Name::ThematicBreak => on_own_line(printer, source.ending, "<hr />"),
-        Name::HeadingAtx => heading(printer, source.bytes),
-        Name::HeadingSetextUnderlineSequence => setext(printer, source, exit),
-        Name::CodeIndented => indented(printer, source.ending),
-        Name::CodeFenced => fenced(printer, source.ending, exit.around),
-        Name::MathFlow => fenced(printer, source.ending, exit.around),
+        Name::ThematicBreak => on_own_line(printer, given.ending, "<hr />"),
+        Name::HeadingAtx => heading(printer, given.bytes),
+        Name::HeadingSetextUnderlineSequence => setext(printer, given, exit),
+        Name::CodeIndented => indented(printer, given.ending),
+        Name::CodeFenced => fenced(printer, given.ending, exit.around),
+        Name::MathFlow => fenced(printer, given.ending, exit.around),
         Name::CodeFencedFence => fence(printer, exit),
         Name::MathFlowFence => fence(printer, exit),
         Name::CodeFencedFenceInfo => printer.put("\""),
-        Name::CodeFlowChunk => chunk(printer, source, exit),
-        Name::MathFlowChunk => chunk(printer, source, exit),
+        Name::CodeFlowChunk => chunk(printer, given, exit),
+        Name::MathFlowChunk => chunk(printer, given, exit),
         _ => Ok(()),
     }
 }
@@ -147,30 +147,28 @@ fn close_block(
 /// Prints an autolink.
 fn close_autolink(
     printer: &mut Printer,
-    source: &Source,
+    given: &Given,
     exit: &Exit,
     name: Name,
 ) -> Result<(), AllocError>
     requires { group_of name ≡ group.Autolink }
-    ensures { OnOk result (printer.new ≡ printing source.now.ending.now
-        (printed.media_closing (given_of source.now)
+    ensures { OnOk result (printer.new ≡ printing given.now.ending.now
+        (printed.media_closing (given_of given.now)
         exit.now.around printer.old.frame.ahead exit.now.start exit.now.end blank name) printer.old) }
 {
     let around = exit.around;
     match name {
-        Name::AutolinkEmail => { autolink(printer, source, exit, "mailto:", around.in_image) }
-        Name::AutolinkProtocol => autolink(printer, source, exit, "", around.in_image),
+        Name::AutolinkEmail => { autolink(printer, given, exit, "mailto:", around.in_image) }
+        Name::AutolinkProtocol => autolink(printer, given, exit, "", around.in_image),
         Name::GfmAutolinkLiteralEmail => {
-            autolink(printer, source, exit, "mailto:", is_plain(around))
+            autolink(printer, given, exit, "mailto:", is_plain(around))
         }
-        Name::GfmAutolinkLiteralMailto => { autolink(printer, source, exit, "", is_plain(around)) }
-        Name::GfmAutolinkLiteralProtocol => {
-            autolink(printer, source, exit, "", is_plain(around))
-        }
+        Name::GfmAutolinkLiteralMailto => { autolink(printer, given, exit, "", is_plain(around)) }
+        Name::GfmAutolinkLiteralProtocol => { autolink(printer, given, exit, "", is_plain(around)) }
         Name::GfmAutolinkLiteralWww => {
-            autolink(printer, source, exit, "http://", is_plain(around))
+            autolink(printer, given, exit, "http://", is_plain(around))
         }
-        Name::GfmAutolinkLiteralXmpp => { autolink(printer, source, exit, "", is_plain(around)) }
+        Name::GfmAutolinkLiteralXmpp => { autolink(printer, given, exit, "", is_plain(around)) }
         _ => Ok(()),
     }
 }
@@ -178,21 +176,21 @@ fn close_autolink(
 /// Prints what a table or a part of it prints after its children.
 fn close_table(
     printer: &mut Printer,
-    source: &Source,
+    given: &Given,
     exit: &Exit,
     name: Name,
 ) -> Result<(), AllocError>
     requires { group_of name ≡ group.Table }
-    ensures { OnOk result (printer.new ≡ printing source.now.ending.now
-        (printed.gfm_closing (given_of source.now) exit.now.around
+    ensures { OnOk result (printer.new ≡ printing given.now.ending.now
+        (printed.gfm_closing (given_of given.now) exit.now.around
         (left_at exit.now printer.old.log.called (first_or [] printer.old.tables))
         printer.old.frame.ahead printer.old.frame.passed blank name) printer.old) }
 {
     match name {
-        Name::GfmTable => on_own_line(printer, source.ending, "</table>"),
-        Name::GfmTableHead => on_own_line(printer, source.ending, "</thead>"),
-        Name::GfmTableBody => on_own_line(printer, source.ending, "</tbody>"),
-        Name::GfmTableRow => close_row(printer, source.ending, exit),
+        Name::GfmTable => on_own_line(printer, given.ending, "</table>"),
+        Name::GfmTableHead => on_own_line(printer, given.ending, "</thead>"),
+        Name::GfmTableBody => on_own_line(printer, given.ending, "</tbody>"),
+        Name::GfmTableRow => close_row(printer, given.ending, exit),
         _ => Ok(()),
     }
 }
@@ -205,50 +203,50 @@ fn close_table(
 /// `usize` counts.
 pub fn close_captured(
     printer: &mut Printer,
-    source: &Source,
+    given: &Given,
     exit: &Exit,
     inner: Inner,
     name: Name,
 ) -> Result<(), AllocError>
     requires { is_captured name ≡ true }
-    ensures { OnOk result (printer.new ≡ printing source.now.ending.now
-        (closing_at (given_of source.now) exit.now printer.old.log.called (first_or [] printer.old.tables)
+    ensures { OnOk result (printer.new ≡ printing given.now.ending.now
+        (closing_at (given_of given.now) exit.now printer.old.log.called (first_or [] printer.old.tables)
         (ahead_by inner.place) printer.old.frame.passed inner.sheet name) printer.old) }
 {
     match name {
-        Name::CodeText => code(source.alloc, printer, exit.around, "<code>", &inner.sheet),
+        Name::CodeText => code(given.alloc, printer, exit.around, "<code>", &inner.sheet),
         Name::MathText => {
             let tag = "<code class=\"language-math math-inline\">";
-            code(source.alloc, printer, exit.around, tag, &inner.sheet)
+            code(given.alloc, printer, exit.around, tag, &inner.sheet)
         }
         Name::HeadingSetextText => {
-            printer.note_heading(inner.sheet.into_text(source.alloc)?);
+            printer.note_heading(inner.sheet.into_text(given.alloc)?);
             Ok(())
         }
         Name::DefinitionDestinationString => {
-            printer.note_destination(inner.sheet.into_text(source.alloc)?);
+            printer.note_destination(inner.sheet.into_text(given.alloc)?);
             Ok(())
         }
         Name::DefinitionTitleString => {
-            printer.note_title(inner.sheet.into_text(source.alloc)?);
+            printer.note_title(inner.sheet.into_text(given.alloc)?);
             Ok(())
         }
         Name::ResourceDestinationString => {
-            printer.note_destination(inner.sheet.into_text(source.alloc)?);
+            printer.note_destination(inner.sheet.into_text(given.alloc)?);
             Ok(())
         }
         Name::ResourceTitleString => {
-            printer.note_title(inner.sheet.into_text(source.alloc)?);
+            printer.note_title(inner.sheet.into_text(given.alloc)?);
             Ok(())
         }
         Name::Resource => {
             printer.note_resource(inner.sheet.into_target());
             Ok(())
         }
-        Name::Link => link(printer, source, exit, inner),
-        Name::Image => image(printer, source, exit, inner),
-        Name::GfmFootnoteCall => call(printer, source, exit, inner.place),
-        Name::GfmTableCell => close_cell(source.alloc, printer, source.ending, exit, &inner.sheet),
+        Name::Link => link(printer, given, exit, inner),
+        Name::Image => image(printer, given, exit, inner),
+        Name::GfmFootnoteCall => call(printer, given, exit, inner.place),
+        Name::GfmTableCell => close_cell(given.alloc, printer, given.ending, exit, &inner.sheet),
         _ => Ok(()),
     }
 }
@@ -328,12 +326,12 @@ fn heading_closing(rank: usize) -> &'static str
 }
 
 /// Prints a setext heading, whose text was noted, with the rank that its underline tells.
-fn setext(printer: &mut Printer, source: &Source, exit: &Exit) -> Result<(), AllocError>
+fn setext(printer: &mut Printer, given: &Given, exit: &Exit) -> Result<(), AllocError>
     ensures { OnOk result (printer.new
-        ≡ printing source.now.ending.now (blocks.setext_pieces (given_of source.now) exit.now.start) printer.old) }
+        ≡ printing given.now.ending.now (blocks.setext_pieces (given_of given.now) exit.now.start) printer.old) }
 {
-    let dashed = is_dash_at(source.bytes, exit.start.index);
-    on_own_line(printer, source.ending, if dashed { "<h2>" } else { "<h1>" })?;
+    let dashed = is_dash_at(given.bytes, exit.start.index);
+    on_own_line(printer, given.ending, if dashed { "<h2>" } else { "<h1>" })?;
     printer.recall()?;
     printer.put(if dashed { "</h2>" } else { "</h1>" })
 }
@@ -425,11 +423,11 @@ fn fenced(printer: &mut Printer, ending: &str, around: Surroundings) -> Result<(
     need_if(printer, ending, unclosed)
 }
 
-fn chunk(printer: &mut Printer, source: &Source, exit: &Exit) -> Result<(), AllocError>
+fn chunk(printer: &mut Printer, given: &Given, exit: &Exit) -> Result<(), AllocError>
     ensures { OnOk result (printer.new
-        ≡ printing [] (blocks.chunk_pieces (given_of source.now) exit.now.start exit.now.end) printer.old) }
+        ≡ printing [] (blocks.chunk_pieces (given_of given.now) exit.now.start exit.now.end) printer.old) }
 {
-    let text = serialized_of(source.alloc, source.bytes, exit.start, exit.end)?;
+    let text = serialized_of(given.alloc, given.bytes, exit.start, exit.end)?;
     put_encoded(printer, text.as_str(), true)
 }
 

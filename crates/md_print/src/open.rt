@@ -11,9 +11,9 @@ ghost use Rattle.md_printer.specs.Sources.{given_of};
 
 use md_base::{Name, Position};
 use md_meaning::{Container, Surroundings};
+use md_printer::given::{Given, length_of, text_of, without_zeros};
 use md_printer::lines::on_own_line;
 use md_printer::printer::Printer;
-use md_printer::source::{Source, length_of, text_of, without_zeros};
 use std::alloc::AllocError;
 
 /// Prints what a node prints before its children.
@@ -23,47 +23,47 @@ use std::alloc::AllocError;
 /// `AllocError`, only where memory runs out.
 pub fn open(
     printer: &mut Printer,
-    source: &Source,
+    given: &Given,
     around: Surroundings,
     place: Option<Position>,
     name: Name,
 ) -> Result<(), AllocError>
     ensures { OnOk result (printer.new
-        ≡ printing source.now.ending.now (printed.opening (given_of source.now) around (ahead_by place) name)
+        ≡ printing given.now.ending.now (printed.opening (given_of given.now) around (ahead_by place) name)
         printer.old) }
 {
     match name {
-        Name::BlockQuote => on_own_line(printer, source.ending, "<blockquote>"),
-        Name::ListOrdered => ordered_list(printer, source, place),
-        Name::ListUnordered => on_own_line(printer, source.ending, "<ul>"),
-        Name::ListItem => on_own_line(printer, source.ending, "<li>"),
-        Name::Paragraph => paragraph(printer, source.ending, around),
+        Name::BlockQuote => on_own_line(printer, given.ending, "<blockquote>"),
+        Name::ListOrdered => ordered_list(printer, given, place),
+        Name::ListUnordered => on_own_line(printer, given.ending, "<ul>"),
+        Name::ListItem => on_own_line(printer, given.ending, "<li>"),
+        Name::Paragraph => paragraph(printer, given.ending, around),
         Name::HeadingAtx => {
             on_own_line(
                 printer,
-                source.ending,
-                heading_opening(rank_of(source.bytes, place)),
+                given.ending,
+                heading_opening(rank_of(given.bytes, place)),
             )
         }
-        Name::CodeIndented => on_own_line(printer, source.ending, "<pre><code>"),
-        Name::CodeFenced => on_own_line(printer, source.ending, "<pre><code"),
+        Name::CodeIndented => on_own_line(printer, given.ending, "<pre><code>"),
+        Name::CodeFenced => on_own_line(printer, given.ending, "<pre><code"),
         Name::MathFlow => {
             on_own_line(
                 printer,
-                source.ending,
+                given.ending,
                 "<pre><code class=\"language-math math-display\"",
             )
         }
         Name::CodeFencedFenceInfo => printer.put(" class=\"language-"),
-        Name::HtmlFlow => printer.need(source.ending),
+        Name::HtmlFlow => printer.need(given.ending),
         Name::Emphasis => outside_images(printer, around, "<em>"),
         Name::Strong => outside_images(printer, around, "<strong>"),
         Name::GfmStrikethrough => outside_images(printer, around, "<del>"),
-        Name::GfmTaskListItemCheck => task(printer, source, around),
-        Name::GfmTable => on_own_line(printer, source.ending, "<table>"),
-        Name::GfmTableHead => on_own_line(printer, source.ending, "<thead>"),
+        Name::GfmTaskListItemCheck => task(printer, given, around),
+        Name::GfmTable => on_own_line(printer, given.ending, "<table>"),
+        Name::GfmTableHead => on_own_line(printer, given.ending, "<thead>"),
         Name::GfmTableBody => printer.put("<tbody>"),
-        Name::GfmTableRow => on_own_line(printer, source.ending, "<tr>"),
+        Name::GfmTableRow => on_own_line(printer, given.ending, "<tr>"),
         _ => Ok(()),
     }
 }
@@ -106,26 +106,26 @@ fn paragraph(printer: &mut Printer, ending: &str, around: Surroundings) -> Resul
 
 fn ordered_list(
     printer: &mut Printer,
-    source: &Source,
+    given: &Given,
     number: Option<Position>,
 ) -> Result<(), AllocError>
-    ensures { OnOk result (printer.new ≡ printing source.now.ending.now (blocks.on_own_line (codes "<ol")
-        ++ (blocks.start_pieces source.now.bytes.now number ++ said (codes ">"))) printer.old) }
+    ensures { OnOk result (printer.new ≡ printing given.now.ending.now (blocks.on_own_line (codes "<ol")
+        ++ (blocks.start_pieces given.now.bytes.now number ++ said (codes ">"))) printer.old) }
 {
-    on_own_line(printer, source.ending, "<ol")?;
-    start(printer, source, number)?;
+    on_own_line(printer, given.ending, "<ol")?;
+    start(printer, given, number)?;
     printer.put(">")
 }
 
 /// Prints the number of a list's first item, where there is one.
-fn start(printer: &mut Printer, source: &Source, number: Option<Position>) -> Result<(), AllocError>
+fn start(printer: &mut Printer, given: &Given, number: Option<Position>) -> Result<(), AllocError>
     ensures { OnOk result (printer.new
-        ≡ printing source.now.ending.now (blocks.start_pieces source.now.bytes.now number) printer.old) }
+        ≡ printing given.now.ending.now (blocks.start_pieces given.now.bytes.now number) printer.old) }
 {
     match number {
         Some(place) => {
-            let digits = text_of(source.bytes, place.start, place.end);
-            start_at(printer, source.ending, without_zeros(digits))
+            let digits = text_of(given.bytes, place.start, place.end);
+            start_at(printer, given.ending, without_zeros(digits))
         }
         None => Ok(()),
     }
@@ -167,14 +167,14 @@ fn heading_opening(rank: usize) -> &'static str
     }
 }
 
-fn task(printer: &mut Printer, source: &Source, around: Surroundings) -> Result<(), AllocError>
-    ensures { OnOk result (printer.new ≡ printing [] (texts.task_pieces (given_of source.now) around) printer.old) }
+fn task(printer: &mut Printer, given: &Given, around: Surroundings) -> Result<(), AllocError>
+    ensures { OnOk result (printer.new ≡ printing [] (texts.task_pieces (given_of given.now) around) printer.old) }
 {
     if around.in_image {
         return Ok(());
     }
     printer.put("<input type=\"checkbox\" ")?;
-    if source.options.gfm_task_list_item_checkable {
+    if given.options.gfm_task_list_item_checkable {
         Ok(())
     } else {
         printer.put("disabled=\"\" ")

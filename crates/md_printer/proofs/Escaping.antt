@@ -5,7 +5,7 @@ use Rattle.std.proofs.lemmas.List.{take-append-drop}
 use Rattle.md_text.specs.Encode.{encoded, encoded_byte}
 use Rattle.md_text.proofs.EncodeLemmas.{encoded-append}
 use Rattle.md_meaning.specs.Texts.{said}
-use Rattle.md_printer.specs.Machine.{State, printing}
+use Rattle.md_printer.specs.Machine.{Printer, printing}
 
 -- a text at one of its bytes
 split : (bs : List ℕ) (i : ℕ) → i < length bs → take i bs ++ get_or bs i 0 ∷ drop (i + 1) bs ≡ bs
@@ -22,7 +22,7 @@ encoded-at html bs other i h plain same =
     ∙ ap (λ x. encoded html x) (split bs i h)
 
 -- a text is printed in three parts
-pub printed-parts : (xs ys zs all : List ℕ) (state : State) → xs ++ (ys ++ zs) ≡ all →
+pub printed-parts : (xs ys zs all : List ℕ) (state : Printer) → xs ++ (ys ++ zs) ≡ all →
     printing [] (said zs) (printing [] (said ys) (printing [] (said xs) state)) ≡ printing [] (said all) state
 printed-parts xs ys zs all state same =
     ap (λ text. record state { sheet = record state.sheet { text = text } })

@@ -18,10 +18,10 @@ use Rattle.md_meaning.specs.Calls.{Called}
 use Rattle.md_meaning.specs.Footnotes.{Footnote, section_pieces}
 use Rattle.md_sheet.specs.Seen.{counted, noted}
 use Rattle.md_base.specs.NameTests.{is_call, is_table, is_link_definition, is_footnote_definition, is_transparent}
-use Rattle.md_meaning.specs.declared.facts.Ahead.{Ahead}
-use Rattle.md_meaning.specs.declared.facts.Surroundings.{Surroundings}
-use Rattle.md_meaning.specs.declared.facts.Passed.{Passed}
-use Rattle.md_meaning.specs.declared.facts.Spine.{Spine}
+use Rattle.md_meaning.specs.declared.context.Ahead.{Ahead}
+use Rattle.md_meaning.specs.declared.context.Surroundings.{Surroundings}
+use Rattle.md_meaning.specs.declared.context.Passed.{Passed}
+use Rattle.md_meaning.specs.declared.context.Spine.{Spine}
 use Rattle.md_meaning.specs.declared.options.CompileOptions.{CompileOptions}
 use Rattle.md_meaning.specs.Piece.{Piece, Sheet, blank, lay}
 use Rattle.md_meaning.specs.Surroundings.{own_marks, inside, outermost}
@@ -66,7 +66,7 @@ pub record Frame : Type 0 where
 -- node
 -- that is open, those around it (the innermost first), and the alignments of the tables that are open (the innermost
 -- first)
-pub record State : Type 0 where
+pub record Printer : Type 0 where
   pub sheet : Sheet
   pub below : List Sheet
   pub log : Log
@@ -86,7 +86,7 @@ document_frame = record {
 }
 
 -- before the first event
-abbrev pub beginning : State
+abbrev pub beginning : Printer
 beginning = record {
   sheet = blank;
   below = [];
@@ -98,18 +98,18 @@ beginning = record {
 }
 
 -- some pieces are laid on the sheet
-abbrev pub printing : List ℕ → List Piece → State → State
+abbrev pub printing : List ℕ → List Piece → Printer → Printer
 printing ending pieces state = record state { sheet = lay ending state.sheet pieces }
 
 -- the sheet is put below an empty one
-abbrev pub capturing : Bool → State → State
+abbrev pub capturing : Bool → Printer → Printer
 capturing captured state = record state {
   sheet = if captured then blank else state.sheet;
   below = if captured then state.sheet ∷ state.below else state.below;
 }
 
 -- the sheet below comes back
-abbrev pub releasing : Bool → State → State
+abbrev pub releasing : Bool → Printer → Printer
 releasing captured state = record state {
   sheet = if captured then first_or blank state.below else state.sheet;
   below = if captured then others_of state.below else state.below;
@@ -125,43 +125,43 @@ frame_inside options ahead loose name start slurping parent = record {
   passed = nothing_passed (if is_transparent name then parent.passed.spine else no_spine);
 }
 
-abbrev pub opening_frame : CompileOptions → Ahead → Bool → Name → Point → State → State
+abbrev pub opening_frame : CompileOptions → Ahead → Bool → Name → Point → Printer → Printer
 opening_frame options ahead loose name start state = record state {
   frame = frame_inside options ahead loose name start state.is_slurping state.frame;
   frames = state.frame ∷ state.frames;
 }
 
 -- a table is entered, whose columns have these alignments, or no table
-abbrev pub entering_table : Bool → List AlignKind → State → State
+abbrev pub entering_table : Bool → List AlignKind → Printer → Printer
 entering_table is_table columns state = record state {
   tables = if is_table then columns ∷ state.tables
       else state.tables;
 }
 
 -- a table is left, or no table
-abbrev pub leaving_table : Bool → State → State
+abbrev pub leaving_table : Bool → Printer → Printer
 leaving_table is_table state = record state { tables = if is_table then others_of state.tables else state.tables }
 
 -- a node is entered, whose children's text is captured or not
-abbrev pub entered : Given → Ahead → Bool → List AlignKind → Bool → Name → Point → State → State
+abbrev pub entered : Given → Ahead → Bool → List AlignKind → Bool → Name → Point → Printer → Printer
 entered given ahead loose columns captured name start state =
     entering_table (is_table name) columns
     (opening_frame given.options ahead loose name start
     (capturing captured (printing given.ending (opening given state.frame.around ahead name) state)))
 
 -- a child of the innermost node is passed, which has passed its own children
-abbrev pub passing_child : Name → Spine → State → State
+abbrev pub passing_child : Name → Spine → Printer → Printer
 passing_child name inner state = record state {
   is_slurping = slurps_after (own_marks state.frame.around state.frame.passed.spine name) state.is_slurping;
   frame = record state.frame { passed = passing name inner state.frame.passed };
 }
 
 -- a child without children is passed
-abbrev pub passing_leaf : Name → State → State
+abbrev pub passing_leaf : Name → Printer → Printer
 passing_leaf name state = passing_child name (if is_transparent name then state.frame.passed.spine else no_spine) state
 
 -- the innermost node is left
-abbrev pub leaving : Name → State → State
+abbrev pub leaving : Name → Printer → Printer
 leaving name state =
     passing_child name state.frame.passed.spine (record state {
       frame = first_or document_frame state.frames;
@@ -169,7 +169,7 @@ leaving name state =
     })
 
 -- what the innermost node learns from what stands before it
-abbrev pub left_in : State → Left
+abbrev pub left_in : Printer → Left
 left_in state =
     let parent = first_or document_frame state.frames in
     record {
@@ -181,13 +181,13 @@ left_in state =
     }
 
 -- what is printed where the innermost node is left
-abbrev pub closing_in : Given → Bool → Name → Point → Sheet → State → List Piece
+abbrev pub closing_in : Given → Bool → Name → Point → Sheet → Printer → List Piece
 closing_in given last name end inner state =
     closing given (first_or document_frame state.frames).around
     (left_in state) state.frame.ahead state.frame.passed last state.frame.start end inner name
 
 -- what a node that is exited is seen for, with its children's sheet
-abbrev pub logging : List ℕ → Ahead → Name → Sheet → State → State
+abbrev pub logging : List ℕ → Ahead → Name → Sheet → Printer → Printer
 logging bytes ahead name inner state = record state {
   log = record {
     called = if is_call name then counted state.log.called (identifier_at bytes ahead.label) else state.log.called;
@@ -206,7 +206,7 @@ logging bytes ahead name inner state = record state {
 }
 
 -- a node is exited, whose children's text was captured or not
-abbrev pub exited : Given → Bool → Bool → Name → Point → State → State
+abbrev pub exited : Given → Bool → Bool → Name → Point → Printer → Printer
 exited given last captured name end state =
     leaving name
     (printing given.ending
@@ -230,19 +230,19 @@ loose_told ListUnordered children = option_map_or is_loose children false
 loose_told _ children = false
 
 -- an event, with the children of the node that it enters
-abbrev pub stepped : Given → Kind → Name → Point → Option Forest → Bool → State → State
+abbrev pub stepped : Given → Kind → Name → Point → Option Forest → Bool → Printer → Printer
 stepped given Enter name point children last state =
     entered given (ahead_told name children) (loose_told name children) (columns_told name children)
     (is_captured name) name point state
 stepped given Exit name point children last state = exited given last (is_captured name) name point state
 
 -- the events one after another, each with the children of the node that it enters
-abbrev pub run : Given → List Event → List (Option Forest) → State → State
+abbrev pub run : Given → List Event → List (Option Forest) → Printer → Printer
 run given [] nodes state = state
 run given (event ∷ events) [] state = state
 run given (event ∷ events) (children ∷ nodes) state =
     run given events nodes (stepped given event.kind event.name event.point children (is_nil events) state)
 
 -- the text at the end: the section of footnotes comes last
-abbrev pub finished : Given → State → Sheet
+abbrev pub finished : Given → Printer → Sheet
 finished given state = lay given.ending state.sheet (section_pieces given.options state.log.footnotes state.log.called)

@@ -4,29 +4,29 @@ use Rattle.md_base.specs.Reference.{name_table}
 use Rattle.md_base.specs.Tree.{Forest, flatten}
 use Rattle.md_tree.specs.Grammar.{Document}
 use Rattle.md_tree.specs.Entered.{children_of}
-use Rattle.md_printer.specs.declared.source.Source.{Source}
+use Rattle.md_printer.specs.declared.given.Given.{Given as GivenInside}
 use Rattle.md_base.specs.declared.event.Name.{Name}
-use Rattle.md_printer.specs.declared.facts.Exit.{Exit}
-use Rattle.md_printer.specs.declared.facts.Frame.{Frame as FrameInside}
-use Rattle.md_printer.specs.Machine.{Frame, State, ahead_by, document_frame}
+use Rattle.md_printer.specs.declared.frames.Exit.{Exit}
+use Rattle.md_printer.specs.declared.frames.Frame.{Frame as FrameInside}
+use Rattle.md_printer.specs.Machine.{Frame, Printer, ahead_by, document_frame}
 use Rattle.md_around.specs.Steps.{first_or}
 use Rattle.md_meaning.specs.Piece.{Piece, Sheet}
 use Rattle.md_meaning.specs.Places.{Left}
-use Rattle.md_meaning.specs.declared.facts.Ahead.{Ahead}
-use Rattle.md_meaning.specs.declared.facts.Passed.{Passed}
+use Rattle.md_meaning.specs.declared.context.Ahead.{Ahead}
+use Rattle.md_meaning.specs.declared.context.Passed.{Passed}
 use Rattle.md_meaning.specs.Printed.{closing}
 use Rattle.md_meaning.specs.Given.{Given}
 use Rattle.md_meaning.specs.Calls.{Called}
 use Rattle.md_base.specs.declared.event.AlignKind.{AlignKind}
 use Rattle.md_base.specs.declared.event.Point.{Point}
 
-abbrev pub given_of : Source → Given
-given_of source = record {
-  bytes = source.bytes.now;
-  names = name_table source.names.now;
-  options = source.options.now;
-  ending = source.ending.now;
-  definitions = source.definitions.now;
+abbrev pub given_of : GivenInside → Given
+given_of given = record {
+  bytes = given.bytes.now;
+  names = name_table given.names.now;
+  options = given.options.now;
+  ending = given.ending.now;
+  definitions = given.definitions.now;
 }
 
 -- an open node, as the machine has it
@@ -40,7 +40,7 @@ frame_of frame = record {
 }
 
 -- what the innermost node of a state is exited with
-abbrev pub exit_in : Bool → Point → State → Exit
+abbrev pub exit_in : Bool → Point → Printer → Exit
 exit_in last end state =
     let parent = first_or document_frame state.frames in
     record {
@@ -54,7 +54,7 @@ exit_in last end state =
     }
 
 -- what a node without children is exited with, which starts where a state stands
-abbrev pub leaf_in : Point → Bool → Point → State → Exit
+abbrev pub leaf_in : Point → Bool → Point → Printer → Exit
 leaf_in start last end state = record {
   around = state.frame.around;
   previous = state.frame.passed.last;

@@ -2,7 +2,7 @@
 #![tactic(auto)]
 
 pub mod escape;
-pub mod facts;
+pub mod frames;
+pub mod given;
 pub mod lines;
 pub mod printer;
-pub mod source;

@@ -10,7 +10,7 @@ ghost use Rattle.md_meaning.specs.Footnotes.{section_pieces};
 ghost use Rattle.md_sheet.specs.Seen.{counted, noted};
 ghost use Rattle.md_meaning.specs.Texts.{said};
 
-use crate::facts::{Exit, Frame, Lookahead};
+use crate::frames::{Exit, Frame, Lookahead};
 use md_around::surroundings::{NO_SPINE, inside, pass, slurps_after, spine_inside};
 use md_base::{AlignKind, Name, Point, Position};
 use md_meaning::{CompileOptions, Container, Passed, Spine, Surroundings};
@@ -34,10 +34,10 @@ pub struct Printer {
 
 impl Model for Printer {
     ghost use Rattle.std.specs.Prelude.{reverse, map};
-    ghost use Rattle.md_printer.specs.Machine.{State};
+    ghost use Rattle.md_printer.specs.Machine as machine;
     ghost use Rattle.md_printer.specs.Sources.{frame_of};
 
-    ghost Value = { State };
+    ghost Value = { machine.Printer };
 
     ghost view = { λ p. record {
       sheet = p.sheet;

@@ -12,8 +12,8 @@ use Rattle.md_text.proofs.EncodeLaws.{is_escaped-encoded}
 use Rattle.md_text.proofs.EscapedLemmas.{escaped-append}
 use Rattle.md_text.proofs.HtmlJoin.{nothing, text}
 use Rattle.md_base.specs.NameTests.{is_transparent, is_call}
-use Rattle.md_meaning.specs.declared.facts.Surroundings.{Surroundings}
-use Rattle.md_meaning.specs.declared.facts.Passed.{Passed}
+use Rattle.md_meaning.specs.declared.context.Surroundings.{Surroundings}
+use Rattle.md_meaning.specs.declared.context.Passed.{Passed}
 use Rattle.md_meaning.specs.Piece.{Piece, Text, Needed, Forced, Heading, Destination, Title}
 use Rattle.md_meaning.specs.Given.{serialized_of}
 use Rattle.md_meaning.specs.Places.{ahead_of}

@@ -8,7 +8,7 @@ use Rattle.md_base.specs.Tree.{Forest, Empty, Node}
 use Rattle.md_base.specs.NameTests.{is_transparent, is_call, is_footnote_definition}
 use Rattle.md_infer.specs.Looseness.{is_loose}
 use Rattle.md_text.proofs.HtmlIds.{occurs, occurs-append, Counts, counts-join}
-use Rattle.md_meaning.specs.declared.facts.Surroundings.{Surroundings}
+use Rattle.md_meaning.specs.declared.context.Surroundings.{Surroundings}
 use Rattle.md_meaning.specs.Places.{Before, before_children, before_next, identifier_at, ahead_of, calls_of}
 use Rattle.md_meaning.specs.Footnotes.{Footnote}
 use Rattle.md_meaning.specs.Printed.{printed, footnotes_of}

@@ -13,7 +13,7 @@ use Rattle.md_infer.specs.Looseness.{is_loose}
 use Rattle.md_text.proofs.HtmlJoin.{nothing}
 use Rattle.md_text.proofs.HtmlIds.{occurs, occurs-append, is_without, Counts, counts-plain, counts-more}
 use Rattle.md_safe.proofs.Counted.{counts-call}
-use Rattle.md_meaning.specs.declared.facts.Surroundings.{Surroundings}
+use Rattle.md_meaning.specs.declared.context.Surroundings.{Surroundings}
 use Rattle.md_meaning.specs.Surroundings.{inside}
 use Rattle.md_meaning.specs.Piece.{Piece, blank, lay}
 use Rattle.md_meaning.specs.Given.{Given}

@@ -11,7 +11,7 @@ use Rattle.md_base.specs.NameTests.{is_transparent, is_link_definition, is_footn
 use Rattle.md_base.specs.Children.{is_empty}
 use Rattle.md_infer.specs.Looseness.{is_loose}
 use Rattle.md_meaning.specs.declared.options.CompileOptions.{CompileOptions}
-use Rattle.md_meaning.specs.declared.facts.Surroundings.{Surroundings}
+use Rattle.md_meaning.specs.declared.context.Surroundings.{Surroundings}
 use Rattle.md_meaning.specs.Piece.{Piece, blank, lay, Sheet}
 use Rattle.md_meaning.specs.Given.{Given, Defined}
 use Rattle.md_meaning.specs.Places.{Before, before_children, before_next, left_of, passed_over, ahead_of, identifier_at}

@@ -3,7 +3,7 @@
 ghost use Rattle.std.specs.Prelude.{◌≡◌, ℕ, List, [], map, false};
 ghost use Rattle.md_base.specs.Tree.{Forest};
 ghost use Rattle.md_tree.specs.Grammar.{IsGrammatical};
-ghost use Rattle.md_meaning.specs.declared.facts.Surroundings.{Surroundings};
+ghost use Rattle.md_meaning.specs.declared.context.Surroundings.{Surroundings};
 ghost use Rattle.md_meaning.specs.Meaning.At.{Given, Before};
 ghost use Rattle.md_meaning.specs.Meaning.Nodes.{meant};
 ghost use Rattle.md_shape.specs.Built.{Blocks, IsBuilt};

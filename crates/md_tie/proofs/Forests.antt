@@ -18,7 +18,7 @@ use Rattle.md_base.specs.NameTests.{is_transparent, is_call, is_definition_label
 use Rattle.md_infer.specs.Looseness.{is_loose}
 use Rattle.md_shape.specs.Built.{Content, IsBuilt, IsFit, content_inside}
 use Rattle.md_shape.proofs.Symbols.{Told, told}
-use Rattle.md_meaning.specs.declared.facts.Surroundings.{Surroundings}
+use Rattle.md_meaning.specs.declared.context.Surroundings.{Surroundings}
 use Rattle.md_meaning.specs.Surroundings.{inside}
 use Rattle.md_meaning.specs.Given.{Defined}
 use Rattle.md_meaning.specs.Footnotes.{Footnote}

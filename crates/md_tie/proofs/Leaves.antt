@@ -21,8 +21,8 @@ use Rattle.md_meaning.specs.Blocks as old_blocks
 use Rattle.md_meaning.specs.Media as old_media
 use Rattle.md_meaning.specs.Footnotes as old_notes
 use Rattle.md_meaning.specs.Tables as old_tables
-use Rattle.md_meaning.specs.declared.facts.Container.{Container}
-use Rattle.md_meaning.specs.declared.facts.Container.TheVariants.{Nothing}
+use Rattle.md_meaning.specs.declared.context.Container.{Container}
+use Rattle.md_meaning.specs.declared.context.Container.TheVariants.{Nothing}
 use Rattle.md_meaning.specs.Meaning.At.{is_tight, is_contained}
 use Rattle.md_meaning.specs.Meaning.Tables.{align_attribute}
 use Rattle.md_meaning.specs.Places.{length_of}

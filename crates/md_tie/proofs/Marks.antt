@@ -7,9 +7,9 @@ use Rattle.md_base.specs.Tree.{Forest, Empty, Node}
 use Rattle.std.specs.List.{list_any}
 use Rattle.md_base.specs.NameTests.{is_fence}
 use Rattle.md_infer.specs.Looseness.{is_loose}
-use Rattle.md_meaning.specs.declared.facts.Surroundings.{Surroundings}
-use Rattle.md_meaning.specs.declared.facts.Container.{Container}
-use Rattle.md_meaning.specs.declared.facts.Container.TheVariants.{TightList}
+use Rattle.md_meaning.specs.declared.context.Surroundings.{Surroundings}
+use Rattle.md_meaning.specs.declared.context.Container.{Container}
+use Rattle.md_meaning.specs.declared.context.Container.TheVariants.{TightList}
 use Rattle.md_meaning.specs.declared.options.CompileOptions.{CompileOptions}
 use Rattle.md_meaning.specs.Surroundings.{Mark, Sets, inside, spine_inside, spine_after_node, told_by, paragraph_marks}
 use Rattle.md_meaning.specs.Surroundings as machine

@@ -10,7 +10,7 @@ use Rattle.md_base.specs.declared.event.Name.TheVariants.{LineEnding, BlankLineE
 use Rattle.md_base.specs.declared.event.AlignKind.{AlignKind}
 use Rattle.md_base.specs.declared.event.Position.{Position}
 use Rattle.md_base.specs.Reference.{decoded}
-use Rattle.md_meaning.specs.declared.facts.Container.{Container}
+use Rattle.md_meaning.specs.declared.context.Container.{Container}
 use Rattle.md_text.specs.Encode.{encoded}
 use Rattle.md_text.specs.Filter.{tag_filtered}
 use Rattle.md_pattern.specs.declared.kinds.Role.TheVariants as role

@@ -20,7 +20,7 @@ use Rattle.md_base.specs.Children.{or_else, is_empty}
 use Rattle.md_base.specs.NameTests.{is_transparent}
 use Rattle.md_infer.specs.Looseness.{is_loose}
 use Rattle.md_shape.proofs.Symbols.{Told, told}
-use Rattle.md_meaning.specs.declared.facts.Surroundings.{Surroundings}
+use Rattle.md_meaning.specs.declared.context.Surroundings.{Surroundings}
 use Rattle.md_meaning.specs.Surroundings.{inside}
 use Rattle.md_meaning.specs.Places.{Before as Stood, before_children as children_stood, before_next as next_stood}
 use Rattle.md_meaning.specs.Printed.{is_captured, printed}

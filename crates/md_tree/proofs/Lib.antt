@@ -18,7 +18,7 @@ pub mod Groups
 pub mod Listing
 pub mod Paths
 pub mod Resolving
-pub mod Runs
+pub mod TextRuns
 pub mod Searching
 pub mod Spines
 pub mod Tables

@@ -10,7 +10,7 @@ pub mod Reads
 pub mod Refusal
 pub mod Resolve
 pub mod Rules
-pub mod Runs
+pub mod TextRuns
 pub mod Texts
 pub mod Walk
 pub mod Found

@@ -3,7 +3,7 @@
 ghost use Rattle.std.specs.Prelude.{◌≡◌, ◌≤◌, ℕ, List, Some, length, nat_le, ◌&&◌, option_copied, slice_range, IfOk, IfSome};
 ghost use Rattle.std.specs.Str.{IsUtf8};
 ghost use Rattle.md_base.specs.Place.{text_when, text_between, label_between};
-ghost use Rattle.md_tree.specs.Runs.{IsRun, AreRuns};
+ghost use Rattle.md_tree.specs.TextRuns.{IsRun, AreRuns};
 
 use crate::judge::{label_at, text_at};
 use md_base::Position;
@@ -55,7 +55,7 @@ pub struct Texts<'a> {
 
 impl<'a> Model for Texts<'a> {
     ghost use Rattle.std.specs.Prelude.{List, ℕ};
-    ghost use Rattle.md_tree.specs.Runs.{IsRun, AreRuns};
+    ghost use Rattle.md_tree.specs.TextRuns.{IsRun, AreRuns};
 
     ghost Value = { List ℕ };
 

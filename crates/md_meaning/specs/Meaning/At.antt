@@ -6,9 +6,9 @@ use Rattle.md_base.specs.declared.event.Point.{Point}
 use Rattle.md_base.specs.Place.{text_between}
 use Rattle.md_base.specs.Tree.{Forest}
 use Rattle.md_base.specs.Children.{or_else}
-use Rattle.md_meaning.specs.declared.facts.Container.{Container}
-use Rattle.md_meaning.specs.declared.facts.Container.TheVariants.{Nothing, TightList}
-use Rattle.md_meaning.specs.declared.facts.Surroundings.{Surroundings}
+use Rattle.md_meaning.specs.declared.context.Container.{Container}
+use Rattle.md_meaning.specs.declared.context.Container.TheVariants.{Nothing, TightList}
+use Rattle.md_meaning.specs.declared.context.Surroundings.{Surroundings}
 use Rattle.md_meaning.specs.declared.options.CompileOptions.{CompileOptions}
 use Rattle.md_meaning.specs.Piece.{Target}
 use Rattle.md_meaning.specs.Given.{Defined}

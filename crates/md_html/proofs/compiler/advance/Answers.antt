@@ -2,13 +2,13 @@
 use Rattle.std.proofs.Common.{◌≡◌, ◌∷◌, ◌+◌, Bool, false, List, Option, Some, None, slice_get, get_or, drop, ap, sym, ◌∙◌}
 use Rattle.md_base.specs.declared.event.Event.{Event}
 use Rattle.md_base.specs.declared.event.AlignKind.{AlignKind}
-use Rattle.md_meaning.specs.declared.facts.Ahead.{Ahead}
+use Rattle.md_meaning.specs.declared.context.Ahead.{Ahead}
 use Rattle.md_base.specs.Tree.{Forest}
 use Rattle.md_tree.specs.Entered.{children_of}
 use Rattle.md_sheet.proofs.Lists.{drop-found}
 use Rattle.md_printer.specs.Sources.{given_of}
 use Rattle.md_printer.specs.Machine as machine
-use Rattle.md_printer.specs.Machine.{State}
+use Rattle.md_printer.specs.Machine.{Printer}
 use Rattle.md_html.proofs.Walks.{is_nil-length, drop-first, told-at}
 use Rattle.md_html.proofs.Leaves.{run-leaf}
 use Rattle.md_html.proofs.compiler.advance.Goals as goal
@@ -19,13 +19,13 @@ step-requires c =
 
 pub returns-then-is_leaf-clause-runs : goal.returns-then-is_leaf-clause-runs
 returns-then-is_leaf-clause-runs c document flat =
-    let given = given_of c.args.source.now in
+    let given = given_of c.args.given.now in
     let event : Event = c.args.visit.event.now in
     let exit : Event = c.in-Some.exit.now in
     let beyond : List Event = c.in-Some.beyond.now in
     let nodes : List (Option Forest) = children_of document in
-    let before : State = c.args.printer.now in
-    let after : State = c.leaf.new.printer in
+    let before : Printer = c.args.printer.now in
+    let after : Printer = c.leaf.new.printer in
     ap (λ es. machine.run given (drop 1 es) (drop (c.args.visit.index + 2) nodes) after) c.in-Some.ensures.cases.0
     ∙ run-leaf given document c.args.checked.now.events c.args.visit.index event exit beyond before after flat
     (ap (λ es. event ∷ es) (sym c.in-Some.ensures.cases.0) ∙ c.requires) c.if-is_leaf.ensures
@@ -38,12 +38,12 @@ returns-then-is_leaf-clause-runs c document flat =
 
 pub returns-clause-runs : goal.returns-clause-runs
 returns-clause-runs c document flat =
-    let given = given_of c.args.source.now in
+    let given = given_of c.args.given.now in
     let events : List Event = c.args.checked.now.events in
     let index = c.args.visit.index in
     let event : Event = c.args.visit.event.now in
     let later : List Event = c.args.visit.later.now in
-    let before : State = c.args.printer.now in
+    let before : Printer = c.args.printer.now in
     let nodes : List (Option Forest) = children_of document in
     let told : Option Forest = get_or nodes index None in
     let there : slice_get nodes index ≡ Some told = told-at document events index event flat

@@ -4,20 +4,20 @@ use Rattle.std.proofs.Common.{◌≡◌, Option, Bool, List, ap, ◌∙◌}
 use Rattle.md_base.specs.declared.event.AlignKind.{AlignKind}
 use Rattle.md_base.specs.declared.event.Kind.TheVariants.{Enter}
 use Rattle.md_base.specs.Tree.{Forest}
-use Rattle.md_meaning.specs.declared.facts.Ahead.{Ahead}
+use Rattle.md_meaning.specs.declared.context.Ahead.{Ahead}
 use Rattle.md_printer.specs.Sources.{IsToldAt, given_of}
 use Rattle.md_printer.specs.Machine as machine
 use Rattle.md_meaning.specs.Printed.{is_captured}
 use Rattle.md_html.proofs.compiler.enter_visited.Goals as goal
-use Rattle.md_printer.specs.Machine.{State}
+use Rattle.md_printer.specs.Machine.{Printer}
 use Rattle.md_html.proofs.Walks.{on_answer}
 
 pub returns : goal.returns
 returns c =
-    let given = given_of c.args.source.now in
+    let given = given_of c.args.given.now in
     let event = c.args.visit.event.now in
     let last = machine.is_nil c.args.visit.later.now in
-    let at : Ahead → Bool → List AlignKind → State = λ ahead loose columns. machine.entered given ahead loose columns
+    let at : Ahead → Bool → List AlignKind → Printer = λ ahead loose columns. machine.entered given ahead loose columns
     (is_captured event.name) event.name event.point c.args.printer.now in
     on_answer (λ _. c.enter.new.printer ≡ at (machine.ahead_by c.place_read-place.result) c.is_loose-loose.result
     c.in_ok-columns.columns.items)

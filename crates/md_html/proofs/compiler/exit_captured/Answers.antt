@@ -1,28 +1,28 @@
 -- The frames that are read are the machine's, and each step is the machine's.
 use Rattle.std.proofs.Common.{◌≡◌, Bool, true, [], OnOk, ap, sym, subst, ◌∙◌}
-use Rattle.md_printer.specs.declared.facts.Exit.{Exit}
+use Rattle.md_printer.specs.declared.frames.Exit.{Exit}
 use Rattle.md_printer.specs.Sources.{given_of, closing_at, exit_in}
 use Rattle.md_printer.specs.Machine as machine
-use Rattle.md_printer.specs.Machine.{State}
+use Rattle.md_printer.specs.Machine.{Printer}
 use Rattle.md_around.specs.Steps.{first_or}
-use Rattle.md_meaning.specs.declared.facts.Ahead.{Ahead}
+use Rattle.md_meaning.specs.declared.context.Ahead.{Ahead}
 use Rattle.md_meaning.specs.Piece.{Sheet}
 use Rattle.md_html.proofs.Groups.{no_table}
 use Rattle.md_html.proofs.compiler.exit_captured.Goals as goal
 
 pub returns : goal.returns
 returns c =
-    let given = given_of c.args.source.now in
-    let start : State = c.args.printer.now in
+    let given = given_of c.args.given.now in
+    let start : Printer = c.args.printer.now in
     let name = c.args.name in
     let last = c.args.is_last in
     let end = c.args.end in
-    let after : Exit → Ahead → Sheet → State → State = λ exit ahead inner s.
+    let after : Exit → Ahead → Sheet → Printer → Printer = λ exit ahead inner s.
     machine.leaving name
     (machine.printing given.ending
     (closing_at given exit s.log.called (first_or [] s.tables) ahead s.frame.passed inner name)
     (machine.logging given.bytes ahead name inner s)) in
-    let tabled : Bool → State = λ b.
+    let tabled : Bool → Printer = λ b.
     machine.leaving name
     (machine.printing given.ending
     (machine.closing_in given last name end start.sheet (machine.leaving_table b start))

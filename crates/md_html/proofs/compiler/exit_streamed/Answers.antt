@@ -1,9 +1,9 @@
 -- The frames that are read are the machine's, and each step is the machine's; nothing is logged.
 use Rattle.std.proofs.Common.{◌≡◌, Bool, false, [], OnOk, ap, sym, subst, ◌∙◌}
-use Rattle.md_printer.specs.declared.facts.Exit.{Exit}
+use Rattle.md_printer.specs.declared.frames.Exit.{Exit}
 use Rattle.md_printer.specs.Sources.{given_of, closing_at, exit_in}
 use Rattle.md_printer.specs.Machine as machine
-use Rattle.md_printer.specs.Machine.{State}
+use Rattle.md_printer.specs.Machine.{Printer}
 use Rattle.md_around.specs.Steps.{first_or}
 use Rattle.md_base.specs.NameTests.{is_table}
 use Rattle.md_meaning.specs.Piece.{blank}
@@ -12,16 +12,16 @@ use Rattle.md_html.proofs.compiler.exit_streamed.Goals as goal
 
 pub returns : goal.returns
 returns c =
-    let given = given_of c.args.source.now in
-    let start : State = c.args.printer.now in
+    let given = given_of c.args.given.now in
+    let start : Printer = c.args.printer.now in
     let name = c.args.name in
     let last = c.args.is_last in
     let end = c.args.end in
-    let after : Exit → State → State = λ exit s.
+    let after : Exit → Printer → Printer = λ exit s.
     machine.leaving name
     (machine.printing given.ending (closing_at given exit s.log.called
     (first_or [] s.tables) s.frame.ahead s.frame.passed blank name) s) in
-    let tabled : Bool → State = λ b. machine.leaving_table b start in
+    let tabled : Bool → Printer = λ b. machine.leaving_table b start in
     let whole : machine.leaving name c.close.new.printer ≡ machine.exited given last false name end start =
     ap (λ s. machine.leaving name s) c.in_ok-close.ensures
     ∙ ap (λ exit. after exit c.leave_table_if.new.self) c.exit-exit.ensures

@@ -1,12 +1,12 @@
 -- The node is exited where it is entered.
 use Rattle.std.proofs.Common.{◌≡◌, Bool, false, List, [], ap, ◌∙◌}
 use Rattle.md_base.specs.declared.event.AlignKind.{AlignKind}
-use Rattle.md_meaning.specs.declared.facts.Ahead.{Ahead}
+use Rattle.md_meaning.specs.declared.context.Ahead.{Ahead}
 use Rattle.md_meaning.specs.Piece.{blank}
-use Rattle.md_printer.specs.declared.facts.Exit.{Exit}
+use Rattle.md_printer.specs.declared.frames.Exit.{Exit}
 use Rattle.md_printer.specs.Sources.{given_of, closing_at}
 use Rattle.md_printer.specs.Machine as machine
-use Rattle.md_printer.specs.Machine.{State}
+use Rattle.md_printer.specs.Machine.{Printer}
 use Rattle.md_around.specs.Steps.{first_or}
 use Rattle.md_html.proofs.Leaves.{leaf-steps, streamed}
 use Rattle.md_html.proofs.Walks.{on_answer}
@@ -17,10 +17,10 @@ close-requires c = streamed c.args.name c.requires
 
 pub returns : goal.returns
 returns c =
-    let given = given_of c.args.source.now in
-    let before : State = c.args.printer.now in
+    let given = given_of c.args.given.now in
+    let before : Printer = c.args.printer.now in
     let name = c.args.name in
-    let after : Exit → State = λ exit.
+    let after : Exit → Printer = λ exit.
     machine.passing_leaf name
     (machine.printing given.ending (closing_at given exit before.log.called
     (first_or [] before.tables) before.frame.ahead before.frame.passed blank name) before) in

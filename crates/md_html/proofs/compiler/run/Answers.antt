@@ -15,7 +15,7 @@ advance-requires c = sym c.in-Some.ensures.cases.0 ∙ c.loop-event.invariant.0
 
 pub loop-event-preserved : goal.loop-event-preserved
 loop-event-preserved c =
-    let given = given_of c.args.source.now in
+    let given = given_of c.args.given.now in
     let events : List Event = c.args.checked.now.events in
     let index = c.loop-event.index in
     let event : Event = c.in-Some.event.now in

@@ -11,8 +11,8 @@ invariant-loop-event l =
     (l.rest ≡ drop l.index l.checked.events)
     × (l.index ≤ length l.checked.events)
     × ((document : Forest) → flatten document ≡ l.checked.events
-    → run (given_of l.source) l.rest (drop l.index (children_of document)) l.printer
-    ≡ run (given_of l.source) l.checked.events (children_of document) beginning)
+    → run (given_of l.given) l.rest (drop l.index (children_of document)) l.printer
+    ≡ run (given_of l.given) l.checked.events (children_of document) beginning)
 
 abbrev pub decreases-loop-event : goal.decreases-loop-event
 decreases-loop-event l = length l.rest

@@ -7,16 +7,16 @@ use Rattle.md_printer.specs.Sources.{IsToldAt, given_of}
 use Rattle.md_printer.specs.Machine as machine
 use Rattle.md_meaning.specs.Printed.{is_captured}
 use Rattle.md_html.proofs.compiler.step.Goals as goal
-use Rattle.md_printer.specs.Machine.{State}
+use Rattle.md_printer.specs.Machine.{Printer}
 use Rattle.md_base.specs.declared.event.Event.{Event}
 use Rattle.md_html.proofs.Walks.{on_answer, is_nil-length}
 
 pub returns-in-Enter : goal.returns-in-Enter
 returns-in-Enter c =
-    let given = given_of c.args.source.now in
+    let given = given_of c.args.given.now in
     let event = c.args.visit.event.now in
     let later : List Event = c.args.visit.later.now in
-    let before : State = c.args.printer.now in
+    let before : Printer = c.args.printer.now in
     on_answer (λ _. (told : Option Forest) → IsToldAt c.args.checked.now c.args.visit.index told →
     c.enter_visited.new.printer ≡ machine.stepped given Enter event.name event.point told (machine.is_nil later) before)
     (λ _. (told : Option Forest) → IsToldAt c.args.checked.now c.args.visit.index told →
@@ -30,11 +30,11 @@ returns-in-Enter c =
 
 pub returns-in-Exit : goal.returns-in-Exit
 returns-in-Exit c =
-    let given = given_of c.args.source.now in
+    let given = given_of c.args.given.now in
     let event = c.args.visit.event.now in
     let later : List Event = c.args.visit.later.now in
-    let before : State = c.args.printer.now in
-    let at : Bool → State = λ last. machine.exited given last (is_captured event.name) event.name event.point before in
+    let before : Printer = c.args.printer.now in
+    let at : Bool → Printer = λ last. machine.exited given last (is_captured event.name) event.name event.point before in
     on_answer (λ _. c.exit.new.printer ≡ at c.is_empty-is_last.result)
     (λ _. (told : Option Forest) → IsToldAt c.args.checked.now c.args.visit.index told →
     c.exit.new.printer ≡ machine.stepped given event.kind event.name event.point told (machine.is_nil later) before)

@@ -9,7 +9,7 @@ use Rattle.md_tree.proofs.Indexed.{flatten_one}
 use Rattle.md_base.specs.declared.event.Name.TheVariants.{GfmTable}
 use Rattle.md_meaning.specs.Given.{Given}
 use Rattle.md_printer.specs.Machine as machine
-use Rattle.md_printer.specs.Machine.{State}
+use Rattle.md_printer.specs.Machine.{Printer}
 use Rattle.md_printer.specs.Sources.{given_of}
 use Rattle.md_html.specs.OwnDefinitions.{events_at}
 use Rattle.md_html.proofs.OwnNodes.{own-run}
@@ -17,7 +17,7 @@ use Rattle.md_html.proofs.own_events.defined_at.Goals as goal
 
 pub returns : goal.returns
 returns c = λ document flat place there.
-    let given : Given = given_of c.args.source.now in
+    let given : Given = given_of c.args.given.now in
     let read = c.run_node.ensures.grammatical in
     let shaped : IsShaped document =
     subst IsShaped (flatten_one GfmTable (record { line = 0; column = 0; index = 0; vs = 0 }) read.0 document
@@ -26,7 +26,7 @@ returns c = λ document flat place there.
     let own = own-run given document place c.args.entry shaped there in
     let logged : c.into_definitions-logged.result.items ≡ own.0 ∷ [] =
     c.into_definitions-logged.ensures
-    ∙ ap (λ (s : State). s.log.definitions) (c.in_ok-printer.ensures.printed document flat)
+    ∙ ap (λ (s : Printer). s.log.definitions) (c.in_ok-printer.ensures.printed document flat)
     ∙ ap (λ es. (machine.run given (events_at es c.args.entry (slice_get (partners_of 0 document) c.args.entry))
     (drop c.args.entry (children_of document)) machine.beginning).log.definitions) (sym flat)
     ∙ own.2

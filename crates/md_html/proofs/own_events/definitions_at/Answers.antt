@@ -14,7 +14,7 @@ use Rattle.md_html.proofs.own_events.definitions_at.Goals as goal
 pub loop-entry-init : goal.loop-entry-init
 loop-entry-init c = (
   λ document flat are. c.new-definitions.ensures.items ∙ take-none
-      (own_definitions (given_of c.args.source.now) document),
+      (own_definitions (given_of c.args.given.now) document),
   λ document shaped flat are. omega arith,
 )
 
@@ -22,7 +22,7 @@ pub loop-entry-preserved : goal.loop-entry-preserved
 loop-entry-preserved c =
     let index = c.loop-entry.entry-index in (
       λ document flat are.
-          let own : List Defined = own_definitions (given_of c.args.source.now) document in
+          let own : List Defined = own_definitions (given_of c.args.given.now) document in
           c.in_ok-push_found.ensures
           ∙ ap (λ ds. ds ++ option_to_list c.in_ok-defined.defined) (c.loop-entry.invariant.0 document flat are)
           ∙ ap (λ o. take index own ++ option_to_list o)
@@ -44,10 +44,10 @@ pub returns : goal.returns
 returns c = record {
   definitions = λ document flat are.
       c.loop-entry.invariant.0 document flat are
-      ∙ take-own-all (given_of c.args.source.now) document c.args.entries.now c.loop-entry.entry-index are
+      ∙ take-own-all (given_of c.args.given.now) document c.args.entries.now c.loop-entry.entry-index are
       c.loop-entry-test.false;
   visits = λ document shaped flat are.
-      within-document (given_of c.args.source.now) document c.args.checked.now.events c.loop-entry.entry-index
+      within-document (given_of c.args.given.now) document c.args.checked.now.events c.loop-entry.entry-index
       c.loop-entry.visits shaped flat
       (c.loop-entry.invariant.1 document shaped flat are);
 }

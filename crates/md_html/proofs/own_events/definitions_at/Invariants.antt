@@ -11,6 +11,6 @@ use Rattle.md_html.proofs.own_events.definitions_at.Given as goal
 abbrev pub invariant-loop-entry : goal.invariant-loop-entry
 invariant-loop-entry l =
     ((document : Forest) → flatten document ≡ l.checked.events → l.entries ≡ entries_of 0 document →
-    l.definitions.items ≡ take l.entry-index (own_definitions (given_of l.source) document))
+    l.definitions.items ≡ take l.entry-index (own_definitions (given_of l.given) document))
     × ((document : Forest) → IsShaped document → flatten document ≡ l.checked.events →
     l.entries ≡ entries_of 0 document → l.visits ≤ total (take l.entry-index (own_sizes document)))

@@ -23,11 +23,11 @@ loop-event-init c =
     let part = events-part all c.args.entry c.partner.result in (
       (part.0, part.1 ∙ ap (λ own. own ++ part.0) (sym rest_is)),
       λ document flat.
-          ap (λ s. machine.run (given_of c.args.source.now) c.node_events-rest.result.now
+          ap (λ s. machine.run (given_of c.args.given.now) c.node_events-rest.result.now
           (drop c.args.entry (children_of document)) s) c.new-printer.ensures
-          ∙ ap (λ own. machine.run (given_of c.args.source.now) own
+          ∙ ap (λ own. machine.run (given_of c.args.given.now) own
           (drop c.args.entry (children_of document)) machine.beginning) rest_is
-          ∙ ap (λ p. machine.run (given_of c.args.source.now) (events_at all c.args.entry p)
+          ∙ ap (λ p. machine.run (given_of c.args.given.now) (events_at all c.args.entry p)
           (drop c.args.entry (children_of document)) machine.beginning)
           (partner-at c.args.checked.now c.args.entry c.partner.result document c.partner.ensures flat),
     )
@@ -51,7 +51,7 @@ overflow_add-index c =
 
 pub loop-event-preserved : goal.loop-event-preserved
 loop-event-preserved c =
-    let given = given_of c.args.source.now in
+    let given = given_of c.args.given.now in
     let events : List Event = c.args.checked.now.events in
     let index = c.loop-event.index in
     let event : Event = c.in-Some.event.now in

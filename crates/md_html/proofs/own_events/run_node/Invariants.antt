@@ -14,8 +14,8 @@ abbrev pub invariant-loop-event : goal.invariant-loop-event
 invariant-loop-event l =
     ((later : List Event) × (drop l.index l.checked.events ≡ l.rest ++ later))
     × ((document : Forest) → flatten document ≡ l.checked.events
-    → run (given_of l.source) l.rest (drop l.index (children_of document)) l.printer
-    ≡ run (given_of l.source) (events_at l.checked.events l.entry (slice_get (partners_of 0 document) l.entry))
+    → run (given_of l.given) l.rest (drop l.index (children_of document)) l.printer
+    ≡ run (given_of l.given) (events_at l.checked.events l.entry (slice_get (partners_of 0 document) l.entry))
     (drop l.entry (children_of document)) beginning)
 
 abbrev pub decreases-loop-event : goal.decreases-loop-event

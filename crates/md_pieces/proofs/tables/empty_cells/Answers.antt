@@ -3,7 +3,7 @@
 use Rattle.std.proofs.Common.{[], ◌+◌, drop, List, ap, sym, ◌∙◌}
 use Rattle.md_base.specs.declared.event.AlignKind.{AlignKind}
 use Rattle.md_meaning.specs.Piece.{Piece}
-use Rattle.md_printer.specs.Machine.{State, printing}
+use Rattle.md_printer.specs.Machine.{Printer, printing}
 use Rattle.md_around.specs.Steps.{first_or}
 use Rattle.md_meaning.specs.Tables as tables
 use Rattle.md_sheet.proofs.Lists.{drop-found, drop-missing}
@@ -13,7 +13,7 @@ use Rattle.md_pieces.proofs.tables.empty_cells.Goals as goal
 pub loop-kind-preserved : goal.loop-kind-preserved
 loop-kind-preserved c =
     let ending = c.args.ending.now in
-    let before : State = c.loop-kind.printer in
+    let before : Printer = c.loop-kind.printer in
     let index = c.loop-kind.index in
     let columns : List AlignKind = first_or [] before.tables in
     let own : List Piece = tables.cell_pieces c.args.in_head c.in-Some.kind [] in
@@ -29,7 +29,7 @@ loop-kind-preserved c =
 
 pub returns : goal.returns
 returns c =
-    let before : State = c.loop-kind.printer in
+    let before : Printer = c.loop-kind.printer in
     ap (λ kinds. printing c.args.ending.now (tables.empty_cells c.args.in_head kinds) before)
     (sym (drop-missing (first_or [] before.tables) c.loop-kind.index (sym c.in_default.ensures.column)))
     ∙ c.loop-kind.invariant.1

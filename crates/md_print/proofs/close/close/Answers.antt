@@ -1,6 +1,6 @@
 -- A name prints only in its group.
 use Rattle.std.proofs.Common.{◌≡◌, [], OnOk, sym, subst, ◌∙◌}
-use Rattle.md_printer.specs.Machine.{State}
+use Rattle.md_printer.specs.Machine.{Printer}
 use Rattle.md_print.specs.declared.groups.Group.TheVariants.{Text, Span, Block, Autolink, Table}
 use Rattle.md_around.specs.Steps.{first_or}
 use Rattle.md_meaning.specs.Piece.{blank}
@@ -11,9 +11,9 @@ use Rattle.md_print.proofs.close.close.Goals as goal
 pub returns-in-Text : goal.returns-in-Text
 returns-in-Text c =
     let exit = c.args.exit.now in
-    let start : State = c.args.printer.now in
+    let start : Printer = c.args.printer.now in
     let at : At = record {
-      given = given_of c.args.source.now;
+      given = given_of c.args.given.now;
       around = exit.around;
       left = left_at exit start.log.called (first_or [] start.tables);
       ahead = start.frame.ahead;
@@ -24,15 +24,15 @@ returns-in-Text c =
       inner = blank;
     } in
     subst (λ s. OnOk c.close_text.result (c.close_text.new.printer ≡ s))
-    (printing-group c.args.source.now.ending.now at c.args.name Text (sym c.in-Text.is ∙ c.group_of.ensures) start)
+    (printing-group c.args.given.now.ending.now at c.args.name Text (sym c.in-Text.is ∙ c.group_of.ensures) start)
     c.close_text.ensures
 
 pub returns-in-Span : goal.returns-in-Span
 returns-in-Span c =
     let exit = c.args.exit.now in
-    let start : State = c.args.printer.now in
+    let start : Printer = c.args.printer.now in
     let at : At = record {
-      given = given_of c.args.source.now;
+      given = given_of c.args.given.now;
       around = exit.around;
       left = left_at exit start.log.called (first_or [] start.tables);
       ahead = start.frame.ahead;
@@ -43,15 +43,15 @@ returns-in-Span c =
       inner = blank;
     } in
     subst (λ s. OnOk c.close_span.result (c.close_span.new.printer ≡ s))
-    (printing-group c.args.source.now.ending.now at c.args.name Span (sym c.in-Span.is ∙ c.group_of.ensures) start)
+    (printing-group c.args.given.now.ending.now at c.args.name Span (sym c.in-Span.is ∙ c.group_of.ensures) start)
     c.close_span.ensures
 
 pub returns-in-Block : goal.returns-in-Block
 returns-in-Block c =
     let exit = c.args.exit.now in
-    let start : State = c.args.printer.now in
+    let start : Printer = c.args.printer.now in
     let at : At = record {
-      given = given_of c.args.source.now;
+      given = given_of c.args.given.now;
       around = exit.around;
       left = left_at exit start.log.called (first_or [] start.tables);
       ahead = start.frame.ahead;
@@ -62,15 +62,15 @@ returns-in-Block c =
       inner = blank;
     } in
     subst (λ s. OnOk c.close_block.result (c.close_block.new.printer ≡ s))
-    (printing-group c.args.source.now.ending.now at c.args.name Block (sym c.in-Block.is
+    (printing-group c.args.given.now.ending.now at c.args.name Block (sym c.in-Block.is
     ∙ c.group_of.ensures) start) c.close_block.ensures
 
 pub returns-in-Autolink : goal.returns-in-Autolink
 returns-in-Autolink c =
     let exit = c.args.exit.now in
-    let start : State = c.args.printer.now in
+    let start : Printer = c.args.printer.now in
     let at : At = record {
-      given = given_of c.args.source.now;
+      given = given_of c.args.given.now;
       around = exit.around;
       left = left_at exit start.log.called (first_or [] start.tables);
       ahead = start.frame.ahead;
@@ -81,15 +81,15 @@ returns-in-Autolink c =
       inner = blank;
     } in
     subst (λ s. OnOk c.close_autolink.result (c.close_autolink.new.printer ≡ s))
-    (printing-group c.args.source.now.ending.now at c.args.name Autolink (sym c.in-Autolink.is
+    (printing-group c.args.given.now.ending.now at c.args.name Autolink (sym c.in-Autolink.is
     ∙ c.group_of.ensures) start) c.close_autolink.ensures
 
 pub returns-in-Table : goal.returns-in-Table
 returns-in-Table c =
     let exit = c.args.exit.now in
-    let start : State = c.args.printer.now in
+    let start : Printer = c.args.printer.now in
     let at : At = record {
-      given = given_of c.args.source.now;
+      given = given_of c.args.given.now;
       around = exit.around;
       left = left_at exit start.log.called (first_or [] start.tables);
       ahead = start.frame.ahead;
@@ -100,5 +100,5 @@ returns-in-Table c =
       inner = blank;
     } in
     subst (λ s. OnOk c.close_table.result (c.close_table.new.printer ≡ s))
-    (printing-group c.args.source.now.ending.now at c.args.name Table (sym c.in-Table.is
+    (printing-group c.args.given.now.ending.now at c.args.name Table (sym c.in-Table.is
     ∙ c.group_of.ensures) start) c.close_table.ensures

@@ -2,29 +2,29 @@
 use Rattle.std.proofs.Common.{◌≡◌, ◌++◌, List, [], ℕ, Bool, true, false, OnOk, refl, sym, subst, ap, ◌∙◌, ◌∷◌}
 use Rattle.std.specs.Prelude.{if◌then◌else◌}
 use Rattle.md_base.specs.declared.event.Name.{Name}
-use Rattle.md_meaning.specs.declared.facts.Surroundings.{Surroundings}
-use Rattle.md_printer.specs.Machine.{State, ahead_by, printing}
+use Rattle.md_meaning.specs.declared.context.Surroundings.{Surroundings}
+use Rattle.md_printer.specs.Machine.{Printer, ahead_by, printing}
 use Rattle.md_meaning.specs.Piece.{Piece, Text, Sheet, Target}
 use Rattle.md_meaning.specs.Texts.{said, code_pieces, code_text}
 use Rattle.md_printer.specs.Sources.{given_of, closing_at}
 use Rattle.std.specs.Prelude.{Option, None, Some}
-use Rattle.md_meaning.specs.declared.facts.Ahead.{Ahead}
+use Rattle.md_meaning.specs.declared.context.Ahead.{Ahead}
 use Rattle.md_meaning.specs.Given.{Given}
 use Rattle.md_meaning.specs.Media.{link_pieces, image_pieces, link_to, image_of, link_start, link_end, image_start, title_pieces, target_of}
 use Rattle.md_meaning.specs.declared.options.CompileOptions.{CompileOptions}
-use Rattle.md_printer.specs.declared.facts.Exit.{Exit}
+use Rattle.md_printer.specs.declared.frames.Exit.{Exit}
 use Rattle.md_around.specs.Steps.{first_or}
 use Rattle.std.proofs.lemmas.List.{append-nil}
 use Rattle.std.proofs.Common.{codes}
 use Rattle.md_print.proofs.close.close_captured.Goals as goal
 
-chosen : (ending : List ℕ) (b : Bool) (label : List ℕ) (pieces : List Piece) (state : State) →
+chosen : (ending : List ℕ) (b : Bool) (label : List ℕ) (pieces : List Piece) (state : Printer) →
     printing [] pieces state ≡ printing ending pieces state →
     printing [] (if b then said label else pieces) state ≡ printing ending (if b then said label else pieces) state
 chosen ending true label pieces state e = refl
 chosen ending false label pieces state e = e
 
-code_ending : (ending : List ℕ) (around : Surroundings) (tag text : List ℕ) (state : State) →
+code_ending : (ending : List ℕ) (around : Surroundings) (tag text : List ℕ) (state : Printer) →
     printing [] (code_pieces around tag text) state ≡ printing ending (code_pieces around tag text) state
 code_ending ending around tag text state =
     chosen ending around.in_image (code_text around text) (Text tag ∷ Text (code_text around text)
@@ -32,19 +32,19 @@ code_ending ending around tag text state =
 
 -- a link or an image outside an image, with a title or without one
 link_to_ending : (ending : List ℕ) (options : CompileOptions) (to : List ℕ) (title : Option (List ℕ)) (label : List ℕ)
-    (state : State) → printing [] (link_start options to ++ (title_pieces title ++ link_end label)) state
+    (state : Printer) → printing [] (link_start options to ++ (title_pieces title ++ link_end label)) state
     ≡ printing ending (link_start options to ++ (title_pieces title ++ link_end label)) state
 link_to_ending ending options to None label state = refl
 link_to_ending ending options to (Some title) label state = refl
 
 image_of_ending : (ending : List ℕ) (options : CompileOptions) (from : List ℕ) (title : Option (List ℕ))
-    (label : List ℕ) (state : State) →
+    (label : List ℕ) (state : Printer) →
     printing [] (image_start options from label ++ (title_pieces title ++ said (codes " />"))) state
     ≡ printing ending (image_start options from label ++ (title_pieces title ++ said (codes " />"))) state
 image_of_ending ending options from None label state = refl
 image_of_ending ending options from (Some title) label state = refl
 
-link_ending : (ending : List ℕ) (given : Given) (around : Surroundings) (ahead : Ahead) (inner : Sheet) (state : State) →
+link_ending : (ending : List ℕ) (given : Given) (around : Surroundings) (ahead : Ahead) (inner : Sheet) (state : Printer) →
     printing [] (link_pieces given around ahead inner) state
     ≡ printing ending (link_pieces given around ahead inner) state
 link_ending ending given around ahead inner state =
@@ -52,7 +52,7 @@ link_ending ending given around ahead inner state =
     chosen ending around.in_image inner.text (link_to given.options target inner.text) state
     (link_to_ending ending given.options target.destination target.title inner.text state)
 
-image_ending : (ending : List ℕ) (given : Given) (around : Surroundings) (ahead : Ahead) (inner : Sheet) (state : State) →
+image_ending : (ending : List ℕ) (given : Given) (around : Surroundings) (ahead : Ahead) (inner : Sheet) (state : Printer) →
     printing [] (image_pieces given around ahead inner) state
     ≡ printing ending (image_pieces given around ahead inner) state
 image_ending ending given around ahead inner state =
@@ -61,7 +61,7 @@ image_ending ending given around ahead inner state =
     (image_of_ending ending given.options target.destination target.title inner.text state)
 
 -- nothing more is printed
-alone : (ending : List ℕ) (pieces : List Piece) (state : State) →
+alone : (ending : List ℕ) (pieces : List Piece) (state : Printer) →
     printing [] pieces state ≡ printing ending pieces state →
     printing [] pieces state ≡ printing ending (pieces ++ []) state
 alone ending pieces state same = same ∙ ap (λ ps. printing ending ps state) (sym (append-nil pieces))
@@ -69,10 +69,10 @@ alone ending pieces state same = same ∙ ap (λ ps. printing ending ps state) (
 pub returns-in-CodeText : goal.returns-in-CodeText
 returns-in-CodeText c =
     let exit : Exit = c.args.exit.now in
-    let given = given_of c.args.source.now in
-    let ending = c.args.source.now.ending.now in
-    let start : State = c.args.printer.now in
-    let P : State → Type 0 = λ s. OnOk c.code.result (c.code.new.printer ≡ s) in
+    let given = given_of c.args.given.now in
+    let ending = c.args.given.now.ending.now in
+    let start : Printer = c.args.printer.now in
+    let P : Printer → Type 0 = λ s. OnOk c.code.result (c.code.new.printer ≡ s) in
     let Q : Name → Type 0 = λ n. P (printing ending (closing_at given exit start.log.called (first_or [] start.tables)
     (ahead_by c.args.inner.place) start.frame.passed c.args.inner.sheet n) start) in
     subst Q (sym c.in-CodeText.is) (subst P (alone ending
@@ -82,10 +82,10 @@ returns-in-CodeText c =
 pub returns-in-MathText : goal.returns-in-MathText
 returns-in-MathText c =
     let exit : Exit = c.args.exit.now in
-    let given = given_of c.args.source.now in
-    let ending = c.args.source.now.ending.now in
-    let start : State = c.args.printer.now in
-    let P : State → Type 0 = λ s. OnOk c.code-in-MathText.result (c.code-in-MathText.new.printer ≡ s) in
+    let given = given_of c.args.given.now in
+    let ending = c.args.given.now.ending.now in
+    let start : Printer = c.args.printer.now in
+    let P : Printer → Type 0 = λ s. OnOk c.code-in-MathText.result (c.code-in-MathText.new.printer ≡ s) in
     let Q : Name → Type 0 = λ n. P (printing ending (closing_at given exit start.log.called (first_or [] start.tables)
     (ahead_by c.args.inner.place) start.frame.passed c.args.inner.sheet n) start) in
     subst Q (sym c.in-MathText.is) (subst P (alone ending
@@ -96,11 +96,11 @@ returns-in-MathText c =
 pub returns-in-Link : goal.returns-in-Link
 returns-in-Link c =
     let exit : Exit = c.args.exit.now in
-    let given = given_of c.args.source.now in
-    let ending = c.args.source.now.ending.now in
-    let start : State = c.args.printer.now in
+    let given = given_of c.args.given.now in
+    let ending = c.args.given.now.ending.now in
+    let start : Printer = c.args.printer.now in
     let ahead : Ahead = ahead_by c.args.inner.place in
-    let P : State → Type 0 = λ s. OnOk c.link.result (c.link.new.printer ≡ s) in
+    let P : Printer → Type 0 = λ s. OnOk c.link.result (c.link.new.printer ≡ s) in
     let Q : Name → Type 0 = λ n. P (printing ending (closing_at given exit start.log.called (first_or [] start.tables)
     ahead start.frame.passed c.args.inner.sheet n) start) in
     subst Q (sym c.in-Link.is) (subst P (alone ending (link_pieces given exit.around ahead c.args.inner.sheet) start
@@ -109,11 +109,11 @@ returns-in-Link c =
 pub returns-in-Image : goal.returns-in-Image
 returns-in-Image c =
     let exit : Exit = c.args.exit.now in
-    let given = given_of c.args.source.now in
-    let ending = c.args.source.now.ending.now in
-    let start : State = c.args.printer.now in
+    let given = given_of c.args.given.now in
+    let ending = c.args.given.now.ending.now in
+    let start : Printer = c.args.printer.now in
     let ahead : Ahead = ahead_by c.args.inner.place in
-    let P : State → Type 0 = λ s. OnOk c.image.result (c.image.new.printer ≡ s) in
+    let P : Printer → Type 0 = λ s. OnOk c.image.result (c.image.new.printer ≡ s) in
     let Q : Name → Type 0 = λ n. P (printing ending (closing_at given exit start.log.called (first_or [] start.tables)
     ahead start.frame.passed c.args.inner.sheet n) start) in
     subst Q (sym c.in-Image.is) (subst P (alone ending (image_pieces given exit.around ahead c.args.inner.sheet) start

@@ -1,8 +1,8 @@
 -- The four parts of the end, one after another.
 use Rattle.std.proofs.Common.{◌≡◌, ◌∷◌, [], ◌++◌, List, Bool, OnOk, ap, sym, subst, ◌∙◌}
-use Rattle.md_printer.specs.Machine.{State, printing}
+use Rattle.md_printer.specs.Machine.{Printer, printing}
 use Rattle.md_meaning.specs.Piece.{Piece, Needed, Forced}
-use Rattle.md_meaning.specs.declared.facts.Passed.{Passed}
+use Rattle.md_meaning.specs.declared.context.Passed.{Passed}
 use Rattle.md_meaning.specs.Texts.{said}
 use Rattle.md_meaning.specs.Blocks.{when, is_unclosed, runs_out, code_end, fenced_closing}
 use Rattle.md_printer.proofs.Printing.{printing-append}
@@ -17,10 +17,10 @@ returns c =
     let needed : List Piece = when passed.spine.has_chunk (Needed ∷ []) in
     let end : List Piece = said code_end in
     let last : List Piece = when (is_unclosed passed) (Needed ∷ []) in
-    let start : State = c.args.printer.now in
-    let P : State → Type 0 = λ s. OnOk c.need_if-2.result (c.need_if-2.new.printer ≡ s) in
-    let F : Bool → State = λ b. printing ending (when b (Forced ∷ [])) start in
-    let L : Bool → State → State = λ b s. printing ending (when b (Needed ∷ [])) s in
+    let start : Printer = c.args.printer.now in
+    let P : Printer → Type 0 = λ s. OnOk c.need_if-2.result (c.need_if-2.new.printer ≡ s) in
+    let F : Bool → Printer = λ b. printing ending (when b (Forced ∷ [])) start in
+    let L : Bool → Printer → Printer = λ b s. printing ending (when b (Needed ∷ [])) s in
     subst P
     (ap (λ b. L b c.put.new.self) c.unless-unclosed.ensures
     ∙ ap (λ s. printing ending last s)

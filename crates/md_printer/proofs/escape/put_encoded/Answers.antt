@@ -3,7 +3,7 @@ use Rattle.std.proofs.Common.{◌≡◌, ◌+◌, ◌-◌, ℕ, List, slice_rang
 use Rattle.std.proofs.lemmas.Str.{IsCharBoundary-after_ascii}
 use Rattle.md_text.specs.Encode.{encoded}
 use Rattle.md_meaning.specs.Texts.{said}
-use Rattle.md_printer.specs.Machine.{State, printing}
+use Rattle.md_printer.specs.Machine.{Printer, printing}
 use Rattle.md_printer.proofs.Escaping.{encoded-at, printed-parts}
 use Rattle.md_printer.proofs.escape.put_encoded.Goals as goal
 
@@ -19,7 +19,7 @@ loop-index-preserved c =
     let rest : List ℕ = c.loop-index.rest.now in
     let index = c.in-Some.index in
     let other : List ℕ = c.in-Some.other.now in
-    let before : State = c.loop-index.printer in
+    let before : Printer = c.loop-index.printer in
     let later : List ℕ = encoded html (drop (index + 1) rest) in (
       ap (λ text. printing [] (said (encoded html text)) c.put-in-Some.new.self) c.range_from-rest.ensures.value
           ∙ ap (λ s. printing [] (said later) s) (c.in_ok-put-2.ensures

@@ -1,7 +1,7 @@
 -- The bytes that are left are those from the start of the next run on, and each run so far is one.
 use Rattle.std.proofs.Common.{◌≡◌, ◌≤◌, length, drop}
 use Rattle.std.specs.Str.Chunks.{utf8_chunks_rest}
-use Rattle.md_tree.specs.Runs.{AreRuns}
+use Rattle.md_tree.specs.TextRuns.{AreRuns}
 use Rattle.md_tree.proofs.texts.runs.Given as goal
 
 abbrev pub invariant-loop-chunk : goal.invariant-loop-chunk

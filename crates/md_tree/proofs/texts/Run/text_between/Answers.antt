@@ -1,6 +1,6 @@
 -- Both indices lie in the run, so the part of its text between them is that part of the bytes.
 use Rattle.std.proofs.Common.{rules, ◌≡◌, ◌-◌, ◌≤◌, arith}
-use Rattle.md_tree.proofs.Runs.{run-part, some-weaken}
+use Rattle.md_tree.proofs.TextRuns.{run-part, some-weaken}
 use Rattle.md_tree.proofs.texts.Run.text_between.Goals as goal
 
 pub returns : goal.returns

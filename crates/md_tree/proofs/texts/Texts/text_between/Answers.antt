@@ -1,6 +1,6 @@
 -- The front is the run that begins with the first byte.
 use Rattle.std.proofs.Common.{◌≡◌, ◌-◌, arith}
-use Rattle.md_tree.proofs.Runs.{run-part}
+use Rattle.md_tree.proofs.TextRuns.{run-part}
 use Rattle.md_tree.proofs.texts.Texts.text_between.Goals as goal
 
 pub returns-in-Some : goal.returns-in-Some

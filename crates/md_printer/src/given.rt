@@ -15,7 +15,7 @@ use std::alloc::{AllocError, Global};
 
 /// What all nodes are given.
 #[derive(Clone, Copy)]
-pub struct Source<'a> {
+pub struct Given<'a> {
     /// What their texts are allocated with.
     pub alloc: Global,
     /// The document's bytes.

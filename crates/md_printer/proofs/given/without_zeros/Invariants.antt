@@ -3,7 +3,7 @@ use Rattle.std.proofs.Common.{◌≡◌, length}
 use denote.Text.{Utf8}
 use denote.Shadow.{shadow}
 use Rattle.md_meaning.specs.Places.{without_zeros}
-use Rattle.md_printer.proofs.source.without_zeros.Given as goal
+use Rattle.md_printer.proofs.given.without_zeros.Given as goal
 
 abbrev pub invariant-loop-digits : goal.invariant-loop-digits
 invariant-loop-digits l = (without_zeros l.digits ≡ without_zeros l.initial.digits) × shadow (Utf8 l.digits)
