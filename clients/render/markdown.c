@@ -68,7 +68,7 @@ static void enter_paragraph(struct walk *walk, cmark_node *node) {
     document_enter(&walk->document, BIVDRAZO_NAME_PARAGRAPH);
 }
 
-/* Behind a tight paragraph the next line ending isn't printed: it is this one, so that no later one is lost. */
+/* After a tight paragraph the next line ending isn't printed: it is this one, so that no later one is lost. */
 static void exit_paragraph(struct walk *walk, cmark_node *node) {
     document_exit(&walk->document, BIVDRAZO_NAME_PARAGRAPH);
     if (is_tight(node))
@@ -261,7 +261,7 @@ static void enter_row(struct walk *walk, cmark_node *node) {
     document_enter(&walk->document, BIVDRAZO_NAME_GFM_TABLE_ROW);
 }
 
-/* Behind the head comes the body, if there are rows for it. */
+/* After the head comes the body, if there are rows for it. */
 static void exit_row(struct walk *walk, cmark_node *node) {
     document_exit(&walk->document, BIVDRAZO_NAME_GFM_TABLE_ROW);
     if (!cmark_gfm_extensions_get_table_row_is_header(node))

@@ -20,7 +20,7 @@ pub fn is_paragraph(name: Name) -> bool
     matches!(name, Name::Paragraph)
 }
 
-/// A node after which a line ending is dropped.
+/// A definition of a link, or of a footnote; a line ending right after it is dropped.
 #[inline(always)]
 pub fn is_definition(name: Name) -> bool
     ensures { result ≡ tests.is_definition name }
@@ -28,7 +28,8 @@ pub fn is_definition(name: Name) -> bool
     matches!(name, Name::Definition | Name::GfmFootnoteDefinition)
 }
 
-/// A child that an item's end looks at.
+/// A child that can be an item's last contributing one: any but line endings, spaces or tabs, prefixes of block quotes
+/// and definitions.
 #[inline(always)]
 pub fn contributes(name: Name) -> bool
     ensures { result ≡ tests.contributes name }

@@ -116,7 +116,7 @@ pub const NO_SPINE: Spine = Spine {
     last: None,
 };
 
-/// How many cells there are after one more name; more than memory can hold are refused.
+/// How many cells there are after one more name; more than a `usize` counts are refused.
 #[inline(always)]
 fn cells_after(name: Name, cells: usize) -> Result<usize, AllocError>
     ensures { IfOk result (λ sum. sum ≡ cells + (if is_cell name then 1 else 0)) }
@@ -158,7 +158,7 @@ fn contributing_after(name: Name, before: Option<Name>) -> Option<Name>
 ///
 /// # Errors
 ///
-/// Only where a count passes what memory can hold.
+/// `AllocError`, only where there are more cells on a spine than a `usize` counts.
 #[inline(always)]
 pub fn pass(passed: &mut Passed, name: Name, inner: Spine) -> Result<(), AllocError>
     ensures { OnOk result (passed.new ≡ machine.passing name inner passed.old) }

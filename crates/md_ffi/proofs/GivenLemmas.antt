@@ -5,7 +5,7 @@ use Rattle.std.specs.Borrow.{Bor}
 use Rattle.md_base.specs.Place.{text_when}
 use Rattle.md_base.specs.Reference.{name_table}
 use Rattle.md_base.specs.declared.event.Event.{Event}
-use Rattle.md_tree.specs.Grammar.{Document, handed}
+use Rattle.md_tree.specs.Grammar.{Handed, handed}
 use Rattle.md_tree.specs.Refusal.{IsRefusal}
 use Rattle.md_tree.specs.declared.rule.CompileError.{CompileError}
 use Rattle.md_tree.specs.declared.rule.CompileError.TheVariants as refusal
@@ -140,12 +140,12 @@ module _ (events : List CEvent) (bytes : List ℕ) (options : COptions) (names :
 
 -- ---- a compiler's refusal as a failure
 
-told_of : (given : Document) (why : CompileError) → IsRefusal given why → IsRefusalOf given (failure_of why)
+told_of : (given : Handed) (why : CompileError) → IsRefusal given why → IsRefusalOf given (failure_of why)
 told_of given refusal.Memory h = tt
 told_of given (refusal.Event index rule) h = h
 
 -- what the conversion of a refusal gives
-pub told : {T : Type 0} (given : Document) (why : CompileError) (r : Result T Failure) → IsRefusal given why →
+pub told : {T : Type 0} (given : Handed) (why : CompileError) (r : Result T Failure) → IsRefusal given why →
     IsErrAnd r (λ made. made ≡ failure_of why) → IfErr r (IsRefusalOf given)
 told given why (Ok x) refused is = tt
 told given why (Err made) refused is = subst (IsRefusalOf given) (sym is) (told_of given why refused)

@@ -1,7 +1,7 @@
 -- What the compiler promises of a text. Only contracts of private functions speak of it.
 use Rattle.std.specs.Prelude.{◌≡◌, ℕ, List}
 use Rattle.md_base.specs.Tree.{Forest, flatten}
-use Rattle.md_tree.specs.Grammar.{Document, IsChecked}
+use Rattle.md_tree.specs.Grammar.{Handed, IsChecked}
 use Rattle.md_meaning.specs.declared.options.CompileOptions.{CompileOptions}
 use Rattle.md_meaning.specs.Meaning.{meaning}
 use Rattle.md_safe.specs.Options.{KeepsGrammar, KeepsLinks, KeepsImages, KeepsIds}
@@ -9,8 +9,8 @@ use Rattle.md_text.specs.Html.{any_attribute, HasOneReadingWith}
 use Rattle.md_text.specs.Safe.{is_safe_link, is_safe_image}
 use Rattle.md_text.specs.Ids.{HasDistinctIds}
 
--- it is the meaning of the document that the events are, and safe where the options are
-pub record IsCompiled (given : Document) (options : CompileOptions) (text : List ℕ) : Type 0 where
+-- it is the meaning of the document that the events flatten, and safe where the options are
+pub record IsCompiled (given : Handed) (options : CompileOptions) (text : List ℕ) : Type 0 where
   pub grammatical : IsChecked given
   pub means : (document : Forest) → flatten document ≡ given.events →
       text ≡ meaning options given.names given.bytes document

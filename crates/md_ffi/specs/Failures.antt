@@ -2,7 +2,7 @@
 use Rattle.std.specs.Prelude.{◌≡◌, ℕ, List, Option, None}
 use Rattle.md_tree.specs.declared.rule.CompileError.{CompileError}
 use Rattle.md_tree.specs.declared.rule.CompileError.TheVariants as refusal
-use Rattle.md_tree.specs.Grammar.{Document}
+use Rattle.md_tree.specs.Grammar.{Handed}
 use Rattle.md_tree.specs.Refusal.{IsRefusal}
 use Rattle.md_script.specs.declared.error.RunError.{RunError}
 use Rattle.md_script.specs.declared.error.RunError.TheVariants as run
@@ -68,7 +68,7 @@ IsFaultOf field value (failure.Option number) = (number ≡ field) × (value ≡
 IsFaultOf field value _ = ⊥
 
 -- why what was read gives no text
-abbrev pub IsRefusalOf : Document → Failure → Type 0
+abbrev pub IsRefusalOf : Handed → Failure → Type 0
 IsRefusalOf given failure.Memory = Unit {0}
 IsRefusalOf given (failure.Refused index rule) = IsRefusal given (refusal.Event index rule)
 IsRefusalOf given _ = ⊥

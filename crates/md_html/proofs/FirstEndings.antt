@@ -14,7 +14,7 @@ use Rattle.md_base.specs.Children.{or_else}
 use Rattle.md_base.specs.NameTests.{is_line_ending}
 use Rattle.md_tree.specs.Texts.{positions_of, is_text_name, ExitsText}
 use Rattle.md_meaning.specs.Places.{first_ending}
-use Rattle.md_infer.specs.Ending.{is_exit, ends_line, first_index}
+use Rattle.md_infer.specs.Ending.{is_exit, exits_line_ending, first_index}
 
 -- there is none, or it is at an index, where its place is
 abbrev Outcome : List Event → List (Option Position) → Option Position → Type 0
@@ -24,7 +24,7 @@ Outcome events positions found =
     × (slice_get positions index ≡ Some (Some place)) × (found ≡ Some place))
 
 shift : (event : Event) (position : Option Position) (events : List Event) (positions : List (Option Position))
-    (found : Option Position) → ends_line event ≡ false → Outcome events positions found →
+    (found : Option Position) → exits_line_ending event ≡ false → Outcome events positions found →
     Outcome (event ∷ events) (position ∷ positions) found
 shift event position events positions found e (inl none) =
     inl (
@@ -145,7 +145,7 @@ ending-text [] index found = absurd (differ found)
   where
     differ : None ≡ Some index → ⊥
     differ e = cc
-ending-text (event ∷ events) index found = by (ends_line event) refl found (λ i f. ending-text events i f)
+ending-text (event ∷ events) index found = by (exits_line_ending event) refl found (λ i f. ending-text events i f)
   where
     differ : None ≡ Some index → ⊥
     differ e = cc
@@ -158,7 +158,7 @@ ending-text (event ∷ events) index found = by (ends_line event) refl found (λ
     shifted None e again = absurd (differ e)
     shifted (Some i) e again = subst (ExitsText (event ∷ events)) (same (suc i) index e) (again i refl)
 
-    by : (ends : Bool) → ends_line event ≡ ends → (if ends then Some 0
+    by : (ends : Bool) → exits_line_ending event ≡ ends → (if ends then Some 0
         else option_map (λ i. suc i) (first_index events)) ≡ Some index →
         ((i : ℕ) → first_index events ≡ Some i → ExitsText events i) → ExitsText (event ∷ events) index
     by true e f again =

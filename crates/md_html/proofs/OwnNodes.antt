@@ -16,14 +16,14 @@ use Rattle.md_pattern.specs.Shape.{AreShaped, IsShaped}
 use Rattle.md_base.specs.Tree.{Forest, Empty, Node, flatten, entering, exiting}
 use Rattle.md_infer.specs.Partners.{index_after, partners_of}
 use Rattle.md_tree.specs.Indices.{IsPartnerAt}
-use Rattle.md_tree.specs.Grammar.{Document}
+use Rattle.md_tree.specs.Grammar.{Handed}
 use Rattle.md_tree.proofs.Indexed.{flatten_one}
 use Rattle.md_tree.specs.Entered.{children_of}
 use Rattle.md_base.specs.NameTests.{is_link_definition}
 use Rattle.md_meaning.specs.Given.{Given, Defined}
 use Rattle.md_printer.specs.Machine.{run, beginning}
 use Rattle.md_html.specs.OwnDefinitions.{defined_alone, own_definitions, events_at}
-use Rattle.md_infer.specs.Partners.{definitions_of as entries_of}
+use Rattle.md_infer.specs.Partners.{definition_entries as entries_of}
 use Rattle.md_html.proofs.Walks.{drop-first, drop-later}
 use Rattle.md_html.proofs.OwnEvents.{definition-run}
 
@@ -371,7 +371,7 @@ events-part events entry (Some exit) = (
 )
 
 -- the other event of a node, in any document with these events
-pub partner-at : (given : Document) (entry : ℕ) (partner : Option ℕ) (document : Forest) →
+pub partner-at : (given : Handed) (entry : ℕ) (partner : Option ℕ) (document : Forest) →
     IsPartnerAt given entry partner → flatten document ≡ given.events →
     partner ≡ slice_get (partners_of 0 document) entry
 partner-at given entry partner document is flat =

@@ -12,7 +12,7 @@ use Rattle.md_pattern.specs.declared.kinds.Role.{Role}
 use Rattle.md_pattern.specs.declared.kinds.Role.TheVariants as role
 use Rattle.md_pattern.specs.Shape.{AreShaped, IsShaped}
 use Rattle.md_base.specs.Tree.{Forest, Empty, Node, flatten, exiting}
-use Rattle.md_infer.specs.Partners.{index_after, partners_of, definitions_of as entries_of}
+use Rattle.md_infer.specs.Partners.{index_after, partners_of, definition_entries as entries_of}
 use Rattle.md_tree.specs.Entered.{children_of}
 use Rattle.md_base.specs.NameTests.{is_link_definition}
 use Rattle.md_meaning.specs.Given.{Given}

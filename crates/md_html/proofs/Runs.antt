@@ -145,8 +145,8 @@ last-event (Node name start end children rest) [] = refl
 last-event (Node name start end children rest) (e ∷ es) = refl
 
 -- the state after some nodes
-abbrev pub after : Given → Before → Forest → Printer → Printer
-after given before forest state = record state {
+abbrev pub printer_after : Given → Before → Forest → Printer → Printer
+printer_after given before forest state = record state {
   log = record {
     called = fold counted state.log.called (calls_of given.bytes forest);
     definitions = state.log.definitions ++ definitions_of given state.frame.around before forest;
@@ -172,9 +172,9 @@ pub record Knows (state : Printer) (before : Before) : Type 0 where
   pub columns : first_or [] state.tables ≡ before.columns
 
 after-nothing : (given : Given) (before : Before) (state : Printer) → Knows state before →
-    after given before Empty state ≡ state
+    printer_after given before Empty state ≡ state
 after-nothing given before state knows =
-    ap (λ ds. record (after given before Empty state) { log = record state.log { definitions = ds } })
+    ap (λ ds. record (printer_after given before Empty state) { log = record state.log { definitions = ds } })
     (append-nil state.log.definitions)
     ∙ ap (λ names. record state {
       frame = record state.frame
@@ -320,7 +320,7 @@ left-known given before name start children captured state knows =
 -- a node is left after its children, whose text is not captured
 node_step-streamed : (given : Given) (ahead : Ahead) (before : Before) (last : Bool) (name : Name) (start end : Point)
     (children : Forest) (state : Printer) → Knows state before →
-    exited given last false name end (after given (before_children name children before) children
+    exited given last false name end (printer_after given (before_children name children before) children
     (entered given ahead (is_loose children) (columns_told name (Some children)) false name start state))
     ≡ after_node given ahead before last false name start end children state
 node_step-streamed given ahead before last name start end children state knows =
@@ -372,7 +372,7 @@ node_step-streamed given ahead before last name start end children state knows =
 -- a node is left after its children, whose text is captured
 node_step-captured : (given : Given) (ahead : Ahead) (before : Before) (last : Bool) (name : Name) (start end : Point)
     (children : Forest) (state : Printer) → Knows state before →
-    exited given last true name end (after given (before_children name children before) children
+    exited given last true name end (printer_after given (before_children name children before) children
     (entered given ahead (is_loose children) (columns_told name (Some children)) true name start state))
     ≡ after_node given ahead before last true name start end children state
 node_step-captured given ahead before last name start end children state knows =
@@ -533,7 +533,7 @@ after_node-told given before last captured name start end children state =
 
 node_step : (given : Given) (before : Before) (last captured : Bool) (name : Name) (start end : Point)
     (children : Forest) (state : Printer) → Knows state before →
-    exited given last captured name end (after given (before_children name children before) children
+    exited given last captured name end (printer_after given (before_children name children before) children
     (entered given (ahead_told name (Some children)) (is_loose children)
     (columns_told name (Some children)) captured name start state))
     ≡ after_node given (ahead_of children) before last captured name start end children state
@@ -610,10 +610,10 @@ next_knows given before last captured name start end children state knows =
 -- a node and then its siblings
 after-node : (given : Given) (before : Before) (name : Name) (start end : Point) (children rest : Forest)
     (state : Printer) →
-    after given (before_next given state.frame.around name start end children before) rest
+    printer_after given (before_next given state.frame.around name start end children before) rest
     (after_node given (ahead_of children) before (state.frame.around.is_outermost
     && is_empty rest) (is_captured name) name start end children state)
-    ≡ after given before (Node name start end children rest) state
+    ≡ printer_after given before (Node name start end children rest) state
 after-node given before name start end children rest state =
     let around = state.frame.around in
     let next : Before = before_next given around name start end children before in
@@ -643,10 +643,11 @@ after-node given before name start end children rest state =
     let left : Log = (after_node given (ahead_of children) before (around.is_outermost
     && is_empty rest) (is_captured name) name start end children state).log in
     let logged : List Called → List Defined → List Footnote →
-    Printer = λ cs ds fs. record (after given before (Node name start end children rest) state)
+    Printer = λ cs ds fs. record (printer_after given before (Node name start end children rest) state)
     { log = record { called = cs; definitions = ds; footnotes = fs } } in
-    let made : Sheet → Bool → Option Name → Option Name → List Name → Printer = λ sheet slurping o p names. record state {
-      log = (after given next rest (after_node given (ahead_of children) before (around.is_outermost
+    let made : Sheet → Bool → Option Name → Option Name → List Name → Printer =
+    λ sheet slurping o p names. record state {
+      log = (printer_after given next rest (after_node given (ahead_of children) before (around.is_outermost
           && is_empty rest) (is_captured name) name start end children state)).log;
       sheet = sheet;
       is_slurping = slurping;
@@ -698,7 +699,7 @@ pub run-flatten : (given : Given) (forest : Forest) (before : Before) (tail : Li
     (nodes : List (Option Forest)) (state : Printer) →
     Knows state before → state.frame.around.is_outermost ≡ is_nil tail →
     run given (flatten forest ++ tail) (children_of forest ++ nodes) state
-    ≡ run given tail nodes (after given before forest state)
+    ≡ run given tail nodes (printer_after given before forest state)
 run-flatten given Empty before tail nodes state knows outer =
     ap (λ s. run given tail nodes s) (sym (after-nothing given before state knows))
 run-flatten given (Node name start end children rest) before tail nodes state knows outer =
@@ -709,7 +710,8 @@ run-flatten given (Node name start end children rest) before tail nodes state kn
     let last : Bool = state.frame.around.is_outermost && is_empty rest in
     let left : Printer = after_node given (ahead_of children) before last captured name start end children state in
     let next : Before = before_next given state.frame.around name start end children before in
-    let entered_in : Surroundings → Printer = λ around. record inner { frame = record inner.frame { around = around } } in
+    let entered_in : Surroundings → Printer =
+    λ around. record inner { frame = record inner.frame { around = around } } in
     ap (λ around. run given ((flatten children ++ exiting name end ∷ flatten rest)
     ++ tail) ((children_of children ++ None ∷ children_of rest) ++ nodes) (entered_in around))
     (inside-told given.options name children state.frame.around)
@@ -722,7 +724,8 @@ run-flatten given (Node name start end children rest) before tail nodes state kn
     (children_know given told before name start children captured state knows)
     (inside_outermost given.options (is_loose children) name state.frame.around)
     ∙ ap (λ l. run given (flatten rest ++ tail) (children_of rest
-    ++ nodes) (exited given l captured name end (after given (before_children name children before) children inner)))
+    ++ nodes) (exited given l captured name end
+    (printer_after given (before_children name children before) children inner)))
     (last-event rest tail ∙ ap (λ o. o && is_empty rest) (sym outer))
     ∙ ap (λ s. run given (flatten rest ++ tail) (children_of rest ++ nodes) s)
     (node_step given before last captured name start end children state knows)

@@ -8,11 +8,11 @@ use Rattle.std.proofs.lemmas.List.{drop-drop, length-append}
 use Rattle.md_base.specs.declared.event.Event.{Event}
 use Rattle.md_base.specs.declared.event.Name.TheVariants.{GfmTable}
 use Rattle.md_base.specs.declared.event.Point.{Point}
-use Rattle.md_tree.specs.Grammar.{Document}
+use Rattle.md_tree.specs.Grammar.{Handed}
 use Rattle.md_base.specs.Tree.{Forest, Empty, Node, flatten}
 use Rattle.md_tree.specs.Entered.{children_of, IsEnteredAt}
 use Rattle.md_tree.proofs.Indexed.{flatten_one}
-use Rattle.md_printer.specs.Sources.{IsToldAt}
+use Rattle.md_printer.specs.Given.{IsToldAt}
 use Rattle.md_printer.specs.Machine.{is_nil}
 
 -- a fact of an answer from another
@@ -60,7 +60,7 @@ told-at document events index event flat got =
     below m n e h = omega (arith, e, h)
 
 -- what is told of an event that enters a node is the node's children
-pub told-entered : (given : Document) (index : ℕ) (told : Option Forest) (children : Forest) →
+pub told-entered : (given : Handed) (index : ℕ) (told : Option Forest) (children : Forest) →
     IsToldAt given index told → IsEnteredAt given index children → Some children ≡ told
 told-entered given index told children there entered =
     same there.0 entered.0 (there.1 ∙ sym entered.1) there.2 entered.2

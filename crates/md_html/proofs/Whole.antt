@@ -21,7 +21,7 @@ use Rattle.md_meaning.specs.Printed.{printed, definitions_of, footnotes_of}
 use Rattle.md_sheet.specs.Seen.{noted}
 use Rattle.md_sheet.proofs.Lists.{lay-append}
 use Rattle.md_sheet.proofs.Tally.{fold-tally}
-use Rattle.md_html.proofs.Runs.{run-flatten, Knows, after}
+use Rattle.md_html.proofs.Runs.{run-flatten, Knows, printer_after}
 use Rattle.md_html.proofs.LookUps.{FindAlike, printed-alike, footnotes-alike}
 
 -- what the nodes are given, where lines end so
@@ -39,7 +39,7 @@ begins : Knows beginning nothing_before
 begins = record { calls = refl; slurping = refl; previous = refl; spine = refl; columns = refl }
 
 run-document : (given : Given) (document : Forest) → run given (flatten document) (children_of document) beginning
-    ≡ after given nothing_before document beginning
+    ≡ printer_after given nothing_before document beginning
 run-document given document =
     ap (λ es. run given es (children_of document) beginning) (sym (append-nil (flatten document)))
     ∙ ap (λ cs. run given (flatten document ++ []) cs beginning) (sym (append-nil (children_of document)))
@@ -47,7 +47,7 @@ run-document given document =
 
 -- one run over the events of a document
 run-events : (given : Given) (events : List Event) (document : Forest) → flatten document ≡ events →
-    run given events (children_of document) beginning ≡ after given nothing_before document beginning
+    run given events (children_of document) beginning ≡ printer_after given nothing_before document beginning
 run-events given events document flat = ap (λ es. run given es (children_of document) beginning) (sym flat)
     ∙ run-document given document
 
@@ -129,7 +129,7 @@ section-noted options kept footnotes (called ∷ others) same =
 
 -- the last sheet, with the section, is the document's
 finished-document : (given : Given) (document : Forest) →
-    (finished given (after given nothing_before document beginning)).text
+    (finished given (printer_after given nothing_before document beginning)).text
     ≡ layout given.ending (printed given outermost nothing_before document
     ++ section_pieces given.options (footnotes_of given outermost nothing_before document)
     (tally (calls_of given.bytes document)))

@@ -8,7 +8,7 @@ ghost use Rattle.md_tree.specs.Grammar.{IsChecked, handed};
 ghost use Rattle.md_tree.specs.Texts.{EntersAt};
 ghost use Rattle.md_tree.specs.Reads.{is_reader};
 ghost use Rattle.md_tree.specs.Entered.{children_of};
-ghost use Rattle.md_printer.specs.Sources.{IsToldAt, closing_at};
+ghost use Rattle.md_printer.specs.Given.{IsToldAt, closing_at};
 ghost use Rattle.md_tree.specs.Refusal.{IsOutside, IsOrder, IsMdx, IsOfNode, IsLost};
 ghost use Rattle.md_printer.specs.Machine as machine;
 ghost use Rattle.md_around.specs.Steps as steps;
@@ -17,7 +17,7 @@ ghost use Rattle.md_text.specs.Html.{any_attribute, HasOneReadingWith};
 ghost use Rattle.md_text.specs.Safe.{is_safe_link, is_safe_image};
 ghost use Rattle.md_text.specs.Ids.{HasDistinctIds};
 ghost use Rattle.md_safe.specs.Options.{KeepsGrammar, KeepsLinks, KeepsImages, KeepsIds};
-ghost use Rattle.md_printer.specs.Sources.{given_of};
+ghost use Rattle.md_printer.specs.Given.{given_of};
 ghost use Rattle.md_meaning.specs.Places.{first_ending as first_place};
 ghost use Rattle.md_meaning.specs.Printed.{is_captured};
 ghost use Rattle.md_meaning.specs.declared.context.Ahead.{Ahead};
@@ -50,7 +50,7 @@ pub struct Counted {
     pub visits: usize,
 }
 
-/// The HTML of a list of Markdown events over a document's bytes: the meaning of the document that the list is.
+/// The HTML of a list of Markdown events over a document's bytes: the meaning of the document that the list flattens.
 ///
 /// `names` is the table of named character references. Nothing is assumed of events, bytes, options or names. Where
 /// HTML isn't allowed and the heading of the footnotes is the usual one, the text has exactly one reading in the HTML
@@ -151,7 +151,7 @@ pub fn compile_counted(
 ///
 /// # Errors
 ///
-/// Only where memory runs out.
+/// `AllocError`, where memory runs out (or a count would pass `usize`, which no list in memory reaches).
 ///
 /// # Examples
 ///
@@ -230,22 +230,22 @@ fn ending_of<'a>(checked: &Checked<'a>, options: &'a CompileOptions) -> &'a str
     }
 }
 
-/// Enters a node, which is told this of its children.
+/// Enters a node, of whose children this is known ahead.
 fn enter(
     printer: &mut Printer,
     given: &Given,
-    told: Lookahead,
+    lookahead: Lookahead,
     name: Name,
     start: Point,
 ) -> Result<(), AllocError>
-    ensures { OnOk result (printer.new ≡ machine.entered (given_of given.now) (machine.ahead_by told.place)
-        told.loose told.columns.items (is_captured name) name start printer.old) }
+    ensures { OnOk result (printer.new ≡ machine.entered (given_of given.now) (machine.ahead_by lookahead.place)
+        lookahead.loose lookahead.columns.items (is_captured name) name start printer.old) }
 {
     let around = printer.around();
-    open(printer, given, around, told.place, name)?;
+    open(printer, given, around, lookahead.place, name)?;
     printer.capture_if(given.alloc, is_captured(name))?;
-    printer.open_frame(given.options, &told, name, start)?;
-    printer.enter_table_if(is_table(name), told.columns)
+    printer.open_frame(given.options, &lookahead, name, start)?;
+    printer.enter_table_if(is_table(name), lookahead.columns)
 }
 
 /// The place that a name reads in the children of the node that is entered; of another name none.
@@ -443,12 +443,12 @@ fn enter_visited(
     let place = place_read(checked, visit.index, event.name);
     let loose = is_loose(checked, visit.index, event.name);
     let columns = columns_of(given.alloc, checked, visit.index, event.name)?;
-    let told = Lookahead {
+    let lookahead = Lookahead {
         place,
         loose,
         columns,
     };
-    enter(printer, given, told, event.name, event.point)
+    enter(printer, given, lookahead, event.name, event.point)
 }
 
 /// Goes over a node without children that prints only at its exit, if at all.
@@ -470,7 +470,7 @@ fn leaf(
 }
 
 /// Two events enter and exit such a node.
-fn is_leaf(entry: &Event, exit: &Event) -> bool
+fn is_light_leaf(entry: &Event, exit: &Event) -> bool
     ensures { OnTrue result (IsLightLeaf entry.now exit.now) }
 {
     matches!(entry.kind, Kind::Enter)
@@ -496,7 +496,7 @@ fn advance(
 {
     let entry = visit.event;
     if let Some((exit, beyond)) = visit.later.split_first() {
-        if is_leaf(entry, exit) {
+        if is_light_leaf(entry, exit) {
             let is_last = beyond.is_empty();
             let place = Position {
                 start: entry.point,

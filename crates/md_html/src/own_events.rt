@@ -8,9 +8,9 @@ ghost use Rattle.md_pattern.specs.Shape.{IsShaped};
 ghost use Rattle.md_tree.specs.Entered.{children_of};
 ghost use Rattle.md_infer.specs.Partners.{partners_of};
 ghost use Rattle.md_printer.specs.Machine as machine;
-ghost use Rattle.md_printer.specs.Sources.{given_of};
+ghost use Rattle.md_printer.specs.Given.{given_of};
 ghost use Rattle.md_html.specs.OwnDefinitions.{own_definitions, events_at};
-ghost use Rattle.md_infer.specs.Partners.{definitions_of as entries_of};
+ghost use Rattle.md_infer.specs.Partners.{definition_entries as entries_of};
 
 use crate::compiler::{Visit, step};
 use md_base::Event;

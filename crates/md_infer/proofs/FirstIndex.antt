@@ -4,13 +4,13 @@ use Rattle.std.specs.Prelude.{if◌then◌else◌, option_map}
 use Rattle.std.proofs.Math.Seq.{take-suc}
 use Rattle.std.proofs.lemmas.List.{length-take-le}
 use Rattle.md_base.specs.declared.event.Event.{Event}
-use Rattle.md_infer.specs.Ending.{ends_line, first_index, ending_after}
+use Rattle.md_infer.specs.Ending.{exits_line_ending, first_index, ending_after}
 
 one_later : (found : Option ℕ) (index : ℕ) (event : Event) →
     option_map (λ i. suc i) (ending_after found index event)
     ≡ ending_after (option_map (λ i. suc i) found) (suc index) event
 one_later (Some found) index event = refl
-one_later None index event = by (ends_line event)
+one_later None index event = by (exits_line_ending event)
   where
     by : (ends : Bool) → option_map (λ i. suc i) (if ends then Some index else None)
         ≡ (if ends then Some (suc index) else None)
@@ -21,7 +21,7 @@ first_index-step : (first event : Event) (events : List Event) →
     first_index (events ++ event ∷ []) ≡ ending_after (first_index events) (length events) event →
     first_index (first ∷ (events ++ event ∷ [])) ≡ ending_after (first_index (first ∷ events))
     (suc (length events)) event
-first_index-step first event events e = by (ends_line first)
+first_index-step first event events e = by (exits_line_ending first)
   where
     by : (ends : Bool) → (if ends then Some 0 else option_map (λ i. suc i) (first_index (events ++ event ∷ [])))
         ≡ ending_after (if ends then Some 0 else option_map (λ i. suc i) (first_index events))

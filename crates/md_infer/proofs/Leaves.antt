@@ -12,7 +12,7 @@ use Rattle.md_base.specs.NameTests.{is_table}
 use Rattle.md_base.proofs.Lies.{lie}
 use Rattle.md_infer.specs.Told.{nothing_told}
 use Rattle.md_infer.specs.Columns.{Collected, columns_entered, columns_exited}
-use Rattle.md_infer.specs.Facts.{Passed, sought_inside, opened, followed, fact_of, partner_alone, definitions_with, passed_entry, passed_exit}
+use Rattle.md_infer.specs.Facts.{PassState, sought_inside, opened, followed, fact_of, partner_alone, definitions_with, passed_entry, passed_exit}
 
 -- a node that is no table begins no columns, and its fact is its partner alone
 plain-entered : (name : Name) (columns : Collected) → is_table name ≡ false → columns_entered name columns ≡ columns
@@ -25,7 +25,7 @@ plain-fact GfmTable exit table around plain = lie (sym plain)
 plain-fact _ exit table around plain = refl
 
 -- what is found after such a node
-abbrev pub after_leaf : Name → Passed → Passed
+abbrev pub after_leaf : Name → PassState → PassState
 after_leaf name pass = record {
   facts = (pass.facts ++ fact_of name (length pass.facts + 1)
       (length (Collected.tables (columns_entered name pass.columns))) 0
@@ -43,14 +43,14 @@ facts-leaf found alone at =
     sym (set-append_seam found alone [] (at (length found + 1)))
     ∙ ap (λ n. set (found ++ alone ∷ []) (length found) (at n)) (sym (length-append found (alone ∷ [])))
 
-pub passed-leaf : (name : Name) (pass : Passed) → after_leaf name pass ≡ passed_exit name (passed_entry name pass)
+pub passed-leaf : (name : Name) (pass : PassState) → after_leaf name pass ≡ passed_exit name (passed_entry name pass)
 passed-leaf name pass =
     ap (λ fs. record (after_leaf name pass) { facts = fs ++ partner_alone (length pass.facts) ∷ [] })
     (facts-leaf pass.facts (partner_alone 0) (λ exit. fact_of name exit (length (Collected.tables
     (columns_entered name pass.columns))) 0 (sought_inside name (OpenNode.sought pass.here)) nothing_told))
 
 -- the same, by what each step gave
-pub passed-leaf_by : (name : Name) (pass : Passed) (entry : ℕ) (here : OpenNode) (columns : Collected)
+pub passed-leaf_by : (name : Name) (pass : PassState) (entry : ℕ) (here : OpenNode) (columns : Collected)
     (once twice : List Fact) (definitions : List ℕ) → is_table name ≡ false → entry ≡ length pass.facts →
     once ≡ pass.facts ++ partner_alone (entry + 1) ∷ [] → twice ≡ once ++ partner_alone entry ∷ [] →
     columns ≡ columns_exited name nothing_told (OpenNode.collects pass.here) pass.columns →

@@ -9,7 +9,7 @@ use Rattle.md_infer.specs.declared.facts.OpenNode.{OpenNode}
 use Rattle.md_infer.specs.Columns.{Collected, columns_exited}
 use Rattle.md_infer.specs.Told.{nothing_told}
 use Rattle.md_base.specs.NameTests.{is_table}
-use Rattle.md_infer.specs.Facts.{Passed, opens, next_outer, others_outer, grounded, opened, followed, fact_of, partner_alone, definitions_with, passed_entry, passed_exit}
+use Rattle.md_infer.specs.Facts.{PassState, opens, next_outer, others_outer, grounded, opened, followed, fact_of, partner_alone, definitions_with, passed_entry, passed_exit}
 use Rattle.md_infer.proofs.Leaves.{passed-leaf_by}
 
 -- an answer of a call of which three things are known
@@ -80,7 +80,8 @@ put_then_pushed facts index len fact whole last alone put pushed len_is fact_is 
     ∙ ap (λ f. set facts index whole ++ f ∷ []) last_is
 
 -- the exit of a node, by what each step gave: the node, what is left, and what it is then
-pub passed_exit-by : (name : Name) (pass : Passed) (own here after : OpenNode) (facts : List Fact) (columns : Collected)
+pub passed_exit-by : (name : Name) (pass : PassState) (own here after : OpenNode) (facts : List Fact)
+    (columns : Collected)
     (definitions : List ℕ) (left stack : List OpenNode) → own ≡ pass.here → left ≡ grounded pass.outer →
     here ≡ next_outer left → stack ≡ after ∷ others_outer left → after ≡ followed name own here →
     facts ≡ set pass.facts own.entry (fact_of name (length pass.facts) (length pass.columns.tables) own.contributing
@@ -110,7 +111,7 @@ passed_exit-by name pass own here after facts columns definitions left stack own
     ) refl
 
 -- a node without children, by what each step gave
-pub passed_leaf-by : (name : Name) (pass : Passed) (entry : ℕ) (here after : OpenNode) (columns : Collected)
+pub passed_leaf-by : (name : Name) (pass : PassState) (entry : ℕ) (here after : OpenNode) (columns : Collected)
     (once twice : List Fact) (definitions : List ℕ) (stack : List OpenNode) → is_table name ≡ false →
     entry ≡ length pass.facts → once ≡ pass.facts ++ partner_alone (entry + 1) ∷ [] →
     twice ≡ once ++ partner_alone entry ∷ [] → here ≡ pass.here → stack ≡ after ∷ pass.outer →

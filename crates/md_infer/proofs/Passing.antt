@@ -16,11 +16,11 @@ use Rattle.md_infer.specs.declared.facts.OpenNode.{OpenNode}
 use Rattle.md_base.specs.Tree.{Forest, Empty, Node, flatten, exiting}
 use Rattle.md_base.specs.NameTests.{is_transparent, is_item, is_table, is_link_definition, is_delimiter_value, leads_to_values}
 use Rattle.md_infer.specs.Alignments.{alignment_of, alignments}
-use Rattle.md_infer.specs.Partners.{index_after, definitions_of}
+use Rattle.md_infer.specs.Partners.{index_after, definition_entries}
 use Rattle.md_infer.specs.Told.{nothing_told, told_over, alignment, looseness}
 use Rattle.md_infer.specs.Seeking.{search_of}
 use Rattle.md_infer.specs.Columns.{Collected, part_of, collects_where, collects_in, entered_where, columns_entered, exited_where, columns_exited, tables_of, columns_after}
-use Rattle.md_infer.specs.Facts.{Passed, nothing_passed, sought_inside, opened, followed, fact_of, partner_alone, passed_exit, passed, passed_over, contributing_over, sought_over, after, tables_with, tables_after, fact_at, facts_of}
+use Rattle.md_infer.specs.Facts.{PassState, pass_beginning, sought_inside, opened, followed, fact_of, partner_alone, passed_exit, passed, passed_over, contributing_over, sought_over, followed_over, tables_with, tables_after, fact_at, facts_of}
 use Rattle.md_infer.proofs.Telling.{alignment-told}
 
 -- ---- columns
@@ -205,27 +205,27 @@ length_tables (Node name start end children rest) tables ended e =
 
 -- ---- the pass
 
-abbrev state : List OpenNode → OpenNode → List ℕ → List Fact → Collected → Passed
+abbrev state : List OpenNode → OpenNode → List ℕ → List Fact → Collected → PassState
 state outer here definitions facts columns =
     record { facts = facts; columns = columns; definitions = definitions; here = here; outer = outer }
 
-passed_over-append : (xs ys : List Event) (pass : Passed) →
+passed_over-append : (xs ys : List Event) (pass : PassState) →
     passed_over (xs ++ ys) pass ≡ passed_over ys (passed_over xs pass)
 passed_over-append [] ys pass = refl
 passed_over-append (x ∷ xs) ys pass = passed_over-append xs ys (passed x.kind x.name pass)
 
 -- some nodes after what is found so far
-abbrev passed_forest : ℕ → ℕ → Forest → Passed → Passed
+abbrev passed_forest : ℕ → ℕ → Forest → PassState → PassState
 passed_forest index tables forest pass = record {
   facts = pass.facts ++ facts_of index tables forest;
   columns = columns_after forest pass.here.collects pass.columns;
-  definitions = pass.definitions ++ definitions_of index forest;
-  here = after index forest pass.here;
+  definitions = pass.definitions ++ definition_entries index forest;
+  here = followed_over index forest pass.here;
   outer = pass.outer;
 }
 
 -- a node that is entered, and one that has ended
-abbrev inside_node : ℕ → Name → Passed → Passed
+abbrev inside_node : ℕ → Name → PassState → PassState
 inside_node index name pass = record {
   facts = pass.facts ++ partner_alone 0 ∷ [];
   columns = columns_entered name pass.columns;
@@ -234,31 +234,31 @@ inside_node index name pass = record {
   outer = pass.here ∷ pass.outer;
 }
 
-abbrev after_node : ℕ → ℕ → Name → Forest → Passed → Passed
+abbrev after_node : ℕ → ℕ → Name → Forest → PassState → PassState
 after_node index tables name children pass = record {
   facts = ((pass.facts ++ fact_at index tables name children ∷ []) ++ facts_of (suc index) tables children)
       ++ partner_alone index ∷ [];
   columns = columns_next (is_table name) (is_delimiter_value name)
       (leads_to_values name) children pass.here.collects pass.columns;
-  definitions = (pass.definitions ++ definitions_of (suc index) children)
+  definitions = (pass.definitions ++ definition_entries (suc index) children)
       ++ cond (is_link_definition name) (index ∷ []) [];
-  here = followed name (after (suc index) children (opened index name pass.here)) pass.here;
+  here = followed name (followed_over (suc index) children (opened index name pass.here)) pass.here;
   outer = pass.outer;
 }
 
-exit_after : (index tables : ℕ) (name : Name) (children : Forest) (pass : Passed) → length pass.facts ≡ index →
+exit_after : (index tables : ℕ) (name : Name) (children : Forest) (pass : PassState) → length pass.facts ≡ index →
     length pass.columns.tables ≡ tables → passed_exit name
     (passed_forest (suc index) tables children (inside_node index name pass))
     ≡ after_node index tables name children pass
 exit_after index tables name children pass e t =
     let inner = facts_of (suc index) tables children in
-    let here = followed name (after (suc index) children (opened index name pass.here)) pass.here in
+    let here = followed name (followed_over (suc index) children (opened index name pass.here)) pass.here in
     let found = (pass.facts ++ partner_alone 0 ∷ []) ++ inner in
     let ended = Collected.tables (columns_entered name pass.columns) ++ tables_of children in
     let contributing = contributing_over (suc index) children 0 in
     let sought = sought_over (suc index) children (sought_inside name pass.here.sought) in
     let told = told_over children nothing_told in
-    let definitions = (pass.definitions ++ definitions_of (suc index) children)
+    let definitions = (pass.definitions ++ definition_entries (suc index) children)
     ++ cond (is_link_definition name) (index ∷ []) [] in
     let exit_is : length found ≡ index_after (suc index) children =
     length_facts children (suc index) tables (pass.facts ++ partner_alone 0
@@ -288,7 +288,7 @@ exit_after index tables name children pass e t =
 definitions_joined : (a b c d : List ℕ) → ((a ++ b) ++ c) ++ d ≡ a ++ (b ++ (c ++ d))
 definitions_joined a b c d = append_assoc (a ++ b) c d ∙ append_assoc a b (c ++ d)
 
-pub passed_over-flatten : (forest : Forest) (index tables : ℕ) (pass : Passed) → length pass.facts ≡ index →
+pub passed_over-flatten : (forest : Forest) (index tables : ℕ) (pass : PassState) → length pass.facts ≡ index →
     length pass.columns.tables ≡ tables → passed_over (flatten forest) pass ≡ passed_forest index tables forest pass
 passed_over-flatten Empty index tables pass e t =
     ap (λ ds. state pass.outer pass.here ds pass.facts pass.columns) (sym (append-nil pass.definitions))
@@ -306,8 +306,8 @@ passed_over-flatten (Node name start end children rest) index tables pass e t =
     let entered = inside_node index name pass in
     let after_it = after_node index tables name children pass in
     let own = cond (is_table name) (alignments children ∷ []) [] in
-    let all_here = after index (Node name start end children rest) pass.here in
-    let all_defined = pass.definitions ++ definitions_of index (Node name start end children rest) in
+    let all_here = followed_over index (Node name start end children rest) pass.here in
+    let all_defined = pass.definitions ++ definition_entries index (Node name start end children rest) in
     let length_after : length after_it.facts ≡ suc exit =
     length_one ((pass.facts ++ fact ∷ []) ++ inner) (partner_alone index)
     ∙ ap suc (length_facts children (suc index) tables (pass.facts ++ fact ∷ []) (length_one pass.facts fact
@@ -324,8 +324,8 @@ passed_over-flatten (Node name start end children rest) index tables pass e t =
     ∙ passed_over-flatten rest (suc exit) more after_it length_after tables_after_it
     ∙ ap (λ ds. state pass.outer all_here ds (after_it.facts
     ++ facts_of (suc exit) more rest) (columns_after rest pass.here.collects after_it.columns))
-    (definitions_joined pass.definitions (definitions_of (suc index) children)
-    (cond (is_link_definition name) (index ∷ []) []) (definitions_of (suc exit) rest))
+    (definitions_joined pass.definitions (definition_entries (suc index) children)
+    (cond (is_link_definition name) (index ∷ []) []) (definition_entries (suc exit) rest))
     ∙ ap (λ fs. state pass.outer all_here all_defined fs (columns_after rest pass.here.collects after_it.columns))
     (regrouped pass.facts inner (facts_of (suc exit) more rest) fact (partner_alone index))
     ∙ ap (λ columns. state pass.outer all_here all_defined (pass.facts
@@ -334,7 +334,7 @@ passed_over-flatten (Node name start end children rest) index tables pass e t =
     pass.here.collects pass.columns)
 
 -- one more event
-pub passed_more : (events : List Event) (index : ℕ) (d : Event) (pass before next : Passed) → index < length events →
+pub passed_more : (events : List Event) (index : ℕ) (d : Event) (pass before next : PassState) → index < length events →
     pass ≡ passed_over (take index events) before → next
     ≡ passed (Event.kind (get_or events index d)) (Event.name (get_or events index d)) pass →
     next ≡ passed_over (take (index + 1) events) before
@@ -345,19 +345,19 @@ passed_more events index d pass before next inside so_far step =
 
 -- from the first event on
 pub facts-flatten : (forest : Forest) (events : List Event) → flatten forest ≡ events →
-    Passed.facts (passed_over events nothing_passed) ≡ facts_of 0 0 forest
+    PassState.facts (passed_over events pass_beginning) ≡ facts_of 0 0 forest
 facts-flatten forest events e =
-    ap (λ es. Passed.facts (passed_over es nothing_passed)) (sym e)
-    ∙ ap (λ (p : Passed). p.facts) (passed_over-flatten forest 0 0 nothing_passed refl refl)
+    ap (λ es. PassState.facts (passed_over es pass_beginning)) (sym e)
+    ∙ ap (λ (p : PassState). p.facts) (passed_over-flatten forest 0 0 pass_beginning refl refl)
 
 pub tables-flatten : (forest : Forest) (events : List Event) → flatten forest ≡ events →
-    Collected.tables (Passed.columns (passed_over events nothing_passed)) ≡ tables_of forest
+    Collected.tables (PassState.columns (passed_over events pass_beginning)) ≡ tables_of forest
 tables-flatten forest events e =
-    ap (λ es. Collected.tables (Passed.columns (passed_over es nothing_passed))) (sym e)
-    ∙ ap (λ (p : Passed). p.columns.tables) (passed_over-flatten forest 0 0 nothing_passed refl refl)
+    ap (λ es. Collected.tables (PassState.columns (passed_over es pass_beginning))) (sym e)
+    ∙ ap (λ (p : PassState). p.columns.tables) (passed_over-flatten forest 0 0 pass_beginning refl refl)
 
 pub definitions-flatten : (forest : Forest) (events : List Event) → flatten forest ≡ events →
-    Passed.definitions (passed_over events nothing_passed) ≡ definitions_of 0 forest
+    PassState.definitions (passed_over events pass_beginning) ≡ definition_entries 0 forest
 definitions-flatten forest events e =
-    ap (λ es. Passed.definitions (passed_over es nothing_passed)) (sym e)
-    ∙ ap (λ (p : Passed). p.definitions) (passed_over-flatten forest 0 0 nothing_passed refl refl)
+    ap (λ es. PassState.definitions (passed_over es pass_beginning)) (sym e)
+    ∙ ap (λ (p : PassState). p.definitions) (passed_over-flatten forest 0 0 pass_beginning refl refl)

@@ -10,16 +10,16 @@ is_exit Enter = false
 is_exit Exit = true
 
 -- an event exits a line ending, blank or not
-abbrev pub ends_line : Event → Bool
-ends_line event = is_exit event.kind && is_line_ending event.name
+abbrev pub exits_line_ending : Event → Bool
+exits_line_ending event = is_exit event.kind && is_line_ending event.name
 
 -- the index of the first such event
 abbrev pub first_index : List Event → Option ℕ
 first_index [] = None
 first_index (event ∷ events) =
-    if ends_line event then Some 0 else option_map (λ index. suc index) (first_index events)
+    if exits_line_ending event then Some 0 else option_map (λ index. suc index) (first_index events)
 
 -- the same after some events, of which it was this, and one more at an index
 abbrev pub ending_after : Option ℕ → ℕ → Event → Option ℕ
-ending_after None index event = if ends_line event then Some index else None
+ending_after None index event = if exits_line_ending event then Some index else None
 ending_after (Some found) index event = Some found

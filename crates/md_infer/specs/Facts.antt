@@ -19,8 +19,9 @@ use Rattle.md_infer.specs.Seeking.{search_of, seen}
 use Rattle.md_infer.specs.Columns.{Collected, nothing_collected, collects_in, columns_entered, columns_exited}
 
 -- the document itself
-abbrev pub nowhere : OpenNode
-nowhere = record { entry = 0; contributing = 0; collects = false; sought = search_of Paragraph; told = nothing_told }
+abbrev pub document_node : OpenNode
+document_node =
+    record { entry = 0; contributing = 0; collects = false; sought = search_of Paragraph; told = nothing_told }
 
 -- a spine on which a search begins, or goes on where the node is transparent
 abbrev pub sought_inside : Name → Sought → Sought
@@ -103,7 +104,7 @@ partner_alone partner = record {
 
 -- what is found at the events so far, the entries of the definitions that have ended, the innermost open node, and
 -- those around it, the next one first
-pub record Passed : Type 0 where
+pub record PassState : Type 0 where
   pub facts : List Fact
   pub columns : Collected
   pub definitions : List ℕ
@@ -111,12 +112,12 @@ pub record Passed : Type 0 where
   pub outer : List OpenNode
 
 -- before any event
-abbrev pub nothing_passed : Passed
-nothing_passed = record { facts = []; columns = nothing_collected; definitions = []; here = nowhere; outer = [] }
+abbrev pub pass_beginning : PassState
+pass_beginning = record { facts = []; columns = nothing_collected; definitions = []; here = document_node; outer = [] }
 
 -- the first of some open nodes, and the others
 abbrev pub next_outer : List OpenNode → OpenNode
-next_outer [] = nowhere
+next_outer [] = document_node
 next_outer (open_node ∷ others) = open_node
 
 abbrev pub others_outer : List OpenNode → List OpenNode
@@ -129,11 +130,11 @@ opens open_nodes document = reverse open_nodes ++ document ∷ []
 
 -- where nothing is left, the document
 abbrev pub grounded : List OpenNode → List OpenNode
-grounded [] = nowhere ∷ []
+grounded [] = document_node ∷ []
 grounded (open_node ∷ others) = open_node ∷ others
 
 -- the entry of a node
-abbrev pub passed_entry : Name → Passed → Passed
+abbrev pub passed_entry : Name → PassState → PassState
 passed_entry name pass = record {
   facts = pass.facts ++ partner_alone 0 ∷ [];
   columns = columns_entered name pass.columns;
@@ -143,7 +144,7 @@ passed_entry name pass = record {
 }
 
 -- what is found of the innermost open node, which exits
-abbrev pub fact_here : Name → Passed → Fact
+abbrev pub fact_here : Name → PassState → Fact
 fact_here name pass =
     fact_of name (length pass.facts) (length pass.columns.tables) pass.here.contributing pass.here.sought pass.here.told
 
@@ -152,7 +153,7 @@ abbrev pub definitions_with : Name → ℕ → List ℕ → List ℕ
 definitions_with name entry definitions = definitions ++ (if is_link_definition name then entry ∷ [] else [])
 
 -- the exit of a node
-abbrev pub passed_exit : Name → Passed → Passed
+abbrev pub passed_exit : Name → PassState → PassState
 passed_exit name pass = record {
   facts = set pass.facts pass.here.entry (fact_here name pass) ++ partner_alone pass.here.entry ∷ [];
   columns = columns_exited name pass.here.told (OpenNode.collects (next_outer pass.outer)) pass.columns;
@@ -162,12 +163,12 @@ passed_exit name pass = record {
 }
 
 -- an event
-abbrev pub passed : Kind → Name → Passed → Passed
+abbrev pub passed : Kind → Name → PassState → PassState
 passed Enter name pass = passed_entry name pass
 passed Exit name pass = passed_exit name pass
 
 -- events, one after another
-abbrev pub passed_over : List Event → Passed → Passed
+abbrev pub passed_over : List Event → PassState → PassState
 passed_over [] pass = pass
 passed_over (event ∷ events) pass = passed_over events (passed event.kind event.name pass)
 
@@ -185,8 +186,8 @@ sought_over index (Node name start end children rest) sought =
     (sought_after name index (sought_over (suc index) children (sought_inside name sought)) sought)
 
 -- an open node after some of its children
-abbrev pub after : ℕ → Forest → OpenNode → OpenNode
-after index forest here = record {
+abbrev pub followed_over : ℕ → Forest → OpenNode → OpenNode
+followed_over index forest here = record {
   entry = here.entry;
   contributing = contributing_over index forest here.contributing;
   collects = here.collects;
@@ -222,10 +223,10 @@ facts_of index tables (Node name start end children rest) =
 
 -- what is found at each event, the alignments of the tables, and the entries of the definitions
 abbrev pub facts_at : List Event → List Fact
-facts_at events = Passed.facts (passed_over events nothing_passed)
+facts_at events = PassState.facts (passed_over events pass_beginning)
 
 abbrev pub tables_at : List Event → List (List AlignKind)
-tables_at events = Collected.tables (Passed.columns (passed_over events nothing_passed))
+tables_at events = Collected.tables (PassState.columns (passed_over events pass_beginning))
 
 abbrev pub definitions_at : List Event → List ℕ
-definitions_at events = Passed.definitions (passed_over events nothing_passed)
+definitions_at events = PassState.definitions (passed_over events pass_beginning)

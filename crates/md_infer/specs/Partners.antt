@@ -25,9 +25,9 @@ last_contributing_at index (Node name start end children rest) =
 
 -- the indices of the events that enter definitions among some nodes, in the order of their exits, where the first event
 -- has an index
-abbrev pub definitions_of : ℕ → Forest → List ℕ
-definitions_of index Empty = []
-definitions_of index (Node name start end children rest) =
-    definitions_of (suc index) children
+abbrev pub definition_entries : ℕ → Forest → List ℕ
+definition_entries index Empty = []
+definition_entries index (Node name start end children rest) =
+    definition_entries (suc index) children
     ++ ((if is_link_definition name then index ∷ [] else [])
-    ++ definitions_of (suc (index_after (suc index) children)) rest)
+    ++ definition_entries (suc (index_after (suc index) children)) rest)

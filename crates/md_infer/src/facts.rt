@@ -3,7 +3,7 @@
 ghost use Rattle.std.specs.Prelude.{◌≡◌, ℕ, true, OnOk, map, set, not, ◌&&◌, IfOk};
 ghost use Rattle.md_base.specs.NameTests.{is_transparent, contributes};
 ghost use Rattle.md_infer.specs.Facts as spec;
-ghost use Rattle.md_infer.specs.Ending.{ends_line, ending_after};
+ghost use Rattle.md_infer.specs.Ending.{exits_line_ending, ending_after};
 ghost use Rattle.md_infer.specs.Columns.{columns_exited};
 ghost use Rattle.md_infer.specs.Told.{nothing_told};
 
@@ -45,8 +45,8 @@ pub struct OpenNode {
 }
 
 /// The document itself.
-fn nowhere() -> OpenNode
-    ensures { result ≡ spec.nowhere }
+fn document_node() -> OpenNode
+    ensures { result ≡ spec.document_node }
 {
     OpenNode {
         entry: 0,
@@ -99,7 +99,10 @@ fn opened(entry: usize, name: Name, around: &OpenNode) -> OpenNode
             told: NOTHING_TOLD,
         },
         // Nothing is sought or collected in any other.
-        _ => OpenNode { entry, ..nowhere() },
+        _ => OpenNode {
+            entry,
+            ..document_node()
+        },
     }
 }
 
@@ -247,9 +250,9 @@ pub struct Ended {
 }
 
 impl Model for Pass {
-    ghost use Rattle.md_infer.specs.Facts.{Passed, opens, next_outer, others_outer};
+    ghost use Rattle.md_infer.specs.Facts.{PassState, opens, next_outer, others_outer};
 
-    ghost Value = { Passed };
+    ghost Value = { PassState };
 
     ghost view = { λ p. record {
       facts = p.facts.items;
@@ -267,7 +270,7 @@ impl Pass {
     ///
     /// `AllocError`, only where memory runs out.
     pub fn new(alloc: Global, events: usize) -> Result<Pass, AllocError>
-        ensures { IfOk result (λ pass. pass ≡ spec.nothing_passed) }
+        ensures { IfOk result (λ pass. pass ≡ spec.pass_beginning) }
     {
         Ok(Pass {
             facts: Vec::with_capacity(alloc, events)?,
@@ -275,7 +278,7 @@ impl Pass {
                 columns: Columns::new(alloc),
                 definitions: Vec::new(alloc),
             },
-            document: nowhere(),
+            document: document_node(),
             open_nodes: Vec::new(alloc),
         })
     }
@@ -401,7 +404,7 @@ fn leave_innermost(open_nodes: &mut Vec<OpenNode>, document: &mut OpenNode) -> O
         Some(own) => own,
         None => {
             let own = *document;
-            *document = nowhere();
+            *document = document_node();
             own
         }
     }
@@ -522,13 +525,17 @@ pub fn ending_after(found: Option<usize>, index: usize, event: &Event) -> Option
 {
     match found {
         Some(_) => found,
-        None => if ends_line(event) { Some(index) } else { None },
+        None => if exits_line_ending(event) {
+            Some(index)
+        } else {
+            None
+        },
     }
 }
 
 /// Whether an event exits a line ending, blank or not.
-fn ends_line(event: &Event) -> bool
-    ensures { result ≡ ends_line event.now }
+fn exits_line_ending(event: &Event) -> bool
+    ensures { result ≡ exits_line_ending event.now }
 {
     matches!(event.kind, Kind::Exit)
         && matches!(event.name, Name::LineEnding | Name::BlankLineEnding)

@@ -16,7 +16,7 @@ pub fn is_transparent(name: Name) -> bool
     )
 }
 
-/// What a link or an image refers to.
+/// A definition of a link, not of a footnote.
 pub fn is_link_definition(name: Name) -> bool
     ensures { result ≡ tests.is_link_definition name }
 {

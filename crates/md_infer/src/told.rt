@@ -70,7 +70,7 @@ pub const NOT_LOOSE: Looseness = Looseness {
     of_item: false,
 };
 
-/// What a space or tab is after the last child.
+/// What a space or tab that follows a last child counts as, when it is the last child itself.
 pub fn spaced(last: Last) -> Last
     ensures { result ≡ spec.spaced last }
 {

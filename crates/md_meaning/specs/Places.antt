@@ -136,7 +136,7 @@ passed_over spine children =
       spine = told_by (spine ++ spine_names children);
     }
 
--- what a node learns from what stands before it and around it, and of footnote calls before its end
+-- what the machine knows of a node by what stands before it and around it, and by footnote calls before its end
 pub record Left : Type 0 where
   pub called : List Called
   pub is_slurping : Bool

@@ -44,8 +44,8 @@ impl Log {
         }
     }
 
-    /// Writes that each call was made. Only one request is refused in a run, so that one call at
-    /// most may want memory.
+    /// Writes that each call was made. Only one request is refused in a run, so that at most one
+    /// call may run out of memory.
     pub fn close<R: Print>(&self, rt: &R) -> io::Result<()> {
         if self.refusals > 1 {
             println!(rt; "wrong: {} calls wanted memory", self.refusals)?;

@@ -30,9 +30,8 @@ pub record IsPage (text : List ℕ) (title body : Forest) : Type 0 where
   pub body_in_grammar : IsTrue (is_forest body)
   pub written_so : text ≡ codes "<!doctype html>\n" ++ written (page_tree title body) ++ codes "\n"
 
--- the text is a page in exactly one way: its title, references read back, is the one given with U+FFFD for each
--- NUL, and
--- its body is a reading of the one given, in which each link and each image has no protocol or a permitted one
+-- the text is a page in exactly one way: its title, references read back, is the one given with U+FFFD for each NUL,
+-- and its body is a reading of the one given, in which each link and each image has no protocol or a permitted one
 pub record IsPageOf (title body text : List ℕ) : Type 0 where
   pub head : Forest
   pub inside : Forest

@@ -3,7 +3,7 @@
 ghost use Rattle.std.specs.Prelude.{◌≡◌, ◌∷◌, [], codes, OnOk};
 ghost use Rattle.md_printer.specs.Machine.{printing, ahead_by};
 ghost use Rattle.md_around.specs.Steps.{first_or};
-ghost use Rattle.md_printer.specs.Sources.{given_of, left_at};
+ghost use Rattle.md_printer.specs.Given.{given_of, left_at};
 ghost use Rattle.md_meaning.specs.Footnotes as footnotes;
 ghost use Rattle.md_meaning.specs.Piece.{Text};
 

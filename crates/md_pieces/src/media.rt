@@ -5,7 +5,7 @@ ghost use Rattle.md_printer.specs.Machine.{printing, ahead_by};
 ghost use Rattle.md_meaning.specs.Media as media;
 ghost use Rattle.md_meaning.specs.Piece.{nowhere};
 ghost use Rattle.md_meaning.specs.Places.{identifier_at};
-ghost use Rattle.md_printer.specs.Sources.{given_of};
+ghost use Rattle.md_printer.specs.Given.{given_of};
 
 use md_base::{Position, SAFE_PROTOCOL_HREF, SAFE_PROTOCOL_SRC};
 use md_meaning::{CompileOptions, Surroundings};

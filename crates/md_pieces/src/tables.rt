@@ -3,7 +3,7 @@
 ghost use Rattle.std.specs.Prelude.{◌≡◌, [], OnOk, drop, slice_get};
 ghost use Rattle.md_printer.specs.Machine.{printing};
 ghost use Rattle.md_around.specs.Steps.{first_or};
-ghost use Rattle.md_printer.specs.Sources.{left_at};
+ghost use Rattle.md_printer.specs.Given.{left_at};
 ghost use Rattle.md_meaning.specs.Tables as tables;
 
 use md_base::AlignKind;

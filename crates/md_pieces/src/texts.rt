@@ -3,7 +3,7 @@
 ghost use Rattle.std.specs.Prelude.{◌≡◌, [], OnOk, not, ◌&&◌, ◌||◌};
 ghost use Rattle.md_printer.specs.Machine.{printing};
 ghost use Rattle.md_meaning.specs.Texts as texts;
-ghost use Rattle.md_printer.specs.Sources.{given_of, left_at};
+ghost use Rattle.md_printer.specs.Given.{given_of, left_at};
 
 use md_around::names::is_definition;
 use md_base::{Name, decode_character_reference};

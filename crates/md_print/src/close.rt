@@ -11,7 +11,7 @@ ghost use Rattle.md_meaning.specs.Texts.{said};
 ghost use Rattle.md_meaning.specs.Blocks as blocks;
 ghost use Rattle.md_meaning.specs.Printed as printed;
 ghost use Rattle.md_meaning.specs.Printed.{is_captured};
-ghost use Rattle.md_printer.specs.Sources.{given_of, closing_at, left_at};
+ghost use Rattle.md_printer.specs.Given.{given_of, closing_at, left_at};
 
 use crate::groups::{Group, group_of};
 use crate::open::{is_tight, outside_images, rank_of};

@@ -7,7 +7,7 @@ ghost use Rattle.md_meaning.specs.Texts as texts;
 ghost use Rattle.md_meaning.specs.Texts.{said, outside_images};
 ghost use Rattle.md_meaning.specs.Blocks as blocks;
 ghost use Rattle.md_meaning.specs.Printed as printed;
-ghost use Rattle.md_printer.specs.Sources.{given_of};
+ghost use Rattle.md_printer.specs.Given.{given_of};
 
 use md_base::{Name, Position};
 use md_meaning::{Container, Surroundings};
@@ -143,7 +143,7 @@ fn start_at(printer: &mut Printer, ending: &str, number: &str) -> Result<(), All
     printer.put("\"")
 }
 
-/// A heading's rank: the length of its first mark.
+/// A heading's rank: the length of its first mark in bytes, with the columns of tabs that are cut at its ends.
 pub fn rank_of(bytes: &[u8], mark: Option<Position>) -> usize
     ensures { result ≡ blocks.rank_of bytes.now mark }
 {

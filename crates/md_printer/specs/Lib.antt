@@ -1,3 +1,3 @@
 -- The machine, which is the compiler step by step over events, and what it reads of a document.
 pub mod Machine
-pub mod Sources
+pub mod Given

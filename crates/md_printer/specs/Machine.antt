@@ -52,9 +52,8 @@ ahead_by place = record {
 abbrev pub ahead_told : Name → Option Forest → Ahead
 ahead_told name children = ahead_by (option_map_or (reads name) children None)
 
--- a node that is open: the surroundings of its children, where it starts and whether a line ending is slurped
--- there, what
--- its children tell ahead, and what they tell so far
+-- a node that is open: the surroundings of its children, where it starts and whether a line ending is slurped there,
+-- what its children tell ahead, and what they tell so far
 pub record Frame : Type 0 where
   pub around : Surroundings
   pub start : Point
@@ -63,9 +62,8 @@ pub record Frame : Type 0 where
   pub passed : Passed
 
 -- the sheet, those below it (the newest first), what was seen, whether the last mark is a setting one, the innermost
--- node
--- that is open, those around it (the innermost first), and the alignments of the tables that are open (the innermost
--- first)
+-- node that is open, those around it (the innermost first), and the alignments of the tables that are open (the
+-- innermost first)
 pub record Printer : Type 0 where
   pub sheet : Sheet
   pub below : List Sheet

@@ -30,7 +30,8 @@ pub struct Given<'a> {
     pub definitions: &'a Definitions,
 }
 
-/// The text of a node that is one, else nothing.
+/// The text between two points, without the spaces of tabs that are cut there; empty where the points don't fit the
+/// bytes, or these aren't UTF-8.
 pub fn text_of<'a>(bytes: &'a [u8], start: Point, end: Point) -> &'a str
     ensures { result.now ≡ given.text_of bytes.now start end }
 {
@@ -40,7 +41,8 @@ pub fn text_of<'a>(bytes: &'a [u8], start: Point, end: Point) -> &'a str
     }
 }
 
-/// The text of a label, by the indices of its points, else nothing.
+/// The text between the indices of two points, whatever columns they have; empty where they don't fit the bytes, or
+/// these aren't UTF-8.
 pub fn label_of<'a>(bytes: &'a [u8], start: Point, end: Point) -> &'a str
     ensures { result.now ≡ given.label_of bytes.now start end }
 {
@@ -50,7 +52,7 @@ pub fn label_of<'a>(bytes: &'a [u8], start: Point, end: Point) -> &'a str
     }
 }
 
-/// The identifier at a place, if there is one.
+/// The normalized identifier of the label at a place; empty where there is no place.
 ///
 /// # Errors
 ///
@@ -68,7 +70,8 @@ pub fn identifier_at(
     }
 }
 
-/// The text of a line of code with the spaces of tabs that are cut at its ends, else nothing.
+/// The text of a line of code with the spaces of tabs that are cut at its ends; empty where the points don't fit the
+/// bytes, or these aren't UTF-8.
 ///
 /// # Errors
 ///
@@ -87,7 +90,8 @@ pub fn serialized_of(
     }
 }
 
-/// How long a mark is, the columns of tabs that are cut at its ends counted.
+/// How many bytes a mark has, with the spaces of tabs that are cut at its ends; 0 where its place doesn't fit the
+/// bytes.
 pub fn length_of(bytes: &[u8], position: Position) -> usize
     ensures { result ≡ length_of bytes.now position }
 {

@@ -35,7 +35,7 @@ pub struct Printer {
 impl Model for Printer {
     ghost use Rattle.std.specs.Prelude.{reverse, map};
     ghost use Rattle.md_printer.specs.Machine as machine;
-    ghost use Rattle.md_printer.specs.Sources.{frame_of};
+    ghost use Rattle.md_printer.specs.Given.{frame_of};
 
     ghost Value = { machine.Printer };
 
@@ -51,7 +51,7 @@ impl Model for Printer {
 }
 
 impl Printer {
-    ghost use Rattle.md_printer.specs.Sources.{frame_of, exit_in, leaf_in};
+    ghost use Rattle.md_printer.specs.Given.{frame_of, exit_in, leaf_in};
 
     /// Prints a text.
     ///
@@ -160,7 +160,7 @@ impl Printer {
         self.footnotes.note(identifier, text)
     }
 
-    /// The number of an identifier that is called next.
+    /// The number that a call of this identifier gets: that of its first call, or the next new one.
     pub fn number(&self, identifier: &str) -> usize
         ensures { result ≡ number_among self.now.log.called identifier.now }
     {
@@ -350,19 +350,19 @@ impl Printer {
     pub fn open_frame(
         &mut self,
         options: &CompileOptions,
-        told: &Lookahead,
+        lookahead: &Lookahead,
         name: Name,
         start: Point,
     ) -> Result<(), AllocError>
-        ensures { OnOk result (self.new ≡ machine.opening_frame options.now (machine.ahead_by told.now.place)
-            told.now.loose name start self.old) }
+        ensures { OnOk result (self.new ≡ machine.opening_frame options.now (machine.ahead_by lookahead.now.place)
+            lookahead.now.loose name start self.old) }
     {
         self.frames.push(self.frame)?;
         let frame = &mut self.frame;
-        frame.around = inside(options, told.loose, name, frame.around);
+        frame.around = inside(options, lookahead.loose, name, frame.around);
         frame.start = start;
         frame.is_slurping = self.is_slurping;
-        frame.place = told.place;
+        frame.place = lookahead.place;
         frame.passed = Passed {
             last: None,
             contributing: None,

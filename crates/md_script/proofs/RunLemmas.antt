@@ -4,7 +4,7 @@ use Rattle.std.specs.Prelude.{IsErrAnd}
 use Rattle.md_base.specs.declared.event.Event.{Event}
 use Rattle.md_tree.specs.declared.rule.CompileError.{CompileError}
 use Rattle.md_tree.specs.declared.rule.CompileError.TheVariants as refusal
-use Rattle.md_tree.specs.Grammar.{Document}
+use Rattle.md_tree.specs.Grammar.{Handed}
 use Rattle.md_tree.specs.Refusal.{IsRefusal, IsOrder, IsMdx, IsOfNode, IsLost, IsOutside}
 use Rattle.md_html.specs.Safe.{IsRefusedFor, OfCompile}
 use Rattle.md_html.specs.declared.safe_html.SafeError.{SafeError}
@@ -31,7 +31,7 @@ told (Err made) why given events bytes same h refusal =
     (refused given bytes why refusal))
 
 -- what is said of a refusal in five claims is said in one
-pub refusal_of : (given : Document) (why : SafeError) → OfCompile (IsOrder given) why → OfCompile (IsMdx given) why →
+pub refusal_of : (given : Handed) (why : SafeError) → OfCompile (IsOrder given) why → OfCompile (IsMdx given) why →
     OfCompile (IsOfNode given) why → OfCompile (IsLost given) why → OfCompile (IsOutside given) why →
     OfCompile (IsRefusal given) why
 refusal_of given safe.Options order mdx of_node lost outside = tt

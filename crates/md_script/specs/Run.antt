@@ -4,7 +4,7 @@ use Rattle.md_base.specs.declared.event.Event.{Event}
 use Rattle.md_tree.specs.declared.rule.Rule.{Rule}
 use Rattle.md_tree.specs.declared.rule.CompileError.TheVariants as refusal
 use Rattle.md_base.specs.Tree.{Forest, flatten}
-use Rattle.md_tree.specs.Grammar.{Document, IsChecked}
+use Rattle.md_tree.specs.Grammar.{Handed, IsChecked}
 use Rattle.md_tree.specs.Refusal.{IsRefusal}
 use Rattle.md_meaning.specs.declared.options.CompileOptions.{CompileOptions}
 use Rattle.md_meaning.specs.Meaning.{meaning}
@@ -25,7 +25,7 @@ reference_names =
     ∷ (codes "quest", codes "?") ∷ []
 
 -- events over bytes, as a check is handed them
-abbrev pub document_of : List Event → List ℕ → Document
+abbrev pub document_of : List Event → List ℕ → Handed
 document_of events bytes = record { events = events; bytes = bytes; names = reference_names }
 
 -- the events are of the grammar over the bytes, and the text is the meaning of their document; where the options

@@ -17,7 +17,7 @@ use Rattle.md_meaning.specs.Meaning.Layout.{layout}
 use Rattle.md_meaning.specs.Meaning.At.{Given, At, Before, target_in, Found}
 use Rattle.md_meaning.specs.Meaning.Before.{one_where, before_children, before_next}
 use Rattle.md_meaning.specs.Meaning.Nodes.{Meant, meant, found_at}
-use Rattle.md_shape.specs.Leads.{defined_in, footnotes_in}
+use Rattle.md_shape.specs.Leads.{defined_in, footnotes_defined_in}
 use Rattle.md_base.specs.declared.event.Point.{Point}
 
 -- a node with what is before, in and around it
@@ -68,7 +68,8 @@ definitions-listed given around before (Node name start end children rest) =
     (definitions-listed given around next rest)
 
 pub footnotes-listed : (given : Given) (around : Surroundings) (before : Before) (forest : Forest) →
-    map (λ footnote. footnote.identifier) (meant given around before forest).footnotes ≡ footnotes_in given.bytes forest
+    map (λ footnote. footnote.identifier) (meant given around before forest).footnotes
+    ≡ footnotes_defined_in given.bytes forest
 footnotes-listed given around before Empty = refl
 footnotes-listed given around before (Node name start end children rest) =
     let of : Footnote → List ℕ = λ footnote. footnote.identifier in
@@ -80,7 +81,7 @@ footnotes-listed given around before (Node name start end children rest) =
     let identifier = identifier_at given.bytes (footnote_label children) in
     let own : Footnote = record { identifier = identifier; text = layout given.ending inner.pieces } in
     in_a_row of inner.footnotes (one_where (is_footnote_definition name) own)
-    (meant given around next rest).footnotes (footnotes_in given.bytes children)
-    (if is_footnote_definition name then identifier ∷ [] else []) (footnotes_in given.bytes rest)
+    (meant given around next rest).footnotes (footnotes_defined_in given.bytes children)
+    (if is_footnote_definition name then identifier ∷ [] else []) (footnotes_defined_in given.bytes rest)
     (footnotes-listed given nested within children) (own-one of (is_footnote_definition name) own)
     (footnotes-listed given around next rest)

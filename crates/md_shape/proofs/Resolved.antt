@@ -35,7 +35,7 @@ use Rattle.md_tree.specs.Grammar.{IsGrammatical}
 use Rattle.md_base.specs.NameTests.{is_link_definition, is_footnote_definition, is_definition_label}
 use Rattle.md_meaning.specs.Places.{identifier_at}
 use Rattle.md_meaning.specs.Meaning.Finds.{first, label_in_node, referring_in, footnote_label}
-use Rattle.md_shape.specs.Leads.{Everywhere, HasItsText, HasItsLabel, label_target, RefersAlike, defined_in, footnotes_in, LeadsSomewhere}
+use Rattle.md_shape.specs.Leads.{Everywhere, HasItsText, HasItsLabel, label_target, RefersAlike, defined_in, footnotes_defined_in, LeadsSomewhere}
 use Rattle.md_shape.proofs.Firsts.{IsFine, AreFine, fine, shaped}
 use Rattle.md_shape.proofs.Leading.{media-refers, call-refers, call-label, definition-label, footnote-label}
 
@@ -314,7 +314,8 @@ footnote-adds bytes Definition children around before start end is inner ds =
 footnote-adds bytes _ children around before start end is inner ds = refl
 
 footnotes-known : (bytes : List ℕ) (forest : Forest) (around : Role) (before : Option Symbol) →
-    AreShaped forest around before → map known (footnoted bytes (mentions_of forest)) ≡ footnotes_in bytes forest
+    AreShaped forest around before → map known (footnoted bytes (mentions_of forest))
+    ≡ footnotes_defined_in bytes forest
 footnotes-known bytes Empty around before shaped = refl
 footnotes-known bytes (Node name start end children rest) around before shaped =
     let own = mention_of (reading_of (standing_of name)) (target_of children Missing) in
@@ -324,7 +325,7 @@ footnotes-known bytes (Node name start end children rest) around before shaped =
     ∙ map-append known (footnoted bytes inner) (footnoted_by bytes own (footnoted bytes later))
     ∙ ap (λ xs. xs ++ map known (footnoted_by bytes own (footnoted bytes later)))
     (footnotes-known bytes children _ _ shaped.1)
-    ∙ ap (λ xs. footnotes_in bytes children ++ xs)
+    ∙ ap (λ xs. footnotes_defined_in bytes children ++ xs)
     (footnote-adds bytes name children around before start end shaped.0 shaped.1 (footnoted bytes later)
     ∙ ap (λ xs. adds (is_footnote_definition name) (identifier_at bytes (footnote_label children))
     ++ xs) (footnotes-known bytes rest _ _ shaped.2))
@@ -373,7 +374,7 @@ call-leads bytes mentions identifiers target label there e alike is resolved =
 -- what is known of a node by the shape and the rules
 node-leads : (bytes : List ℕ) (names : List (List ℕ × List ℕ)) (mentions : List Mention) (document : Forest) →
     map known (defined bytes mentions) ≡ defined_in bytes document →
-    map known (footnoted bytes mentions) ≡ footnotes_in bytes document →
+    map known (footnoted bytes mentions) ≡ footnotes_defined_in bytes document →
     (around : Role) (before : Option Symbol) (name : Name) (start end : Point) (children : Forest) →
     IsFine bytes names around before name start end children →
     AreShaped children (inner_role (standing_of name) around before) (inner_before (standing_of name) before) →
@@ -387,7 +388,7 @@ node-leads bytes names mentions document d f around before Image start end child
     (referring_in children) d here.1 resolved (media-refers children inner here.0.1)
 node-leads bytes names mentions document d f around before GfmFootnoteCall start end children here inner resolved =
     let there = call-label children inner here.0.1 in
-    call-leads bytes mentions (footnotes_in bytes document) (target_of children Missing)
+    call-leads bytes mentions (footnotes_defined_in bytes document) (target_of children Missing)
     (label_in_node children) there.0 f (call-refers children inner here.0.1) there.1 resolved
 node-leads bytes names mentions document d f around before _ start end children here inner resolved = tt
 

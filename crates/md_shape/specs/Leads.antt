@@ -65,8 +65,7 @@ abbrev pub IsLabelled : Option Position → Forest → Type 0
 IsLabelled label children = target_of children Missing ≡ label_target label
 
 -- a link or an image refers by its resource, else by the label that the meaning reads; a call, a definition and a
--- footnote
--- definition by theirs
+-- footnote definition by theirs
 abbrev pub RefersAlike : Name → Point → Point → Forest → Type 0
 RefersAlike Link start end children = HasResource children ⊎ IsLabelled (referring_in children) children
 RefersAlike Image start end children = HasResource children ⊎ IsLabelled (referring_in children) children
@@ -84,12 +83,12 @@ defined_in bytes (Node name start end children rest) =
     ++ defined_in bytes rest)
 
 -- those of the footnote definitions
-abbrev pub footnotes_in : List ℕ → Forest → List (List ℕ)
-footnotes_in bytes Empty = []
-footnotes_in bytes (Node name start end children rest) =
-    footnotes_in bytes children
+abbrev pub footnotes_defined_in : List ℕ → Forest → List (List ℕ)
+footnotes_defined_in bytes Empty = []
+footnotes_defined_in bytes (Node name start end children rest) =
+    footnotes_defined_in bytes children
     ++ ((if is_footnote_definition name then identifier_at bytes (footnote_label children) ∷ [] else [])
-    ++ footnotes_in bytes rest)
+    ++ footnotes_defined_in bytes rest)
 
 -- a link or an image without a resource refers to a definition of the document, a call to a footnote definition
 abbrev pub LeadsSomewhere : List ℕ → Forest → Name → Point → Point → Forest → Type 0
@@ -98,5 +97,5 @@ LeadsSomewhere bytes document Link start end children =
 LeadsSomewhere bytes document Image start end children =
     HasResource children ⊎ Contains (defined_in bytes document) (identifier_at bytes (referring_in children))
 LeadsSomewhere bytes document GfmFootnoteCall start end children =
-    Contains (footnotes_in bytes document) (identifier_at bytes (label_in_node children))
+    Contains (footnotes_defined_in bytes document) (identifier_at bytes (label_in_node children))
 LeadsSomewhere bytes document _ start end children = Unit {0}

@@ -8,7 +8,7 @@ ghost use Rattle.md_meaning.specs.Meaning.At.{Given, Before};
 ghost use Rattle.md_meaning.specs.Meaning.Nodes.{meant};
 ghost use Rattle.md_shape.specs.Built.{Blocks, IsBuilt};
 ghost use Rattle.md_shape.specs.Underlined.{IsUnderlined};
-ghost use Rattle.md_shape.specs.Leads.{Everywhere, EverywhereAfter, HasItsText, HasItsLabel, Decodes, RefersAlike, LeadsSomewhere, defined_in, footnotes_in};
+ghost use Rattle.md_shape.specs.Leads.{Everywhere, EverywhereAfter, HasItsText, HasItsLabel, Decodes, RefersAlike, LeadsSomewhere, defined_in, footnotes_defined_in};
 
 /// Each document of the grammar is built of what may stand where it is, beginning with blocks.
 pub fn grammatical_documents_are_built()
@@ -50,5 +50,5 @@ pub fn references_lead_somewhere()
         ≡ defined_in given.bytes document }
     ensures footnotes { (given : Given) (around : Surroundings) (before : Before) (document : Forest)
         → map (λ footnote. footnote.identifier) (meant given around before document).footnotes
-        ≡ footnotes_in given.bytes document }
+        ≡ footnotes_defined_in given.bytes document }
 {}

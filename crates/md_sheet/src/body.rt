@@ -38,7 +38,7 @@ fn without_endings(text: &[u8]) -> &[u8]
     kept
 }
 
-/// Where a `</p>` begins that ends a text, CR and LF after it aside.
+/// Where a `</p>` begins that ends a text, not counting CR and LF after it.
 fn paragraph_end(text: &str) -> Option<usize>
     ensures place { result ≡ (if notes.ends_in_paragraph text.now then Some (notes.paragraph_end text.now) else None) }
     ensures cut { IfSome result (λ place. IsCharBoundary text.now place) }

@@ -32,7 +32,7 @@ use Rattle.md_meaning.specs.Meaning.At.{Given, At, Before, Found, nothing_found,
 use Rattle.md_meaning.specs.Meaning.Before.{before_children, before_next, calls_of}
 use Rattle.md_meaning.specs.Meaning.Means.{means}
 use Rattle.md_meaning.specs.Meaning.Nodes.{Meant, meant, found_at}
-use Rattle.md_tie.proofs.Sides.{source_of, stood, is_leaf, sides}
+use Rattle.md_tie.proofs.Sides.{machine_given_of, stood, is_leaf, sides}
 use Rattle.md_tie.proofs.Captured.{captured}
 use Rattle.md_shape.proofs.Underlines.{underlined, waits_after_symbols, underlined-split, waits-append, matches-underlined}
 use Rattle.md_tie.proofs.Shapes.{leaf-silent, quiet, quiet_name, QuietInside}
@@ -54,24 +54,25 @@ pub record Ready (given : Given) (forest : Forest) (before : Before) (r : Role) 
 pub record Tied (given : Given) (around : Surroundings) (before : Before) (notes : Notes) (waits : Bool)
     (forest : Forest) : Type 0 where
   pub agree : Agree before notes (waits_after_symbols waits (spine forest))
-      (printed (source_of given) around (stood before) forest) (meant given around before forest).pieces
+      (printed (machine_given_of given) around (stood before) forest) (meant given around before forest).pieces
       (meant given around before forest).found
-  pub definitions : definitions_of (source_of given) around (stood before) forest
+  pub definitions : definitions_of (machine_given_of given) around (stood before) forest
       ≡ (meant given around before forest).definitions
-  pub footnotes : footnotes_of (source_of given) around (stood before) forest
+  pub footnotes : footnotes_of (machine_given_of given) around (stood before) forest
       ≡ (meant given around before forest).footnotes
 
 -- one node
 record NodeTied (given : Given) (nested : Surroundings) (own : Before) (at : At) (name : Name) (children : Forest)
     (notes : Notes) (waits : Bool) : Type 0 where
   agree : Agree at.before notes (waits_after_symbols waits (shown (standing_of name) (spine children)))
-      (node_printed given at name (printed (source_of given) nested (stood own) children) (is_captured name))
+      (node_printed given at name (printed (machine_given_of given) nested (stood own) children) (is_captured name))
       (means given at name (meant given nested own children).pieces)
       (found_at given at name (meant given nested own children).pieces)
-  definitions : definitions_of (source_of given) nested (stood own) children
+  definitions : definitions_of (machine_given_of given) nested (stood own) children
       ≡ (meant given nested own children).definitions
-  footnotes : footnotes_of (source_of given) nested (stood own) children ≡ (meant given nested own children).footnotes
-  sheet : is_captured name ≡ true → OnSheet given (printed (source_of given) nested (stood own) children)
+  footnotes : footnotes_of (machine_given_of given) nested (stood own) children
+      ≡ (meant given nested own children).footnotes
+  sheet : is_captured name ≡ true → OnSheet given (printed (machine_given_of given) nested (stood own) children)
       (meant given nested own children).pieces (meant given nested own children).found
 
 abbrev is_mdx : Standing → Bool
@@ -97,7 +98,7 @@ through_tied : (given : Given) (nested : Surroundings) (own : Before) (at : At) 
 through_tied given nested own at name children r b content later notes waits transparent shaped underlines heading
     built calls same found own_found all =
     let inner : Meant = meant given nested own children in
-    let inner_printed : List Printed = printed (source_of given) nested (stood own) children in
+    let inner_printed : List Printed = printed (machine_given_of given) nested (stood own) children in
     let passed : own.found ≡ at.before.found = own_found
     ∙ ap (λ t. if t then at.before.found else nothing_found) transparent in
     let tied = all r b content later notes waits (record {
@@ -146,7 +147,7 @@ node_tied given nested own at name children r b content later after notes waits 
 node_tied given nested own at name children r b content later after notes waits
     (Solid s usual reading) e told is shaped quiet underlines heading fit built calls call found own_found all =
     let inner : Meant = meant given nested own children in
-    let inner_printed : List Printed = printed (source_of given) nested (stood own) children in
+    let inner_printed : List Printed = printed (machine_given_of given) nested (stood own) children in
     let ready : (n : Notes) → Ready given children own _ _ content later n false = λ n. record {
       shaped = shaped;
       built = built;
@@ -252,7 +253,7 @@ tied given (Node name start end children rest) around before r b content later n
     let at : At = node_at around before children start end (around.is_outermost && is_empty rest) inner.found in
     let found : Found = found_at given at name inner.pieces in
     let next : Before = before_next given at name found in
-    let inner_printed : List Printed = printed (source_of given) nested (stood own) children in
+    let inner_printed : List Printed = printed (machine_given_of given) nested (stood own) children in
     let node : List Printed = node_printed given at name inner_printed (is_captured name) in
     let in_calls : List (List ℕ) = calls_of given.bytes children in
     let identifier : List ℕ = identifier_at given.bytes (label_in_node children) in
@@ -281,14 +282,14 @@ tied given (Node name start end children rest) around before r b content later n
       calls = ready.calls ∙ calls_after before.calls in_calls own_calls rest_calls later;
     })
     in
-    let machine_next : Stood = next_stood (source_of given) around name start end children (stood before) in
+    let machine_next : Stood = next_stood (machine_given_of given) around name start end children (stood before) in
     let same : machine_next ≡ stood next = next-same given at name found in
     let whole : Agree before notes (waits_after_symbols later_waits (spine rest)) (node
-    ++ printed (source_of given) around (stood next) rest)
+    ++ printed (machine_given_of given) around (stood next) rest)
     (meant given around before (Node name start end children rest)).pieces
     (meant given around before (Node name start end children rest)).found =
     agree_both before next notes later_waits (waits_after_symbols later_waits (spine rest)) node
-    (printed (source_of given) around (stood next) rest) (means given at name inner.pieces)
+    (printed (machine_given_of given) around (stood next) rest) (means given at name inner.pieces)
     (meant given around next rest).pieces found (meant given around next rest).found refl one.agree two.agree
     in
     let target : Target = (lay given.ending blank inner_printed).notes.target in
@@ -298,31 +299,32 @@ tied given (Node name start end children rest) around before r b content later n
     let noted : List ℕ → List Footnote = λ t. footnote_where (is_footnote_definition name)
     (identifier_at given.bytes (footnote_label children)) t in
     record {
-      agree = subst (λ w. Agree before notes w (node ++ printed (source_of given) around machine_next rest)
+      agree = subst (λ w. Agree before notes w (node ++ printed (machine_given_of given) around machine_next rest)
           (meant given around before (Node name start end children rest)).pieces
           (meant given around before (Node name start end children rest)).found)
           (sym (waits-append waits (shown standing (spine children)) (spine rest)))
           (subst (λ s. Agree before notes (waits_after_symbols later_waits (spine rest)) (node
-          ++ printed (source_of given) around s rest) (meant given around before
+          ++ printed (machine_given_of given) around s rest) (meant given around before
           (Node name start end children rest)).pieces (meant given around before
           (Node name start end children rest)).found) (sym same) whole);
       definitions =
-          ap (λ ds. ds ++ (defined target ++ definitions_of (source_of given) around machine_next rest)) one.definitions
-          ∙ ap (λ ds. inner.definitions ++ (ds ++ definitions_of (source_of given) around machine_next rest))
+          ap (λ ds. ds ++ (defined target ++ definitions_of (machine_given_of given) around machine_next rest))
+          one.definitions
+          ∙ ap (λ ds. inner.definitions ++ (ds ++ definitions_of (machine_given_of given) around machine_next rest))
           (one_defined (is_link_definition name) (identifier_at given.bytes (first is_definition_label children))
           target (target_in inner.found) (λ h. (one.sheet (definition_captured name h)).target))
           ∙ ap (λ s. inner.definitions ++ (defined (target_in inner.found)
-          ++ definitions_of (source_of given) around s rest)) same
+          ++ definitions_of (machine_given_of given) around s rest)) same
           ∙ ap (λ ds. inner.definitions ++ (defined (target_in inner.found) ++ ds)) two.definitions
           ∙ sym (append_assoc inner.definitions (defined (target_in inner.found))
           (meant given around next rest).definitions);
       footnotes =
-          ap (λ fs. fs ++ (noted text ++ footnotes_of (source_of given) around machine_next rest)) one.footnotes
-          ∙ ap (λ fs. inner.footnotes ++ (fs ++ footnotes_of (source_of given) around machine_next rest))
+          ap (λ fs. fs ++ (noted text ++ footnotes_of (machine_given_of given) around machine_next rest)) one.footnotes
+          ∙ ap (λ fs. inner.footnotes ++ (fs ++ footnotes_of (machine_given_of given) around machine_next rest))
           (one_footnote (is_footnote_definition name) (identifier_at given.bytes (footnote_label children)) text
           (layout given.ending inner.pieces) (λ h. (one.sheet (footnote_captured name h)).text))
           ∙ ap (λ s. inner.footnotes ++ (noted (layout given.ending inner.pieces)
-          ++ footnotes_of (source_of given) around s rest)) same
+          ++ footnotes_of (machine_given_of given) around s rest)) same
           ∙ ap (λ fs. inner.footnotes ++ (noted (layout given.ending inner.pieces) ++ fs)) two.footnotes
           ∙ sym (append_assoc inner.footnotes (noted (layout given.ending inner.pieces))
           (meant given around next rest).footnotes);

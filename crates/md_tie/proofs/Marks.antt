@@ -16,7 +16,7 @@ use Rattle.md_meaning.specs.Surroundings as machine
 use Rattle.md_meaning.specs.Places.{Before as Stood, before_next as next_stood}
 use Rattle.md_meaning.specs.Meaning.At.{Given, At, Found, is_tight}
 use Rattle.md_meaning.specs.Meaning.Before.{before_next, exit_marks, own_marks, marks_of, calls_of}
-use Rattle.md_tie.proofs.Sides.{source_of, stood}
+use Rattle.md_tie.proofs.Sides.{machine_given_of, stood}
 use Rattle.md_tie.proofs.Captured.{calls-same}
 
 paragraph-marks : (container : Container) → paragraph_marks container ≡ (if is_tight container then Sets ∷ [] else [])
@@ -54,7 +54,7 @@ marks-same options around spine (Node name start end children rest) =
 
 -- what stands before the next sibling
 pub next-same : (given : Given) (at : At) (name : Name) (found : Found) →
-    next_stood (source_of given) at.around name at.start at.end at.children (stood at.before)
+    next_stood (machine_given_of given) at.around name at.start at.end at.children (stood at.before)
     ≡ stood (before_next given at name found)
 next-same given at name found =
     let Made : List (List ℕ) → List Mark → Stood = λ cs ms. record {

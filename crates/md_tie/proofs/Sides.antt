@@ -22,7 +22,7 @@ use Rattle.md_base.specs.NameTests.{is_heading_mark, is_fence, is_chunk, is_cell
 use Rattle.md_shape.specs.Built.{IsFit}
 use Rattle.md_meaning.specs.Surroundings.{spine_inside, last_of, two_pass}
 use Rattle.md_meaning.specs.Given.{text_of}
-use Rattle.md_meaning.specs.Given.{Given as Source}
+use Rattle.md_meaning.specs.Given.{Given as MachineGiven}
 use Rattle.md_meaning.specs.Places.{ahead_of, left_of, passed_over, without_zeros}
 use Rattle.md_meaning.specs.Places.{Before as Stood}
 use Rattle.md_meaning.specs.Printed.{opening, closing, is_captured}
@@ -44,8 +44,8 @@ use Rattle.md_tie.proofs.Reading.{read, noted_after}
 use Rattle.md_tie.proofs.Leaves.{marker-same, opening-same, closing-same, rank-same, underline-small, one-alone, align-same, tight-same, contained-same}
 
 -- what the machine has of what is given, and of what stands before
-abbrev pub source_of : Given → Source
-source_of given = record {
+abbrev pub machine_given_of : Given → MachineGiven
+machine_given_of given = record {
   bytes = given.bytes;
   names = given.names;
   options = given.options;
@@ -64,11 +64,12 @@ stood before = record {
 
 -- what the machine prints before a node's children, and after them
 abbrev pub opening_at : Given → At → Name → List Printed
-opening_at given at name = opening (source_of given) at.around (ahead_of at.children) name
+opening_at given at name = opening (machine_given_of given) at.around (ahead_of at.children) name
 
 abbrev pub closing_at : Given → At → Sheet → Name → List Printed
 closing_at given at sheet name =
-    closing (source_of given) at.around (left_of given.bytes (stood at.before) at.children) (ahead_of at.children)
+    closing (machine_given_of given) at.around (left_of given.bytes (stood at.before) at.children)
+    (ahead_of at.children)
     (passed_over (spine_inside name at.before.spine) at.children) at.is_last at.start at.end sheet name
 
 -- nothing that prints stands in a node
@@ -139,7 +140,7 @@ html-same false true escaping text notes = (refl, refl)
 html-same false false escaping text notes = (refl, refl)
 
 plain_link : (given : Given) (at : At) (plain : Bool) (prefix : List ℕ) (notes : Notes) →
-    Says notes (old_media.autolink_pieces (source_of given) prefix plain at.start at.end
+    Says notes (old_media.autolink_pieces (machine_given_of given) prefix plain at.start at.end
     ++ []) (autolink given at plain prefix)
 plain_link given at true prefix notes = (refl, refl)
 plain_link given at false prefix notes = (refl, refl)

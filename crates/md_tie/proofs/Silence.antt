@@ -31,7 +31,7 @@ use Rattle.md_meaning.specs.Meaning.At.{Given, At, Before, Found, nothing_found,
 use Rattle.md_meaning.specs.Meaning.Before.{before_children, before_next}
 use Rattle.md_meaning.specs.Meaning.Means.{means}
 use Rattle.md_meaning.specs.Meaning.Nodes.{Meant, meant, found_at}
-use Rattle.md_tie.proofs.Sides.{source_of, opening_at, closing_at, is_leaf}
+use Rattle.md_tie.proofs.Sides.{machine_given_of, opening_at, closing_at, is_leaf}
 use Rattle.md_tie.proofs.Shapes.{silent, leaf-silent, quiet}
 use Rattle.md_shape.proofs.Listed.{node_at}
 
@@ -128,28 +128,28 @@ before_of before = record {
 -- nothing but this prints nothing
 pub silent-printed : (given : Given) (forest : Forest) (around : Surroundings) (before : Stood) (r : Role)
     (b : Option Symbol) → AreShaped forest r b → list_all silent (spine forest) ≡ true →
-    printed (source_of given) around before forest ≡ []
+    printed (machine_given_of given) around before forest ≡ []
 silent-printed given Empty around before r b shaped h = refl
 silent-printed given (Node name start end children rest) around before r b shaped h =
     let parts = all-parts silent (shown (standing_of name) (spine children)) (spine rest) h in
     let nested : Surroundings = inside given.options (is_loose children) name around in
-    let inner : List Printed = printed (source_of given) nested (children_stood name children before) children in
+    let inner : List Printed = printed (machine_given_of given) nested (children_stood name children before) children in
     let at : At = node_at around (before_of before) children start end (around.is_outermost
     && is_empty rest) nothing_found in
     let passes : Passes given at name = passes_by given at name children r b shaped.0.1 parts.0 in
     let sheet : Bool → Sheet = λ c. if c then lay given.ending blank inner else blank in
-    let none : inner ≡ [] = inside_silent (λ f. printed (source_of given) nested
+    let none : inner ≡ [] = inside_silent (λ f. printed (machine_given_of given) nested
     (children_stood name children before) f ≡ []) (standing_of name) children r b
     (λ r' b' shaped' h'. silent-printed given children nested (children_stood name children before) r' b' shaped' h')
     refl shaped.0.1 shaped.1 parts.0 (silent-leaf name) in
-    let later : List Printed = printed (source_of given) around
-    (next_stood (source_of given) around name start end children before) rest in
+    let later : List Printed = printed (machine_given_of given) around
+    (next_stood (machine_given_of given) around name start end children before) rest in
     let c : Bool = is_captured name in
     ap (λ ps. (ps ++ ((if c then [] else inner) ++ closing_at given at (sheet c) name)) ++ later) passes.opens
     ∙ ap (λ ps. ((if c then [] else inner) ++ ps) ++ later) (passes.closes (sheet c))
     ∙ ap (λ b'. ((if b' then [] else inner) ++ []) ++ later) passes.caught
     ∙ ap (λ ps. (ps ++ []) ++ later) none
-    ∙ silent-printed given rest around (next_stood (source_of given) around name start end children before) _ _
+    ∙ silent-printed given rest around (next_stood (machine_given_of given) around name start end children before) _ _
     shaped.2 parts.1
 
 -- and means nothing

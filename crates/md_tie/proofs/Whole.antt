@@ -24,7 +24,7 @@ use Rattle.md_meaning.specs.Meaning.Before.{nothing_before, calls_of}
 use Rattle.md_meaning.specs.Meaning.Nodes.{Meant, meant}
 use Rattle.md_meaning.specs.Meaning.Footnotes.{section}
 use Rattle.md_tie.proofs.Reading.{read, noted_after, read-append, captured-text}
-use Rattle.md_tie.proofs.Sides.{source_of}
+use Rattle.md_tie.proofs.Sides.{machine_given_of}
 use Rattle.md_tie.proofs.Captured.{calls-same}
 use Rattle.md_tie.proofs.Section.{section-read}
 use Rattle.md_shape.proofs.Underlines.{matches-underlined}
@@ -54,9 +54,10 @@ printed-is-meant options names bytes document grammatical =
       calls = sym (append-nil (calls_of bytes document));
     })
     in
-    let pieces : List Defined → List Printed = λ ds. printed (source_of (given ds)) outermost nothing_stood document in
+    let pieces : List Defined → List Printed =
+    λ ds. printed (machine_given_of (given ds)) outermost nothing_stood document in
     let footnotes : List Defined → List Footnote = λ ds. footnotes_of
-    (source_of (given ds)) outermost nothing_stood document in
+    (machine_given_of (given ds)) outermost nothing_stood document in
     let known : List Defined = (meant (given []) outermost nothing_before document).definitions in
     let whole : Meant = meant (given known) outermost nothing_before document in
     let section_of : List Footnote → List Printed = λ fs. section_pieces options fs (tally (calls_of bytes document)) in

@@ -24,7 +24,7 @@ use Rattle.md_tree.specs.Machine.{Outer}
 use Rattle.md_pattern.specs.declared.kinds.Standing.TheVariants as standing
 use Rattle.md_pattern.specs.Standing.{standing_of}
 use Rattle.md_tree.specs.Mentions.{mentions_of, mentions_among, IsResolved}
-use Rattle.md_tree.specs.Grammar.{Document, IsGrammatical, IsReadAs, IsChecked}
+use Rattle.md_tree.specs.Grammar.{Handed, IsGrammatical, IsReadAs, IsChecked}
 use Rattle.md_tree.specs.Refusal.{BeginNoTree, EndsBroken, EndsUnresolved, IsOrder, IsMdx, IsBroken, IsLost, IsRefusal}
 use Rattle.md_tree.specs.Refusal as refusal
 use Rattle.md_pattern.specs.Steps.{is_complete}
@@ -108,7 +108,7 @@ never_lost bytes names Exit name point course = (
   λ stops. breaks_node bytes names rule.Footnote course.open_nodes name point course stops,
 )
 
-module _ (given : Document) (index : ℕ) (d : Event) (course : Course) (inside : index < length given.events)
+module _ (given : Handed) (index : ℕ) (d : Event) (course : Course) (inside : index < length given.events)
     (runs : Runs (Unbroken given.bytes given.names) (take index given.events) beginning course) where
   seen_more : take (suc index) given.events ≡ take index given.events ++ get_or given.events index d ∷ []
   seen_more = take-suc given.events index d inside
@@ -197,7 +197,7 @@ module _ (given : Document) (index : ℕ) (d : Event) (course : Course) (inside 
 
 -- ---- the end
 
-pub IsRefusal-undone : (given : Document) (course : Course) →
+pub IsRefusal-undone : (given : Handed) (course : Course) →
     Runs (Unbroken given.bytes given.names) given.events beginning course →
     (course.open_nodes ≡ [] → is_complete course.state ≡ false) →
     IsRefusal given (error.Event (length given.events) rule.Order)
@@ -220,7 +220,7 @@ somewhere : Point
 somewhere = record { line = 1; column = 1; index = 0; vs = 0 }
 
 -- a document of the same events is the one that was read
-document_one : (given : Document) (mentions : List Mentioned) (walked : IsWalked given mentions)
+document_one : (given : Handed) (mentions : List Mentioned) (walked : IsWalked given mentions)
     (checked : IsChecked given) → checked.0 ≡ walked.forest
 document_one given mentions walked checked =
     flatten_one Data somewhere checked.0 walked.forest (IsReadAs.flattened checked.1 ∙ sym walked.flattened)
@@ -236,7 +236,7 @@ got_inside mentions index mention e = by_cases (slice_get_cases mentions index).
     by_cases (inr past) = let clash : Some mention ≡ None = sym e ∙ past.1 in cc
 
 -- what leads nowhere, among the mentions of the document
-module _ (given : Document) (mentioned : List Mentioned) (index : ℕ) (mention : Mention)
+module _ (given : Handed) (mentioned : List Mentioned) (index : ℕ) (mention : Mention)
     (walked : IsWalked given mentioned) (lost : LeadsNowhere given.bytes mentioned index mention) where
   abbrev all : List Mention
   all = mentions_of walked.forest
@@ -270,7 +270,7 @@ module _ (given : Document) (mentioned : List Mentioned) (index : ℕ) (mention 
     unresolved = lost_unresolved;
   }
 
-refused_lost : (given : Document) (mentioned : List Mentioned) (index : ℕ) (broken : Rule) →
+refused_lost : (given : Handed) (mentioned : List Mentioned) (index : ℕ) (broken : Rule) →
     IsWalked given mentioned → IsUnresolvedBy given.bytes mentioned index broken →
     IsRefusal given (error.Event index broken)
 refused_lost given mentioned index rule.Definition walked lost = record {
@@ -289,7 +289,7 @@ refused_lost given mentioned index rule.Footnote walked lost = record {
 }
 refused_lost given mentioned index _ walked lost = absurd lost
 
-pub IsRefusal-lost : (given : Document) (mentioned : List Mentioned) (refused : CompileError) →
+pub IsRefusal-lost : (given : Handed) (mentioned : List Mentioned) (refused : CompileError) →
     IsWalked given mentioned → IsUnresolved given.bytes mentioned refused → IsRefusal given refused
 IsRefusal-lost given mentioned error.Memory walked lost = record {
   order = tt;
@@ -303,7 +303,7 @@ IsRefusal-lost given mentioned (error.Event index broken) walked lost =
 
 -- ---- what passes
 
-pub IsChecked-walked : (given : Document) (mentioned : List Mentioned) → IsWalked given mentioned →
+pub IsChecked-walked : (given : Handed) (mentioned : List Mentioned) → IsWalked given mentioned →
     All (IsResolved given.bytes (mentions_among mentioned)) (mentions_among mentioned) → IsChecked given
 IsChecked-walked given mentioned walked resolved = (
   walked.forest,

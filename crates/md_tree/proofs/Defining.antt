@@ -9,7 +9,7 @@ use Rattle.md_base.specs.declared.event.Name.{Name}
 use Rattle.md_base.specs.declared.event.Name.TheVariants.{Definition}
 use Rattle.md_base.specs.Tree.{Forest, Empty, Node, flatten, entering, exiting}
 use Rattle.md_base.specs.NameTests.{is_link_definition}
-use Rattle.md_infer.specs.Partners.{index_after, definitions_of}
+use Rattle.md_infer.specs.Partners.{index_after, definition_entries}
 use Rattle.md_tree.specs.Texts.{EntersAt}
 use Rattle.md_infer.proofs.Passing.{length_one}
 use Rattle.md_tree.proofs.Entering.{get_at}
@@ -29,7 +29,7 @@ own_definition events index _ start there = All-nil (λ i. EntersAt events i Def
 
 all_definitions : (events : List Event) (forest : Forest) (index : ℕ) (seen later : List Event) →
     length seen ≡ index → events ≡ seen ++ (flatten forest ++ later) →
-    All (λ i. EntersAt events i Definition) (definitions_of index forest)
+    All (λ i. EntersAt events i Definition) (definition_entries index forest)
 all_definitions events Empty index seen later e same = All-nil (λ i. EntersAt events i Definition)
 all_definitions events (Node name start end children rest) index seen later e same =
     let exit = index_after (suc index) children in
@@ -43,16 +43,16 @@ all_definitions events (Node name start end children rest) index seen later e sa
     let there : slice_get events index ≡ Some first = ap (λ es. slice_get es index)
     (at_entry events seen inner (flatten rest) later first last same)
     ∙ get_at seen (inner ++ (last ∷ (flatten rest ++ later))) first index e in
-    All-append holds (definitions_of (suc index) children) (own ++ definitions_of (suc exit) rest)
+    All-append holds (definition_entries (suc index) children) (own ++ definition_entries (suc exit) rest)
     (all_definitions events children (suc index) (seen ++ first ∷ []) (last
     ∷ (flatten rest ++ later)) one (in_node events seen inner (flatten rest) later first last same))
-    (All-append holds own (definitions_of (suc exit) rest) (own_definition events index name start there)
+    (All-append holds own (definition_entries (suc exit) rest) (own_definition events index name start there)
     (all_definitions events rest (suc exit) (((seen ++ first ∷ []) ++ inner) ++ last
     ∷ []) later (length_one ((seen ++ first ∷ []) ++ inner) last
     ∙ ap suc inside) (after_node events seen inner (flatten rest) later first last same)))
 
 -- those of a document
 pub definitions-entered : (events : List Event) (forest : Forest) → flatten forest ≡ events →
-    All (λ i. EntersAt events i Definition) (definitions_of 0 forest)
+    All (λ i. EntersAt events i Definition) (definition_entries 0 forest)
 definitions-entered events forest flattened =
     all_definitions events forest 0 [] [] refl (sym flattened ∙ sym (append-nil (flatten forest)))

@@ -22,7 +22,7 @@ use Rattle.md_pattern.specs.Spine.{spine}
 use Rattle.md_pattern.specs.Pattern.{pattern_of}
 use Rattle.md_pattern.specs.Shape.{EachNode, IsShaped, AreShaped, inner_role, inner_before}
 use Rattle.md_tree.specs.Rules.{broken_rule, reading_of, MeetRules, target_of}
-use Rattle.md_tree.specs.Grammar.{Document, IsGrammatical, IsReadAs, IsChecked}
+use Rattle.md_tree.specs.Grammar.{Handed, IsGrammatical, IsReadAs, IsChecked}
 use Rattle.md_tree.specs.Refusal.{Level, opening, role_in, before_in, symbol_after, Begins, LeaveOpen, EndsBroken}
 use Rattle.md_pattern.specs.Steps.{is_complete, is_whole, is_optional, items_of, start_of}
 use Rattle.md_tree.specs.Machine.{Reads, Course, Runs, Exits, ExitsWhere, after_exit, entered_on, beginning}
@@ -219,7 +219,7 @@ true_false : (b : Bool) → b ≡ true → b ≡ false → ⊥
 true_false b e f = cc
 
 -- and no document of the grammar is read so
-pub outside-undone : (given : Document) (course : Course) →
+pub outside-undone : (given : Handed) (course : Course) →
     Runs (Unbroken given.bytes given.names) given.events beginning course →
     (course.open_nodes ≡ [] → is_complete course.state ≡ false) → IsChecked given → ⊥
 outside-undone given course runs undone checked =
@@ -232,14 +232,14 @@ outside-undone given course runs undone checked =
     ∙ document.2) (undone (ap (λ (c : Course). c.open_nodes) same))
 
 -- all has ended: the document that was read
-pub record IsWalked (given : Document) (mentions : List Mentioned) : Type 0 where
+pub record IsWalked (given : Handed) (mentions : List Mentioned) : Type 0 where
   pub forest : Forest
   pub flattened : flatten forest ≡ given.events
   pub shape : IsShaped forest
   pub rules : MeetRules given.bytes given.names forest Flow None
   pub mentions_are : mentions ≡ listed 0 (mentions_of forest)
 
-pub IsWalked-done : (given : Document) (course : Course) →
+pub IsWalked-done : (given : Handed) (course : Course) →
     Runs (Unbroken given.bytes given.names) given.events beginning course → course.open_nodes ≡ [] →
     is_complete course.state ≡ true → IsWalked given course.mentions
 IsWalked-done given course runs none complete =

@@ -13,7 +13,7 @@ use Rattle.md_base.specs.Tree.{Forest, Empty, Node, entering}
 use Rattle.md_pattern.specs.Standing.{standing_of}
 use Rattle.md_pattern.specs.Spine.{spine, shown}
 use Rattle.md_pattern.specs.Shape.{EachNode, IsShapedNode, IsStanding, AreShaped, inner_role, inner_before, last_symbol}
-use Rattle.md_tree.specs.Grammar.{Document, IsChecked, IsReadAs, IsGrammatical}
+use Rattle.md_tree.specs.Grammar.{Handed, IsChecked, IsReadAs, IsGrammatical}
 use Rattle.md_tree.specs.Texts.{EntersAt}
 use Rattle.md_tree.specs.Entered.{children_of, IsEnteredAt}
 use Rattle.md_tree.specs.Tables.{IsTable}
@@ -58,7 +58,7 @@ rows_shaped (Node name start end children rest) index tables around before shape
     (rows_shaped rest (suc exit_index) more around (last_symbol before (shown st (spine children))) shaped.2)))
 
 -- where a document of the grammar enters a table, its children have a table's shape
-pub IsTable-entered : (given : Document) (index : ℕ) → IsChecked given → EntersAt given.events index GfmTable →
+pub IsTable-entered : (given : Handed) (index : ℕ) → IsChecked given → EntersAt given.events index GfmTable →
     (children : Forest) → IsEnteredAt given index children → IsTable children
 IsTable-entered given index checked enters children entered =
     let forest = checked.0 in

@@ -16,7 +16,7 @@ use Rattle.md_infer.specs.declared.facts.Fact.{Fact}
 use Rattle.md_base.specs.Tree.{Forest, Empty, Node, flatten, entering, exiting}
 use Rattle.md_base.specs.NameTests.{is_table}
 use Rattle.md_infer.specs.Alignments.{alignments}
-use Rattle.md_tree.specs.Grammar.{Document}
+use Rattle.md_tree.specs.Grammar.{Handed}
 use Rattle.md_tree.specs.Rules.{place}
 use Rattle.md_tree.specs.Texts.{EntersAt, positions_of}
 use Rattle.md_tree.specs.Entered.{children_of, IsEnteredAt, EntersNode}
@@ -255,7 +255,7 @@ partners_there forest events facts index flattened is =
         ∙ ap (λ ps. partners_of (suc index) children ++ index ∷ ps) (partners rest (suc exit) more))
 
 -- at an index of a document's events
-module _ (given : Document) (index : ℕ) (name : Name) (enters : EntersAt given.events index name) where
+module _ (given : Handed) (index : ℕ) (name : Name) (enters : EntersAt given.events index name) where
   abbrev pub event : Event
   event = enters.0
 

@@ -27,7 +27,7 @@ use Rattle.md_pattern.specs.Standing.{standing_of}
 use Rattle.md_pattern.specs.Spine.{spine, shown}
 use Rattle.md_pattern.specs.Shape.{inner_role, inner_before, last_symbol}
 use Rattle.md_tree.specs.Rules.{place, broken_by, broken_rule, reading_of, MeetRules, target_of}
-use Rattle.md_tree.specs.Grammar.{Document, IsGrammatical, IsReadAs, IsChecked}
+use Rattle.md_tree.specs.Grammar.{Handed, IsGrammatical, IsReadAs, IsChecked}
 use Rattle.md_infer.specs.Partners.{index_after}
 use Rattle.md_infer.specs.Facts.{partner_alone, tables_with, tables_after, facts_at}
 use Rattle.md_tree.specs.Found.{position_from, partner_event, position_ended}
@@ -189,7 +189,7 @@ identifier_names bytes names Mdx around before start end target e is = cc
 
 -- what is known of an exit, by what is found at the events: where its node lies, in any document of the events, and
 -- the text there
-pub record EndedAt (text : Point → Point → Option (List ℕ)) (given : Document) (index : ℕ) : Type 0 where
+pub record EndedAt (text : Point → Point → Option (List ℕ)) (given : Handed) (index : ℕ) : Type 0 where
   pub position : Position
   pub there : position_ended given.events (facts_at given.events) index ≡ Some position
   pub found : List ℕ
@@ -201,7 +201,7 @@ one_position : (o : Option Position) (one other : Position) → o ≡ Some one �
 one_position o one other e f = cc
 
 pub EndedAt-checked : (is : Reading → Bool) (text : Point → Point →
-    Option (List ℕ)) (given : Document) (index : ℕ) (name : Name) → HaveText given.bytes given.names is text →
+    Option (List ℕ)) (given : Handed) (index : ℕ) (name : Name) → HaveText given.bytes given.names is text →
     IsChecked given → ExitsAt given.events index name → has_reading is (standing_of name) ≡ true →
     EndedAt text given index
 EndedAt-checked is text given index name have checked exits reads =
@@ -250,7 +250,7 @@ EndedAt-checked is text given index name have checked exits reads =
     }
 
 -- what is read at the place is the text of the node in any document of the events
-pub EndedAt-text : (text : Point → Point → Option (List ℕ)) (given : Document) (index : ℕ)
+pub EndedAt-text : (text : Point → Point → Option (List ℕ)) (given : Handed) (index : ℕ)
     (ended : EndedAt text given index) (result : List ℕ) → Some ended.found ≡ Some result →
     (forest : Forest) (position : Position) → flatten forest ≡ given.events →
     slice_get (positions_of forest) index ≡ Some (Some position) → text position.start position.end ≡ Some result
@@ -258,7 +258,7 @@ EndedAt-text text given index ended result same forest position flattened got =
     ap (λ (p : Position). text p.start p.end) (ended.position_is forest position flattened got) ∙ ended.is_found ∙ same
 
 -- and of what a look-up gives
-pub EndedAt-read : (text : Point → Point → Option (List ℕ)) (given : Document) (index : ℕ)
+pub EndedAt-read : (text : Point → Point → Option (List ℕ)) (given : Handed) (index : ℕ)
     (ended : EndedAt text given index) (o : Option Position) (position : Position) →
     o ≡ position_ended given.events (facts_at given.events) index → o ≡ Some position →
     text position.start position.end ≡ Some ended.found

@@ -13,11 +13,11 @@ use Rattle.md_infer.specs.declared.facts.Fact.{Fact}
 use Rattle.md_pattern.specs.declared.kinds.Reading.{Reading}
 use Rattle.md_base.specs.Tree.{Forest, flatten}
 use Rattle.md_infer.specs.Alignments.{alignments}
-use Rattle.md_tree.specs.Grammar.{Document, IsReadAs, IsChecked}
+use Rattle.md_tree.specs.Grammar.{Handed, IsReadAs, IsChecked}
 use Rattle.md_pattern.specs.Standing.{standing_of}
 use Rattle.md_tree.specs.Texts.{EntersAt, ExitsAt, has_reading}
 use Rattle.md_tree.specs.Entered.{IsEnteredAt, EntersNode}
-use Rattle.md_tree.specs.Checked.{given_of, IsKept}
+use Rattle.md_tree.specs.Checked.{handed_of, IsKept}
 use Rattle.md_infer.specs.Facts.{facts_at, tables_at, definitions_at, fact_at}
 use Rattle.md_tree.specs.Found.{EntersSome, IsFactAt, position_ended}
 use Rattle.md_tree.specs.Indices.{AreDefinitions}
@@ -26,20 +26,20 @@ use Rattle.md_infer.proofs.Passing.{definitions-flatten}
 use Rattle.md_tree.proofs.Indexed.{HaveText, EndedAt, EndedAt-checked}
 use Rattle.md_tree.proofs.Entering.{got_inside, EntersNode-entered, found-entered, facts_at-inside}
 
-module _ (inside : Inside) (given : Document) (index : ℕ) (kept : IsKept inside) (same : given_of inside ≡ given) where
+module _ (inside : Inside) (given : Handed) (index : ℕ) (kept : IsKept inside) (same : handed_of inside ≡ given) where
   -- the document's nodes
   flattened : flatten kept.0.0 ≡ given.events
-  flattened = IsReadAs.flattened kept.0.1 ∙ ap (λ (g : Document). g.events) same
+  flattened = IsReadAs.flattened kept.0.1 ∙ ap (λ (g : Handed). g.events) same
 
   pub facts_are : inside.facts.items ≡ facts_at given.events
-  facts_are = kept.1 ∙ ap (λ (g : Document). facts_at g.events) same
+  facts_are = kept.1 ∙ ap (λ (g : Handed). facts_at g.events) same
 
   tables_are : map (λ t. t.items) inside.tables.items ≡ tables_at given.events
-  tables_are = kept.2 ∙ ap (λ (g : Document). tables_at g.events) same
+  tables_are = kept.2 ∙ ap (λ (g : Handed). tables_at g.events) same
 
   pub definitions-kept : AreDefinitions given inside.definitions.items
   definitions-kept forest flattens =
-      kept.3 ∙ ap (λ (g : Document). definitions_at g.events) same ∙ definitions-flatten forest given.events flattens
+      kept.3 ∙ ap (λ (g : Handed). definitions_at g.events) same ∙ definitions-flatten forest given.events flattens
 
   pub definitions-enter : All (λ i. EntersAt given.events i Definition) inside.definitions.items
   definitions-enter =
@@ -58,7 +58,7 @@ module _ (inside : Inside) (given : Document) (index : ℕ) (kept : IsKept insid
       found ≡ position_ended inside.events.now there index →
       found ≡ position_ended given.events (facts_at given.events) index
   ended-place there found are is =
-      is ∙ ap (λ (g : Document). position_ended g.events there index) same
+      is ∙ ap (λ (g : Handed). position_ended g.events there index) same
       ∙ ap (λ fs. position_ended given.events fs index) (are ∙ facts_are)
 
   pub facts-inside : EntersSome given.events index → index < length inside.facts.items

@@ -9,10 +9,10 @@ use Rattle.md_base.specs.declared.event.Kind.{Kind}
 use Rattle.md_base.specs.declared.event.Kind.TheVariants.{Enter, Exit}
 use Rattle.md_tree.specs.declared.rule.CompileError.{CompileError}
 use Rattle.md_infer.specs.Ending.{first_index, ending_after}
-use Rattle.md_infer.specs.Facts.{Passed, nothing_passed, passed, passed_entry, passed_exit, passed_over}
+use Rattle.md_infer.specs.Facts.{PassState, pass_beginning, passed, passed_entry, passed_exit, passed_over}
 use Rattle.md_infer.proofs.FirstIndex.{first_index-more}
 use Rattle.md_infer.proofs.Passing.{passed_more}
-use Rattle.md_tree.specs.Grammar.{Document}
+use Rattle.md_tree.specs.Grammar.{Handed}
 use Rattle.md_tree.specs.Refusal.{IsRefusal}
 use Rattle.md_tree.specs.Machine.{Course, Runs, StepsBy, Enters, beginning}
 use Rattle.md_tree.specs.Walk.{point_of, point_at, Unbroken, Passes, IsStop, IsStopAtLeaf}
@@ -26,7 +26,7 @@ ending-entry (Some at) index event enters = refl
 ending-entry None index event enters =
     subst (λ k. ending_after None index (record event { kind = k }) ≡ None) (sym enters) refl
 
-module _ (given : Document) (index : ℕ) (entry exit : Event) (leaf : IsLeaf entry exit)
+module _ (given : Handed) (index : ℕ) (entry exit : Event) (leaf : IsLeaf entry exit)
     (here : slice_get given.events index ≡ Some entry) (after : slice_get given.events (suc index) ≡ Some exit) where
   entry_is : get_or given.events index entry ≡ entry
   entry_is = get_or_from_slice_get given.events index entry entry here
@@ -80,21 +80,21 @@ module _ (given : Document) (index : ℕ) (entry exit : Event) (leaf : IsLeaf en
         (of_exit (λ kind name point. IsStop given.bytes given.names (suc index) kind name point stops.0 stopped)
         stops.2)
 
-  pub passed-leaf_more : (pass next : Passed) → pass ≡ passed_over (take index given.events) nothing_passed →
+  pub passed-leaf_more : (pass next : PassState) → pass ≡ passed_over (take index given.events) pass_beginning →
       next ≡ passed_exit entry.name (passed_entry entry.name pass) →
-      next ≡ passed_over (take (suc (suc index)) given.events) nothing_passed
+      next ≡ passed_over (take (suc (suc index)) given.events) pass_beginning
   passed-leaf_more pass next so_far step =
-      let entered : passed_entry entry.name pass ≡ passed_over (take (index + 1) given.events) nothing_passed
-      = passed_more given.events index entry pass nothing_passed (passed_entry entry.name pass)
+      let entered : passed_entry entry.name pass ≡ passed_over (take (index + 1) given.events) pass_beginning
+      = passed_more given.events index entry pass pass_beginning (passed_entry entry.name pass)
       (slice_get_within given.events index entry here) so_far
       (of_entry (λ kind name point. passed_entry entry.name pass ≡ passed kind name pass) refl) in
-      let entered_suc : passed_entry entry.name pass ≡ passed_over (take (suc index) given.events) nothing_passed
-      = entered ∙ ap (λ n. passed_over (take n given.events) nothing_passed) (add-one index) in
-      passed_more given.events (suc index) exit (passed_entry entry.name pass) nothing_passed next
+      let entered_suc : passed_entry entry.name pass ≡ passed_over (take (suc index) given.events) pass_beginning
+      = entered ∙ ap (λ n. passed_over (take n given.events) pass_beginning) (add-one index) in
+      passed_more given.events (suc index) exit (passed_entry entry.name pass) pass_beginning next
       (slice_get_within given.events (suc index) exit after) entered_suc
       (step ∙ of_exit (λ kind name point. passed_exit entry.name (passed_entry entry.name pass)
       ≡ passed kind name (passed_entry entry.name pass)) refl)
-      ∙ ap (λ n. passed_over (take n given.events) nothing_passed) (add-one (suc index))
+      ∙ ap (λ n. passed_over (take n given.events) pass_beginning) (add-one (suc index))
 
   pub first_index-leaf : (found : Option ℕ) → found ≡ first_index (take index given.events) →
       ending_after found (suc index) exit ≡ first_index (take (suc (suc index)) given.events)

@@ -10,7 +10,7 @@ use Rattle.md_base.specs.declared.event.Event.{Event}
 use Rattle.md_infer.specs.declared.facts.Fact.{Fact}
 use Rattle.md_base.specs.Tree.{Forest, Empty, Node, flatten, entering, exiting}
 use Rattle.md_tree.specs.Rules.{place}
-use Rattle.md_tree.specs.Grammar.{Document}
+use Rattle.md_tree.specs.Grammar.{Handed}
 use Rattle.md_tree.specs.Texts.{EntersAt}
 use Rattle.md_tree.specs.Entered.{IsEnteredAt}
 use Rattle.md_infer.specs.Partners.{index_after}
@@ -125,7 +125,7 @@ rows_there events facts (Node name start end children rest) index tables all =
     (All-cons (HasThem events facts) last later last_has (rows_there events facts rest (suc exit) ended all.2)))
 
 -- the children of the node that the event at an index enters
-pub children-placed : (given : Document) (index : ℕ) (name : Name) → EntersAt given.events index name →
+pub children-placed : (given : Handed) (index : ℕ) (name : Name) → EntersAt given.events index name →
     (children : Forest) → IsEnteredAt given index children →
     AllAt (position_at given.events (facts_at given.events)) (suc index) children
 children-placed given index name enters children entered =

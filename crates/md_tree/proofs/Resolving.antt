@@ -8,7 +8,7 @@ use Rattle.md_tree.specs.declared.mention.Mention.TheVariants.{Reference, Call}
 use Rattle.md_tree.specs.declared.mention.Mentioned.{Mentioned}
 use Rattle.md_tree.specs.declared.rule.Rule.{Rule}
 use Rattle.md_tree.specs.Mentions.{defined, footnoted, mentions_among, identifier_at, IsResolved}
-use Rattle.md_tree.specs.Resolve.{HaveSame, IsFound, IsLost, IsUnresolvedBy}
+use Rattle.md_tree.specs.Resolve.{HaveSame, IsFound, IsMissing, IsUnresolvedBy}
 
 -- what the identifiers have is resolved
 IsResolved-found : (bytes : List ℕ) (mentions : List Mention) (definitions footnotes : List (Option (List ℕ)))
@@ -27,7 +27,7 @@ IsUnresolvedBy-lost : (bytes : List ℕ) (mentioned : List Mentioned) (definitio
     HaveSame definitions (defined bytes (mentions_among mentioned)) →
     HaveSame footnotes (footnoted bytes (mentions_among mentioned)) →
     slice_get mentioned at ≡ Some (record { index = index; mention = mention }) →
-    IsLost bytes definitions footnotes mention broken → IsUnresolvedBy bytes mentioned index broken
+    IsMissing bytes definitions footnotes mention broken → IsUnresolvedBy bytes mentioned index broken
 IsUnresolvedBy-lost bytes mentioned definitions footnotes (Reference label) at index broken d f here lost =
     subst (λ r. IsUnresolvedBy bytes mentioned index r) (sym lost.0) (
       label,
@@ -58,7 +58,7 @@ IsResolved-at bytes mentioned definitions footnotes index n x d f inside found =
 pub IsUnresolvedBy-at : (bytes : List ℕ) (mentioned : List Mentioned) (definitions footnotes : List (Option (List ℕ)))
     (at : ℕ) (n : Mentioned) (broken : Rule) → HaveSame definitions (defined bytes (mentions_among mentioned)) →
     HaveSame footnotes (footnoted bytes (mentions_among mentioned)) → at < length mentioned →
-    IsLost bytes definitions footnotes (Mentioned.mention (get_or mentioned at n)) broken →
+    IsMissing bytes definitions footnotes (Mentioned.mention (get_or mentioned at n)) broken →
     IsUnresolvedBy bytes mentioned (Mentioned.index (get_or mentioned at n)) broken
 IsUnresolvedBy-at bytes mentioned definitions footnotes at n broken d f inside lost =
     let one = get_or mentioned at n in

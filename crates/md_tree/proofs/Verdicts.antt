@@ -23,7 +23,7 @@ use Rattle.md_pattern.specs.Standing.{standing_of}
 use Rattle.md_pattern.specs.Spine.{spine, shown}
 use Rattle.md_pattern.specs.Shape.{Claim, EachNode, IsShapedNode, IsShaped, AreShaped, inner_role, inner_before, last_symbol}
 use Rattle.md_tree.specs.Rules.{reading_of, broken_rule, MeetsRules, MeetRules, target_of}
-use Rattle.md_tree.specs.Grammar.{Document, IsGrammatical, IsReadAs, IsChecked}
+use Rattle.md_tree.specs.Grammar.{Handed, IsGrammatical, IsReadAs, IsChecked}
 use Rattle.md_tree.specs.Refusal.{Level, role_in, before_in, IsShapedPath, BeginNoTree}
 use Rattle.md_pattern.specs.Steps.{may_hold, is_complete}
 use Rattle.md_tree.specs.Machine.{Reads, Course, Runs, Steps, StepsBy, Enters, Exits, ExitsWhere, after_entry, entered, entered_on, beginning}
@@ -256,7 +256,7 @@ stop_steps bytes names Exit broken name point course next stops here =
     exit_stops bytes names broken name point course next stops here
 
 -- a grammatical document is walked to its end
-pub Runs-checked : (given : Document) (forest : Forest) → flatten forest ≡ given.events → IsShaped forest →
+pub Runs-checked : (given : Handed) (forest : Forest) → flatten forest ≡ given.events → IsShaped forest →
     MeetRules given.bytes given.names forest Flow None →
     (end : State) × Runs (Unbroken given.bytes given.names) given.events beginning (after_nodes forest end beginning)
     × (is_complete end ≡ true)
@@ -270,7 +270,7 @@ Runs-checked given forest flattened shaped meets =
     )
 
 -- an event that stops a walk is in no document of the grammar
-pub outside-stopped : (given : Document) (seen more : List Event) (event : Event) (course : Course) (broken : Rule) →
+pub outside-stopped : (given : Handed) (seen more : List Event) (event : Event) (course : Course) (broken : Rule) →
     given.events ≡ seen ++ event ∷ more → Runs (Unbroken given.bytes given.names) seen beginning course →
     StopsBy given.bytes given.names event.kind broken event.name event.point course → IsChecked given → ⊥
 outside-stopped given seen more event course broken parts runs stops checked =

@@ -6,7 +6,7 @@ use Rattle.md_base.specs.declared.event.Position.{Position}
 use Rattle.md_infer.specs.declared.facts.Fact.{Fact}
 use Rattle.md_base.specs.Tree.{Forest}
 use Rattle.md_tree.specs.Rules.{place}
-use Rattle.md_tree.specs.Grammar.{Document}
+use Rattle.md_tree.specs.Grammar.{Handed}
 use Rattle.md_tree.specs.Texts.{EntersAt}
 use Rattle.md_tree.specs.Entered.{IsEnteredAt}
 use Rattle.md_infer.specs.Facts.{fact_at}
@@ -16,7 +16,7 @@ abbrev pub EntersSome : List Event → ℕ → Type 0
 EntersSome events index = (name : Name) × EntersAt events index name
 
 -- what is found of the node that the event at an index enters, where some number of tables have ended
-abbrev pub IsFactAt : Document → ℕ → Fact → Type 0
+abbrev pub IsFactAt : Handed → ℕ → Fact → Type 0
 IsFactAt given index fact =
     (name : Name) (children : Forest) → EntersAt given.events index name → IsEnteredAt given index children →
     (tables : ℕ) × (fact ≡ fact_at index tables name children)

@@ -17,20 +17,20 @@ pub record IsGrammatical (bytes : List ℕ) (names : List (List ℕ × List ℕ)
   pub resolved : All (IsResolved bytes (mentions_of forest)) (mentions_of forest)
 
 -- what is handed to a check: events, the document's bytes, the names of character references with their texts
-pub record Document : Type 0 where
+pub record Handed : Type 0 where
   pub events : List Event
   pub bytes : List ℕ
   pub names : List (List ℕ × List ℕ)
 
 -- the three, as they are handed in
-abbrev pub handed : List Event → List ℕ → List (Bor (List ℕ) × Bor (List ℕ)) → Document
+abbrev pub handed : List Event → List ℕ → List (Bor (List ℕ) × Bor (List ℕ)) → Handed
 handed events bytes names = record { events = events; bytes = bytes; names = name_table names }
 
 -- the events are the flattening of this document of the grammar over the bytes and names
-pub record IsReadAs (given : Document) (forest : Forest) : Type 0 where
+pub record IsReadAs (given : Handed) (forest : Forest) : Type 0 where
   pub flattened : flatten forest ≡ given.events
   pub grammatical : IsGrammatical given.bytes given.names forest
 
 -- the events are the flattening of a document of the grammar over the bytes and names
-abbrev pub IsChecked : Document → Type 0
+abbrev pub IsChecked : Handed → Type 0
 IsChecked given = (forest : Forest) × IsReadAs given forest

@@ -22,9 +22,8 @@ use Rattle.md_pattern.specs.Steps.{advance, is_complete, may_hold, start_of}
 use Rattle.md_tree.specs.Rules.{place, target_at}
 use Rattle.md_tree.specs.Mentions.{mention_of, mentions_with}
 
--- what waits for the end of a node that has a spine of its own: the spine around it with the node, the symbol
--- before it,
--- the target of the spine around so far, and what is read of the node
+-- what waits for the end of a node that has a spine of its own: the spine around it with the node, the symbol before
+-- it, the target of the spine around so far, and what is read of the node
 pub record Outer : Type 0 where
   pub state : State
   pub before : Option Symbol

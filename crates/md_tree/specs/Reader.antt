@@ -3,7 +3,7 @@ use Rattle.std.specs.Prelude.{◌≡◌, ℕ, List, take}
 use Rattle.md_base.specs.declared.event.Event.{Event}
 use Rattle.md_base.specs.declared.event.Kind.TheVariants.{Enter, Exit}
 use Rattle.md_infer.specs.Ending.{first_index}
-use Rattle.md_infer.specs.Facts.{passed_over, nothing_passed}
+use Rattle.md_infer.specs.Facts.{passed_over, pass_beginning}
 use Rattle.md_tree.specs.declared.reader.Reader.{Reader}
 use Rattle.md_tree.specs.Machine.{Runs, beginning}
 use Rattle.md_tree.specs.Walk.{course_of, Unbroken}
@@ -18,5 +18,5 @@ pub record IsLeaf (entry exit : Event) : Type 0 where
 pub record HasRead (bytes : List ℕ) (names : List (List ℕ × List ℕ)) (events : List Event) (count : ℕ)
     (reader : Reader) : Type 0 where
   pub walked : Runs (Unbroken bytes names) (take count events) beginning (course_of events count reader.walk)
-  pub passed : reader.pass ≡ passed_over (take count events) nothing_passed
+  pub passed : reader.pass ≡ passed_over (take count events) pass_beginning
   pub first_ending : reader.first_ending ≡ first_index (take count events)

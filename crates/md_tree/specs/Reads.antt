@@ -8,7 +8,7 @@ use Rattle.md_base.specs.Tree.{Forest}
 use Rattle.md_base.specs.NameTests.{is_heading_mark, is_item, is_item_prefix, is_item_value, is_label, is_label_text, is_reference, is_resource, is_definition_label, is_footnote_prefix, is_footnote_label}
 use Rattle.md_base.specs.Children.{or_else, first_on_spine, spine_names}
 use Rattle.md_tree.specs.Rules.{place}
-use Rattle.md_tree.specs.Grammar.{Document}
+use Rattle.md_tree.specs.Grammar.{Handed}
 use Rattle.md_tree.specs.Texts.{EntersAt}
 use Rattle.md_tree.specs.Entered.{IsEnteredAt}
 
@@ -56,7 +56,7 @@ abbrev pub has_resource : Forest → Bool
 has_resource children = list_any is_resource (spine_names children)
 
 -- the place that is read of the node that the event at an index enters, where its name reads one
-abbrev pub IsReadAt : Document → ℕ → Option Position → Type 0
+abbrev pub IsReadAt : Handed → ℕ → Option Position → Type 0
 IsReadAt given index found =
     (name : Name) (children : Forest) → EntersAt given.events index name → IsTrue (is_reader name) →
     IsEnteredAt given index children → found ≡ reads name children

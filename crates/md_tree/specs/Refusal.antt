@@ -21,7 +21,7 @@ use Rattle.md_pattern.specs.Spine.{spine, IsBegunGroup}
 use Rattle.md_pattern.specs.Shape.{AreShaped, IsShaped, inner_role, inner_before, last_symbol}
 use Rattle.md_tree.specs.Rules.{MeetRules, broken_at}
 use Rattle.md_tree.specs.Mentions.{mentions_of, IsResolved}
-use Rattle.md_tree.specs.Grammar.{Document, IsChecked}
+use Rattle.md_tree.specs.Grammar.{Handed, IsChecked}
 
 -- a node that is still open, with the whole nodes before it in the node around
 pub record Level : Type 0 where
@@ -92,7 +92,7 @@ pub record EndsBroken (bytes : List ℕ) (names : List (List ℕ × List ℕ)) (
 
 -- the events are a document that has its shape and meets the other rules, and what its node that ends at the index
 -- leads to isn't there
-pub record EndsUnresolved (given : Document) (index : ℕ) (mention : Mention) : Type 0 where
+pub record EndsUnresolved (given : Handed) (index : ℕ) (mention : Mention) : Type 0 where
   pub forest : Forest
   pub flattened : flatten forest ≡ given.events
   pub shape : IsShaped forest
@@ -101,24 +101,24 @@ pub record EndsUnresolved (given : Document) (index : ℕ) (mention : Mention) :
   pub unresolved : IsResolved given.bytes (mentions_of forest) mention → ⊥
 
 -- Order at an event: no tree begins so; Order at the number of events: something is open
-abbrev pub IsOrder : Document → CompileError → Type 0
+abbrev pub IsOrder : Handed → CompileError → Type 0
 IsOrder given (error.Event index rule.Order) = (index ≤ length given.events)
     × (index < length given.events → BeginNoTree (take (suc index) given.events))
     × (index ≡ length given.events → LeaveOpen given.events)
 IsOrder given _ = Unit {0}
 
 -- Mdx: that event enters a name of MDX
-abbrev pub IsMdx : Document → CompileError → Type 0
+abbrev pub IsMdx : Handed → CompileError → Type 0
 IsMdx given (error.Event index rule.Mdx) = (event : Event) × (slice_get given.events index ≡ Some event)
     × (event.kind ≡ Enter) × (standing_of event.name ≡ standing.Mdx)
 IsMdx given _ = Unit {0}
 
 -- a rule that is judged when a node ends: the node that ends there breaks it
-abbrev pub IsBroken : Document → ℕ → Rule → Type 0
+abbrev pub IsBroken : Handed → ℕ → Rule → Type 0
 IsBroken given index broken = (index < length given.events)
     × EndsBroken given.bytes given.names (take (suc index) given.events) broken
 
-abbrev pub IsOfNode : Document → CompileError → Type 0
+abbrev pub IsOfNode : Handed → CompileError → Type 0
 IsOfNode given (error.Event index rule.Place) = IsBroken given index rule.Place
 IsOfNode given (error.Event index rule.LineEnding) = IsBroken given index rule.LineEnding
 IsOfNode given (error.Event index rule.HeadingMark) = IsBroken given index rule.HeadingMark
@@ -128,18 +128,18 @@ IsOfNode given (error.Event index rule.Target) = IsBroken given index rule.Targe
 IsOfNode given _ = Unit {0}
 
 -- Definition or Footnote: what the node that ends there leads to isn't there, in a document that meets all else
-abbrev pub IsLost : Document → CompileError → Type 0
+abbrev pub IsLost : Handed → CompileError → Type 0
 IsLost given (error.Event index rule.Definition) = (label : Position) × EndsUnresolved given index (Reference label)
 IsLost given (error.Event index rule.Footnote) = (label : Position) × EndsUnresolved given index (Call label)
 IsLost given _ = Unit {0}
 
 -- an event is refused only where the events are the flattening of no document of the grammar
-abbrev pub IsOutside : Document → CompileError → Type 0
+abbrev pub IsOutside : Handed → CompileError → Type 0
 IsOutside given error.Memory = Unit {0}
 IsOutside given (error.Event index broken) = IsChecked given → ⊥
 
 -- all of these
-pub record IsRefusal (given : Document) (refusal : CompileError) : Type 0 where
+pub record IsRefusal (given : Handed) (refusal : CompileError) : Type 0 where
   pub order : IsOrder given refusal
   pub mdx : IsMdx given refusal
   pub of_node : IsOfNode given refusal

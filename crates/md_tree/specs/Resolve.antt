@@ -46,9 +46,10 @@ IsFound bytes definitions footnotes (Call label) = Contains footnotes (identifie
 IsFound bytes definitions footnotes _ = Unit {0}
 
 -- it isn't, and so the rule is broken
-abbrev pub IsLost : List ℕ → List (Option (List ℕ)) → List (Option (List ℕ)) → Mention → Rule → Type 0
-IsLost bytes definitions footnotes (Reference label) broken = (broken ≡ rule.Definition)
+abbrev pub IsMissing : List ℕ → List (Option (List ℕ)) → List (Option (List ℕ)) → Mention → Rule →
+    Type 0
+IsMissing bytes definitions footnotes (Reference label) broken = (broken ≡ rule.Definition)
     × (Contains definitions (identifier_at bytes label) → ⊥)
-IsLost bytes definitions footnotes (Call label) broken = (broken ≡ rule.Footnote)
+IsMissing bytes definitions footnotes (Call label) broken = (broken ≡ rule.Footnote)
     × (Contains footnotes (identifier_at bytes label) → ⊥)
-IsLost bytes definitions footnotes _ broken = ⊥
+IsMissing bytes definitions footnotes _ broken = ⊥

@@ -13,7 +13,7 @@ use Rattle.md_pattern.specs.declared.kinds.Standing.TheVariants.{Solid}
 use Rattle.md_base.specs.Tree.{Forest, Empty, Node, flatten}
 use Rattle.md_pattern.specs.Standing.{standing_of}
 use Rattle.md_tree.specs.Rules.{place}
-use Rattle.md_tree.specs.Grammar.{Document}
+use Rattle.md_tree.specs.Grammar.{Handed}
 
 -- the event at an index is of this kind and name
 abbrev pub IsEventAt : List Event → ℕ → Kind → Name → Type 0
@@ -65,15 +65,15 @@ ExitsText events index = (name : Name) × ExitsAt events index name × IsTrue (i
 abbrev pub ExitsIdentifier : List Event → ℕ → Type 0
 ExitsIdentifier events index = (name : Name) × ExitsAt events index name × IsTrue (is_identifier_name name)
 
--- the text of the node that ends at an index, in the document that the events are
-abbrev pub IsTextAt : Document → ℕ → List ℕ → Type 0
+-- the text of the node that ends at an index, in the document that the events flatten
+abbrev pub IsTextAt : Handed → ℕ → List ℕ → Type 0
 IsTextAt given index text =
     (forest : Forest) (position : Position) → flatten forest ≡ given.events →
     slice_get (positions_of forest) index ≡ Some (Some position) →
     text_between given.bytes position.start position.end ≡ Some text
 
 -- the same of the text between its indices
-abbrev pub IsIdentifierAt : Document → ℕ → List ℕ → Type 0
+abbrev pub IsIdentifierAt : Handed → ℕ → List ℕ → Type 0
 IsIdentifierAt given index text =
     (forest : Forest) (position : Position) → flatten forest ≡ given.events →
     slice_get (positions_of forest) index ≡ Some (Some position) →

@@ -30,13 +30,13 @@ pub struct Checked<'a> {
 }
 
 impl<'a> Model for Checked<'a> {
-    ghost use Rattle.md_tree.specs.Grammar.{Document};
+    ghost use Rattle.md_tree.specs.Grammar.{Handed};
 
-    ghost Value = { Document };
+    ghost Value = { Handed };
 
-    ghost use Rattle.md_tree.specs.Checked.{given_of, IsKept};
+    ghost use Rattle.md_tree.specs.Checked.{handed_of, IsKept};
 
-    ghost view = { given_of };
+    ghost view = { handed_of };
 
     ghost invariant = { IsKept };
 }
@@ -321,7 +321,8 @@ impl<'a> Checked<'a> {
         text_at(self.bytes, &position).unwrap()
     }
 
-    /// The text between the indices of the node that ends with the event at the index.
+    /// The label of the node that ends with the event at the index, as it is written (`normalize_identifier` makes an
+    /// identifier of it): the bytes between the indices of its points; columns of tabs are not read.
     ///
     /// # Examples
     ///

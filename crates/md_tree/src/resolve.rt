@@ -3,7 +3,7 @@
 ghost use Rattle.std.specs.Prelude.{◌≡◌, ◌↔◌, option_map, string_bytes, IfOk, OnOk, IfErr, IfSome, None, IsTrue};
 ghost use Rattle.std.specs.List.{All, Contains};
 ghost use Rattle.md_tree.specs.Mentions.{identifier_at, defined, footnoted, mentions_among, IsResolved};
-ghost use Rattle.md_tree.specs.Resolve.{IsUnresolved, identifiers_of, HaveSame, IsFound, IsLost};
+ghost use Rattle.md_tree.specs.Resolve.{IsUnresolved, identifiers_of, HaveSame, IsFound, IsMissing};
 
 use crate::judge::{label_at, rule_unless};
 use crate::mention::{Mention, Mentioned};
@@ -100,7 +100,7 @@ fn unresolved(
         (λ rule. rule ≡ None
         → IsFound bytes.now (identifiers_of definitions.now) (identifiers_of footnotes.now) mention) }
     ensures some { IfOk result
-        (λ broken. IfSome broken (λ rule. IsLost bytes.now (identifiers_of definitions.now)
+        (λ broken. IfSome broken (λ rule. IsMissing bytes.now (identifiers_of definitions.now)
         (identifiers_of footnotes.now) mention rule)) }
 {
     match mention {

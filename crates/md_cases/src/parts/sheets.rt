@@ -1,4 +1,4 @@
-//! Questions on a page that the names lay out, each a step with its text.
+//! Questions on a sheet that the names lay out, each a step with its text.
 
 use super::{Asked, Call, document, no_such_call};
 use md_sheet::{Rope, Sheet, Target};
@@ -19,7 +19,7 @@ pub(super) fn answer(
     }
 }
 
-/// The page after all steps.
+/// The sheet after all steps.
 fn laid_out(alloc: Global, asked: &Asked<'_>) -> Result<Sheet, AllocError> {
     let mut sheet = Sheet::new(alloc);
     for (step, text) in &asked.names {
@@ -53,13 +53,13 @@ fn take(alloc: Global, sheet: &mut Sheet, step: &str, text: String) -> Result<()
     Ok(())
 }
 
-/// The text of a page.
+/// The text of a sheet.
 fn text(alloc: Global, sheet: Sheet) -> Result<String, AllocError> {
     let (text, _) = sheet.into_parts();
     text.into_string(alloc)
 }
 
-/// The destination of the resource that a page noted.
+/// The destination of the resource that a sheet noted.
 fn resource(alloc: Global, sheet: Sheet) -> Result<String, AllocError> {
     let (_, notes) = sheet.into_parts();
     match notes.resource() {
@@ -68,7 +68,7 @@ fn resource(alloc: Global, sheet: Sheet) -> Result<String, AllocError> {
     }
 }
 
-/// The destination and the title that a page noted.
+/// The destination and the title that a sheet noted.
 fn target(alloc: Global, sheet: Sheet) -> Result<String, AllocError> {
     let target = sheet.into_target();
     let destination = target.destination.as_str();

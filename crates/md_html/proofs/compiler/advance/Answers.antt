@@ -6,7 +6,7 @@ use Rattle.md_meaning.specs.declared.context.Ahead.{Ahead}
 use Rattle.md_base.specs.Tree.{Forest}
 use Rattle.md_tree.specs.Entered.{children_of}
 use Rattle.md_sheet.proofs.Lists.{drop-found}
-use Rattle.md_printer.specs.Sources.{given_of}
+use Rattle.md_printer.specs.Given.{given_of}
 use Rattle.md_printer.specs.Machine as machine
 use Rattle.md_printer.specs.Machine.{Printer}
 use Rattle.md_html.proofs.Walks.{is_nil-length, drop-first, told-at}
@@ -17,8 +17,8 @@ pub step-requires : goal.step-requires
 step-requires c =
     drop-first c.args.checked.now.events c.args.visit.index c.args.visit.event.now c.args.visit.later.now c.requires
 
-pub returns-then-is_leaf-clause-runs : goal.returns-then-is_leaf-clause-runs
-returns-then-is_leaf-clause-runs c document flat =
+pub returns-then-is_light_leaf-clause-runs : goal.returns-then-is_light_leaf-clause-runs
+returns-then-is_light_leaf-clause-runs c document flat =
     let given = given_of c.args.given.now in
     let event : Event = c.args.visit.event.now in
     let exit : Event = c.in-Some.exit.now in
@@ -28,7 +28,7 @@ returns-then-is_leaf-clause-runs c document flat =
     let after : Printer = c.leaf.new.printer in
     ap (λ es. machine.run given (drop 1 es) (drop (c.args.visit.index + 2) nodes) after) c.in-Some.ensures.cases.0
     ∙ run-leaf given document c.args.checked.now.events c.args.visit.index event exit beyond before after flat
-    (ap (λ es. event ∷ es) (sym c.in-Some.ensures.cases.0) ∙ c.requires) c.if-is_leaf.ensures
+    (ap (λ es. event ∷ es) (sym c.in-Some.ensures.cases.0) ∙ c.requires) c.if-is_light_leaf.ensures
     (λ (ahead : Ahead) (loose : Bool) (columns : List AlignKind).
     c.in_ok-leaf.ensures ahead loose columns
     ∙ ap (λ b. machine.exited given b false event.name exit.point

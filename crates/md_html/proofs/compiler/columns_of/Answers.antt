@@ -6,7 +6,7 @@ use Rattle.md_base.specs.declared.event.Name.TheVariants.{GfmTable}
 use Rattle.md_base.specs.Tree.{Forest}
 use Rattle.md_tree.specs.Entered.{IsEnteredAt}
 use Rattle.md_infer.specs.Alignments.{alignments}
-use Rattle.md_printer.specs.Sources.{IsToldAt}
+use Rattle.md_printer.specs.Given.{IsToldAt}
 use Rattle.md_printer.specs.Machine as machine
 use Rattle.md_html.proofs.Walks.{on_answer, told-entered}
 use Rattle.md_html.proofs.compiler.columns_of.Goals as goal

@@ -1,11 +1,11 @@
 -- The events that were checked are those handed in.
 use Rattle.std.proofs.Common.{ap, sym, ◌∙◌}
-use Rattle.md_tree.specs.Grammar.{Document}
+use Rattle.md_tree.specs.Grammar.{Handed}
 use Rattle.md_meaning.specs.Meaning.{meaning}
 use Rattle.md_html.proofs.compiler.compile_counted.Goals as goal
 
 pub returns-clause-meaning : goal.returns-clause-meaning
 returns-clause-meaning c = λ document flat.
     let same = c.in_ok-checked.ensures.ok in
-    c.in_ok-counted.ensures.meaning document (flat ∙ ap (λ (d : Document). d.events) (sym same))
-    ∙ ap (λ (d : Document). meaning c.args.options.now d.names d.bytes document) same
+    c.in_ok-counted.ensures.meaning document (flat ∙ ap (λ (d : Handed). d.events) (sym same))
+    ∙ ap (λ (d : Handed). meaning c.args.options.now d.names d.bytes document) same

@@ -5,7 +5,7 @@ use Rattle.md_base.specs.declared.event.AlignKind.{AlignKind}
 use Rattle.md_base.specs.declared.event.Kind.TheVariants.{Enter}
 use Rattle.md_base.specs.Tree.{Forest}
 use Rattle.md_meaning.specs.declared.context.Ahead.{Ahead}
-use Rattle.md_printer.specs.Sources.{IsToldAt, given_of}
+use Rattle.md_printer.specs.Given.{IsToldAt, given_of}
 use Rattle.md_printer.specs.Machine as machine
 use Rattle.md_meaning.specs.Printed.{is_captured}
 use Rattle.md_html.proofs.compiler.enter_visited.Goals as goal

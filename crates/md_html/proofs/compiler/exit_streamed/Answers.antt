@@ -1,7 +1,7 @@
 -- The frames that are read are the machine's, and each step is the machine's; nothing is logged.
 use Rattle.std.proofs.Common.{◌≡◌, Bool, false, [], OnOk, ap, sym, subst, ◌∙◌}
 use Rattle.md_printer.specs.declared.frames.Exit.{Exit}
-use Rattle.md_printer.specs.Sources.{given_of, closing_at, exit_in}
+use Rattle.md_printer.specs.Given.{given_of, closing_at, exit_in}
 use Rattle.md_printer.specs.Machine as machine
 use Rattle.md_printer.specs.Machine.{Printer}
 use Rattle.md_around.specs.Steps.{first_or}

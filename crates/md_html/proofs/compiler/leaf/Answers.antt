@@ -4,7 +4,7 @@ use Rattle.md_base.specs.declared.event.AlignKind.{AlignKind}
 use Rattle.md_meaning.specs.declared.context.Ahead.{Ahead}
 use Rattle.md_meaning.specs.Piece.{blank}
 use Rattle.md_printer.specs.declared.frames.Exit.{Exit}
-use Rattle.md_printer.specs.Sources.{given_of, closing_at}
+use Rattle.md_printer.specs.Given.{given_of, closing_at}
 use Rattle.md_printer.specs.Machine as machine
 use Rattle.md_printer.specs.Machine.{Printer}
 use Rattle.md_around.specs.Steps.{first_or}

@@ -5,7 +5,7 @@ use Rattle.std.proofs.lemmas.List.{drop-drop}
 use Rattle.std.proofs.Math.Seq.{take-length}
 use Rattle.md_base.specs.declared.event.Event.{Event}
 use Rattle.md_tree.specs.Entered.{children_of}
-use Rattle.md_printer.specs.Sources.{given_of}
+use Rattle.md_printer.specs.Given.{given_of}
 use Rattle.md_printer.specs.Machine as machine
 use Rattle.md_html.proofs.Walks.{drop-first, drop-later}
 use Rattle.md_html.proofs.compiler.run.Goals as goal

@@ -3,7 +3,7 @@ use Rattle.std.proofs.Common.{◌≡◌, ◌≤◌, length, drop}
 use Rattle.md_base.specs.Tree.{Forest, flatten}
 use Rattle.md_tree.specs.Entered.{children_of}
 use Rattle.md_printer.specs.Machine.{run, beginning}
-use Rattle.md_printer.specs.Sources.{given_of}
+use Rattle.md_printer.specs.Given.{given_of}
 use Rattle.md_html.proofs.compiler.run.Given as goal
 
 abbrev pub invariant-loop-event : goal.invariant-loop-event

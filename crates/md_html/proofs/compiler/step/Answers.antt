@@ -3,7 +3,7 @@
 use Rattle.std.proofs.Common.{◌≡◌, Option, Bool, List, ap, sym, ◌∙◌}
 use Rattle.md_base.specs.declared.event.Kind.TheVariants.{Enter}
 use Rattle.md_base.specs.Tree.{Forest}
-use Rattle.md_printer.specs.Sources.{IsToldAt, given_of}
+use Rattle.md_printer.specs.Given.{IsToldAt, given_of}
 use Rattle.md_printer.specs.Machine as machine
 use Rattle.md_meaning.specs.Printed.{is_captured}
 use Rattle.md_html.proofs.compiler.step.Goals as goal
@@ -34,7 +34,8 @@ returns-in-Exit c =
     let event = c.args.visit.event.now in
     let later : List Event = c.args.visit.later.now in
     let before : Printer = c.args.printer.now in
-    let at : Bool → Printer = λ last. machine.exited given last (is_captured event.name) event.name event.point before in
+    let at : Bool → Printer =
+    λ last. machine.exited given last (is_captured event.name) event.name event.point before in
     on_answer (λ _. c.exit.new.printer ≡ at c.is_empty-is_last.result)
     (λ _. (told : Option Forest) → IsToldAt c.args.checked.now c.args.visit.index told →
     c.exit.new.printer ≡ machine.stepped given event.kind event.name event.point told (machine.is_nil later) before)

@@ -10,7 +10,7 @@ use Rattle.md_base.specs.declared.event.Name.TheVariants.{GfmTable}
 use Rattle.md_meaning.specs.Given.{Given}
 use Rattle.md_printer.specs.Machine as machine
 use Rattle.md_printer.specs.Machine.{Printer}
-use Rattle.md_printer.specs.Sources.{given_of}
+use Rattle.md_printer.specs.Given.{given_of}
 use Rattle.md_html.specs.OwnDefinitions.{events_at}
 use Rattle.md_html.proofs.OwnNodes.{own-run}
 use Rattle.md_html.proofs.own_events.defined_at.Goals as goal

@@ -5,7 +5,7 @@ use Rattle.std.specs.Prelude.{slice_get, List}
 use Rattle.std.specs.Option.{option_to_list}
 use Rattle.std.proofs.lemmas.Option.{slice_get-get_or}
 use Rattle.md_meaning.specs.Given.{Defined}
-use Rattle.md_printer.specs.Sources.{given_of}
+use Rattle.md_printer.specs.Given.{given_of}
 use Rattle.md_html.specs.OwnDefinitions.{own_definitions}
 use Rattle.md_html.proofs.OwnNodes.{take-none, take-next, take-own-all}
 use Rattle.md_html.proofs.OwnVisits.{own_sizes, size-found, total-next, within-document}

@@ -6,7 +6,7 @@ use Rattle.std.proofs.lemmas.Option.{slice_get_within}
 use Rattle.md_base.specs.declared.event.Event.{Event}
 use Rattle.md_base.specs.Tree.{Forest}
 use Rattle.md_tree.specs.Entered.{children_of}
-use Rattle.md_printer.specs.Sources.{given_of}
+use Rattle.md_printer.specs.Given.{given_of}
 use Rattle.md_printer.specs.Machine as machine
 use Rattle.md_sheet.proofs.Lists.{drop-found}
 use Rattle.md_html.specs.OwnDefinitions.{events_at}

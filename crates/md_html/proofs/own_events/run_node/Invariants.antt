@@ -6,7 +6,7 @@ use Rattle.md_base.specs.Tree.{Forest, flatten}
 use Rattle.md_tree.specs.Entered.{children_of}
 use Rattle.md_infer.specs.Partners.{partners_of}
 use Rattle.md_printer.specs.Machine.{run, beginning}
-use Rattle.md_printer.specs.Sources.{given_of}
+use Rattle.md_printer.specs.Given.{given_of}
 use Rattle.md_html.specs.OwnDefinitions.{events_at}
 use Rattle.md_html.proofs.own_events.run_node.Given as goal
 

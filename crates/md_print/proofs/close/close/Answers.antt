@@ -4,7 +4,7 @@ use Rattle.md_printer.specs.Machine.{Printer}
 use Rattle.md_print.specs.declared.groups.Group.TheVariants.{Text, Span, Block, Autolink, Table}
 use Rattle.md_around.specs.Steps.{first_or}
 use Rattle.md_meaning.specs.Piece.{blank}
-use Rattle.md_printer.specs.Sources.{given_of, left_at}
+use Rattle.md_printer.specs.Given.{given_of, left_at}
 use Rattle.md_print.proofs.Closings.{At, printing-group}
 use Rattle.md_print.proofs.close.close.Goals as goal
 

@@ -6,7 +6,7 @@ use Rattle.md_meaning.specs.declared.context.Surroundings.{Surroundings}
 use Rattle.md_printer.specs.Machine.{Printer, ahead_by, printing}
 use Rattle.md_meaning.specs.Piece.{Piece, Text, Sheet, Target}
 use Rattle.md_meaning.specs.Texts.{said, code_pieces, code_text}
-use Rattle.md_printer.specs.Sources.{given_of, closing_at}
+use Rattle.md_printer.specs.Given.{given_of, closing_at}
 use Rattle.std.specs.Prelude.{Option, None, Some}
 use Rattle.md_meaning.specs.declared.context.Ahead.{Ahead}
 use Rattle.md_meaning.specs.Given.{Given}
@@ -44,16 +44,16 @@ image_of_ending : (ending : List ℕ) (options : CompileOptions) (from : List �
 image_of_ending ending options from None label state = refl
 image_of_ending ending options from (Some title) label state = refl
 
-link_ending : (ending : List ℕ) (given : Given) (around : Surroundings) (ahead : Ahead) (inner : Sheet) (state : Printer) →
-    printing [] (link_pieces given around ahead inner) state
+link_ending : (ending : List ℕ) (given : Given) (around : Surroundings) (ahead : Ahead) (inner : Sheet)
+    (state : Printer) → printing [] (link_pieces given around ahead inner) state
     ≡ printing ending (link_pieces given around ahead inner) state
 link_ending ending given around ahead inner state =
     let target : Target = target_of given ahead inner.notes in
     chosen ending around.in_image inner.text (link_to given.options target inner.text) state
     (link_to_ending ending given.options target.destination target.title inner.text state)
 
-image_ending : (ending : List ℕ) (given : Given) (around : Surroundings) (ahead : Ahead) (inner : Sheet) (state : Printer) →
-    printing [] (image_pieces given around ahead inner) state
+image_ending : (ending : List ℕ) (given : Given) (around : Surroundings) (ahead : Ahead) (inner : Sheet)
+    (state : Printer) → printing [] (image_pieces given around ahead inner) state
     ≡ printing ending (image_pieces given around ahead inner) state
 image_ending ending given around ahead inner state =
     let target : Target = target_of given ahead inner.notes in

@@ -4,7 +4,7 @@ use Rattle.std.proofs.Common.{◌≡◌, ◌⊎◌, inl, inr, ℕ, suc, List, re
 use Rattle.md_base.specs.declared.event.Event.{Event}
 use Rattle.md_base.specs.declared.event.Name.TheVariants.{Link, Image}
 use Rattle.md_infer.specs.declared.facts.Fact.{Fact}
-use Rattle.md_tree.specs.Grammar.{Document}
+use Rattle.md_tree.specs.Grammar.{Handed}
 use Rattle.md_base.specs.Tree.{Forest}
 use Rattle.md_tree.specs.Texts.{EntersAt}
 use Rattle.md_tree.specs.Entered.{IsEnteredAt}
@@ -20,7 +20,7 @@ enters_media : (events : List Event) (index : ℕ) → EntersAt events index Lin
 enters_media events index (inl link) = (Link, link)
 enters_media events index (inr image) = (Image, image)
 
-resource_is : (given : Document) (index : ℕ) (fact : Fact) → IsFactAt given index fact →
+resource_is : (given : Handed) (index : ℕ) (fact : Fact) → IsFactAt given index fact →
     EntersAt given.events index Link ⊎ EntersAt given.events index Image → (children : Forest) →
     IsEnteredAt given index children → fact.has_resource ≡ has_resource children
 resource_is given index fact is (inl link) children entered =

@@ -4,15 +4,15 @@ use Rattle.std.proofs.Common.{◌≡◌, ℕ, sym, ap, ◌∙◌}
 use Rattle.std.specs.Prelude.{option_copied}
 use Rattle.md_base.specs.Place.{label_between}
 use Rattle.md_tree.specs.declared.checked.Checked.TheInside.{Inside}
-use Rattle.md_tree.specs.Grammar.{Document}
-use Rattle.md_tree.specs.Checked.{given_of, IsKept}
+use Rattle.md_tree.specs.Grammar.{Handed}
+use Rattle.md_tree.specs.Checked.{handed_of, IsKept}
 use Rattle.md_tree.specs.Texts.{is_identifier, ExitsIdentifier}
 use Rattle.md_tree.proofs.Indexed.{EndedAt, EndedAt-text, EndedAt-read, identifier_names, place_some, copied_some}
 use Rattle.md_tree.proofs.Kept.{ended-kept, ended-place}
 use Rattle.md_tree.proofs.checked.Checked.identifier.Goals as goal
 
 -- what is known at the index
-ended : (inside : Inside) (given : Document) (index : ℕ) → IsKept inside → given_of inside ≡ given →
+ended : (inside : Inside) (given : Handed) (index : ℕ) → IsKept inside → handed_of inside ≡ given →
     ExitsIdentifier given.events index → EndedAt (label_between given.bytes) given index
 ended inside given index kept same exits =
     ended-kept inside given index kept same is_identifier (label_between given.bytes) exits.0
@@ -33,7 +33,7 @@ unwrap-requires c =
     let place = ended-place c.self.inside given c.args.index c.self.invariant c.self.view_is c.deref.result.now
     c.position_ended.result c.deref.ensures.value c.position_ended.ensures in
     let position = c.unwrap-position.result in
-    let bytes = ap (λ (g : Document). label_between g.bytes position.start position.end) c.self.view_is in
+    let bytes = ap (λ (g : Handed). label_between g.bytes position.start position.end) c.self.view_is in
     copied_some c.label_at.result here.found (c.label_at.ensures ∙ bytes
     ∙ EndedAt-read (label_between given.bytes) given c.args.index here c.position_ended.result position place
     c.unwrap-position.ensures)
@@ -45,7 +45,7 @@ returns c =
     let place = ended-place c.self.inside given c.args.index c.self.invariant c.self.view_is c.deref.result.now
     c.position_ended.result c.deref.ensures.value c.position_ended.ensures in
     let position = c.unwrap-position.result in
-    let bytes = ap (λ (g : Document). label_between g.bytes position.start position.end) c.self.view_is in
+    let bytes = ap (λ (g : Handed). label_between g.bytes position.start position.end) c.self.view_is in
     EndedAt-text (label_between given.bytes) given c.args.index here c.unwrap.result.now
     (sym (EndedAt-read (label_between given.bytes) given c.args.index here c.position_ended.result position place
     c.unwrap-position.ensures) ∙ sym bytes ∙ sym c.label_at.ensures ∙ ap option_copied c.unwrap.ensures)

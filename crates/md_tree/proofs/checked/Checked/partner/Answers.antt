@@ -4,22 +4,22 @@ use Rattle.std.proofs.Common.{◌≡◌, ℕ, Option, ap, ◌∙◌}
 use Rattle.std.specs.Prelude.{option_map, slice_get}
 use Rattle.md_tree.specs.declared.checked.Checked.TheInside.{Inside}
 use Rattle.md_infer.specs.declared.facts.Fact.{Fact}
-use Rattle.md_tree.specs.Grammar.{Document, IsReadAs}
-use Rattle.md_tree.specs.Checked.{given_of, IsKept}
+use Rattle.md_tree.specs.Grammar.{Handed, IsReadAs}
+use Rattle.md_tree.specs.Checked.{handed_of, IsKept}
 use Rattle.md_infer.specs.Facts.{facts_at}
 use Rattle.md_tree.specs.Indices.{IsPartnerAt}
 use Rattle.md_tree.proofs.Entering.{partners_there}
 use Rattle.md_tree.proofs.checked.Checked.partner.Goals as goal
 
-partner_is : (inside : Inside) (given : Document) (index : ℕ) (partner : Option ℕ) → IsKept inside →
-    given_of inside ≡ given → partner ≡ option_map (λ (f : Fact). f.partner) (slice_get inside.facts.items index) →
+partner_is : (inside : Inside) (given : Handed) (index : ℕ) (partner : Option ℕ) → IsKept inside →
+    handed_of inside ≡ given → partner ≡ option_map (λ (f : Fact). f.partner) (slice_get inside.facts.items index) →
     IsPartnerAt given index partner
 partner_is inside given index partner kept same found =
-    let flattened = IsReadAs.flattened kept.0.1 ∙ ap (λ (g : Document). g.events) same in (
+    let flattened = IsReadAs.flattened kept.0.1 ∙ ap (λ (g : Handed). g.events) same in (
       kept.0.0,
       flattened,
       found ∙ partners_there kept.0.0 given.events inside.facts.items index flattened (kept.1
-          ∙ ap (λ (g : Document). facts_at g.events) same),
+          ∙ ap (λ (g : Handed). facts_at g.events) same),
     )
 
 pub returns : goal.returns

@@ -5,7 +5,7 @@ use Rattle.md_base.specs.declared.event.Name.{Name}
 use Rattle.md_base.specs.declared.event.Name.TheVariants.{HeadingAtx, ListOrdered, Link, Image, GfmFootnoteCall, Definition, GfmFootnoteDefinition}
 use Rattle.md_infer.specs.declared.facts.Fact.{Fact}
 use Rattle.md_infer.specs.declared.seeking.Sought.{Sought}
-use Rattle.md_tree.specs.Grammar.{Document}
+use Rattle.md_tree.specs.Grammar.{Handed}
 use Rattle.md_tree.specs.Reads.{is_reader}
 use Rattle.md_infer.specs.Seeking.{search_of}
 use Rattle.md_infer.specs.Facts.{read_at_of, tables_after, contributing_over, sought_over, facts_at}
@@ -35,7 +35,7 @@ returns-clause-reads c = λ name children enters reader entered.
     let index = c.args.index in
     let found = c.fact.ensures.fact name children enters entered in
     c.position_of.ensures
-    ∙ ap (λ (g : Document). position_at g.events c.deref.result.now c.fact.result.read_at) c.self.view_is
+    ∙ ap (λ (g : Handed). position_at g.events c.deref.result.now c.fact.result.read_at) c.self.view_is
     ∙ ap (λ fs. position_at given.events fs c.fact.result.read_at) (c.deref.ensures.value
     ∙ facts_are c.self.inside given index c.self.invariant c.self.view_is)
     ∙ ap (λ (f : Fact). position_at given.events (facts_at given.events) f.read_at) found.1

@@ -9,7 +9,7 @@ use Rattle.md_tree.specs.Grammar.{handed}
 use Rattle.md_tree.specs.Machine.{Steps}
 use Rattle.md_tree.specs.Walk.{course_of, Unbroken, IsStop}
 use Rattle.md_infer.specs.Ending.{first_index, ending_after}
-use Rattle.md_infer.specs.Facts.{passed, passed_over, nothing_passed}
+use Rattle.md_infer.specs.Facts.{passed, passed_over, pass_beginning}
 use Rattle.md_tree.proofs.Checking.{Runs-more, IsRefusal-stopped}
 use Rattle.md_infer.proofs.FirstIndex.{first_index-more}
 use Rattle.md_infer.proofs.Passing.{passed_more}
@@ -45,9 +45,9 @@ returns-clause-read c =
           (course_of events (suc index) c.step.new.self) inside c.requires.before.walked
           (subst (λ e. Steps (Unbroken c.args.input.bytes.now names) e (course_of events index self.walk)
           (course_of events (suc index) c.step.new.self)) event_is c.in_ok-step.ensures.ok);
-      passed = passed_more events index event self.pass nothing_passed c.find.new.self inside c.requires.before.passed
+      passed = passed_more events index event self.pass pass_beginning c.find.new.self inside c.requires.before.passed
           (subst (λ e. c.find.new.self ≡ passed (Event.kind e) (Event.name e) self.pass) event_is c.in_ok-find.ensures)
-          ∙ ap (λ n. passed_over (take n events) nothing_passed) (add-one index);
+          ∙ ap (λ n. passed_over (take n events) pass_beginning) (add-one index);
       first_ending = c.note_ending.ensures event c.requires.here
           ∙ ap (ending_after self.first_ending index) event_is
           ∙ first_index-more events index event self.first_ending inside c.requires.before.first_ending

@@ -2,7 +2,7 @@
 use Rattle.std.specs.Prelude.{◌≡◌, ℕ, Bool, List, Option, Some, slice_get}
 use Rattle.md_base.specs.Reference.{name_table}
 use Rattle.md_base.specs.Tree.{Forest, flatten}
-use Rattle.md_tree.specs.Grammar.{Document}
+use Rattle.md_tree.specs.Grammar.{Handed}
 use Rattle.md_tree.specs.Entered.{children_of}
 use Rattle.md_printer.specs.declared.given.Given.{Given as GivenInside}
 use Rattle.md_base.specs.declared.event.Name.{Name}
@@ -81,7 +81,7 @@ abbrev pub closing_at : Given → Exit → List Called → List AlignKind → Ah
 closing_at given exit called columns ahead passed inner name =
     closing given exit.around (left_at exit called columns) ahead passed exit.is_last exit.start exit.end inner name
 
--- the event at an index enters a node with these children, or none, in the document that the events are
-abbrev pub IsToldAt : Document → ℕ → Option Forest → Type 0
+-- the event at an index enters a node with these children, or none, in the document that the events flatten
+abbrev pub IsToldAt : Handed → ℕ → Option Forest → Type 0
 IsToldAt given index told =
     (document : Forest) × (flatten document ≡ given.events) × (slice_get (children_of document) index ≡ Some told)
