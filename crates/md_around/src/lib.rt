@@ -1,5 +1,5 @@
 //! What is known of a node before it is printed, by what stands around it and before it.
 #![tactic(auto)]
 
-pub mod names;
+pub mod captured;
 pub mod surroundings;

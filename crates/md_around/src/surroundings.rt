@@ -6,9 +6,8 @@ ghost use Rattle.md_meaning.specs.Surroundings as spec;
 ghost use Rattle.md_around.specs.Steps as machine;
 ghost use Rattle.md_base.specs.NameTests.{is_transparent, is_cell, contributes};
 
-use crate::names::{contributes, is_cell, is_chunk, is_fence};
+use md_base::name_tests::{contributes, is_cell, is_chunk, is_fence, is_transparent};
 use md_base::{Name, Point};
-use md_infer::is_transparent;
 use md_meaning::{CompileOptions, Container, Passed, Spine, Surroundings};
 use std::alloc::AllocError;
 

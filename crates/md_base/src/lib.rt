@@ -6,6 +6,7 @@ mod event;
 mod identifier;
 mod lists;
 mod name;
+pub mod name_tests;
 mod position;
 mod reference;
 mod slice;

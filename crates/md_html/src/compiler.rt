@@ -27,9 +27,9 @@ ghost use Rattle.std.specs.Bool.{OnTrue};
 ghost use Rattle.md_base.specs.declared.event.AlignKind.{AlignKind};
 
 use crate::own_events::definitions_at;
-use md_around::names::is_captured;
+use md_around::captured::is_captured;
+use md_base::name_tests::is_table;
 use md_base::{AlignKind, Event, Kind, Name, Point, Position, is_same_name};
-use md_infer::is_table;
 use md_meaning::CompileOptions;
 use md_print::close::{close, close_captured};
 use md_print::groups::{group_of, is_light};

@@ -8,15 +8,15 @@ ghost use Rattle.md_infer.specs.Columns.{columns_exited};
 ghost use Rattle.md_infer.specs.Told.{nothing_told};
 
 use crate::columns::{Columns, collects_in};
-use crate::names::{is_link_definition, is_table, is_transparent};
 use crate::seeking::{Sought, is_idle, search_of, seen};
 use crate::told::{Last, Looseness, NOT_LOOSE, NOTHING_TOLD, Told, spaced, tell, told_looseness};
+use md_base::name_tests::{contributes, is_link_definition, is_table, is_transparent};
 use md_base::{AlignKind, Event, Kind, Name};
 use std::alloc::{AllocError, Global};
 use std::marker::Model;
 
 /// What is found of a node, at its entry. At an exit there is nothing but the partner.
-#[derive(Clone, Copy, Debug, PartialEq, Eq)]
+#[derive(Clone, Copy)]
 pub struct Fact {
     /// The index of the other event of the node.
     pub partner: usize,
@@ -30,7 +30,7 @@ pub struct Fact {
 }
 
 /// A node that is open.
-#[derive(Clone, Copy, Debug, PartialEq, Eq)]
+#[derive(Clone, Copy)]
 pub struct OpenNode {
     /// The index of the event that enters it.
     pub entry: usize,
@@ -104,22 +104,6 @@ fn opened(entry: usize, name: Name, around: &OpenNode) -> OpenNode
             ..document_node()
         },
     }
-}
-
-/// Whether a child contributes to an item.
-#[inline(always)]
-fn contributes(name: Name) -> bool
-    ensures { result ≡ contributes name }
-{
-    !matches!(
-        name,
-        Name::BlankLineEnding
-            | Name::BlockQuotePrefix
-            | Name::LineEnding
-            | Name::SpaceOrTab
-            | Name::Definition
-            | Name::GfmFootnoteDefinition
-    )
 }
 
 /// Notes a child that exits: as the last contributing one of the node around it, or among the definitions.

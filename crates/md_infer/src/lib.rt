@@ -3,11 +3,9 @@
 
 mod columns;
 mod facts;
-mod names;
 mod seeking;
 mod told;
 
 pub use facts::{Fact, Facts, OpenNode, Pass, ending_after};
-pub use names::{is_link_definition, is_table, is_transparent};
 pub use seeking::{Found, Sight, Sought, Wanted};
 pub use told::{Last, Looseness, Told};

@@ -7,7 +7,7 @@ ghost use Rattle.md_infer.specs.Seeking as spec;
 use md_base::Name;
 
 /// What is sought on a spine.
-#[derive(Clone, Copy, Debug, PartialEq, Eq)]
+#[derive(Clone, Copy)]
 pub enum Wanted {
     Nothing,
     /// The first mark of a heading.
@@ -33,7 +33,7 @@ pub enum Wanted {
 }
 
 /// What has been found on a spine.
-#[derive(Clone, Copy, Debug, PartialEq, Eq)]
+#[derive(Clone, Copy)]
 pub enum Found {
     Nothing,
     /// The first node that is sought.
@@ -43,7 +43,7 @@ pub enum Found {
 }
 
 /// How a spine has been searched so far.
-#[derive(Clone, Copy, Debug, PartialEq, Eq)]
+#[derive(Clone, Copy)]
 pub struct Sought {
     /// The index of the event that enters what is read, 0 where there is none.
     pub read_at: usize,
@@ -56,7 +56,7 @@ pub struct Sought {
 }
 
 /// What a node is on a spine on which something is sought.
-#[derive(Clone, Copy, Debug, PartialEq, Eq)]
+#[derive(Clone, Copy)]
 pub enum Sight {
     /// Nothing that the search looks at.
     Other,

@@ -6,7 +6,7 @@ ghost use Rattle.md_infer.specs.Told as spec;
 use md_base::{AlignKind, Name};
 
 /// Whether a node is loose, by its children.
-#[derive(Clone, Copy, Debug, PartialEq, Eq)]
+#[derive(Clone, Copy)]
 pub struct Looseness {
     /// It is as a list whose items are not looked at.
     pub without_items: bool,
@@ -17,7 +17,7 @@ pub struct Looseness {
 }
 
 /// What the last child is, and the one before it where that matters.
-#[derive(Clone, Copy, Debug, PartialEq, Eq)]
+#[derive(Clone, Copy)]
 pub enum Last {
     /// There is no child.
     Nothing,
@@ -40,7 +40,7 @@ pub enum Last {
 }
 
 /// What the children so far tell.
-#[derive(Clone, Copy, Debug, PartialEq, Eq)]
+#[derive(Clone, Copy)]
 pub struct Told {
     /// What the last child is.
     pub last: Last,

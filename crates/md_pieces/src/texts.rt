@@ -5,7 +5,7 @@ ghost use Rattle.md_printer.specs.Machine.{printing};
 ghost use Rattle.md_meaning.specs.Texts as texts;
 ghost use Rattle.md_printer.specs.Given.{given_of, left_at};
 
-use md_around::names::is_definition;
+use md_base::name_tests::is_definition;
 use md_base::{Name, decode_character_reference};
 use md_printer::escape::put_encoded;
 use md_printer::frames::Exit;

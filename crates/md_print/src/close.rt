@@ -15,7 +15,7 @@ ghost use Rattle.md_printer.specs.Given.{given_of, closing_at, left_at};
 
 use crate::groups::{Group, group_of};
 use crate::open::{is_tight, outside_images, rank_of};
-use md_around::names::{is_fence, is_item_prefix, is_paragraph};
+use md_base::name_tests::{is_fence, is_item_prefix, is_paragraph};
 use md_base::Name;
 use md_meaning::{Container, Passed, Surroundings};
 use md_pieces::calls::call;

@@ -4,7 +4,7 @@ use md_base::Position;
 
 /// What identifies a link, an image, a footnote call or a definition: a label by its place.
 /// Contracts speak of it; while events are read, `Aim` is kept, which has indices of events.
-#[derive(Clone, Copy, Debug, PartialEq, Eq)]
+#[derive(Clone, Copy)]
 pub enum Target {
     Missing,
     Resource,
@@ -13,7 +13,7 @@ pub enum Target {
 }
 
 /// What a node that ends mentions, by the place of its label.
-#[derive(Clone, Copy, Debug, PartialEq, Eq)]
+#[derive(Clone, Copy)]
 pub enum Mention {
     Nothing,
     /// A link or an image that leads to a definition.
@@ -24,7 +24,7 @@ pub enum Mention {
 }
 
 /// What is mentioned by a node that exits at an index.
-#[derive(Clone, Copy, Debug, PartialEq, Eq)]
+#[derive(Clone, Copy)]
 pub struct Mentioned {
     /// The index of the event that exits the node.
     pub index: usize,

@@ -5,7 +5,7 @@ use md_pattern::{Reading, State, Symbol};
 
 /// What identifies a link, an image, a footnote call or a definition, as far as events have been
 /// read: a label by the indices of its two events. Contracts speak of `Target`, which has places.
-#[derive(Clone, Copy, Debug, PartialEq, Eq)]
+#[derive(Clone, Copy)]
 pub enum Aim {
     Missing,
     Resource,
@@ -14,7 +14,7 @@ pub enum Aim {
 }
 
 /// What waits for the end of a node that has a spine of its own.
-#[derive(Clone, Copy, Debug, PartialEq, Eq)]
+#[derive(Clone, Copy)]
 pub struct Outer {
     /// The spine around the node, the node included.
     pub state: State,
@@ -27,7 +27,7 @@ pub struct Outer {
 }
 
 /// A node that is open.
-#[derive(Clone, Copy, Debug, PartialEq, Eq)]
+#[derive(Clone, Copy)]
 pub struct Open {
     /// The index of the event that enters it.
     pub entry: usize,
@@ -38,7 +38,7 @@ pub struct Open {
 }
 
 /// Where a node's children begin.
-#[derive(Clone, Copy, Debug, PartialEq, Eq)]
+#[derive(Clone, Copy)]
 pub struct Entry {
     /// The spine on which the children stand.
     pub state: State,

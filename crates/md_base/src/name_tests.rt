@@ -1,10 +1,34 @@
-//! Tests on names.
+//! Tests on names, each true for the names that it lists.
 
 ghost use Rattle.std.specs.Prelude.{◌≡◌};
 ghost use Rattle.md_base.specs.NameTests as tests;
-ghost use Rattle.md_meaning.specs.Printed as printed;
 
-use md_base::Name;
+use crate::event::Name;
+
+/// A node that its parent's pattern looks through.
+#[inline(always)]
+pub fn is_transparent(name: Name) -> bool
+    ensures { result ≡ tests.is_transparent name }
+{
+    matches!(
+        name,
+        Name::Other(_) | Name::BlockQuotePrefix | Name::SpaceOrTab
+    )
+}
+
+/// A definition of a link, not of a footnote.
+pub fn is_link_definition(name: Name) -> bool
+    ensures { result ≡ tests.is_link_definition name }
+{
+    matches!(name, Name::Definition)
+}
+
+/// A table.
+pub fn is_table(name: Name) -> bool
+    ensures { result ≡ tests.is_table name }
+{
+    matches!(name, Name::GfmTable)
+}
 
 /// The prefix of a list's item.
 pub fn is_item_prefix(name: Name) -> bool
@@ -59,37 +83,6 @@ pub fn is_chunk(name: Name) -> bool
     ensures { result ≡ tests.is_chunk name }
 {
     matches!(name, Name::CodeFlowChunk | Name::MathFlowChunk)
-}
-
-/// A node whose children are laid out on a sheet of their own.
-#[inline(always)]
-pub fn is_captured(name: Name) -> bool
-    ensures { result ≡ printed.is_captured name }
-{
-    matches!(
-        name,
-        Name::CodeText
-            | Name::MathText
-            | Name::HeadingSetextText
-            | Name::CodeFencedFenceMeta
-            | Name::MathFlowFenceMeta
-            | Name::Frontmatter
-            | Name::Definition
-            | Name::DefinitionLabelString
-            | Name::DefinitionDestinationString
-            | Name::DefinitionTitleString
-            | Name::GfmFootnoteDefinition
-            | Name::GfmFootnoteDefinitionLabelString
-            | Name::Link
-            | Name::Image
-            | Name::Resource
-            | Name::ResourceDestinationString
-            | Name::ResourceTitleString
-            | Name::ReferenceString
-            | Name::GfmFootnoteCall
-            | Name::GfmTableCell
-            | Name::GfmTableDelimiterRow
-    )
 }
 
 /// A cell of a table.
