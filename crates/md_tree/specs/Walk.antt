@@ -14,11 +14,11 @@ use Rattle.md_tree.specs.declared.rule.CompileError.{CompileError}
 use Rattle.md_tree.specs.declared.rule.CompileError.TheVariants as error
 use Rattle.md_tree.specs.declared.mention.Target.{Target}
 use Rattle.md_tree.specs.declared.mention.Target.TheVariants.{Missing, Resource, Label}
-use Rattle.md_tree.specs.declared.state.Aim.{Aim}
-use Rattle.md_tree.specs.declared.state.Aim.TheVariants as aim
-use Rattle.md_tree.specs.declared.state.Open.{Open as KeptOpen}
-use Rattle.md_tree.specs.declared.state.Outer.{Outer as KeptOuter}
-use Rattle.md_tree.specs.declared.state.Entry.{Entry as KeptEntry}
+use Rattle.md_tree.specs.declared.open_nodes.Aim.{Aim}
+use Rattle.md_tree.specs.declared.open_nodes.Aim.TheVariants as aim
+use Rattle.md_tree.specs.declared.open_nodes.Open.{Open as KeptOpen}
+use Rattle.md_tree.specs.declared.open_nodes.Outer.{Outer as KeptOuter}
+use Rattle.md_tree.specs.declared.open_nodes.Entry.{Entry as KeptEntry}
 use Rattle.md_tree.specs.declared.walk.Walk.{Walk}
 use Rattle.md_pattern.specs.Standing.{standing_of}
 use Rattle.md_tree.specs.Rules.{place, broken_rule}

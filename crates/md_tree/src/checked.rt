@@ -6,7 +6,7 @@ ghost use Rattle.md_infer.specs.declared.facts.Fact.{Fact};
 ghost use Rattle.md_tree.specs.Found.{index_if, position_at, position_ended};
 ghost use Rattle.md_tree.specs.Texts.{IsEventAt};
 
-use crate::judge::{label_at, text_at};
+use crate::input::{label_at, text_at};
 use md_base::{AlignKind, Event, Kind, Name, Position, is_same_name};
 use md_infer::{Fact, Facts};
 use std::marker::Model;
@@ -245,7 +245,7 @@ impl<'a> Checked<'a> {
         ensures contributing { (children : Forest) → IsEnteredAt self.now index children
             → result ≡ last_contributing_at (suc index) children }
     {
-        unless_zero(self.fact(index).read_at)
+        index_if(self.fact(index).read_at)
     }
 
     /// The place of what is read of the node that the event at the index enters: of a heading its
@@ -395,7 +395,7 @@ fn table_at(tables: &[Vec<AlignKind>], index: usize) -> &[AlignKind]
 }
 
 /// An index that is there.
-fn unless_zero(index: usize) -> Option<usize>
+fn index_if(index: usize) -> Option<usize>
     ensures { result ≡ index_if index }
 {
     if index == 0 { None } else { Some(index) }

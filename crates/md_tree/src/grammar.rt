@@ -11,7 +11,7 @@ ghost use Rattle.md_tree.specs.Walk.{course_of, Unbroken};
 ghost use Rattle.md_infer.specs.Facts.{facts_at, tables_at, definitions_at};
 
 use crate::checked::Checked;
-use crate::judge::Input;
+use crate::input::Input;
 use crate::reader::Reader;
 use crate::resolve::resolve;
 use crate::rule::{CompileError, Rule};

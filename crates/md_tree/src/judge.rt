@@ -10,29 +10,14 @@ ghost use Rattle.md_base.specs.declared.event.Event.{Event};
 ghost use Rattle.md_tree.specs.declared.mention.Target.TheVariants.{Label};
 ghost use Rattle.md_tree.specs.declared.rule.Rule.TheVariants as rule;
 
+use crate::input::{Input, place_at, point_at, text_of};
 use crate::mention::Mention;
+use crate::open_nodes::Aim;
 use crate::rule::Rule;
-use crate::state::Aim;
-use crate::texts::Texts;
-use md_base::{Event, Point, Position, Slice, decode_character_reference};
+use md_base::{Point, Position, Slice, decode_character_reference};
 use md_pattern::{Reading, Role, Symbol};
 use md_text::LineEnding;
-use std::alloc::{AllocError, Global};
-
-/// The text of a node, where its place fits the bytes and is one.
-#[inline(always)]
-pub fn text_at<'a>(bytes: &'a [u8], position: &Position) -> Option<&'a str>
-    ensures { option_copied result ≡ text_between bytes.now position.now.start position.now.end }
-{
-    Slice::text_at(bytes, position)
-}
-
-/// The text between the indices of a node's points, where they fit the bytes and it is one.
-pub fn label_at<'a>(bytes: &'a [u8], position: &Position) -> Option<&'a str>
-    ensures { option_copied result ≡ label_between bytes.now position.now.start position.now.end }
-{
-    Slice::from_indices(bytes, position.start.index, position.end.index)?.as_str()
-}
+use std::alloc::AllocError;
 
 /// The rule, unless its condition holds.
 pub fn rule_unless(condition: bool, rule: Rule) -> Option<Rule>
@@ -78,12 +63,12 @@ fn broken_number(around: Role, before: Option<Symbol>, text: Option<&str>) -> Op
 {
     match text {
         None => Some(Rule::Place),
-        Some(text) => rule_unless(is_right_number(around, before, text), Rule::ListNumber),
+        Some(text) => rule_unless(is_list_number(around, before, text), Rule::ListNumber),
     }
 }
 
 /// Whether a text is the number that it has to be in a node of this role, after a symbol.
-fn is_right_number(around: Role, before: Option<Symbol>, text: &str) -> bool
+fn is_list_number(around: Role, before: Option<Symbol>, text: &str) -> bool
     ensures { result ≡ is_list_number around before text.now }
 {
     match (around, before) {
@@ -153,10 +138,7 @@ fn broken_mark(
     let position = place_at(input.events, entry, exit);
     match Slice::from_position(input.bytes.bytes(), &position) {
         None => Some(Rule::Place),
-        Some(slice) => rule_unless(
-            is_right_mark(around, before, slice.len()),
-            Rule::HeadingMark,
-        ),
+        Some(slice) => rule_unless(is_rank(around, before, slice.len()), Rule::HeadingMark),
     }
 }
 
@@ -171,7 +153,7 @@ fn broken_identifier(input: Input, entry: usize, exit: usize) -> Option<Rule>
 }
 
 /// Whether a mark of this length may stand in a node of this role, after a symbol.
-fn is_right_mark(around: Role, before: Option<Symbol>, length: usize) -> bool
+fn is_rank(around: Role, before: Option<Symbol>, length: usize) -> bool
     ensures { result ≡ is_rank around before length }
 {
     match (around, before) {
@@ -199,7 +181,7 @@ fn broken_target(target: Aim) -> Option<Rule>
 }
 
 /// What a node mentions that has a label.
-pub fn mention(reading: Reading, label: Position) -> Mention
+pub fn mention_of(reading: Reading, label: Position) -> Mention
     ensures { result ≡ mention_of reading (Label label) }
 {
     match reading {
@@ -209,44 +191,6 @@ pub fn mention(reading: Reading, label: Position) -> Mention
         Reading::FootnoteDefinition => Mention::FootnoteDefinition(label),
         _ => Mention::Nothing,
     }
-}
-
-/// The point of the event at an index.
-fn point_at(events: &[Event], index: usize) -> Point
-    ensures { result ≡ point_at events.now index }
-{
-    match events.get(index) {
-        None => Point {
-            line: 0,
-            column: 0,
-            index: 0,
-            vs: 0,
-        },
-        Some(event) => event.point,
-    }
-}
-
-/// Where a node lies that is entered and exited at two indices.
-pub fn place_at(events: &[Event], entry: usize, exit: usize) -> Position
-    ensures { result ≡ place_at events.now entry exit }
-{
-    Position {
-        start: point_at(events, entry),
-        end: point_at(events, exit),
-    }
-}
-
-/// A document's events and bytes, and the names of character references with their texts.
-#[derive(Clone, Copy)]
-pub struct Input<'t, 'a> {
-    /// Where what is kept of them gets its memory.
-    pub alloc: Global,
-    /// The events.
-    pub events: &'a [Event],
-    /// The document's bytes, of which the texts are found.
-    pub bytes: &'t Texts<'a>,
-    /// The names of character references, each with its text.
-    pub names: &'a [(&'a str, &'a str)],
 }
 
 /// Where a node stands, and what is read of it.
@@ -316,13 +260,4 @@ pub fn read_node(
         Reading::Free | Reading::Call | Reading::Definition | Reading::FootnoteDefinition => None,
     };
     Ok(rule)
-}
-
-/// The text of a node that is entered and exited at two indices.
-#[inline(always)]
-fn text_of<'a>(input: Input<'_, 'a>, entry: usize, exit: usize) -> Option<&'a str>
-    ensures { option_copied result ≡ text_between input.entry.bytes.now (point_at input.entry.events.now entry)
-        (point_at input.entry.events.now exit) }
-{
-    input.bytes.text_at(&place_at(input.events, entry, exit))
 }

@@ -4,13 +4,14 @@
 mod checked;
 mod grammar;
 mod infer;
+mod input;
 mod judge;
 pub mod laws;
 mod mention;
+mod open_nodes;
 mod reader;
 mod resolve;
 mod rule;
-mod state;
 mod texts;
 mod walk;
 

@@ -9,7 +9,7 @@ ghost use Rattle.md_tree.specs.Grammar.{handed};
 ghost use Rattle.md_tree.specs.Refusal.{IsRefusal};
 ghost use Rattle.md_tree.specs.Reader.{IsLeaf, HasRead};
 
-use crate::judge::Input;
+use crate::input::Input;
 use crate::rule::CompileError;
 use crate::walk::Walk;
 use md_base::{Event, Kind, is_same_name};

@@ -5,7 +5,8 @@ ghost use Rattle.std.specs.List.{All, Contains};
 ghost use Rattle.md_tree.specs.Mentions.{identifier_at, defined, footnoted, mentions_among, IsResolved};
 ghost use Rattle.md_tree.specs.Resolve.{IsUnresolved, identifiers_of, HaveSame, IsFound, IsMissing};
 
-use crate::judge::{label_at, rule_unless};
+use crate::input::label_at;
+use crate::judge::rule_unless;
 use crate::mention::{Mention, Mentioned};
 use crate::rule::{CompileError, Rule};
 use md_base::{Position, normalize_identifier};

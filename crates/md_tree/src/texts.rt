@@ -5,7 +5,7 @@ ghost use Rattle.std.specs.Str.{IsUtf8};
 ghost use Rattle.md_base.specs.Place.{text_when, text_between, label_between};
 ghost use Rattle.md_tree.specs.TextRuns.{IsRun, AreRuns};
 
-use crate::judge::{label_at, text_at};
+use crate::input::{label_at, text_at};
 use md_base::Position;
 use std::alloc::{AllocError, Global};
 use std::marker::Model;

@@ -5,10 +5,11 @@ ghost use Rattle.md_tree.specs.declared.rule.CompileError.TheVariants as error;
 ghost use Rattle.md_tree.specs.Mentions.{mention_of, mentions_with};
 ghost use Rattle.md_tree.specs.Walk.{target_seen, misplaced};
 
-use crate::judge::{Input, Spot, mention, place_at, read_node};
+use crate::input::{Input, place_at};
+use crate::judge::{Spot, mention_of, read_node};
 use crate::mention::{Mention, Mentioned};
+use crate::open_nodes::{Aim, Entry, Open, Outer};
 use crate::rule::{CompileError, Rule};
-use crate::state::{Aim, Entry, Open, Outer};
 use md_base::{Event, Kind, Name, is_same_name};
 use md_pattern::{
     Reading, Role, Standing, State, advanced, can_be_leaf, can_end, can_hold, role_of, standing,
@@ -36,7 +37,7 @@ impl Walk {
     ghost use Rattle.md_base.specs.declared.event.Kind.TheVariants as kind;
     ghost use Rattle.md_pattern.specs.Steps.{start_of};
     ghost use Rattle.md_tree.specs.Machine.{Steps, Enters, Exits, ExitsWhere, after_entry, beginning};
-    ghost use Rattle.md_tree.specs.declared.state.Aim.TheVariants.{Missing};
+    ghost use Rattle.md_tree.specs.declared.open_nodes.Aim.TheVariants.{Missing};
     ghost use Rattle.md_tree.specs.declared.rule.CompileError.TheVariants.{Memory};
     ghost use Rattle.md_tree.specs.Walk.{point_at, place_at, outer_seen, opens_seen, entry_seen, course_of, Passes, Unbroken, IsStop, IsStopAtLeaf, IsStopInside};
 
@@ -310,7 +311,7 @@ fn keep(
     let Aim::Label(entry, exit) = target else {
         return Ok(());
     };
-    match mention(reading, place_at(events, entry, exit)) {
+    match mention_of(reading, place_at(events, entry, exit)) {
         Mention::Nothing => Ok(()),
         mention => {
             mentions.push(Mentioned { index, mention })?;

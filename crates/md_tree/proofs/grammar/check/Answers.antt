@@ -6,7 +6,7 @@ use Rattle.md_base.specs.declared.event.Event.{Event}
 use Rattle.std.specs.List.{All}
 use Rattle.std.proofs.lemmas.List.{reverse-reverse}
 use Rattle.std.proofs.lemmas.Result.{err_from_is_err_and}
-use Rattle.md_tree.specs.declared.state.Open.{Open}
+use Rattle.md_tree.specs.declared.open_nodes.Open.{Open}
 use Rattle.md_tree.specs.Mentions.{mentions_among, IsResolved}
 use Rattle.md_tree.specs.Resolve.{IsUnresolved}
 use Rattle.md_tree.specs.Grammar.{handed}

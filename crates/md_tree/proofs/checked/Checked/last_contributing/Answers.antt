@@ -10,4 +10,4 @@ use Rattle.md_tree.proofs.checked.Checked.last_contributing.Goals as goal
 pub returns-clause-contributing : goal.returns-clause-contributing
 returns-clause-contributing c = λ children entered.
     let found = c.fact.ensures.fact ListItem children c.requires entered in
-    c.unless_zero.ensures ∙ ap (λ (f : Fact). index_if f.read_at) found.1 ∙ contributing-found children c.args.index
+    c.index_if.ensures ∙ ap (λ (f : Fact). index_if f.read_at) found.1 ∙ contributing-found children c.args.index

@@ -5,7 +5,7 @@ use Rattle.std.specs.Prelude.{map, option_map, reverse, IfErr}
 use Rattle.std.proofs.lemmas.List.{map-append, reverse-append}
 use Rattle.md_base.specs.Reference.{name_table}
 use Rattle.md_base.specs.declared.event.Event.{Event}
-use Rattle.md_tree.specs.declared.state.Open.{Open}
+use Rattle.md_tree.specs.declared.open_nodes.Open.{Open}
 use Rattle.md_tree.specs.Walk.{point_at, place_at, target_seen, outer_seen, open_seen, opens_seen, course_of}
 use Rattle.md_tree.proofs.Breaks.{IsStop-inside, IsStopInside-same}
 use Rattle.md_tree.proofs.walk.Walk.exit.Goals as goal
