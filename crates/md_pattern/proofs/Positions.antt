@@ -6,27 +6,26 @@ use Rattle.md_pattern.specs.declared.kinds.Symbol.{Symbol}
 use Rattle.md_pattern.specs.declared.kinds.Role.{Role}
 use Rattle.md_pattern.specs.declared.kinds.Role.TheVariants as role
 use Rattle.md_pattern.specs.declared.kinds.Item.{Item}
-use Rattle.md_pattern.specs.declared.kinds.Times.{Times}
-use Rattle.md_pattern.specs.declared.kinds.Times.TheVariants.{Once, Maybe, Many}
-use Rattle.md_pattern.specs.Pattern.{pattern_of, takes}
+use Rattle.md_pattern.specs.declared.kinds.Item.TheVariants.{Once, Maybe, Many}
+use Rattle.md_pattern.specs.Pattern.{pattern_of, class_of, takes}
 use Rattle.md_pattern.specs.Steps.{is_optional, after_item, seek, is_complete, start_of, is_full_list_part, is_full}
 
 one_of : (n p : ℕ) → Some n ≡ Some p → n ≡ p
 one_of n p e = cc
 
-after_within : (times : Times) (position left : ℕ) → after_item times position ≤ position + suc left
-after_within Once position left = omega arith
-after_within Maybe position left = omega arith
-after_within Many position left = omega arith
+after_within : (item : Item) (position left : ℕ) → after_item item position ≤ position + suc left
+after_within (Once class) position left = omega arith
+after_within (Maybe class) position left = omega arith
+after_within (Many class) position left = omega arith
 
 -- the symbol is taken by one of the items, or after the last
 within : (item : Item) (position left found : ℕ) (symbol : Symbol) (taken optional : Bool) (rest : Option ℕ) →
     (rest ≡ Some found → found ≤ (position + 1) + left) →
-    cond taken (Some (after_item item.times position)) (cond optional rest None) ≡ Some found →
+    cond taken (Some (after_item item position)) (cond optional rest None) ≡ Some found →
     found ≤ position + suc left
 within item position left found symbol true optional rest inner e =
-    subst (λ n. n ≤ position + suc left) (one_of (after_item item.times position) found e)
-    (after_within item.times position left)
+    subst (λ n. n ≤ position + suc left) (one_of (after_item item position) found e)
+    (after_within item position left)
 within item position left found symbol false true rest inner e =
     let bound = inner e in
     omega (arith, bound)
@@ -36,7 +35,7 @@ pub seek-within : (items : List Item) (position : ℕ) (symbol : Symbol) (found 
     seek position items symbol ≡ Some found → found ≤ position + length items
 seek-within [] position symbol found e = cc
 seek-within (item ∷ items) position symbol found e =
-    within item position (length items) found symbol (takes item.class symbol) (is_optional item)
+    within item position (length items) found symbol (takes (class_of item) symbol) (is_optional item)
     (seek (position + 1) items symbol) (seek-within items (position + 1) symbol found) e
 
 -- no pattern has more than six items

@@ -5,13 +5,12 @@ use Rattle.md_pattern.specs.declared.kinds.Symbol.{Symbol}
 use Rattle.md_pattern.specs.declared.kinds.Symbol.TheVariants.{ReferenceMarker, ReferenceNumeric, ReferenceHexadecimal, ReferenceValue, SetextText, SetextUnderline, LineEnding}
 use Rattle.md_pattern.specs.declared.kinds.Role.{Role}
 use Rattle.md_pattern.specs.declared.kinds.Role.TheVariants as role
-use Rattle.md_pattern.specs.declared.kinds.Times.{Times}
-use Rattle.md_pattern.specs.declared.kinds.Times.TheVariants.{Once, Many}
 use Rattle.md_pattern.specs.declared.kinds.Item.{Item}
+use Rattle.md_pattern.specs.declared.kinds.Item.TheVariants.{Once, Many}
 use Rattle.md_pattern.specs.declared.state.Stage.{Stage}
 use Rattle.md_pattern.specs.declared.state.Stage.TheVariants.{Whole, Marker, Numeric, Hexadecimal, Setext}
 use Rattle.md_pattern.specs.declared.state.State.{State}
-use Rattle.md_pattern.specs.Pattern.{pattern_of, takes}
+use Rattle.md_pattern.specs.Pattern.{pattern_of, class_of, takes}
 
 -- the group that a symbol begins
 abbrev pub begun_by : Symbol → Stage
@@ -32,22 +31,19 @@ continued _ _ = None
 
 -- an item may be left out
 abbrev pub is_optional : Item → Bool
-is_optional item = optional item.times
-  where
-    optional : Times → Bool
-    optional Once = false
-    optional _ = true
+is_optional (Once class) = false
+is_optional _ = true
 
 -- the item from which on the next symbol is taken, where the first of these items that takes the symbol is this one
-abbrev pub after_item : Times → ℕ → ℕ
-after_item Many position = position
+abbrev pub after_item : Item → ℕ → ℕ
+after_item (Many class) position = position
 after_item _ position = position + 1
 
 -- the same, of the first item that takes the symbol, where each before it may be left out
 abbrev pub seek : ℕ → List Item → Symbol → Option ℕ
 seek position [] symbol = None
 seek position (item ∷ items) symbol =
-    if takes item.class symbol then Some (after_item item.times position)
+    if takes (class_of item) symbol then Some (after_item item position)
     else (if is_optional item then seek (position + 1) items symbol else None)
 
 -- position and stage after a symbol

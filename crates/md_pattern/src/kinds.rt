@@ -1,5 +1,8 @@
 //! What names and spines are to the grammar.
 
+ghost use Rattle.std.specs.Prelude.{◌≡◌};
+ghost use Rattle.md_pattern.specs.Pattern.{class_of};
+
 /// What patterns see of a node. Names that all patterns treat alike share one symbol.
 #[derive(Clone, Copy, Debug, PartialEq, Eq)]
 pub enum Symbol {
@@ -205,22 +208,25 @@ pub enum Class {
     OrLine(Symbol),
 }
 
-/// How often an item of a pattern may be there.
-#[derive(Clone, Copy, Debug, PartialEq, Eq)]
-pub enum Times {
-    /// Exactly once.
-    Once,
-    /// At most once.
-    Maybe,
-    /// Any number of times, or never.
-    Many,
-}
-
 /// One item of a pattern.
 #[derive(Clone, Copy, Debug, PartialEq, Eq)]
-pub struct Item {
-    /// How often it may be there.
-    pub times: Times,
-    /// Which symbols it takes.
-    pub class: Class,
+pub enum Item {
+    /// One symbol of the class.
+    Once(Class),
+    /// At most one.
+    Maybe(Class),
+    /// Any number, or none.
+    Many(Class),
+}
+
+impl Item {
+    /// The class whose symbols it takes.
+    #[inline(always)]
+    pub fn class(self) -> Class
+        ensures { result ≡ class_of self }
+    {
+        match self {
+            Item::Once(class) | Item::Maybe(class) | Item::Many(class) => class,
+        }
+    }
 }

@@ -9,7 +9,7 @@ mod standings;
 mod state;
 mod steps;
 
-pub use kinds::{Class, Item, Reading, Role, Standing, Symbol, Times};
+pub use kinds::{Class, Item, Reading, Role, Standing, Symbol};
 pub use patterns::{pattern, takes};
 pub use shape::role_of;
 pub use standings::standing;

@@ -4,7 +4,7 @@ ghost use Rattle.std.specs.Prelude.{◌≡◌};
 ghost use Rattle.md_pattern.specs.Pattern.{pattern_of, takes};
 ghost use Rattle.md_pattern.specs.declared.kinds.Class.TheVariants.{String};
 
-use crate::kinds::{Class, Item, Role, Symbol, Times};
+use crate::kinds::{Class, Item, Role, Symbol};
 
 /// Whether a symbol is in a class.
 #[inline(always)]
@@ -44,331 +44,84 @@ fn is_in_string(symbol: Symbol) -> bool
 pub fn pattern(role: Role) -> &'static [Item]
     ensures { result.now ≡ pattern_of role }
 {
+    use crate::kinds::Class::{Either, Flow, Only, OrLine, Phrasing};
+    use crate::kinds::Item::{Many, Maybe, Once};
+    use crate::kinds::Symbol::*;
+
     match role {
-        Role::Flow => &[Item {
-            times: Times::Many,
-            class: Class::Flow,
-        }],
-        Role::FootnoteDefinition => &[
-            Item {
-                times: Times::Once,
-                class: Class::Only(Symbol::FootnotePrefix),
-            },
-            Item {
-                times: Times::Many,
-                class: Class::Flow,
-            },
-        ],
-        Role::FootnotePrefix => &[Item {
-            times: Times::Once,
-            class: Class::Only(Symbol::FootnoteLabel),
-        }],
-        Role::OrderedList => &[
-            Item {
-                times: Times::Once,
-                class: Class::Only(Symbol::ListItem),
-            },
-            Item {
-                times: Times::Many,
-                class: Class::OrLine(Symbol::ListItem),
-            },
-        ],
-        Role::UnorderedList => &[
-            Item {
-                times: Times::Once,
-                class: Class::Only(Symbol::ListItem),
-            },
-            Item {
-                times: Times::Many,
-                class: Class::OrLine(Symbol::ListItem),
-            },
-        ],
-        Role::FirstOrderedItem => &[
-            Item {
-                times: Times::Once,
-                class: Class::Only(Symbol::ListItemPrefix),
-            },
-            Item {
-                times: Times::Many,
-                class: Class::Flow,
-            },
-        ],
-        Role::OrderedItem => &[
-            Item {
-                times: Times::Once,
-                class: Class::Only(Symbol::ListItemPrefix),
-            },
-            Item {
-                times: Times::Many,
-                class: Class::Flow,
-            },
-        ],
-        Role::Item => &[
-            Item {
-                times: Times::Once,
-                class: Class::Only(Symbol::ListItemPrefix),
-            },
-            Item {
-                times: Times::Many,
-                class: Class::Flow,
-            },
-        ],
-        Role::FirstOrderedPrefix => &[
-            Item {
-                times: Times::Maybe,
-                class: Class::Only(Symbol::ListItemValue),
-            },
-            Item {
-                times: Times::Once,
-                class: Class::Only(Symbol::ListItemMarker),
-            },
-        ],
-        Role::OrderedPrefix => &[
-            Item {
-                times: Times::Maybe,
-                class: Class::Only(Symbol::ListItemValue),
-            },
-            Item {
-                times: Times::Once,
-                class: Class::Only(Symbol::ListItemMarker),
-            },
-        ],
-        Role::Prefix => &[Item {
-            times: Times::Once,
-            class: Class::Only(Symbol::ListItemMarker),
-        }],
-        Role::Phrasing => &[Item {
-            times: Times::Many,
-            class: Class::Phrasing,
-        }],
+        Role::Flow => &[Many(Flow)],
+        Role::FootnoteDefinition => &[Once(Only(FootnotePrefix)), Many(Flow)],
+        Role::FootnotePrefix => &[Once(Only(FootnoteLabel))],
+        Role::OrderedList => &[Once(Only(ListItem)), Many(OrLine(ListItem))],
+        Role::UnorderedList => &[Once(Only(ListItem)), Many(OrLine(ListItem))],
+        Role::FirstOrderedItem => &[Once(Only(ListItemPrefix)), Many(Flow)],
+        Role::OrderedItem => &[Once(Only(ListItemPrefix)), Many(Flow)],
+        Role::Item => &[Once(Only(ListItemPrefix)), Many(Flow)],
+        Role::FirstOrderedPrefix => &[Maybe(Only(ListItemValue)), Once(Only(ListItemMarker))],
+        Role::OrderedPrefix => &[Maybe(Only(ListItemValue)), Once(Only(ListItemMarker))],
+        Role::Prefix => &[Once(Only(ListItemMarker))],
+        Role::Phrasing => &[Many(Phrasing)],
         Role::Heading => &[
-            Item {
-                times: Times::Once,
-                class: Class::Only(Symbol::HeadingSequence),
-            },
-            Item {
-                times: Times::Many,
-                class: Class::Either(Symbol::HeadingSequence, Symbol::HeadingText),
-            },
+            Once(Only(HeadingSequence)),
+            Many(Either(HeadingSequence, HeadingText)),
         ],
-        Role::CodeIndented => &[Item {
-            times: Times::Many,
-            class: Class::OrLine(Symbol::CodeFlowChunk),
-        }],
+        Role::CodeIndented => &[Many(OrLine(CodeFlowChunk))],
         Role::CodeFenced => &[
-            Item {
-                times: Times::Once,
-                class: Class::Only(Symbol::CodeFence),
-            },
-            Item {
-                times: Times::Many,
-                class: Class::OrLine(Symbol::CodeFlowChunk),
-            },
-            Item {
-                times: Times::Maybe,
-                class: Class::Only(Symbol::CodeFence),
-            },
+            Once(Only(CodeFence)),
+            Many(OrLine(CodeFlowChunk)),
+            Maybe(Only(CodeFence)),
         ],
-        Role::FirstCodeFence => &[
-            Item {
-                times: Times::Maybe,
-                class: Class::Only(Symbol::CodeInfo),
-            },
-            Item {
-                times: Times::Maybe,
-                class: Class::Only(Symbol::CodeMeta),
-            },
-        ],
+        Role::FirstCodeFence => &[Maybe(Only(CodeInfo)), Maybe(Only(CodeMeta))],
         Role::CodeFence => &[],
         Role::Math => &[
-            Item {
-                times: Times::Once,
-                class: Class::Only(Symbol::MathFence),
-            },
-            Item {
-                times: Times::Many,
-                class: Class::OrLine(Symbol::MathFlowChunk),
-            },
-            Item {
-                times: Times::Maybe,
-                class: Class::Only(Symbol::MathFence),
-            },
+            Once(Only(MathFence)),
+            Many(OrLine(MathFlowChunk)),
+            Maybe(Only(MathFence)),
         ],
-        Role::FirstMathFence => &[Item {
-            times: Times::Maybe,
-            class: Class::Only(Symbol::MathMeta),
-        }],
+        Role::FirstMathFence => &[Maybe(Only(MathMeta))],
         Role::MathFence => &[],
-        Role::CodeText => &[Item {
-            times: Times::Many,
-            class: Class::Either(Symbol::CodeTextData, Symbol::LineEnding),
-        }],
-        Role::MathText => &[Item {
-            times: Times::Many,
-            class: Class::Either(Symbol::MathTextData, Symbol::LineEnding),
-        }],
-        Role::HtmlFlow => &[Item {
-            times: Times::Many,
-            class: Class::OrLine(Symbol::HtmlFlowData),
-        }],
-        Role::HtmlText => &[Item {
-            times: Times::Many,
-            class: Class::Either(Symbol::HtmlTextData, Symbol::LineEnding),
-        }],
-        Role::Media => &[
-            Item {
-                times: Times::Once,
-                class: Class::Only(Symbol::Label),
-            },
-            Item {
-                times: Times::Maybe,
-                class: Class::Either(Symbol::Resource, Symbol::ReferenceString),
-            },
-        ],
-        Role::FootnoteCall => &[Item {
-            times: Times::Once,
-            class: Class::Only(Symbol::Label),
-        }],
-        Role::Label => &[
-            Item {
-                times: Times::Many,
-                class: Class::Phrasing,
-            },
-            Item {
-                times: Times::Maybe,
-                class: Class::Only(Symbol::LabelText),
-            },
-            Item {
-                times: Times::Many,
-                class: Class::Phrasing,
-            },
-        ],
-        Role::CallLabel => &[
-            Item {
-                times: Times::Many,
-                class: Class::Phrasing,
-            },
-            Item {
-                times: Times::Once,
-                class: Class::Only(Symbol::LabelText),
-            },
-            Item {
-                times: Times::Many,
-                class: Class::Phrasing,
-            },
-        ],
+        Role::CodeText => &[Many(Either(CodeTextData, LineEnding))],
+        Role::MathText => &[Many(Either(MathTextData, LineEnding))],
+        Role::HtmlFlow => &[Many(OrLine(HtmlFlowData))],
+        Role::HtmlText => &[Many(Either(HtmlTextData, LineEnding))],
+        Role::Media => &[Once(Only(Label)), Maybe(Either(Resource, ReferenceString))],
+        Role::FootnoteCall => &[Once(Only(Label))],
+        Role::Label => &[Many(Phrasing), Maybe(Only(LabelText)), Many(Phrasing)],
+        Role::CallLabel => &[Many(Phrasing), Once(Only(LabelText)), Many(Phrasing)],
         Role::Resource => &[
-            Item {
-                times: Times::Many,
-                class: Class::Only(Symbol::LineEnding),
-            },
-            Item {
-                times: Times::Maybe,
-                class: Class::Only(Symbol::ResourceDestination),
-            },
-            Item {
-                times: Times::Many,
-                class: Class::Only(Symbol::LineEnding),
-            },
-            Item {
-                times: Times::Maybe,
-                class: Class::Only(Symbol::ResourceTitle),
-            },
-            Item {
-                times: Times::Many,
-                class: Class::Only(Symbol::LineEnding),
-            },
+            Many(Only(LineEnding)),
+            Maybe(Only(ResourceDestination)),
+            Many(Only(LineEnding)),
+            Maybe(Only(ResourceTitle)),
+            Many(Only(LineEnding)),
         ],
         Role::Definition => &[
-            Item {
-                times: Times::Once,
-                class: Class::Only(Symbol::DefinitionLabel),
-            },
-            Item {
-                times: Times::Many,
-                class: Class::Only(Symbol::LineEnding),
-            },
-            Item {
-                times: Times::Maybe,
-                class: Class::Only(Symbol::DefinitionDestination),
-            },
-            Item {
-                times: Times::Many,
-                class: Class::Only(Symbol::LineEnding),
-            },
-            Item {
-                times: Times::Maybe,
-                class: Class::Only(Symbol::DefinitionTitle),
-            },
-            Item {
-                times: Times::Many,
-                class: Class::Only(Symbol::LineEnding),
-            },
+            Once(Only(DefinitionLabel)),
+            Many(Only(LineEnding)),
+            Maybe(Only(DefinitionDestination)),
+            Many(Only(LineEnding)),
+            Maybe(Only(DefinitionTitle)),
+            Many(Only(LineEnding)),
         ],
-        Role::String => &[Item {
-            times: Times::Many,
-            class: Class::String,
-        }],
+        Role::String => &[Many(Class::String)],
         Role::Table => &[
-            Item {
-                times: Times::Once,
-                class: Class::Only(Symbol::TableHead),
-            },
-            Item {
-                times: Times::Many,
-                class: Class::Only(Symbol::LineEnding),
-            },
-            Item {
-                times: Times::Maybe,
-                class: Class::Only(Symbol::TableBody),
-            },
-            Item {
-                times: Times::Many,
-                class: Class::Only(Symbol::LineEnding),
-            },
+            Once(Only(TableHead)),
+            Many(Only(LineEnding)),
+            Maybe(Only(TableBody)),
+            Many(Only(LineEnding)),
         ],
         Role::TableHead => &[
-            Item {
-                times: Times::Once,
-                class: Class::Only(Symbol::TableRow),
-            },
-            Item {
-                times: Times::Many,
-                class: Class::Only(Symbol::LineEnding),
-            },
-            Item {
-                times: Times::Once,
-                class: Class::Only(Symbol::TableDelimiterRow),
-            },
-            Item {
-                times: Times::Many,
-                class: Class::Only(Symbol::LineEnding),
-            },
+            Once(Only(TableRow)),
+            Many(Only(LineEnding)),
+            Once(Only(TableDelimiterRow)),
+            Many(Only(LineEnding)),
         ],
-        Role::TableBody => &[Item {
-            times: Times::Many,
-            class: Class::Either(Symbol::TableRow, Symbol::LineEnding),
-        }],
-        Role::TableRow => &[Item {
-            times: Times::Many,
-            class: Class::Only(Symbol::TableCell),
-        }],
-        Role::TableDelimiterRow => &[Item {
-            times: Times::Many,
-            class: Class::Only(Symbol::TableDelimiterValue),
-        }],
-        Role::TableDelimiterValue => &[Item {
-            times: Times::Many,
-            class: Class::Only(Symbol::TableDelimiterMarker),
-        }],
-        Role::TaskCheck => &[Item {
-            times: Times::Maybe,
-            class: Class::Only(Symbol::TaskChecked),
-        }],
-        Role::Frontmatter => &[Item {
-            times: Times::Many,
-            class: Class::Only(Symbol::LineEnding),
-        }],
+        Role::TableBody => &[Many(Either(TableRow, LineEnding))],
+        Role::TableRow => &[Many(Only(TableCell))],
+        Role::TableDelimiterRow => &[Many(Only(TableDelimiterValue))],
+        Role::TableDelimiterValue => &[Many(Only(TableDelimiterMarker))],
+        Role::TaskCheck => &[Maybe(Only(TaskChecked))],
+        Role::Frontmatter => &[Many(Only(LineEnding))],
         Role::Empty => &[],
         Role::Childless => &[],
     }

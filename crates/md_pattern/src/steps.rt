@@ -6,7 +6,7 @@ ghost use Rattle.md_pattern.specs.Steps.{begun_by, continued, is_optional, after
 ghost use Rattle.md_pattern.specs.Pattern.{pattern_of};
 ghost use Rattle.md_pattern.specs.Shape.{role_for};
 
-use crate::kinds::{Class, Item, Role, Symbol, Times};
+use crate::kinds::{Class, Item, Role, Symbol};
 use crate::patterns::{pattern, takes};
 use crate::shape::role_of;
 use crate::state::{Stage, State};
@@ -43,20 +43,20 @@ fn next_stage(stage: Stage, symbol: Symbol) -> Option<Stage>
 fn can_be_left_out(item: Item) -> bool
     ensures { result ≡ is_optional item }
 {
-    match item.times {
-        Times::Once => false,
-        Times::Maybe | Times::Many => true,
+    match item {
+        Item::Once(_) => false,
+        Item::Maybe(_) | Item::Many(_) => true,
     }
 }
 
 /// The item from which on the next symbol is taken, after one that was taken at this item.
-fn next_position(times: Times, position: usize) -> usize
+fn next_position(item: Item, position: usize) -> usize
     requires { position + 1 < 2 ^ 64 }
-    ensures { result ≡ after_item times position }
+    ensures { result ≡ after_item item position }
 {
-    match times {
-        Times::Many => position,
-        Times::Once | Times::Maybe => position + 1,
+    match item {
+        Item::Many(_) => position,
+        Item::Once(_) | Item::Maybe(_) => position + 1,
     }
 }
 
@@ -68,8 +68,8 @@ fn sought(items: &[Item], from: usize, symbol: Symbol) -> Option<usize>
 {
     for position in from..items.len() {
         let item = items[position];
-        if takes(item.class, symbol) {
-            return Some(next_position(item.times, position));
+        if takes(item.class(), symbol) {
+            return Some(next_position(item, position));
         }
         if !can_be_left_out(item) {
             return None;

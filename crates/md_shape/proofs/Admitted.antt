@@ -10,11 +10,10 @@ use Rattle.md_pattern.specs.contracts.kinds.Symbol.{the_type}
 use Rattle.md_pattern.specs.declared.kinds.Symbol.{Symbol}
 use Rattle.md_pattern.specs.declared.kinds.Symbol.TheVariants.{ReferenceMarker, ReferenceNumeric, ReferenceHexadecimal, ReferenceValue, SetextText, SetextUnderline, LineEnding}
 use Rattle.md_pattern.specs.declared.kinds.Role.{Role}
-use Rattle.md_pattern.specs.declared.kinds.Times.{Times}
-use Rattle.md_pattern.specs.declared.kinds.Times.TheVariants.{Once, Maybe, Many}
 use Rattle.md_pattern.specs.declared.kinds.Class.{Class}
 use Rattle.md_pattern.specs.declared.kinds.Item.{Item}
-use Rattle.md_pattern.specs.Pattern.{members, takes, pattern_of, Fits, IsCount}
+use Rattle.md_pattern.specs.declared.kinds.Item.TheVariants.{Once, Maybe, Many}
+use Rattle.md_pattern.specs.Pattern.{members, class_of, takes, pattern_of, Fits, IsCount}
 use Rattle.md_pattern.specs.Spine.{IsTail, IsGrouped, Matches}
 use Rattle.md_shape.specs.Built.{Content, Blocks, Spans, Strings, FirstFence, FirstMathFence, Chunks, InfoAndMeta, MetaAlone, Done, Nothing}
 use Rattle.md_shape.proofs.Symbols.{may_show, past, admits, same_content, item_admits, pattern_admits}
@@ -106,19 +105,19 @@ several class others (symbol ∷ own) earlier content own_taken h rest =
     (subst (λ c. admits true c (own ++ others) ≡ true) (sym (same_content-is (past content symbol) content parts.1))
     (admits-later earlier content (own ++ others) (several class others own earlier content own_parts.1 h rest)))
 
-item_fits : (times : Times) (class : Class) (left : Bool → Content → Bool) (others own : List Symbol) →
-    Admits left others → IsCount times (length own) → list_all (takes class) own ≡ true →
-    (earlier : Bool) (content : Content) → item_admits times (members class) left earlier content ≡ true →
+item_fits : (item : Item) (left : Bool → Content → Bool) (others own : List Symbol) → Admits left others →
+    IsCount item (length own) → list_all (takes (class_of item)) own ≡ true → (earlier : Bool) (content : Content) →
+    item_admits item left earlier content ≡ true →
     admits earlier content (own ++ others) ≡ true
-item_fits Once class left others own rest count own_taken earlier content h =
+item_fits (Once class) left others own rest count own_taken earlier content h =
     one class left others own rest count own_taken earlier content h
-item_fits Maybe class left others [] rest count own_taken earlier content h =
+item_fits (Maybe class) left others [] rest count own_taken earlier content h =
     rest earlier content (and_parts (left earlier content)
     (list_all (one_admits left earlier content) (members class)) h).0
-item_fits Maybe class left others (symbol ∷ own) rest count own_taken earlier content h =
+item_fits (Maybe class) left others (symbol ∷ own) rest count own_taken earlier content h =
     one class left others (symbol ∷ own) rest (omega arith) own_taken earlier content
     (and_parts (left earlier content) (list_all (one_admits left earlier content) (members class)) h).1
-item_fits Many class left others own rest count own_taken earlier content h =
+item_fits (Many class) left others own rest count own_taken earlier content h =
     let parts = and_parts (left earlier content) (list_all (stays earlier content) (members class)) h in
     several class others own earlier content own_taken parts.1 (rest earlier content parts.0)
 
@@ -128,7 +127,7 @@ fits : (items : List Item) (firsts : List Symbol) → Fits items firsts → (ear
 fits [] firsts fit earlier content h = subst (λ symbols. admits earlier content symbols ≡ true) (sym fit) refl
 fits (item ∷ items) firsts fit earlier content h =
     subst (λ symbols. admits earlier content symbols ≡ true) (sym fit.2)
-    (item_fits item.times item.class (λ b c. pattern_admits items b c) fit.1 fit.0
+    (item_fits item (λ b c. pattern_admits items b c) fit.1 fit.0
     (λ b c left. fits items fit.1 fit.5 b c left) fit.4 fit.3 earlier content h)
 
 -- what follows in a group may stand after its first symbol

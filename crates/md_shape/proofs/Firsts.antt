@@ -10,11 +10,12 @@ use Rattle.md_pattern.specs.declared.kinds.Symbol.{Symbol}
 use Rattle.md_pattern.specs.declared.kinds.Role.{Role}
 use Rattle.md_pattern.specs.declared.kinds.Class.{Class}
 use Rattle.md_pattern.specs.declared.kinds.Item.{Item}
+use Rattle.md_pattern.specs.declared.kinds.Item.TheVariants.{Once}
 use Rattle.md_pattern.specs.declared.kinds.Standing.{Standing}
 use Rattle.md_pattern.specs.declared.kinds.Standing.TheVariants.{Through, Space, Solid, Mdx}
 use Rattle.md_base.specs.Tree.{Forest, Empty, Node}
 use Rattle.md_pattern.specs.Standing.{standing_of}
-use Rattle.md_pattern.specs.Pattern.{members, takes, once, pattern_of, Fits}
+use Rattle.md_pattern.specs.Pattern.{members, takes, pattern_of, Fits}
 use Rattle.md_pattern.specs.Spine.{spine, shown, IsGrouped, Matches}
 use Rattle.md_pattern.specs.Shape.{Claim, EachNode, IsShapedNode, IsStanding, AreShaped, inner_role, inner_before, last_symbol}
 use Rattle.md_tree.specs.Rules.{MeetsRules, MeetRules}
@@ -285,7 +286,7 @@ begins_once test class items (symbol ∷ own) others firsts spine members_pass o
     members_pass)
 
 pub begins_with : (test : Symbol → Bool) (role : Role) (class : Class) (items : List Item) (spine : List Symbol) →
-    pattern_of role ≡ once class ∷ items → list_all test (members class) ≡ true → Matches role spine →
+    pattern_of role ≡ Once class ∷ items → list_all test (members class) ≡ true → Matches role spine →
     begins test spine ≡ true
 begins_with test role class items spine pattern members_pass match =
     let fit = subst (λ is. Fits is match.0) pattern match.2 in

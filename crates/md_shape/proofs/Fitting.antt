@@ -23,13 +23,14 @@ use Rattle.md_pattern.specs.declared.kinds.Symbol.TheVariants as symbol
 use Rattle.md_pattern.specs.declared.kinds.Role.{Role}
 use Rattle.md_pattern.specs.declared.kinds.Role.TheVariants as role
 use Rattle.md_pattern.specs.declared.kinds.Class.TheVariants.{Only}
+use Rattle.md_pattern.specs.declared.kinds.Item.TheVariants.{Once}
 use Rattle.md_pattern.specs.declared.kinds.Standing.{Standing}
 use Rattle.md_pattern.specs.declared.kinds.Standing.TheVariants.{Through, Space, Solid, Mdx}
 use Rattle.md_tree.specs.declared.rule.Rule.{Rule}
 use Rattle.md_tree.specs.declared.rule.Rule.TheVariants as rule
 use Rattle.md_base.specs.Tree.{Forest, Empty, Node}
 use Rattle.md_pattern.specs.Standing.{standing_of}
-use Rattle.md_pattern.specs.Pattern.{members, takes, once, Fits}
+use Rattle.md_pattern.specs.Pattern.{members, takes, Fits}
 use Rattle.md_pattern.specs.Spine.{spine, shown, IsGrouped, Matches}
 use Rattle.md_pattern.specs.Shape.{IsStanding, inner_role, inner_before}
 use Rattle.md_tree.specs.Rules.{is_line_ending, is_rank, columns, unless, broken_by, MeetsRules}
@@ -213,7 +214,7 @@ value_or_none spine match =
     by_marker (seen ∷ second ∷ own) others taken_own count none grouped = absurd (omega arith)
 
     by_value : (own others : List Symbol) → list_all (takes (Only symbol.ListItemValue)) own ≡ true →
-        IsGrouped (own ++ others) spine → Fits (once (Only symbol.ListItemMarker) ∷ []) others →
+        IsGrouped (own ++ others) spine → Fits (Once (Only symbol.ListItemMarker) ∷ []) others →
         (begins is_value_symbol spine ≡ true) ⊎ (list_any is_value_symbol spine ≡ false)
     by_value [] others taken_own grouped fit =
         inr (by_marker fit.0 fit.1 fit.3 fit.4 fit.5 (subst (λ firsts. IsGrouped firsts spine) fit.2 grouped))

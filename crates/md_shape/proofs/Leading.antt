@@ -16,6 +16,7 @@ use Rattle.md_pattern.specs.declared.kinds.Symbol.{Symbol}
 use Rattle.md_pattern.specs.declared.kinds.Symbol.TheVariants as symbol
 use Rattle.md_pattern.specs.declared.kinds.Class.TheVariants.{Phrasing, Flow, Only, Either}
 use Rattle.md_pattern.specs.declared.kinds.Item.{Item}
+use Rattle.md_pattern.specs.declared.kinds.Item.TheVariants.{Maybe, Many}
 use Rattle.md_pattern.specs.declared.kinds.Role.{Role}
 use Rattle.md_pattern.specs.declared.kinds.Role.TheVariants as role
 use Rattle.md_pattern.specs.declared.kinds.Standing.{Standing}
@@ -24,7 +25,7 @@ use Rattle.md_tree.specs.declared.mention.Target.{Target}
 use Rattle.md_tree.specs.declared.mention.Target.TheVariants.{Missing, Label, Resource}
 use Rattle.md_base.specs.Tree.{Forest, Empty, Node}
 use Rattle.md_pattern.specs.Standing.{standing_of}
-use Rattle.md_pattern.specs.Pattern.{members, takes, maybe, many, Fits}
+use Rattle.md_pattern.specs.Pattern.{members, takes, Fits}
 use Rattle.md_pattern.specs.Spine.{spine, shown, IsTail, IsGrouped, Matches}
 use Rattle.md_pattern.specs.Shape.{IsStanding, AreShaped, role_for, label_in, inner_role, inner_before, last_symbol}
 use Rattle.md_tree.specs.Rules.{place, target_of}
@@ -549,7 +550,7 @@ pub media-refers : (children : Forest) → AreShaped children role.Media None �
     (target_of children Missing ≡ Resource) ⊎ (target_of children Missing ≡ label_target (referring_in children))
 media-refers children shaped match =
     let fit = match.2 in
-    let one = once-is symbol.Label (maybe (Either symbol.Resource symbol.ReferenceString)
+    let one = once-is symbol.Label (Maybe (Either symbol.Resource symbol.ReferenceString)
     ∷ []) fit.0 fit.1 match.0 fit.4 fit.3 fit.2 fit.5 in
     let f = follows symbol.Label one.others (spine children) refl
     (subst (λ s. IsGrouped s (spine children)) one.are match.1) in
@@ -575,8 +576,8 @@ after-neutral seen start end children rest others e h found =
     sought-neutral rest found (ap (list_all is_neutral) e ∙ h)
 
 abbrev after_a_label : List Item
-after_a_label = many (Only symbol.LineEnding) ∷ maybe (Only symbol.DefinitionDestination)
-    ∷ many (Only symbol.LineEnding) ∷ maybe (Only symbol.DefinitionTitle) ∷ many (Only symbol.LineEnding) ∷ []
+after_a_label = Many (Only symbol.LineEnding) ∷ Maybe (Only symbol.DefinitionDestination)
+    ∷ Many (Only symbol.LineEnding) ∷ Maybe (Only symbol.DefinitionTitle) ∷ Many (Only symbol.LineEnding) ∷ []
 
 -- a definition is referred to by its label, which is there
 pub definition-label : (children : Forest) → AreShaped children role.Definition None →
@@ -626,11 +627,11 @@ pub footnote-label : (children : Forest) → AreShaped children role.FootnoteDef
     × (target_of children Missing ≡ Label there)
 footnote-label children shaped match =
     let fit = match.2 in
-    let one = once-is symbol.FootnotePrefix (many Flow ∷ []) fit.0 fit.1 match.0 fit.4 fit.3 fit.2 fit.5 in
+    let one = once-is symbol.FootnotePrefix (Many Flow ∷ []) fit.0 fit.1 match.0 fit.4 fit.3 fit.2 fit.5 in
     let f = follows symbol.FootnotePrefix one.others (spine children) refl
     (subst (λ s. IsGrouped s (spine children)) one.are match.1) in
     let node = begins symbol.FootnotePrefix f.others (stands children) (sym (spine-stands children) ∙ f.are) in
-    let neutral = grouped-neutral one.others f.others (fits-all is_neutral (many Flow ∷ []) one.others one.fit refl)
+    let neutral = grouped-neutral one.others f.others (fits-all is_neutral (Many Flow ∷ []) one.others one.fit refl)
     f.grouped in
     let holds = (subst (EachHeld role.FootnoteDefinition) node.are
     (held children role.FootnoteDefinition None shaped)).0 in

@@ -10,7 +10,7 @@ use Rattle.md_pattern.specs.declared.kinds.Symbol.TheVariants.{ReferenceMarker, 
 use Rattle.md_pattern.specs.declared.kinds.Role.{Role}
 use Rattle.md_pattern.specs.declared.kinds.Item.{Item}
 use Rattle.md_pattern.specs.declared.kinds.Class.{Class}
-use Rattle.md_pattern.specs.Pattern.{Fits, members, takes}
+use Rattle.md_pattern.specs.Pattern.{Fits, members, class_of, takes}
 use Rattle.md_pattern.specs.Spine.{IsTail, IsGrouped}
 use Rattle.md_pattern.specs.Shape.{role_for}
 use Rattle.md_shape.proofs.Symbols.{roles_for}
@@ -27,17 +27,17 @@ own-all test class (s ∷ own) took h =
 
 -- all letters of some items pass a test
 abbrev pub letters : (Symbol → Bool) → List Item → Bool
-letters test items = list_all (λ item. list_all test (members item.class)) items
+letters test items = list_all (λ item. list_all test (members (class_of item))) items
 
 -- what holds of all letters of a pattern holds of what fits it
 pub fits-all : (test : Symbol → Bool) (items : List Item) (firsts : List Symbol) → Fits items firsts →
     letters test items ≡ true → list_all test firsts ≡ true
 fits-all test [] firsts fit h = subst (λ s. list_all test s ≡ true) (sym fit) refl
 fits-all test (item ∷ items) firsts fit h =
-    let parts = and_parts (list_all test (members item.class)) (letters test items) h in
+    let parts = and_parts (list_all test (members (class_of item))) (letters test items) h in
     subst (λ s. list_all test s ≡ true) (sym fit.2)
     (list_all-append test fit.0 fit.1 ∙ and_from (list_all test fit.0) (list_all test fit.1)
-    (own-all test item.class fit.0 fit.3 parts.0) (fits-all test items fit.1 fit.5 parts.1))
+    (own-all test (class_of item) fit.0 fit.3 parts.0) (fits-all test items fit.1 fit.5 parts.1))
 
 -- what a group has after its first symbol
 abbrev pub followers : List Symbol

@@ -9,9 +9,8 @@ use Rattle.md_pattern.specs.declared.kinds.Symbol.{Symbol}
 use Rattle.md_pattern.specs.declared.kinds.Symbol.TheVariants as symbol
 use Rattle.md_pattern.specs.declared.kinds.Role.{Role}
 use Rattle.md_pattern.specs.declared.kinds.Role.TheVariants as role
-use Rattle.md_pattern.specs.declared.kinds.Times.{Times}
-use Rattle.md_pattern.specs.declared.kinds.Times.TheVariants.{Once, Maybe, Many}
 use Rattle.md_pattern.specs.declared.kinds.Item.{Item}
+use Rattle.md_pattern.specs.declared.kinds.Item.TheVariants.{Once, Maybe, Many}
 use Rattle.md_pattern.specs.declared.kinds.Standing.{Standing}
 use Rattle.md_pattern.specs.declared.kinds.Standing.TheVariants.{Through, Space, Solid, Mdx}
 use Rattle.md_pattern.specs.Standing.{standing_of}
@@ -195,21 +194,20 @@ same_content Nothing Nothing = true
 same_content _ _ = false
 
 -- symbols of an item may stand there, so many as it has, and what is left after them
-abbrev pub item_admits : Times → List Symbol → (Bool → Content → Bool) → Bool → Content → Bool
-item_admits Once members left earlier content = list_all (λ member. may_show earlier content member
-    && left true (past content member)) members
-item_admits Maybe members left earlier content =
+abbrev pub item_admits : Item → (Bool → Content → Bool) → Bool → Content → Bool
+item_admits (Once class) left earlier content = list_all (λ member. may_show earlier content member
+    && left true (past content member)) (members class)
+item_admits (Maybe class) left earlier content =
     left earlier content && list_all (λ member. may_show earlier content member
-    && left true (past content member)) members
-item_admits Many members left earlier content =
+    && left true (past content member)) (members class)
+item_admits (Many class) left earlier content =
     left earlier content && list_all (λ member. may_show earlier content member
-    && same_content (past content member) content) members
+    && same_content (past content member) content) (members class)
 
 -- what fits a pattern may stand there
 abbrev pub pattern_admits : List Item → Bool → Content → Bool
 pattern_admits [] earlier content = true
-pattern_admits (item ∷ items) earlier content = item_admits item.times (members item.class)
-    (λ b c. pattern_admits items b c) earlier content
+pattern_admits (item ∷ items) earlier content = item_admits item (λ b c. pattern_admits items b c) earlier content
 
 abbrev pub every_content : (Content → Bool) → Bool
 every_content test =

@@ -7,11 +7,10 @@ use Rattle.md_pattern.specs.contracts.kinds.Symbol.{the_type}
 use Rattle.md_pattern.specs.declared.kinds.Symbol.{Symbol}
 use Rattle.md_pattern.specs.declared.kinds.Role.{Role}
 use Rattle.md_pattern.specs.declared.kinds.Role.TheVariants.{Flow}
-use Rattle.md_pattern.specs.declared.kinds.Times.{Times}
-use Rattle.md_pattern.specs.declared.kinds.Times.TheVariants.{Once, Maybe, Many}
 use Rattle.md_pattern.specs.declared.kinds.Class.{Class}
 use Rattle.md_pattern.specs.declared.kinds.Item.{Item}
-use Rattle.md_pattern.specs.Pattern.{members, takes, pattern_of, Fits, IsCount}
+use Rattle.md_pattern.specs.declared.kinds.Item.TheVariants.{Once, Maybe, Many}
+use Rattle.md_pattern.specs.Pattern.{members, class_of, takes, pattern_of, Fits, IsCount}
 use Rattle.md_pattern.specs.Steps.{is_optional}
 
 pub and_left : (a b : Bool) → (a && b) ≡ true → a ≡ true
@@ -27,8 +26,8 @@ and_both true b e f = f
 and_both false b e f = e
 
 -- an item may be there any number of times
-abbrev pub is_many : Times → Bool
-is_many Many = true
+abbrev pub is_many : Item → Bool
+is_many (Many class) = true
 is_many _ = false
 
 -- no symbol is in both classes
@@ -37,7 +36,7 @@ apart class other = list_all (λ member. not (takes other member)) (members clas
 
 -- after an item that may be left out, each later item that takes one of its symbols may be there any number of times
 abbrev pub leaves_order : Item → Item → Bool
-leaves_order item later = is_many later.times || apart item.class later.class
+leaves_order item later = is_many later || apart (class_of item) (class_of later)
 
 abbrev pub settled : List Item → Bool
 settled [] = true
@@ -49,7 +48,7 @@ pattern_settled _ = refl
 
 -- each of the items that takes the symbol may be there any number of times
 abbrev pub only_many : Symbol → List Item → Bool
-only_many symbol items = list_all (λ item. is_many item.times || not (takes item.class symbol)) items
+only_many symbol items = list_all (λ item. is_many item || not (takes (class_of item) symbol)) items
 
 not_taken_step : (p : Symbol → Bool) (symbols : List Symbol) (member symbol : Symbol) →
     (list_any (λ m. sameb the_type m symbol) symbols ≡ true → list_all (λ m. not (p m)) symbols ≡ true →
@@ -70,71 +69,56 @@ not_taken p (member ∷ symbols) symbol seen none =
     not_taken_step p symbols member symbol (not_taken p symbols symbol) (sameb the_type member symbol) refl seen none
 
 only_many_here : (class : Class) (item : Item) (symbol : Symbol) → takes class symbol ≡ true → (many : Bool) →
-    (many || apart class item.class) ≡ true → (many || not (takes item.class symbol)) ≡ true
+    (many || apart class (class_of item)) ≡ true → (many || not (takes (class_of item) symbol)) ≡ true
 only_many_here class item symbol taken true e = refl
-only_many_here class item symbol taken false e = not_taken (takes item.class) (members class) symbol taken e
+only_many_here class item symbol taken false e = not_taken (takes (class_of item)) (members class) symbol taken e
 
-only_many_after : (item : Item) (items : List Item) (symbol : Symbol) → takes item.class symbol ≡ true →
+only_many_after : (item : Item) (items : List Item) (symbol : Symbol) → takes (class_of item) symbol ≡ true →
     list_all (leaves_order item) items ≡ true → only_many symbol items ≡ true
 only_many_after item [] symbol taken e = refl
 only_many_after item (later ∷ items) symbol taken e =
-    and_both (is_many later.times || not (takes later.class symbol)) (only_many symbol items)
-    (only_many_here item.class later symbol taken (is_many later.times)
+    and_both (is_many later || not (takes (class_of later) symbol)) (only_many symbol items)
+    (only_many_here (class_of item) later symbol taken (is_many later)
     (and_left (leaves_order item later) (list_all (leaves_order item) items) e))
     (only_many_after item items symbol taken (and_right (leaves_order item later)
     (list_all (leaves_order item) items) e))
 
 -- what is left of a pattern after a symbol
-abbrev pub kept : Times → Item → List Item → List Item
-kept Many item items = item ∷ items
-kept _ item items = items
+abbrev pub kept : Item → List Item → List Item
+kept (Many class) items = Many class ∷ items
+kept item items = items
 
 abbrev pub left_after : List Item → Symbol → Option (List Item)
 left_after [] symbol = None
 left_after (item ∷ items) symbol =
-    if takes item.class symbol then Some (kept item.times item items)
+    if takes (class_of item) symbol then Some (kept item items)
     else (if is_optional item then left_after items symbol else None)
 
 -- one more symbol
 one_more : (item : Item) (items : List Item) (symbol : Symbol) (symbols : List Symbol) →
-    takes item.class symbol ≡ true → (times : Times) → item.times ≡ times → Fits (kept times item items) symbols →
-    Fits (item ∷ items) (symbol ∷ symbols)
-one_more item items symbol symbols taken Many e fit = (
+    takes (class_of item) symbol ≡ true → Fits (kept item items) symbols → Fits (item ∷ items) (symbol ∷ symbols)
+one_more (Many class) items symbol symbols taken fit = (
   symbol ∷ fit.0,
   fit.1,
   ap (λ s. symbol ∷ s) fit.2,
-  and_both (takes item.class symbol)
-      (list_all (takes item.class) fit.0) taken fit.3,
-  subst (λ t. IsCount t (length (symbol ∷ fit.0))) (sym e) tt,
+  and_both (takes class symbol) (list_all (takes class) fit.0) taken fit.3,
+  tt,
   fit.5,
 )
-one_more item items symbol symbols taken Once e fit = (
-  symbol ∷ [],
-  symbols,
-  refl,
-  and_both (takes item.class symbol) true taken refl,
-  subst (λ t. IsCount t 1) (sym e) refl,
-  fit,
-)
-one_more item items symbol symbols taken Maybe e fit = (
-  symbol ∷ [],
-  symbols,
-  refl,
-  and_both (takes item.class symbol) true taken refl,
-  subst (λ t. IsCount t 1) (sym e) (omega arith),
-  fit,
-)
+one_more (Once class) items symbol symbols taken fit =
+    (symbol ∷ [], symbols, refl, and_both (takes class symbol) true taken refl, refl, fit)
+one_more (Maybe class) items symbol symbols taken fit =
+    (symbol ∷ [], symbols, refl, and_both (takes class symbol) true taken refl, omega arith, fit)
 
-none_optional : (times : Times) (class : Class) → is_optional (record { times = times; class = class }) ≡ true →
-    IsCount times 0
-none_optional Once class optional = cc
-none_optional Maybe class optional = omega arith
-none_optional Many class optional = tt
+none_optional : (item : Item) → is_optional item ≡ true → IsCount item 0
+none_optional (Once class) optional = cc
+none_optional (Maybe class) optional = omega arith
+none_optional (Many class) optional = tt
 
 left_out : (item : Item) (items : List Item) (symbols : List Symbol) → is_optional item ≡ true → Fits items symbols →
     Fits (item ∷ items) symbols
 left_out item items symbols optional fit =
-    ([], symbols, refl, refl, none_optional item.times item.class optional, fit)
+    ([], symbols, refl, refl, none_optional item optional, fit)
 
 pub fits_nothing : (items : List Item) → list_all is_optional items ≡ true → Fits items []
 fits_nothing [] e = refl
@@ -154,11 +138,11 @@ some_one a b e = cc
 
 fits_back_taken : (item : Item) (items left : List Item) (symbol : Symbol) (symbols : List Symbol) →
     Fits left symbols → (left_after items symbol ≡ Some left → Fits items (symbol ∷ symbols)) → (taken : Bool) →
-    takes item.class symbol ≡ taken → cond taken (Some (kept item.times item items))
+    takes (class_of item) symbol ≡ taken → cond taken (Some (kept item items))
     (cond (is_optional item) (left_after items symbol) None) ≡ Some left → Fits (item ∷ items) (symbol ∷ symbols)
 fits_back_taken item items left symbol symbols fit again true t e =
-    one_more item items symbol symbols t item.times refl
-    (subst (λ l. Fits l symbols) (sym (some_one (kept item.times item items) left e)) fit)
+    one_more item items symbol symbols t
+    (subst (λ l. Fits l symbols) (sym (some_one (kept item items) left e)) fit)
 fits_back_taken item items left symbol symbols fit again false t e =
     fits_back_optional item items left symbol symbols again (is_optional item) refl e
 
@@ -168,32 +152,32 @@ pub fits_back : (items left : List Item) (symbol : Symbol) (symbols : List Symbo
 fits_back [] left symbol symbols e fit = cc
 fits_back (item ∷ items) left symbol symbols e fit =
     fits_back_taken item items left symbol symbols fit (λ f. fits_back items left symbol symbols f fit)
-    (takes item.class symbol) refl e
+    (takes (class_of item) symbol) refl e
 
-many_taken : (times : Times) (taken : Bool) → taken ≡ true → (is_many times || not taken) ≡ true → (n : ℕ) →
-    IsCount times n
-many_taken Many taken t e n = tt
-many_taken Once taken t e n = absurd (subst (λ b. (false || not b) ≡ true → ⊥) (sym t) (λ f. cc) e)
-many_taken Maybe taken t e n = absurd (subst (λ b. (false || not b) ≡ true → ⊥) (sym t) (λ f. cc) e)
+many_taken : (item : Item) (taken : Bool) → taken ≡ true → (is_many item || not taken) ≡ true → (n : ℕ) →
+    IsCount item n
+many_taken (Many class) taken t e n = tt
+many_taken (Once class) taken t e n = absurd (subst (λ b. (false || not b) ≡ true → ⊥) (sym t) (λ f. cc) e)
+many_taken (Maybe class) taken t e n = absurd (subst (λ b. (false || not b) ≡ true → ⊥) (sym t) (λ f. cc) e)
 
 -- where each item that takes it may be there any number of times, a first symbol may go
 one_less_own : (item : Item) (items : List Item) (symbol : Symbol) (symbols own others : List Symbol) →
-    (is_many item.times || not (takes item.class symbol)) ≡ true →
+    (is_many item || not (takes (class_of item) symbol)) ≡ true →
     (Fits items (symbol ∷ symbols) → Fits items symbols) → symbol ∷ symbols ≡ own ++ others →
-    list_all (takes item.class) own ≡ true → IsCount item.times (length own) → Fits items others →
+    list_all (takes (class_of item)) own ≡ true → IsCount item (length own) → Fits items others →
     Fits (item ∷ items) symbols
 one_less_own item items symbol symbols [] others many again e all count fit =
     ([], symbols, refl, refl, count, again (subst (λ s. Fits items s) (sym e) fit))
 one_less_own item items symbol symbols (first ∷ own) others many again e all count fit =
     let same : first ≡ symbol = cc in
     let rest : symbols ≡ own ++ others = cc in
-    let taken : takes item.class symbol ≡ true = subst (λ s. takes item.class s
-    ≡ true) same (and_left (takes item.class first) (list_all (takes item.class) own) all) in (
+    let taken : takes (class_of item) symbol ≡ true = subst (λ s. takes (class_of item) s
+    ≡ true) same (and_left (takes (class_of item) first) (list_all (takes (class_of item)) own) all) in (
       own,
       others,
       rest,
-      and_right (takes item.class first) (list_all (takes item.class) own) all,
-      many_taken item.times (takes item.class symbol) taken many (length own),
+      and_right (takes (class_of item) first) (list_all (takes (class_of item)) own) all,
+      many_taken item (takes (class_of item) symbol) taken many (length own),
       fit,
     )
 
@@ -201,53 +185,49 @@ one_less : (items : List Item) (symbol : Symbol) (symbols : List Symbol) → onl
     Fits items (symbol ∷ symbols) → Fits items symbols
 one_less [] symbol symbols many fit = cc
 one_less (item ∷ items) symbol symbols many fit =
-    one_less_own item items symbol symbols fit.0 fit.1 (and_left (is_many item.times
-    || not (takes item.class symbol)) (only_many symbol items) many)
-    (one_less items symbol symbols (and_right (is_many item.times
-    || not (takes item.class symbol)) (only_many symbol items) many)) fit.2 fit.3 fit.4 fit.5
+    one_less_own item items symbol symbols fit.0 fit.1 (and_left (is_many item
+    || not (takes (class_of item) symbol)) (only_many symbol items) many)
+    (one_less items symbol symbols (and_right (is_many item
+    || not (takes (class_of item) symbol)) (only_many symbol items) many)) fit.2 fit.3 fit.4 fit.5
 
 no_more : (own others symbols : List Symbol) → length own ≡ 0 → symbols ≡ own ++ others → others ≡ symbols
 no_more [] others symbols e f = sym f
 no_more (x ∷ own) others symbols e f = absurd (omega arith)
 
 -- an item that takes the symbol
-fits_here : (times : Times) (class : Class) (items : List Item) (symbol : Symbol) (symbols own others : List Symbol) →
-    takes class symbol ≡ true → settled (record { times = times; class = class } ∷ items) ≡ true →
-    symbol ∷ symbols ≡ own ++ others → list_all (takes class) own ≡ true → IsCount times (length own) →
-    Fits items others → Fits (kept times (record { times = times; class = class }) items) symbols
-fits_here Many class items symbol symbols [] others taken ok e all count fit = (
+fits_here : (item : Item) (items : List Item) (symbol : Symbol) (symbols own others : List Symbol) →
+    takes (class_of item) symbol ≡ true → settled (item ∷ items) ≡ true → symbol ∷ symbols ≡ own ++ others →
+    list_all (takes (class_of item)) own ≡ true → IsCount item (length own) → Fits items others →
+    Fits (kept item items) symbols
+fits_here (Many class) items symbol symbols [] others taken ok e all count fit = (
   [],
   symbols,
   refl,
   refl,
   tt,
-  one_less items symbol symbols
-      (only_many_after (record { times = Many; class = class }) items symbol taken
-      (and_left (list_all (leaves_order (record { times = Many; class = class })) items) (settled items) ok))
+  one_less items symbol symbols (only_many_after (Many class) items symbol taken
+      (and_left (list_all (leaves_order (Many class)) items) (settled items) ok))
       (subst (λ s. Fits items s) (sym e) fit),
 )
-fits_here Many class items symbol symbols (first ∷ own) others taken ok e all count fit =
+fits_here (Many class) items symbol symbols (first ∷ own) others taken ok e all count fit =
     let rest : symbols ≡ own ++ others = cc in
     (own, others, rest, and_right (takes class first) (list_all (takes class) own) all, tt, fit)
-fits_here Maybe class items symbol symbols [] others taken ok e all count fit =
-    one_less items symbol symbols (only_many_after (record { times = Maybe; class = class }) items symbol taken
-    (and_left (list_all (leaves_order (record { times = Maybe; class = class })) items) (settled items) ok))
+fits_here (Maybe class) items symbol symbols [] others taken ok e all count fit =
+    one_less items symbol symbols (only_many_after (Maybe class) items symbol taken
+    (and_left (list_all (leaves_order (Maybe class)) items) (settled items) ok))
     (subst (λ s. Fits items s) (sym e) fit)
-fits_here Maybe class items symbol symbols (first ∷ own) others taken ok e all count fit =
+fits_here (Maybe class) items symbol symbols (first ∷ own) others taken ok e all count fit =
     let rest : symbols ≡ own ++ others = cc in
     subst (λ s. Fits items s) (no_more own others symbols (omega arith) rest) fit
-fits_here Once class items symbol symbols [] others taken ok e all count fit = absurd (omega arith)
-fits_here Once class items symbol symbols (first ∷ own) others taken ok e all count fit =
+fits_here (Once class) items symbol symbols [] others taken ok e all count fit = absurd (omega arith)
+fits_here (Once class) items symbol symbols (first ∷ own) others taken ok e all count fit =
     let rest : symbols ≡ own ++ others = cc in
     subst (λ s. Fits items s) (no_more own others symbols (omega arith) rest) fit
 
-settled_kept : (times : Times) (class : Class) (items : List Item) →
-    settled (record { times = times; class = class } ∷ items) ≡ true →
-    settled (kept times (record { times = times; class = class }) items) ≡ true
-settled_kept Many class items ok = ok
-settled_kept Maybe class items ok = and_right (list_all (leaves_order (record { times = Maybe; class = class }))
-    items) (settled items) ok
-settled_kept Once class items ok = ok
+settled_kept : (item : Item) (items : List Item) → settled (item ∷ items) ≡ true → settled (kept item items) ≡ true
+settled_kept (Many class) items ok = ok
+settled_kept (Maybe class) items ok = and_right (list_all (leaves_order (Maybe class)) items) (settled items) ok
+settled_kept (Once class) items ok = ok
 
 -- what is left takes the rest
 pub record GoesOn (items : List Item) (symbol : Symbol) (symbols : List Symbol) : Type 0 where
@@ -256,11 +236,11 @@ pub record GoesOn (items : List Item) (symbol : Symbol) (symbols : List Symbol) 
   pub fits : Fits left symbols
   pub ok : settled left ≡ true
 
-skips : (times : Times) (class : Class) (items : List Item) (symbol : Symbol) (symbols : List Symbol) →
-    takes class symbol ≡ false → IsCount times 0 → GoesOn items symbol symbols →
-    GoesOn (record { times = times; class = class } ∷ items) symbol symbols
-skips Once class items symbol symbols t count on = absurd (omega arith)
-skips Maybe class items symbol symbols t count on =
+skips : (item : Item) (items : List Item) (symbol : Symbol) (symbols : List Symbol) →
+    takes (class_of item) symbol ≡ false → IsCount item 0 → GoesOn items symbol symbols →
+    GoesOn (item ∷ items) symbol symbols
+skips (Once class) items symbol symbols t count on = absurd (omega arith)
+skips (Maybe class) items symbol symbols t count on =
     record {
       left = on.left;
       is_left = subst (λ b. cond b (Some items) (left_after items symbol)
@@ -268,11 +248,11 @@ skips Maybe class items symbol symbols t count on =
       fits = on.fits;
       ok = on.ok;
     }
-skips Many class items symbol symbols t count on =
+skips (Many class) items symbol symbols t count on =
     record {
       left = on.left;
-      is_left = subst (λ b. cond b (Some (record { times = Many; class = class } ∷ items))
-          (left_after items symbol) ≡ Some on.left) (sym t) on.is_left;
+      is_left = subst (λ b. cond b (Some (Many class ∷ items)) (left_after items symbol)
+          ≡ Some on.left) (sym t) on.is_left;
       fits = on.fits;
       ok = on.ok;
     }
@@ -281,28 +261,28 @@ settled_rest : (item : Item) (items : List Item) → settled (item ∷ items) �
 settled_rest item items ok = and_right (not (is_optional item) || list_all (leaves_order item) items) (settled items) ok
 
 fits_past : (item : Item) (items : List Item) (symbol : Symbol) (symbols own others : List Symbol) →
-    takes item.class symbol ≡ false → symbol ∷ symbols ≡ own ++ others → list_all (takes item.class) own ≡ true →
-    IsCount item.times (length own) → Fits items others →
+    takes (class_of item) symbol ≡ false → symbol ∷ symbols ≡ own ++ others →
+    list_all (takes (class_of item)) own ≡ true → IsCount item (length own) → Fits items others →
     (Fits items (symbol ∷ symbols) → GoesOn items symbol symbols) → GoesOn (item ∷ items) symbol symbols
 fits_past item items symbol symbols [] others t e all count fit again =
-    skips item.times item.class items symbol symbols t count (again (subst (λ s. Fits items s) (sym e) fit))
+    skips item items symbol symbols t count (again (subst (λ s. Fits items s) (sym e) fit))
 fits_past item items symbol symbols (first ∷ own) others t e all count fit again =
     let same : first ≡ symbol = cc in
-    let taken : takes item.class symbol ≡ true = subst (λ s. takes item.class s
-    ≡ true) same (and_left (takes item.class first) (list_all (takes item.class) own) all) in
+    let taken : takes (class_of item) symbol ≡ true = subst (λ s. takes (class_of item) s
+    ≡ true) same (and_left (takes (class_of item) first) (list_all (takes (class_of item)) own) all) in
     let clash : true ≡ false = cc in cc
 
 fits_on_taken : (item : Item) (items : List Item) (symbol : Symbol) (symbols : List Symbol) →
     settled (item ∷ items) ≡ true → Fits (item ∷ items) (symbol ∷ symbols) →
-    (Fits items (symbol ∷ symbols) → GoesOn items symbol symbols) → (taken : Bool) → takes item.class symbol ≡ taken →
-    GoesOn (item ∷ items) symbol symbols
+    (Fits items (symbol ∷ symbols) → GoesOn items symbol symbols) → (taken : Bool) →
+    takes (class_of item) symbol ≡ taken → GoesOn (item ∷ items) symbol symbols
 fits_on_taken item items symbol symbols ok fit again true t =
     record {
-      left = kept item.times item items;
-      is_left = subst (λ b. cond b (Some (kept item.times item items))
-          (cond (is_optional item) (left_after items symbol) None) ≡ Some (kept item.times item items)) (sym t) refl;
-      fits = fits_here item.times item.class items symbol symbols fit.0 fit.1 t ok fit.2 fit.3 fit.4 fit.5;
-      ok = settled_kept item.times item.class items ok;
+      left = kept item items;
+      is_left = subst (λ b. cond b (Some (kept item items))
+          (cond (is_optional item) (left_after items symbol) None) ≡ Some (kept item items)) (sym t) refl;
+      fits = fits_here item items symbol symbols fit.0 fit.1 t ok fit.2 fit.3 fit.4 fit.5;
+      ok = settled_kept item items ok;
     }
 fits_on_taken item items symbol symbols ok fit again false t =
     fits_past item items symbol symbols fit.0 fit.1 t fit.2 fit.3 fit.4 fit.5 again
@@ -312,20 +292,19 @@ pub fits_on : (items : List Item) (symbol : Symbol) (symbols : List Symbol) → 
 fits_on [] symbol symbols ok fit = cc
 fits_on (item ∷ items) symbol symbols ok fit =
     fits_on_taken item items symbol symbols ok fit (fits_on items symbol symbols (settled_rest item items ok))
-    (takes item.class symbol) refl
+    (takes (class_of item) symbol) refl
 
 all_out : (item : Item) (items : List Item) (own others : List Symbol) → [] ≡ own ++ others →
-    IsCount item.times (length own) → Fits items others → (Fits items [] → list_all is_optional items ≡ true) →
+    IsCount item (length own) → Fits items others → (Fits items [] → list_all is_optional items ≡ true) →
     list_all is_optional (item ∷ items) ≡ true
 all_out item items [] others e count fit again =
-    and_both (is_optional item) (list_all is_optional items) (optional item.times item.class count)
+    and_both (is_optional item) (list_all is_optional items) (optional item count)
     (again (subst (λ s. Fits items s) (sym e) fit))
   where
-    optional : (times : Times) (class : Class) → IsCount times 0 →
-        is_optional (record { times = times; class = class }) ≡ true
-    optional Once class c = absurd (omega arith)
-    optional Maybe class c = refl
-    optional Many class c = refl
+    optional : (item : Item) → IsCount item 0 → is_optional item ≡ true
+    optional (Once class) c = absurd (omega arith)
+    optional (Maybe class) c = refl
+    optional (Many class) c = refl
 all_out item items (x ∷ own) others e count fit again = cc
 
 pub nothing_fits : (items : List Item) → Fits items [] → list_all is_optional items ≡ true

@@ -5,13 +5,12 @@ use Rattle.std.specs.Prelude.{option_map}
 use Rattle.md_pattern.specs.declared.kinds.Symbol.{Symbol}
 use Rattle.md_pattern.specs.declared.kinds.Symbol.TheVariants.{ReferenceMarker, ReferenceNumeric, ReferenceHexadecimal, ReferenceValue, SetextText, SetextUnderline, LineEnding}
 use Rattle.md_pattern.specs.declared.kinds.Role.{Role}
-use Rattle.md_pattern.specs.declared.kinds.Times.{Times}
-use Rattle.md_pattern.specs.declared.kinds.Times.TheVariants.{Once, Maybe, Many}
 use Rattle.md_pattern.specs.declared.kinds.Item.{Item}
+use Rattle.md_pattern.specs.declared.kinds.Item.TheVariants.{Once, Maybe, Many}
 use Rattle.md_pattern.specs.declared.state.Stage.{Stage}
 use Rattle.md_pattern.specs.declared.state.Stage.TheVariants.{Whole, Marker, Numeric, Hexadecimal, Setext}
 use Rattle.md_pattern.specs.declared.state.State.{State}
-use Rattle.md_pattern.specs.Pattern.{takes, pattern_of, Fits}
+use Rattle.md_pattern.specs.Pattern.{class_of, takes, pattern_of, Fits}
 use Rattle.md_pattern.specs.Spine.{IsTail, IsGrouped, Matches, IsBegunGroup}
 use Rattle.md_tree.specs.Refusal.{EndsInGroup}
 use Rattle.md_pattern.specs.Steps.{begun_by, continued, is_optional, after_item, seek, moved, items_of, advance, is_whole, is_complete, start_of}
@@ -71,17 +70,17 @@ tail_of [] (suc k) x ys e = cc
 tail_of (z ∷ xs) zero x ys e = let h : ys ≡ xs = cc in h
 tail_of (z ∷ xs) (suc k) x ys e = tail_of xs k x ys e
 
-sought_here : (times : Times) (all : List Item) (item : Item) (items : List Item) (k : ℕ) →
-    item ∷ items ≡ drop k all → drop (after_item times k) all ≡ kept times item items
-sought_here Many all item items k e = sym e
-sought_here Maybe all item items k e = rw add-one (sym (tail_of all k item items e))
-sought_here Once all item items k e = rw add-one (sym (tail_of all k item items e))
+sought_here : (all : List Item) (item : Item) (items : List Item) (k : ℕ) → item ∷ items ≡ drop k all →
+    drop (after_item item k) all ≡ kept item items
+sought_here all (Many class) items k e = sym e
+sought_here all (Maybe class) items k e = rw add-one (sym (tail_of all k (Maybe class) items e))
+sought_here all (Once class) items k e = rw add-one (sym (tail_of all k (Once class) items e))
 
 seek_step : (all : List Item) (item : Item) (items : List Item) (k : ℕ) (symbol : Symbol) →
-    drop (after_item item.times k) all ≡ kept item.times item items →
+    drop (after_item item k) all ≡ kept item items →
     option_map (λ n. drop n all) (seek (k + 1) items symbol) ≡ left_after items symbol → (taken optional : Bool) →
-    option_map (λ n. drop n all) (cond taken (Some (after_item item.times k))
-    (cond optional (seek (k + 1) items symbol) None)) ≡ cond taken (Some (kept item.times item items))
+    option_map (λ n. drop n all) (cond taken (Some (after_item item k))
+    (cond optional (seek (k + 1) items symbol) None)) ≡ cond taken (Some (kept item items))
     (cond optional (left_after items symbol) None)
 seek_step all item items k symbol here later true optional = ap Some here
 seek_step all item items k symbol here later false true = later
@@ -91,8 +90,8 @@ seek_leaves : (all items : List Item) (k : ℕ) (symbol : Symbol) → items ≡ 
     option_map (λ n. drop n all) (seek k items symbol) ≡ left_after items symbol
 seek_leaves all [] k symbol e = refl
 seek_leaves all (item ∷ items) k symbol e =
-    seek_step all item items k symbol (sought_here item.times all item items k e)
-    (seek_leaves all items (k + 1) symbol (rw add-one (tail_of all k item items e))) (takes item.class symbol)
+    seek_step all item items k symbol (sought_here all item items k e)
+    (seek_leaves all items (k + 1) symbol (rw add-one (tail_of all k item items e))) (takes (class_of item) symbol)
     (is_optional item)
 
 moved_spot : (all : List Item) (stage : Stage) (k : ℕ) (symbol : Symbol) →

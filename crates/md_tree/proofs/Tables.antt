@@ -20,7 +20,7 @@ use Rattle.md_pattern.specs.declared.kinds.Standing.TheVariants.{Through, Space,
 use Rattle.md_base.specs.Tree.{Forest, Empty, Node}
 use Rattle.md_base.specs.NameTests.{is_transparent, is_table_head, is_delimiter_row, is_delimiter_value, leads_to_values}
 use Rattle.md_pattern.specs.Standing.{standing_of}
-use Rattle.md_pattern.specs.Pattern.{members, takes, pattern_of, Fits}
+use Rattle.md_pattern.specs.Pattern.{members, class_of, takes, pattern_of, Fits}
 use Rattle.md_pattern.specs.Spine.{spine, shown, IsTail, IsGrouped, Matches}
 use Rattle.md_pattern.specs.Shape.{EachNode, IsShapedNode, IsStanding, AreShaped, inner_role, inner_before, last_symbol}
 use Rattle.md_pattern.specs.Steps.{begun_by, is_whole}
@@ -46,15 +46,15 @@ taken p (member ∷ symbols) seen there all = taken_step p symbols member seen (
 
 -- each symbol of an item's class passes
 abbrev passes : (Symbol → Bool) → Item → Bool
-passes p item = list_all p (members item.class)
+passes p item = list_all p (members (class_of item))
 
 own_pass : (p : Symbol → Bool) (item : Item) (own : List Symbol) → passes p item ≡ true →
-    list_all (takes item.class) own ≡ true → list_all p own ≡ true
+    list_all (takes (class_of item)) own ≡ true → list_all p own ≡ true
 own_pass p item [] all there = refl
 own_pass p item (seen ∷ own) all there =
-    and_both (p seen) (list_all p own) (taken p (members item.class) seen
-    (and_left (takes item.class seen) (list_all (takes item.class) own) there) all)
-    (own_pass p item own all (and_right (takes item.class seen) (list_all (takes item.class) own) there))
+    and_both (p seen) (list_all p own) (taken p (members (class_of item)) seen
+    (and_left (takes (class_of item) seen) (list_all (takes (class_of item)) own) there) all)
+    (own_pass p item own all (and_right (takes (class_of item) seen) (list_all (takes (class_of item)) own) there))
 
 all_append : (p : Symbol → Bool) (xs ys : List Symbol) → list_all p xs ≡ true → list_all p ys ≡ true →
     list_all p (xs ++ ys) ≡ true
