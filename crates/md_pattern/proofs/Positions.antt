@@ -8,12 +8,12 @@ use Rattle.md_pattern.specs.declared.kinds.Role.TheVariants as role
 use Rattle.md_pattern.specs.declared.kinds.Item.{Item}
 use Rattle.md_pattern.specs.declared.kinds.Item.TheVariants.{Once, Maybe, Many}
 use Rattle.md_pattern.specs.Pattern.{pattern_of, class_of, takes}
-use Rattle.md_pattern.specs.Steps.{is_optional, after_item, seek, is_complete, start_of, is_full_list_part, is_full}
+use Rattle.md_pattern.specs.Steps.{is_optional, next_position, seek, is_complete, start_of, is_full_list_part, is_full}
 
 one_of : (n p : ℕ) → Some n ≡ Some p → n ≡ p
 one_of n p e = cc
 
-after_within : (item : Item) (position left : ℕ) → after_item item position ≤ position + suc left
+after_within : (item : Item) (position left : ℕ) → next_position item position ≤ position + suc left
 after_within (Once class) position left = omega arith
 after_within (Maybe class) position left = omega arith
 after_within (Many class) position left = omega arith
@@ -21,10 +21,10 @@ after_within (Many class) position left = omega arith
 -- the symbol is taken by one of the items, or after the last
 within : (item : Item) (position left found : ℕ) (symbol : Symbol) (taken optional : Bool) (rest : Option ℕ) →
     (rest ≡ Some found → found ≤ (position + 1) + left) →
-    cond taken (Some (after_item item position)) (cond optional rest None) ≡ Some found →
+    cond taken (Some (next_position item position)) (cond optional rest None) ≡ Some found →
     found ≤ position + suc left
 within item position left found symbol true optional rest inner e =
-    subst (λ n. n ≤ position + suc left) (one_of (after_item item position) found e)
+    subst (λ n. n ≤ position + suc left) (one_of (next_position item position) found e)
     (after_within item position left)
 within item position left found symbol false true rest inner e =
     let bound = inner e in

@@ -19,15 +19,15 @@ begun_by SetextText = Setext
 begun_by _ = Whole
 
 -- the next stage of a group that has begun
-abbrev pub continued : Stage → Symbol → Option Stage
-continued Marker ReferenceNumeric = Some Numeric
-continued Marker ReferenceValue = Some Whole
-continued Numeric ReferenceHexadecimal = Some Hexadecimal
-continued Numeric ReferenceValue = Some Whole
-continued Hexadecimal ReferenceValue = Some Whole
-continued Setext LineEnding = Some Setext
-continued Setext SetextUnderline = Some Whole
-continued _ _ = None
+abbrev pub next_stage : Stage → Symbol → Option Stage
+next_stage Marker ReferenceNumeric = Some Numeric
+next_stage Marker ReferenceValue = Some Whole
+next_stage Numeric ReferenceHexadecimal = Some Hexadecimal
+next_stage Numeric ReferenceValue = Some Whole
+next_stage Hexadecimal ReferenceValue = Some Whole
+next_stage Setext LineEnding = Some Setext
+next_stage Setext SetextUnderline = Some Whole
+next_stage _ _ = None
 
 -- an item may be left out
 abbrev pub is_optional : Item → Bool
@@ -35,21 +35,21 @@ is_optional (Once class) = false
 is_optional _ = true
 
 -- the item from which on the next symbol is taken, where the first of these items that takes the symbol is this one
-abbrev pub after_item : Item → ℕ → ℕ
-after_item (Many class) position = position
-after_item _ position = position + 1
+abbrev pub next_position : Item → ℕ → ℕ
+next_position (Many class) position = position
+next_position _ position = position + 1
 
 -- the same, of the first item that takes the symbol, where each before it may be left out
 abbrev pub seek : ℕ → List Item → Symbol → Option ℕ
 seek position [] symbol = None
 seek position (item ∷ items) symbol =
-    if takes (class_of item) symbol then Some (after_item item position)
+    if takes (class_of item) symbol then Some (next_position item position)
     else (if is_optional item then seek (position + 1) items symbol else None)
 
 -- position and stage after a symbol
 abbrev pub moved : Stage → ℕ → List Item → Symbol → Option (ℕ × Stage)
 moved Whole position items symbol = option_map (λ next. (next, begun_by symbol)) (seek position items symbol)
-moved stage position items symbol = option_map (λ next. (position, next)) (continued stage symbol)
+moved stage position items symbol = option_map (λ next. (position, next)) (next_stage stage symbol)
 
 -- the items that are left
 abbrev pub items_of : State → List Item

@@ -4,7 +4,7 @@ ghost use Rattle.std.specs.Prelude.{◌≡◌};
 ghost use Rattle.md_pattern.specs.Pattern.{class_of};
 
 /// What patterns see of a node. Names that all patterns treat alike share one symbol.
-#[derive(Clone, Copy, Debug, PartialEq, Eq)]
+#[derive(Clone, Copy, PartialEq, Eq)]
 pub enum Symbol {
     /// Characters as they stand.
     Text,
@@ -76,7 +76,7 @@ pub enum Symbol {
 }
 
 /// Which pattern the spine of a node has.
-#[derive(Clone, Copy, Debug, PartialEq, Eq)]
+#[derive(Clone, Copy)]
 pub enum Role {
     /// The document, and a block quote.
     Flow,
@@ -145,7 +145,7 @@ pub enum Role {
 }
 
 /// What is read of a node that ends.
-#[derive(Clone, Copy, Debug, PartialEq, Eq)]
+#[derive(Clone, Copy)]
 pub enum Reading {
     /// Nothing: its place is free.
     Free,
@@ -178,7 +178,7 @@ pub enum Reading {
 }
 
 /// How a node stands among those around it.
-#[derive(Clone, Copy, Debug, PartialEq, Eq)]
+#[derive(Clone, Copy)]
 pub enum Standing {
     /// A transparent name: what it holds stands on the spine around it.
     Through,
@@ -192,7 +192,7 @@ pub enum Standing {
 }
 
 /// Which symbols may stand at a place of a pattern; a group is seen by its first symbol.
-#[derive(Clone, Copy, Debug, PartialEq, Eq)]
+#[derive(Clone, Copy)]
 pub enum Class {
     /// Characters, character references and line endings.
     String,
@@ -209,7 +209,7 @@ pub enum Class {
 }
 
 /// One item of a pattern.
-#[derive(Clone, Copy, Debug, PartialEq, Eq)]
+#[derive(Clone, Copy)]
 pub enum Item {
     /// One symbol of the class.
     Once(Class),

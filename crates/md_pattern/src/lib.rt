@@ -10,8 +10,8 @@ mod state;
 mod steps;
 
 pub use kinds::{Class, Item, Reading, Role, Standing, Symbol};
-pub use patterns::{pattern, takes};
-pub use shape::role_of;
-pub use standings::standing;
+pub use patterns::{pattern_of, takes};
+pub use shape::role_for;
+pub use standings::standing_of;
 pub use state::{Stage, State};
-pub use steps::{advanced, can_be_leaf, can_end, can_hold, start};
+pub use steps::{advance, can_be_leaf, is_complete, may_hold, start_of};

@@ -41,7 +41,7 @@ fn is_in_string(symbol: Symbol) -> bool
 }
 
 /// The pattern of a role.
-pub fn pattern(role: Role) -> &'static [Item]
+pub fn pattern_of(role: Role) -> &'static [Item]
     ensures { result.now ≡ pattern_of role }
 {
     use crate::kinds::Class::{Either, Flow, Only, OrLine, Phrasing};

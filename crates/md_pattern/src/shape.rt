@@ -8,7 +8,7 @@ ghost use Rattle.md_pattern.specs.Shape.{role_for, item_in, prefix_in, code_fenc
 use crate::kinds::{Role, Symbol};
 
 /// An item, in an ordered list the first one or a later one.
-fn item_role(around: Role, before: Option<Symbol>) -> Role
+fn item_in(around: Role, before: Option<Symbol>) -> Role
     ensures { result ≡ item_in around before }
 {
     match (around, before) {
@@ -19,7 +19,7 @@ fn item_role(around: Role, before: Option<Symbol>) -> Role
 }
 
 /// The prefix of an item.
-fn prefix_role(around: Role) -> Role
+fn prefix_in(around: Role) -> Role
     ensures { result ≡ prefix_in around }
 {
     match around {
@@ -30,7 +30,7 @@ fn prefix_role(around: Role) -> Role
 }
 
 /// The label of a footnote call, or of a link or an image.
-fn label_role(around: Role) -> Role
+fn label_in(around: Role) -> Role
     ensures { result ≡ label_in around }
 {
     match around {
@@ -40,7 +40,7 @@ fn label_role(around: Role) -> Role
 }
 
 /// A fence of code.
-fn code_fence_role(before: Option<Symbol>) -> Role
+fn code_fence_after(before: Option<Symbol>) -> Role
     ensures { result ≡ code_fence_after before }
 {
     match before {
@@ -50,7 +50,7 @@ fn code_fence_role(before: Option<Symbol>) -> Role
 }
 
 /// A fence of mathematics.
-fn math_fence_role(before: Option<Symbol>) -> Role
+fn math_fence_after(before: Option<Symbol>) -> Role
     ensures { result ≡ math_fence_after before }
 {
     match before {
@@ -61,7 +61,7 @@ fn math_fence_role(before: Option<Symbol>) -> Role
 
 /// The role that a name with this usual one has in a node of a role, after a symbol on its spine.
 #[inline(always)]
-pub fn role_of(around: Role, before: Option<Symbol>, usual: Role) -> Role
+pub fn role_for(around: Role, before: Option<Symbol>, usual: Role) -> Role
     ensures { result ≡ role_for around before usual }
 {
     if goes_by_place(usual) {
@@ -88,11 +88,11 @@ fn role_at(around: Role, before: Option<Symbol>, usual: Role) -> Role
     ensures { result ≡ role_for around before usual }
 {
     match usual {
-        Role::Item => item_role(around, before),
-        Role::Prefix => prefix_role(around),
-        Role::CodeFence => code_fence_role(before),
-        Role::MathFence => math_fence_role(before),
-        Role::Label => label_role(around),
+        Role::Item => item_in(around, before),
+        Role::Prefix => prefix_in(around),
+        Role::CodeFence => code_fence_after(before),
+        Role::MathFence => math_fence_after(before),
+        Role::Label => label_in(around),
         _ => usual,
     }
 }

@@ -8,7 +8,7 @@ use md_base::Name;
 
 /// How a node of this name stands among those around it.
 #[inline(always)]
-pub fn standing(name: Name) -> Standing
+pub fn standing_of(name: Name) -> Standing
     ensures { result ≡ standing_of name }
 {
     // A reading that has the name of a symbol is written with `Reading::`.

@@ -3,7 +3,7 @@
 use crate::kinds::{Role, Symbol};
 
 /// Which symbols of a group have been read.
-#[derive(Clone, Copy, Debug, PartialEq, Eq)]
+#[derive(Clone, Copy)]
 pub enum Stage {
     /// No group is open.
     Whole,
@@ -18,7 +18,7 @@ pub enum Stage {
 }
 
 /// How much of a spine has been read.
-#[derive(Clone, Copy, Debug, PartialEq, Eq)]
+#[derive(Clone, Copy)]
 pub struct State {
     /// The item of the pattern from which on the next symbol may be taken.
     pub position: u8,

@@ -2,17 +2,17 @@
 
 ghost use Rattle.std.specs.Prelude.{◌≡◌, ◌<◌, ◌+◌, ◌^◌, Some, None, if◌then◌else◌, drop};
 ghost use Rattle.std.specs.List.{list_all};
-ghost use Rattle.md_pattern.specs.Steps.{begun_by, continued, is_optional, after_item, seek, advance, is_complete, start_of, may_hold, is_full_list_part, is_full};
+ghost use Rattle.md_pattern.specs.Steps.{begun_by, next_stage, is_optional, next_position, seek, advance, is_complete, start_of, may_hold, is_full_list_part, is_full};
 ghost use Rattle.md_pattern.specs.Pattern.{pattern_of};
 ghost use Rattle.md_pattern.specs.Shape.{role_for};
 
 use crate::kinds::{Class, Item, Role, Symbol};
-use crate::patterns::{pattern, takes};
-use crate::shape::role_of;
+use crate::patterns::{pattern_of, takes};
+use crate::shape::role_for;
 use crate::state::{Stage, State};
 
 /// The group that a symbol begins.
-fn begun(symbol: Symbol) -> Stage
+fn begun_by(symbol: Symbol) -> Stage
     ensures { result ≡ begun_by symbol }
 {
     match symbol {
@@ -25,7 +25,7 @@ fn begun(symbol: Symbol) -> Stage
 /// The next stage of a group that has begun.
 #[inline(never)]
 fn next_stage(stage: Stage, symbol: Symbol) -> Option<Stage>
-    ensures { result ≡ continued stage symbol }
+    ensures { result ≡ next_stage stage symbol }
 {
     match (stage, symbol) {
         (Stage::Marker, Symbol::ReferenceNumeric) => Some(Stage::Numeric),
@@ -40,7 +40,7 @@ fn next_stage(stage: Stage, symbol: Symbol) -> Option<Stage>
 }
 
 /// Whether an item may be left out.
-fn can_be_left_out(item: Item) -> bool
+fn is_optional(item: Item) -> bool
     ensures { result ≡ is_optional item }
 {
     match item {
@@ -52,7 +52,7 @@ fn can_be_left_out(item: Item) -> bool
 /// The item from which on the next symbol is taken, after one that was taken at this item.
 fn next_position(item: Item, position: usize) -> usize
     requires { position + 1 < 2 ^ 64 }
-    ensures { result ≡ after_item item position }
+    ensures { result ≡ next_position item position }
 {
     match item {
         Item::Many(_) => position,
@@ -63,7 +63,7 @@ fn next_position(item: Item, position: usize) -> usize
 /// The item from which on the next symbol is taken, where this symbol is taken by the first item
 /// from here on that takes it, and each before that may be left out.
 #[inline(always)]
-fn sought(items: &[Item], from: usize, symbol: Symbol) -> Option<usize>
+fn seek(items: &[Item], from: usize, symbol: Symbol) -> Option<usize>
     ensures { result ≡ seek from (drop from items.now) symbol }
 {
     for position in from..items.len() {
@@ -71,7 +71,7 @@ fn sought(items: &[Item], from: usize, symbol: Symbol) -> Option<usize>
         if takes(item.class(), symbol) {
             return Some(next_position(item, position));
         }
-        if !can_be_left_out(item) {
+        if !is_optional(item) {
             return None;
         }
     }
@@ -80,7 +80,7 @@ fn sought(items: &[Item], from: usize, symbol: Symbol) -> Option<usize>
 
 /// The same in the pattern of a role.
 #[inline(always)]
-fn sought_in(role: Role, from: u8, symbol: Symbol) -> Option<u8>
+fn seek_in(role: Role, from: u8, symbol: Symbol) -> Option<u8>
     ensures { result ≡ seek from (drop from (pattern_of role)) symbol }
 {
     match (role, from) {
@@ -88,7 +88,7 @@ fn sought_in(role: Role, from: u8, symbol: Symbol) -> Option<u8>
         (Role::Flow, 0) => first_if(takes(Class::Flow, symbol)),
         (Role::Phrasing, 0) => first_if(takes(Class::Phrasing, symbol)),
         _ => {
-            let position = sought(pattern(role), usize::from(from), symbol)?;
+            let position = seek(pattern_of(role), usize::from(from), symbol)?;
             Some(position as u8)
         }
     }
@@ -103,13 +103,13 @@ fn first_if(takes: bool) -> Option<u8>
 
 /// The state after a symbol.
 #[inline(always)]
-pub fn advanced(state: State, symbol: Symbol) -> Option<State>
+pub fn advance(state: State, symbol: Symbol) -> Option<State>
     ensures { result ≡ advance state symbol }
 {
     let (position, stage) = match state.stage {
         Stage::Whole => (
-            sought_in(state.role, state.position, symbol)?,
-            begun(symbol),
+            seek_in(state.role, state.position, symbol)?,
+            begun_by(symbol),
         ),
         stage => (state.position, next_stage(stage, symbol)?),
     };
@@ -122,7 +122,7 @@ pub fn advanced(state: State, symbol: Symbol) -> Option<State>
 }
 
 /// Whether a spine may end here.
-pub fn can_end(state: State) -> bool
+pub fn is_complete(state: State) -> bool
     ensures { result ≡ is_complete state }
 {
     match state.stage {
@@ -139,7 +139,7 @@ fn can_end_in(role: Role, from: u8) -> bool
     match role {
         // Whatever of it was taken.
         Role::Flow | Role::Phrasing => true,
-        _ => all_optional(pattern(role), usize::from(from)),
+        _ => all_optional(pattern_of(role), usize::from(from)),
     }
 }
 
@@ -148,7 +148,7 @@ fn all_optional(items: &[Item], from: usize) -> bool
     ensures { result ≡ list_all is_optional (drop from items.now) }
 {
     for position in from..items.len() {
-        if !can_be_left_out(items[position]) {
+        if !is_optional(items[position]) {
             return false;
         }
     }
@@ -156,7 +156,7 @@ fn all_optional(items: &[Item], from: usize) -> bool
 }
 
 /// A spine of which nothing has been read.
-pub fn start(role: Role) -> State
+pub fn start_of(role: Role) -> State
     ensures { result ≡ start_of role }
 {
     State {
@@ -183,7 +183,7 @@ pub fn can_be_leaf(around: Role, before: Option<Symbol>, usual: Role) -> bool
     match usual {
         // That of most nodes without children.
         Role::Childless => true,
-        _ => can_be_empty(role_of(around, before, usual)),
+        _ => can_be_empty(role_for(around, before, usual)),
     }
 }
 
@@ -227,7 +227,7 @@ fn is_full(role: Role) -> bool
 }
 
 /// Whether a node of this role may have children.
-pub fn can_hold(role: Role) -> bool
+pub fn may_hold(role: Role) -> bool
     ensures { result ≡ may_hold role }
 {
     !matches!(role, Role::Childless)

@@ -13,7 +13,7 @@ use Rattle.md_pattern.specs.declared.state.State.{State}
 use Rattle.md_pattern.specs.Pattern.{class_of, takes, pattern_of, Fits}
 use Rattle.md_pattern.specs.Spine.{IsTail, IsGrouped, Matches, IsBegunGroup}
 use Rattle.md_tree.specs.Refusal.{EndsInGroup}
-use Rattle.md_pattern.specs.Steps.{begun_by, continued, is_optional, after_item, seek, moved, items_of, advance, is_whole, is_complete, start_of}
+use Rattle.md_pattern.specs.Steps.{begun_by, next_stage, is_optional, next_position, seek, moved, items_of, advance, is_whole, is_complete, start_of}
 use Rattle.md_tree.proofs.Greedy.{and_left, and_right, and_both, settled, pattern_settled, kept, left_after, fits_nothing, fits_back, fits_on, nothing_fits}
 
 -- the items that are left and the stage of a group
@@ -26,7 +26,7 @@ spot_of state = At (items_of state) state.stage
 -- a symbol moves from spot to spot
 abbrev pub spot_after : List Item → Stage → Symbol → Option Spot
 spot_after items Whole symbol = option_map (λ left. At left (begun_by symbol)) (left_after items symbol)
-spot_after items stage symbol = option_map (λ next. At items next) (continued stage symbol)
+spot_after items stage symbol = option_map (λ next. At items next) (next_stage stage symbol)
 
 -- symbols, one after another
 abbrev pub Goes : List Item → Stage → List Symbol → Spot → Type 0
@@ -71,15 +71,15 @@ tail_of (z ∷ xs) zero x ys e = let h : ys ≡ xs = cc in h
 tail_of (z ∷ xs) (suc k) x ys e = tail_of xs k x ys e
 
 sought_here : (all : List Item) (item : Item) (items : List Item) (k : ℕ) → item ∷ items ≡ drop k all →
-    drop (after_item item k) all ≡ kept item items
+    drop (next_position item k) all ≡ kept item items
 sought_here all (Many class) items k e = sym e
 sought_here all (Maybe class) items k e = rw add-one (sym (tail_of all k (Maybe class) items e))
 sought_here all (Once class) items k e = rw add-one (sym (tail_of all k (Once class) items e))
 
 seek_step : (all : List Item) (item : Item) (items : List Item) (k : ℕ) (symbol : Symbol) →
-    drop (after_item item k) all ≡ kept item items →
+    drop (next_position item k) all ≡ kept item items →
     option_map (λ n. drop n all) (seek (k + 1) items symbol) ≡ left_after items symbol → (taken optional : Bool) →
-    option_map (λ n. drop n all) (cond taken (Some (after_item item k))
+    option_map (λ n. drop n all) (cond taken (Some (next_position item k))
     (cond optional (seek (k + 1) items symbol) None)) ≡ cond taken (Some (kept item items))
     (cond optional (left_after items symbol) None)
 seek_step all item items k symbol here later true optional = ap Some here
@@ -103,13 +103,13 @@ moved_spot all Whole k symbol =
     ∙ sym (option_map-option_map (λ n. drop n all) (λ left. At left (begun_by symbol)) (seek k (drop k all) symbol))
     ∙ ap (option_map (λ left. At left (begun_by symbol))) (seek_leaves all (drop k all) k symbol refl)
 moved_spot all Marker k symbol = option_map-option_map (λ n. (k, n)) (λ (n : ℕ × Stage). At (drop n.0 all) n.1)
-    (continued Marker symbol)
+    (next_stage Marker symbol)
 moved_spot all Numeric k symbol = option_map-option_map (λ n. (k, n)) (λ (n : ℕ × Stage). At (drop n.0 all) n.1)
-    (continued Numeric symbol)
+    (next_stage Numeric symbol)
 moved_spot all Hexadecimal k symbol = option_map-option_map (λ n. (k, n)) (λ (n : ℕ × Stage). At (drop n.0 all) n.1)
-    (continued Hexadecimal symbol)
+    (next_stage Hexadecimal symbol)
 moved_spot all Setext k symbol = option_map-option_map (λ n. (k, n)) (λ (n : ℕ × Stage). At (drop n.0 all) n.1)
-    (continued Setext symbol)
+    (next_stage Setext symbol)
 
 advance_spot : (state : State) (symbol : Symbol) → option_map spot_of (advance state symbol)
     ≡ spot_after (items_of state) state.stage symbol
@@ -233,7 +233,7 @@ some_stage : (a b : Stage) → Some a ≡ Some b → a ≡ b
 some_stage a b e = cc
 
 IsTailFrom-cons : (stage : Stage) (symbol : Symbol) (next : Stage) (tail : List Symbol) →
-    continued stage symbol ≡ Some next → IsTailFrom next tail → IsTailFrom stage (symbol ∷ tail)
+    next_stage stage symbol ≡ Some next → IsTailFrom next tail → IsTailFrom stage (symbol ∷ tail)
 IsTailFrom-cons Whole symbol next tail e t = cc
 IsTailFrom-cons Marker ReferenceNumeric next tail e t =
     after_numeric tail (subst (λ st. IsTailFrom st tail) (sym (some_stage Numeric next e)) t)
@@ -265,10 +265,10 @@ spot_whole items left next symbol e =
     (m.1 ∙ ap Some same.0, same.1)
 
 spot_inside : (items left : List Item) (stage next : Stage) (symbol : Symbol) →
-    option_map (λ st. At items st) (continued stage symbol) ≡ Some (At left next) →
-    (items ≡ left) × (continued stage symbol ≡ Some next)
+    option_map (λ st. At items st) (next_stage stage symbol) ≡ Some (At left next) →
+    (items ≡ left) × (next_stage stage symbol ≡ Some next)
 spot_inside items left stage next symbol e =
-    let m = option_map-some (λ st. At items st) (continued stage symbol) (At left next) e in
+    let m = option_map-some (λ st. At items st) (next_stage stage symbol) (At left next) e in
     let same = at_items items left m.0 next m.2 in
     (same.0, m.1 ∙ ap Some same.1)
 
@@ -304,7 +304,7 @@ on_whole items left next symbol symbols e on =
     }
 
 on_inside : (items left : List Item) (stage next : Stage) (symbol : Symbol) (symbols : List Symbol) →
-    option_map (λ st. At items st) (continued stage symbol) ≡ Some (At left next) → ReadsOn left next symbols →
+    option_map (λ st. At items st) (next_stage stage symbol) ≡ Some (At left next) → ReadsOn left next symbols →
     ReadsOn items stage (symbol ∷ symbols)
 on_inside items left stage next symbol symbols e on =
     let w = spot_inside items left stage next symbol e in
@@ -396,7 +396,7 @@ one_ending_more zero = refl
 one_ending_more (suc n) = ap (λ s. LineEnding ∷ s) (one_ending_more n)
 
 held_on : (stage : Stage) (symbol : Symbol) (next : Stage) (group : List Symbol) →
-    continued stage symbol ≡ Some next → IsHeld stage group → IsHeld next (group ++ symbol ∷ [])
+    next_stage stage symbol ≡ Some next → IsHeld stage group → IsHeld next (group ++ symbol ∷ [])
 held_on Whole symbol next group e h = cc
 held_on Marker ReferenceNumeric next group e h =
     subst (λ st. IsHeld st (group ++ ReferenceNumeric ∷ [])) (some_stage Numeric next e)
@@ -440,7 +440,7 @@ held_step_whole items left next symbol read e =
     }
 
 held_step_inside : (items left : List Item) (stage next : Stage) (symbol : Symbol) (read : List Symbol) →
-    option_map (λ st. At items st) (continued stage symbol) ≡ Some (At left next) → EndsHeld stage read →
+    option_map (λ st. At items st) (next_stage stage symbol) ≡ Some (At left next) → EndsHeld stage read →
     EndsHeld next (read ++ symbol ∷ [])
 held_step_inside items left stage next symbol read e ends =
     record {

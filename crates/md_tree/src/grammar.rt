@@ -19,7 +19,7 @@ use crate::texts::Texts;
 use crate::walk::Walk;
 use md_base::Event;
 use md_infer::Facts;
-use md_pattern::can_end;
+use md_pattern::is_complete;
 use std::alloc::Global;
 
 /// Checks that events are the flattening of a document of the grammar over the document's bytes
@@ -141,5 +141,5 @@ fn is_done(walk: &Walk) -> bool
     ensures done { result ≡ true → (walk.now.open_nodes.items ≡ []) × (is_complete walk.now.state ≡ true) }
     ensures undone { result ≡ false → walk.now.open_nodes.items ≡ [] → is_complete walk.now.state ≡ false }
 {
-    walk.open_nodes.is_empty() && can_end(walk.state)
+    walk.open_nodes.is_empty() && is_complete(walk.state)
 }

@@ -12,8 +12,8 @@ use crate::open_nodes::{Aim, Entry, Open, Outer};
 use crate::rule::{CompileError, Rule};
 use md_base::{Event, Kind, Name, is_same_name};
 use md_pattern::{
-    Reading, Role, Standing, State, advanced, can_be_leaf, can_end, can_hold, role_of, standing,
-    start,
+    Reading, Role, Standing, State, advance, can_be_leaf, is_complete, may_hold, role_for,
+    standing_of, start_of,
 };
 use std::alloc::{AllocError, Global};
 
@@ -46,7 +46,7 @@ impl Walk {
         ensures { (events : List Event) → course_of events 0 result ≡ beginning }
     {
         Walk {
-            state: start(Role::Flow),
+            state: start_of(Role::Flow),
             target: Aim::Missing,
             open_nodes: Vec::new(alloc),
             mentions: Vec::new(alloc),
@@ -85,10 +85,10 @@ impl Walk {
             (IsStop input.entry.bytes.now (name_table input.entry.names.now) index kind.Enter name
             (point_at input.entry.events.now index) (course_of input.entry.events.now index self.old)) }
     {
-        if !can_hold(self.state.role) {
+        if !may_hold(self.state.role) {
             return refuse(index, misplaced(name));
         }
-        match standing(name) {
+        match standing_of(name) {
             Standing::Mdx => refuse(index, Rule::Mdx),
             Standing::Through => {
                 self.open_nodes.push(Open {
@@ -103,10 +103,10 @@ impl Walk {
                 self.open(input, index, name, entry)
             }
             Standing::Solid(symbol, usual, reading) => {
-                let Some(around) = advanced(self.state, symbol) else {
+                let Some(around) = advance(self.state, symbol) else {
                     return refuse(index, Rule::Order);
                 };
-                let role = role_of(self.state.role, self.state.before, usual);
+                let role = role_for(self.state.role, self.state.before, usual);
                 let entry = self.inside(role, around, reading);
                 self.open(input, index, name, entry)
             }
@@ -128,7 +128,7 @@ impl Walk {
         } }
     {
         Entry {
-            state: start(role),
+            state: start_of(role),
             target: Aim::Missing,
             outer: Some(Outer {
                 state: around,
@@ -182,14 +182,14 @@ impl Walk {
             (point_at input.entry.events.now index) (point_at input.entry.events.now (suc index))
             (course_of input.entry.events.now index self.old)) }
     {
-        if !can_hold(self.state.role) {
+        if !may_hold(self.state.role) {
             return refuse(index, misplaced(name));
         }
-        match standing(name) {
+        match standing_of(name) {
             Standing::Mdx => refuse(index, misplaced(name)),
             Standing::Through | Standing::Space => Ok(()),
             Standing::Solid(symbol, usual, reading) => {
-                let Some(state) = advanced(self.state, symbol) else {
+                let Some(state) = advance(self.state, symbol) else {
                     return refuse(index, Rule::Order);
                 };
                 if !can_be_leaf(self.state.role, self.state.before, usual) {
@@ -252,7 +252,7 @@ impl Walk {
             (outer_seen input.entry.events.now outer) (place_at input.entry.events.now entry index)
             (course_of input.entry.events.now index self.old)) }
     {
-        if !can_end(self.state) {
+        if !is_complete(self.state) {
             return refuse(index, Rule::Order);
         }
         let spot = Spot {
@@ -291,7 +291,7 @@ fn refuse(index: usize, rule: Rule) -> Result<(), CompileError>
 fn misplaced(name: Name) -> Rule
     ensures { result ≡ misplaced name }
 {
-    match standing(name) {
+    match standing_of(name) {
         Standing::Mdx => Rule::Mdx,
         _ => Rule::Order,
     }

@@ -18,8 +18,8 @@ returns-in-Through-clause-ok c =
     let over = c.in-Through.is in
     passes-over c.args.input.bytes.now (name_table c.args.input.names.now) c.args.name
     (point_at events c.args.index) (point_at events (suc c.args.index)) (course_of events c.args.index self)
-    (sym c.can_hold.ensures ∙ c.if-not-can_hold.false)
-    (subst (λ s. (s ≡ Through) ⊎ (s ≡ Space)) c.standing.ensures over)
+    (sym c.may_hold.ensures ∙ c.if-not-may_hold.false)
+    (subst (λ s. (s ≡ Through) ⊎ (s ≡ Space)) c.standing_of.ensures over)
 
 pub returns-then-not-can_be_leaf-clause-refused : goal.returns-then-not-can_be_leaf-clause-refused
 returns-then-not-can_be_leaf-clause-refused c =
@@ -33,8 +33,8 @@ returns-then-not-can_be_leaf-clause-refused c =
     (point_at events index) (point_at events (suc index)) (course_of events index self) (error.Event n rule.Order))
     (sym (add-one index)) (IsStopAtLeaf-open c.args.name c.in-Solid.symbol c.in-Solid.usual c.in-Solid.reading
     c.in-Some.state (point_at events index) (point_at events (suc index)) (course_of events index self)
-    (sym c.can_hold.ensures ∙ c.if-not-can_hold.false) (sym c.standing.ensures ∙ c.in-Solid.is)
-    (sym c.advanced.ensures ∙ c.in-Some.is) bytes names index unfinished))
+    (sym c.may_hold.ensures ∙ c.if-not-may_hold.false) (sym c.standing_of.ensures ∙ c.in-Solid.is)
+    (sym c.advance.ensures ∙ c.in-Some.is) bytes names index unfinished))
 
 pub returns-in-Some-2-clause-refused : goal.returns-in-Some-2-clause-refused
 returns-in-Some-2-clause-refused c =
@@ -52,8 +52,8 @@ returns-in-Some-2-clause-refused c =
     (point_at events index) (point_at events (suc index)) (course_of events index self) (error.Event n broken))
     (sym (add-one index)) (IsStopAtLeaf-broken c.args.name c.in-Solid.symbol c.in-Solid.usual c.in-Solid.reading
     c.in-Some.state (point_at events index) (point_at events (suc index)) (course_of events index self)
-    (sym c.can_hold.ensures ∙ c.if-not-can_hold.false) (sym c.standing.ensures ∙ c.in-Solid.is)
-    (sym c.advanced.ensures ∙ c.in-Some.is) bytes names index broken complete breaks))
+    (sym c.may_hold.ensures ∙ c.if-not-may_hold.false) (sym c.standing_of.ensures ∙ c.in-Solid.is)
+    (sym c.advance.ensures ∙ c.in-Some.is) bytes names index broken complete breaks))
 
 pub returns-in_default-2-clause-ok : goal.returns-in_default-2-clause-ok
 returns-in_default-2-clause-ok c =
@@ -72,5 +72,5 @@ returns-in_default-2-clause-ok c =
     (c.in_ok-rule-in-Solid.ensures.target events) in
     Passes-solid c.args.name c.in-Solid.symbol c.in-Solid.usual reading
     c.in-Some.state (point_at events index) (point_at events (suc index)) (course_of events index self)
-    (sym c.can_hold.ensures ∙ c.if-not-can_hold.false) (sym c.standing.ensures ∙ c.in-Solid.is)
-    (sym c.advanced.ensures ∙ c.in-Some.is) bytes names _ complete sound target_is
+    (sym c.may_hold.ensures ∙ c.if-not-may_hold.false) (sym c.standing_of.ensures ∙ c.in-Solid.is)
+    (sym c.advance.ensures ∙ c.in-Some.is) bytes names _ complete sound target_is

@@ -13,6 +13,6 @@ returns-in-Some-clause-refused c =
       refl,
       StopsInside-broken c.args.input.bytes.now (name_table c.args.input.names.now) c.in-Some.rule
           (outer_seen events c.args.outer) (point_at events c.args.entry) (point_at events c.args.index)
-          (course_of events c.args.index c.args.self.now) (sym c.can_end.ensures
-          ∙ c.if-not-can_end.false) (sym c.in_ok-rule.ensures.broken ∙ c.in-Some.is),
+          (course_of events c.args.index c.args.self.now) (sym c.is_complete.ensures
+          ∙ c.if-not-is_complete.false) (sym c.in_ok-rule.ensures.broken ∙ c.in-Some.is),
     )

@@ -1,7 +1,7 @@
 -- At each turn: what is sought from the start is what is sought from here.
 use Rattle.std.proofs.Common.{◌≡◌, drop}
 use Rattle.md_pattern.specs.Steps.{seek}
-use Rattle.md_pattern.proofs.steps.sought.Given as goal
+use Rattle.md_pattern.proofs.steps.seek.Given as goal
 
 abbrev pub invariant-loop-position : goal.invariant-loop-position
 invariant-loop-position l =

@@ -2,7 +2,7 @@
 use Rattle.std.proofs.Common.{rules}
 use Rattle.std.proofs.Math.Facts.{Fits-of_lt}
 use Rattle.md_pattern.proofs.Positions.{seek-fits}
-use Rattle.md_pattern.proofs.steps.sought_in.Goals as goal
+use Rattle.md_pattern.proofs.steps.seek_in.Goals as goal
 
 pub overflow_cast-result : goal.overflow_cast-result
 overflow_cast-result c =
