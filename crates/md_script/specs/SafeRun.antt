@@ -1,5 +1,5 @@
 -- What `run_safe` answers: a safe text, or why there is none.
-use Rattle.std.specs.Prelude.{◌≡◌, ℕ, true, List}
+use Rattle.std.specs.Prelude.{◌≡◌, ℕ, true, List, codes}
 use Rattle.md_base.specs.declared.event.Event.{Event}
 use Rattle.md_base.specs.Tree.{Forest, flatten}
 use Rattle.md_tree.specs.declared.rule.Rule.{Rule}
@@ -15,9 +15,14 @@ use Rattle.md_html.specs.declared.safe_html.SafeError.TheVariants as safe
 use Rattle.md_script.specs.declared.error.SafeRunError.{SafeRunError}
 use Rattle.md_script.specs.declared.error.SafeRunError.TheVariants.{Options, Run}
 use Rattle.md_script.specs.declared.error.RunError.TheVariants as error
-use Rattle.md_script.specs.Error.{run_error_of}
+use Rattle.md_script.specs.Error.{run_error_of, message_of}
 use Rattle.md_script.specs.Run.{reference_names, document_of, ExplainsEvents, ExplainsRun}
 use Rattle.md_script.specs.Script.{StandsFor}
+
+-- what is said of why there is no safe text
+abbrev pub safe_message_of : SafeRunError → List ℕ
+safe_message_of Options = codes "unsafe options"
+safe_message_of (Run error) = message_of error
 
 -- the options are safe, the events are of the grammar over the bytes, and the text is the meaning of their document;
 -- where ids go by number no two ids are equal

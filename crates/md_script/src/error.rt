@@ -93,6 +93,22 @@ pub enum SafeRunError {
     Run(RunError),
 }
 
+impl fmt::Display for SafeRunError {
+    ghost use Rattle.std.specs.Prelude.{Some};
+    ghost use Rattle.md_script.specs.SafeRun.{safe_message_of};
+
+    ghost output = { λ error. Some (safe_message_of error) };
+
+    fn fmt<W: fmt::Write>(&self, f: &mut fmt::Formatter<W>) -> fmt::Result {
+        match self {
+            SafeRunError::Options => write!(f, "unsafe options"),
+            SafeRunError::Run(error) => write!(f, "{error}"),
+        }
+    }
+}
+
+impl Error for SafeRunError {}
+
 impl From<RunError> for SafeRunError {
     ghost use Rattle.std.specs.Prelude.{◌≡◌};
     ghost use Rattle.md_script.specs.declared.error.SafeRunError.TheVariants.{Run};
