@@ -1,5 +1,6 @@
--- Escaping, by bytes and by characters: the body goes by characters, the definition by bytes.
-use Rattle.std.proofs.Common.{◌≡◌, ◌≢◌, ℕ, ◌<◌, ◌≤◌, Bool, true, false, ◌&&◌, eqb, List, [], ◌∷◌, ◌++◌, refl, sym, ap, ◌∙◌, subst, encode_utf8, encode_utf8_all, arith, ne_eqb, append-nil, inl, inr, IsUtf8}
+-- Escaping, by bytes and by characters, and at one byte that doesn't stay.
+use Rattle.std.proofs.Common.{◌≡◌, ◌≢◌, ℕ, ◌+◌, ◌<◌, ◌≤◌, Bool, true, false, ◌&&◌, eqb, List, [], ◌∷◌, ◌++◌, length, get_or, take, drop, refl, sym, ap, ◌∙◌, subst, encode_utf8, encode_utf8_all, arith, ne_eqb, append-nil, add-one, drop-cons, inl, inr, IsUtf8}
+use Rattle.std.proofs.lemmas.List.{take-append-drop}
 use Rattle.std.specs.List.{flat_map}
 use Rattle.std.specs.Str.{chars}
 use Rattle.std.proofs.lemmas.Bool.{cases_lt, cases_eq}
@@ -109,3 +110,17 @@ encoded-encodes html (c ∷ cs) =
 pub encoded-chars : (html : Bool) (text : List ℕ) → IsUtf8 text →
     encoded html text ≡ encode_utf8_all (flat_map (encoded_character html) (chars text))
 encoded-chars html text utf8 = ap (encoded html) (sym (encodes-chars text utf8)) ∙ encoded-encodes html (chars text)
+
+-- a text at one of its bytes
+split : (bs : List ℕ) (i : ℕ) → i < length bs → take i bs ++ get_or bs i 0 ∷ drop (i + 1) bs ≡ bs
+split bs i h = ap (λ rest. take i bs ++ rest) (rw (add-one, ← drop-cons bs i 0) refl) ∙ take-append-drop i bs
+
+-- escaped, where what comes before the byte stays
+pub encoded-at : (html : Bool) (bs other : List ℕ) (i : ℕ) → i < length bs → encoded html (take i bs) ≡ take i bs →
+    encoded_byte html (get_or bs i 0) ≡ other →
+    take i bs ++ (other ++ encoded html (drop (i + 1) bs)) ≡ encoded html bs
+encoded-at html bs other i h plain same =
+    ap (λ x. x ++ (other ++ encoded html (drop (i + 1) bs))) (sym plain)
+    ∙ ap (λ x. encoded html (take i bs) ++ (x ++ encoded html (drop (i + 1) bs))) (sym same)
+    ∙ sym (encoded-append html (take i bs) (get_or bs i 0 ∷ drop (i + 1) bs))
+    ∙ ap (λ x. encoded html x) (split bs i h)

@@ -1,14 +1,14 @@
 //! Escaping of texts that stand in HTML.
 
-ghost use Rattle.std.specs.Prelude.{◌≡◌, ◌++◌, IfOk, OnOk, MatchOption, encode_utf8, encode_utf8_all};
+ghost use Rattle.std.specs.Prelude.{◌≡◌, ◌∷◌, ◌<◌, [], IfOk, MatchOption, length, get_or, take, encode_utf8_all};
 ghost use Rattle.std.specs.String.{string_bytes};
 ghost use Rattle.std.specs.List.{flat_map};
 ghost use Rattle.std.specs.Str.{chars};
-ghost use Rattle.md_text.specs.Encode.{encoded, encoded_character};
+ghost use Rattle.md_text.specs.Encode.{encoded, encoded_byte, encoded_character};
 
 use std::alloc::{AllocError, Global};
 
-/// Makes a text safe to stand in HTML, character by character.
+/// Makes a text safe to stand in HTML; what stays is copied in runs.
 ///
 /// NUL always becomes U+FFFD. With `encode_html`, `&`, `"`, `<` and `>` become `&amp;`, `&quot;`,
 /// `&lt;` and `&gt;`. All else stays.
@@ -29,40 +29,56 @@ pub fn encode(alloc: Global, value: &str, encode_html: bool) -> Result<String, A
         ≡ encode_utf8_all (flat_map (encoded_character encode_html) (chars value.now))) }
 {
     let mut out = String::with_capacity(alloc, value.len())?;
-    for c in value.chars() {
-        push_encoded(&mut out, c, encode_html)?;
+    let mut rest = value;
+    while let Some((index, other)) = first_replaced(rest.as_bytes(), encode_html) {
+        out.push_str(&rest[..index])?;
+        out.push_str(other)?;
+        rest = &rest[index + 1..];
     }
+    out.push_str(rest)?;
     Ok(out)
 }
 
-/// Writes one character.
-fn push_encoded(out: &mut String, c: char, encode_html: bool) -> Result<(), AllocError>
-    ensures { OnOk result
-        (string_bytes out.new ≡ string_bytes out.old ++ encoded encode_html (encode_utf8 c)) }
+/// The index of the first byte that doesn't stay, and what stands in its place; what is before it stays.
+///
+/// # Examples
+///
+/// ```
+/// assert_eq!(first_replaced(b"a<b", true), Some((1, "&lt;")));
+/// assert_eq!(first_replaced(b"a<b", false), None);
+/// ```
+pub fn first_replaced(bytes: &[u8], encode_html: bool) -> Option<(usize, &'static str)>
+    ensures { MatchOption result (encoded encode_html bytes.now ≡ bytes.now)
+        (λ found. (found.0 < length bytes.now) × (get_or bytes.now found.0 0 < 128)
+        × (encoded encode_html (take found.0 bytes.now) ≡ take found.0 bytes.now)
+        × (encoded_byte encode_html (get_or bytes.now found.0 0) ≡ found.1.now)) }
 {
-    match replacement(c, encode_html) {
-        Some(text) => out.push_str(text),
-        None => out.push(c),
+    let mut index = 0;
+    while index < bytes.len() {
+        if let Some(other) = replacement(bytes[index], encode_html) {
+            return Some((index, other));
+        }
+        index += 1;
     }
+    None
 }
 
-/// What stands in place of a character, if it doesn't stay.
-fn replacement(c: char, encode_html: bool) -> Option<&'static str>
-    ensures { MatchOption result
-        (encoded encode_html (encode_utf8 c) ≡ encode_utf8 c)
-        (λ text. encoded encode_html (encode_utf8 c) ≡ text.now) }
+/// What stands in place of a byte, if it doesn't stay.
+fn replacement(byte: u8, encode_html: bool) -> Option<&'static str>
+    ensures { MatchOption result (encoded_byte encode_html byte ≡ byte ∷ []) (λ text. (byte < 128)
+        × (encoded_byte encode_html byte ≡ text.now)) }
 {
-    if c == '\0' {
+    if byte == 0 {
         return Some("\u{FFFD}");
     }
     if !encode_html {
         return None;
     }
-    match c {
-        '&' => Some("&amp;"),
-        '"' => Some("&quot;"),
-        '<' => Some("&lt;"),
-        '>' => Some("&gt;"),
+    match byte {
+        b'&' => Some("&amp;"),
+        b'"' => Some("&quot;"),
+        b'<' => Some("&lt;"),
+        b'>' => Some("&gt;"),
         _ => None,
     }
 }

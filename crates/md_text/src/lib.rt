@@ -9,7 +9,7 @@ mod line_ending;
 mod names;
 mod url;
 
-pub use escape::encode;
+pub use escape::{encode, first_replaced};
 pub use filter::gfm_tagfilter;
 pub use line_ending::{LineEnding, LineEndingError};
 pub use url::{sanitize, sanitize_with_protocols};

@@ -4,7 +4,8 @@ use Rattle.std.proofs.lemmas.Str.{IsCharBoundary-after_ascii}
 use Rattle.md_text.specs.Encode.{encoded}
 use Rattle.md_meaning.specs.Texts.{said}
 use Rattle.md_printer.specs.Machine.{Printer, printing}
-use Rattle.md_printer.proofs.Escaping.{encoded-at, printed-parts}
+use Rattle.md_text.proofs.EncodeLemmas.{encoded-at}
+use Rattle.md_printer.proofs.Escaping.{printed-parts}
 use Rattle.md_printer.proofs.escape.put_encoded.Goals as goal
 
 pub range_from-rest-requires : goal.range_from-rest-requires
