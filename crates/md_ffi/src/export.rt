@@ -30,6 +30,21 @@ const VERSION: u32 = 2;
 /// one for `options`, and two for each of the four slices.
 ///
 /// A C caller passes nothing for `alloc`, and for each slice a pointer, which isn't null, and a length.
+///
+/// # Statuses
+///
+/// - 0: the text is in the buffer's first `length` bytes; what lies after it is as it was.
+/// - 1: the buffer is too short. It is as it was, and `length` is what the text needs: call
+///   again with as much.
+/// - 2: the event at `index`, or the end where that is the number of events, breaks the rule
+///   with the number `rule`.
+/// - 3: the event at `index` isn't valid: its kind or its name has no such number.
+/// - 4: the named character reference at `index` isn't UTF-8.
+/// - 5: the option with the number `index` isn't valid.
+/// - 7: there is no more memory.
+///
+/// With all but 0 the buffer is as it was. Which of 2 to 5 is told, if several are true, is left
+/// open.
 #[unsafe(no_mangle)]
 pub extern "C" fn bivdrazo_compile(
     alloc: Global,
@@ -57,6 +72,18 @@ pub extern "C" fn bivdrazo_compile(
 /// The HTML of an event script, into a buffer.
 ///
 /// A C caller passes nothing for `alloc`, and for each slice a pointer, which isn't null, and a length.
+///
+/// # Statuses
+///
+/// - 0: the text is in the buffer's first `length` bytes; what lies after it is as it was.
+/// - 1: the buffer is too short. It is as it was, and `length` is what the text needs: call
+///   again with as much.
+/// - 2: the event at `index`, or the end where that is the number of events, breaks the rule
+///   with the number `rule`.
+/// - 6: the line with the number `index`, from 1, is the first that can't be read.
+/// - 7: there is no more memory.
+///
+/// With all but 0 the buffer is as it was.
 #[unsafe(no_mangle)]
 pub extern "C" fn bivdrazo_run(alloc: Global, script: &[u8], buffer: &mut [u8]) -> Answer
     ensures text { HandsOver (IsTextOf script.now) buffer.old buffer.new result }

@@ -61,7 +61,8 @@ pub struct Counted {
 /// # Errors
 ///
 /// Names an event where the list is no flattening of a document of the event grammar over these bytes and names, as
-/// [`check`] does; or says that it is out of memory.
+/// [`check`] does; or says that it is out of memory. If several rules are broken, which of them is
+/// named is left open.
 ///
 /// # Examples
 ///

@@ -51,6 +51,14 @@ impl SafeHtml {
     }
 
     /// The text.
+    ///
+    /// # Examples
+    ///
+    /// ```
+    /// // Of two events that are a thematic break:
+    /// let html = compile_safe(alloc, &events, b"***", &CompileOptions::default(), &[])?;
+    /// assert_eq!(html.as_str(), "<hr />");
+    /// ```
     pub fn as_str(&self) -> &str
         ensures text { result.now ≡ self.now }
         ensures safe { IsSafe self.now }

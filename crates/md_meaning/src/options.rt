@@ -3,19 +3,23 @@
 use md_text::LineEnding;
 
 /// How events are compiled to HTML.
+///
+/// An option of which it says what is safe must have that value for a text with one reading, safe
+/// links and safe images; the others may have any value.
 #[derive(Debug, Drop)]
 pub struct CompileOptions {
-    /// Let images have any source, as `allow_dangerous_protocol` alone does too.
+    /// Let images have any source, as `allow_dangerous_protocol` alone does too. Safe: off.
     pub allow_any_img_src: bool,
-    /// Leave HTML in the document as it is.
+    /// Leave HTML in the document as it is. Safe: off.
     pub allow_dangerous_html: bool,
-    /// Let links and images have any protocol.
+    /// Let links and images have any protocol. Safe: off.
     pub allow_dangerous_protocol: bool,
     /// Print tasks without `disabled`.
     pub gfm_task_list_item_checkable: bool,
-    /// Disarm some tags of HTML that is left as it is.
+    /// Disarm some tags of HTML that is left as it is. That doesn't make such HTML safe.
     pub gfm_tagfilter: bool,
     /// Make footnotes' ids of their numbers instead of their identifiers, and end each call's id in which one it is.
+    /// Safe: on or off; that no two ids are equal is promised only if it is on.
     pub gfm_footnote_number_ids: bool,
     /// How lines end where the document has no line ending.
     pub default_line_ending: LineEnding,
@@ -25,9 +29,9 @@ pub struct CompileOptions {
     pub gfm_footnote_clobber_prefix: Option<String>,
     /// The heading of the footnotes; unset: `Footnotes`.
     pub gfm_footnote_label: Option<String>,
-    /// The attributes of that heading; unset: `class="sr-only"`.
+    /// The attributes of that heading, which aren't escaped; unset: `class="sr-only"`. Safe: unset.
     pub gfm_footnote_label_attributes: Option<String>,
-    /// The tag name of that heading; unset: `h2`.
+    /// The tag name of that heading; unset: `h2`. Safe: unset.
     pub gfm_footnote_label_tag_name: Option<String>,
 }
 
@@ -38,6 +42,14 @@ impl Default for CompileOptions {
     ghost is_default = { λ options. options ≡ default_options };
 
     /// All off, all unset, and lines end in LF.
+    ///
+    /// # Examples
+    ///
+    /// ```
+    /// let options = CompileOptions::default();
+    /// assert!(!options.allow_dangerous_html);
+    /// assert!(options.gfm_footnote_label.is_none());
+    /// ```
     fn default() -> CompileOptions {
         CompileOptions {
             allow_any_img_src: false,
@@ -61,6 +73,14 @@ impl CompileOptions {
     ghost use Rattle.md_meaning.specs.Defaults.{gfm_options};
 
     /// The default with the tag filter of GitHub flavored Markdown on.
+    ///
+    /// # Examples
+    ///
+    /// ```
+    /// let options = CompileOptions::gfm();
+    /// assert!(options.gfm_tagfilter);
+    /// assert!(!options.allow_dangerous_html);
+    /// ```
     pub fn gfm() -> CompileOptions
         ensures { result ≡ gfm_options }
     {

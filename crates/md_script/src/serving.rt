@@ -25,7 +25,7 @@ pub enum ServeError {
     Run(RunError),
     /// Reading failed, or none of 16,777,216 reads met the end.
     Input,
-    /// Writing failed; the front of the text may have been written.
+    /// Writing failed; a prefix of the text may have been written.
     Output,
 }
 
@@ -98,7 +98,7 @@ impl From<AllocError> for ServeError {
 ///
 /// `ServeError::Run` where the script gives no text, or memory runs out; `ServeError::Input` where a read fails, or
 /// none of 16,777,216 reads meets the end. With both nothing was written. `ServeError::Output` where a write fails;
-/// the front of the text was written then, or nothing.
+/// a prefix of the text was written then, or nothing.
 ///
 /// # Examples
 ///

@@ -10,7 +10,8 @@ use std::alloc::Global;
 ///
 /// # Errors
 ///
-/// Those of [`serve`]; then nothing is appended, but where `texts` can't grow: then the front of the text may be.
+/// Those of [`serve`]. Then nothing is appended, except where `texts` can't grow: then a prefix of
+/// the text may be.
 pub fn append_text(alloc: Global, script: &[u8], texts: &mut Vec<u8>) -> Result<(), ServeError>
     ensures ok { OnOk result (IsAppended script.now texts.old.items texts.new.items) }
     ensures err { IfErr result (ExplainsAppend script.now texts.old.items texts.new.items) }

@@ -15,6 +15,14 @@ use std::alloc::{AllocError, Global};
 
 /// Whether the list that the event at the index enters is loose. Whether its items are loose counts
 /// where they are included.
+///
+/// # Examples
+///
+/// ```
+/// // Where 0 enters a list of an item that ends in a paragraph, a blank line and another item:
+/// assert!(list_loose(&checked, 0, false));
+/// assert!(list_loose(&checked, 0, true));
+/// ```
 pub fn list_loose(checked: &Checked, index: usize, include_items: bool) -> bool
     requires { EntersAt checked.now.events index name.ListOrdered
         ⊎ EntersAt checked.now.events index name.ListUnordered }
@@ -31,6 +39,13 @@ pub fn list_loose(checked: &Checked, index: usize, include_items: bool) -> bool
 }
 
 /// Whether the item of a list that the event at the index enters is loose.
+///
+/// # Examples
+///
+/// ```
+/// // Where 1 enters an item of its prefix, a paragraph, a blank line and another paragraph:
+/// assert!(list_item_loose(&checked, 1));
+/// ```
 pub fn list_item_loose(checked: &Checked, index: usize) -> bool
     requires { EntersAt checked.now.events index name.ListItem }
     ensures entered { EntersNode checked.now index }
@@ -46,6 +61,14 @@ pub fn list_item_loose(checked: &Checked, index: usize) -> bool
 /// # Errors
 ///
 /// `AllocError` where memory runs out.
+///
+/// # Examples
+///
+/// ```
+/// // Of `|a|b|` over `|:-|-|`, where 0 enters the table:
+/// let columns = gfm_table_align(alloc, &checked, 0)?;
+/// assert_eq!(columns.as_slice(), [AlignKind::Left, AlignKind::None].as_slice());
+/// ```
 pub fn gfm_table_align(
     alloc: Global,
     checked: &Checked,

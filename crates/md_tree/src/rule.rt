@@ -1,4 +1,4 @@
-//! The rules of the grammar, and why a check answers nothing.
+//! The rules of the grammar, and why a check refuses.
 
 use std::alloc::{AllocError, AllocFailed};
 use std::error::Error;
@@ -11,13 +11,13 @@ pub enum Rule {
     Order,
     /// A name of MDX.
     Mdx,
-    /// A place that is read doesn't fit the bytes, or isn't a text.
+    /// A place that is read doesn't fit the bytes, or isn't UTF-8.
     Place,
-    /// The text of a line ending is none.
+    /// A line ending isn't LF, CR or CR LF.
     LineEnding,
-    /// The first mark of a heading has not a length of 1 to 6.
+    /// The first mark of a heading doesn't have a length of 1 to 6.
     HeadingMark,
-    /// The value of an ordered list's first item is no number under 2^32.
+    /// The value of an ordered list's first item isn't a number under 2^32.
     ListNumber,
     /// A character reference doesn't decode.
     CharacterReference,
@@ -51,7 +51,7 @@ impl fmt::Display for Rule {
     }
 }
 
-/// Why `check` answers nothing.
+/// Why `check` refuses.
 #[derive(Debug, PartialEq, Eq, Drop)]
 pub enum CompileError {
     /// It is out of memory.

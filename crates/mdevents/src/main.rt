@@ -1,7 +1,7 @@
 //! Compiles an event script from standard input, and writes the HTML to standard output; `--page TITLE` writes a whole
 //! page with that title around it, where the script's options are safe; `--help` and `--version` write a few words.
 //!
-//! Where there is none it writes one line to standard error, and ends with status 1 for an event
+//! If there is no HTML, it writes one line to standard error, and ends with status 1 for an event
 //! that is refused, 2 for a line that can't be read, 3 for out of memory, 4 where reading or
 //! writing failed, 5 for a page under options that aren't safe, and 64 for other arguments.
 #![tactic(auto)]
