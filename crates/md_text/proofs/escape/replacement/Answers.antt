@@ -6,7 +6,8 @@ use Rattle.md_text.proofs.escape.replacement.Goals as goal
 pub returns-then-not-encode_html : goal.returns-then-not-encode_html
 returns-then-not-encode_html c =
     let off = λ (n : ℕ). ap (λ b. b && eqb c.args.byte n) c.if-not-encode_html.true in
-    encoded_byte-plain c.args.encode_html c.args.byte (ne_eqb _ _ c.if-byte-eq0.false) (off 38) (off 34) (off 60) (off 62)
+    encoded_byte-plain c.args.encode_html c.args.byte (ne_eqb _ _ c.if-byte-eq0.false) (off 38) (off 34) (off 60)
+    (off 62)
 
 pub returns-in_default : goal.returns-in_default
 returns-in_default c =
