@@ -57,13 +57,11 @@ fn escapes_pipe(c: char, rest: &[u8]) -> bool
     c == '\\' && begins_with_pipe(rest)
 }
 
+/// Whether the next byte is a pipe.
 fn begins_with_pipe(bytes: &[u8]) -> bool
     ensures { result ≡ texts.begins_with_pipe bytes.now }
 {
-    match bytes.first() {
-        Some(byte) => *byte == b'|',
-        None => false,
-    }
+    bytes.first().is_some_and(|byte| *byte == b'|')
 }
 
 /// A text without one space at each end, where it is padded.
@@ -88,13 +86,11 @@ fn is_padded(text: &str) -> bool
     is_space(bytes.first()) && is_space(bytes.last()) && !is_blank(bytes)
 }
 
+/// Whether there is a byte, and it is a space.
 fn is_space(byte: Option<&u8>) -> bool
     ensures { result ≡ texts.is_space (option_copied byte.entry) }
 {
-    match byte {
-        Some(byte) => *byte == b' ',
-        None => false,
-    }
+    byte.is_some_and(|byte| *byte == b' ')
 }
 
 /// Whether a text is all spaces.

@@ -25,12 +25,14 @@ fn align_attribute(kind: AlignKind) -> &'static str
     }
 }
 
+/// How a cell's start tag begins.
 fn cell_start(in_head: bool) -> &'static str
     ensures { result.now ≡ tables.cell_start in_head }
 {
     if in_head { "<th" } else { "<td" }
 }
 
+/// A cell's end tag.
 fn cell_end(in_head: bool) -> &'static str
     ensures { result.now ≡ tables.cell_end in_head }
 {

@@ -75,25 +75,12 @@ pub fn reference(printer: &mut Printer, given: &Given, exit: &Exit) -> Result<()
     put_encoded(printer, text.as_str(), exit.around.is_escaping)
 }
 
-fn is_dropped_when(in_definition: bool, slurping: bool, after_definition: bool) -> bool
-    ensures { result ≡ (not in_definition && slurping || after_definition) }
-{
-    !in_definition && slurping || after_definition
-}
-
 /// A line ending that isn't printed: it is slurped, or stands after a definition.
 fn is_dropped(exit: &Exit) -> bool
     ensures { result ≡ texts.is_dropped exit.now.around (left_at exit.now [] []) }
 {
-    let after_definition = match exit.previous {
-        Some(name) => is_definition(name),
-        None => false,
-    };
-    is_dropped_when(
-        exit.around.in_definition,
-        exit.is_slurping,
-        after_definition,
-    )
+    let after_definition = exit.previous.is_some_and(is_definition);
+    !exit.around.in_definition && exit.is_slurping || after_definition
 }
 
 /// Prints a line ending: a space in code, else its own text unless it is dropped.

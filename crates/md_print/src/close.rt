@@ -15,8 +15,8 @@ ghost use Rattle.md_printer.specs.Given.{given_of, closing_at, left_at};
 
 use crate::groups::{Group, group_of};
 use crate::open::{is_tight, outside_images, rank_of};
-use md_base::name_tests::{is_fence, is_item_prefix, is_paragraph};
 use md_base::Name;
+use md_base::name_tests::{is_fence, is_item_prefix, is_paragraph};
 use md_meaning::{Container, Passed, Surroundings};
 use md_pieces::calls::call;
 use md_pieces::code::code_text;
@@ -262,6 +262,7 @@ fn blank_line_ending(printer: &mut Printer, ending: &str, is_last: bool) -> Resu
     }
 }
 
+/// A list's end stands on its own line, after a line ending in any case.
 fn list(printer: &mut Printer, ending: &str, tag: &str) -> Result<(), AllocError>
     ensures { OnOk result (printer.new ≡ printing ending.now (Forced ∷ Text tag.now ∷ []) printer.old) }
 {
@@ -275,22 +276,17 @@ fn item(printer: &mut Printer, ending: &str, around: Surroundings) -> Result<(),
         printer.old) }
 {
     let tight = is_tight(around.container);
-    let joins = match printer.passed().contributing {
-        Some(name) => joins_item_end(is_item_prefix(name), is_paragraph(name), tight),
-        None => false,
-    };
+    let joins = printer
+        .passed()
+        .contributing
+        .is_some_and(|name| is_item_prefix(name) || is_paragraph(name) && tight);
     if !joins {
         printer.need(ending)?;
     }
     printer.put("</li>")
 }
 
-fn joins_item_end(prefix: bool, paragraph: bool, tight: bool) -> bool
-    ensures { result ≡ (prefix || paragraph && tight) }
-{
-    prefix || paragraph && tight
-}
-
+/// A paragraph's end tag, unless it is in a tight list.
 fn paragraph(printer: &mut Printer, around: Surroundings) -> Result<(), AllocError>
     ensures { OnOk result (printer.new ≡ printing [] (blocks.paragraph_closing around) printer.old) }
 {
@@ -311,6 +307,7 @@ fn heading(printer: &mut Printer, bytes: &[u8]) -> Result<(), AllocError>
     printer.put(heading_closing(rank_of(bytes, place)))
 }
 
+/// The end tag of a heading of a rank.
 fn heading_closing(rank: usize) -> &'static str
     ensures { result.now ≡ blocks.heading_closing rank }
 {
@@ -336,15 +333,14 @@ fn setext(printer: &mut Printer, given: &Given, exit: &Exit) -> Result<(), Alloc
     printer.put(if dashed { "</h2>" } else { "</h1>" })
 }
 
+/// Whether there is a dash at an index.
 fn is_dash_at(bytes: &[u8], index: usize) -> bool
     ensures { result ≡ blocks.is_dash_at bytes.now index }
 {
-    match bytes.get(index) {
-        Some(byte) => *byte == b'-',
-        None => false,
-    }
+    bytes.get(index).is_some_and(|byte| *byte == b'-')
 }
 
+/// The end of indented code, on its own line where there is a line of code.
 fn indented(printer: &mut Printer, ending: &str) -> Result<(), AllocError>
     ensures { OnOk result (printer.new ≡ printing ending.now (blocks.indented_closing printer.old.frame.passed)
         printer.old) }
@@ -366,24 +362,21 @@ fn fence(printer: &mut Printer, exit: &Exit) -> Result<(), AllocError>
     }
 }
 
+/// Whether code has one fence alone.
+fn is_unclosed(passed: Passed) -> bool
+    ensures { result ≡ blocks.is_unclosed passed }
+{
+    passed.spine.has_fence && !passed.spine.has_second_fence
+}
+
+/// Whether a block quote or a list is around.
 fn is_contained(container: Container) -> bool
     ensures { result ≡ blocks.is_contained container }
 {
     !matches!(container, Container::Nothing)
 }
 
-fn all_three(a: bool, b: bool, c: bool) -> bool
-    ensures { result ≡ (a && b && c) }
-{
-    a && b && c
-}
-
-fn unless(a: bool, b: bool) -> bool
-    ensures { result ≡ (a && not b) }
-{
-    a && !b
-}
-
+/// Prints a line ending in any case, where it is asked for.
 fn force_if(printer: &mut Printer, ending: &str, forced: bool) -> Result<(), AllocError>
     ensures { OnOk result (printer.new ≡ printing ending.now (blocks.when forced (Forced ∷ [])) printer.old) }
 {
@@ -394,35 +387,34 @@ fn force_if(printer: &mut Printer, ending: &str, forced: bool) -> Result<(), All
     }
 }
 
+/// Prints a line ending unless a line begins here, where it is asked for.
 fn need_if(printer: &mut Printer, ending: &str, needed: bool) -> Result<(), AllocError>
     ensures { OnOk result (printer.new ≡ printing ending.now (blocks.when needed (Needed ∷ [])) printer.old) }
 {
     if needed { printer.need(ending) } else { Ok(()) }
 }
 
-/// Code that isn't closed and stands in a container, where more than its fence is in it.
-fn runs_out(around: Surroundings, passed: Passed, unclosed: bool) -> bool
-    ensures { unclosed ≡ blocks.is_unclosed passed → result ≡ blocks.runs_out around passed }
+/// Whether code isn't closed and stands in a container, and more than its fence is in it.
+fn runs_out(around: Surroundings, passed: Passed) -> bool
+    ensures { result ≡ blocks.runs_out around passed }
 {
-    let after_fence = match passed.last {
-        Some(name) => is_fence(name),
-        None => false,
-    };
-    all_three(unclosed, is_contained(around.container), !after_fence)
+    let after_fence = passed.last.is_some_and(is_fence);
+    is_unclosed(passed) && is_contained(around.container) && !after_fence
 }
 
+/// The end of fenced code or of mathematics, with what an unclosed fence lacks.
 fn fenced(printer: &mut Printer, ending: &str, around: Surroundings) -> Result<(), AllocError>
     ensures { OnOk result (printer.new ≡ printing ending.now (blocks.fenced_closing around printer.old.frame.passed)
         printer.old) }
 {
     let passed = printer.passed();
-    let unclosed = unless(passed.spine.has_fence, passed.spine.has_second_fence);
-    force_if(printer, ending, runs_out(around, passed, unclosed))?;
+    force_if(printer, ending, runs_out(around, passed))?;
     need_if(printer, ending, passed.spine.has_chunk)?;
     printer.put("</code></pre>")?;
-    need_if(printer, ending, unclosed)
+    need_if(printer, ending, is_unclosed(passed))
 }
 
+/// A line of code, with the columns of tabs that are cut at its ends.
 fn chunk(printer: &mut Printer, given: &Given, exit: &Exit) -> Result<(), AllocError>
     ensures { OnOk result (printer.new
         ≡ printing [] (blocks.chunk_pieces (given_of given.now) exit.now.start exit.now.end) printer.old) }
@@ -431,6 +423,7 @@ fn chunk(printer: &mut Printer, given: &Given, exit: &Exit) -> Result<(), AllocE
     put_encoded(printer, text.as_str(), true)
 }
 
+/// Code or mathematics in a text; in an image, without its tags.
 fn code(
     alloc: Global,
     printer: &mut Printer,

@@ -94,6 +94,7 @@ pub fn is_tight(container: Container) -> bool
     matches!(container, Container::TightList)
 }
 
+/// A paragraph's start tag, unless it is in a tight list.
 fn paragraph(printer: &mut Printer, ending: &str, around: Surroundings) -> Result<(), AllocError>
     ensures { OnOk result (printer.new ≡ printing ending.now (blocks.paragraph_opening around) printer.old) }
 {
@@ -104,6 +105,7 @@ fn paragraph(printer: &mut Printer, ending: &str, around: Surroundings) -> Resul
     }
 }
 
+/// The start tag of an ordered list, with its number.
 fn ordered_list(
     printer: &mut Printer,
     given: &Given,
@@ -153,6 +155,7 @@ pub fn rank_of(bytes: &[u8], mark: Option<Position>) -> usize
     }
 }
 
+/// The start tag of a heading of a rank.
 fn heading_opening(rank: usize) -> &'static str
     ensures { result.now ≡ blocks.heading_opening rank }
 {
@@ -167,6 +170,7 @@ fn heading_opening(rank: usize) -> &'static str
     }
 }
 
+/// A task's box, up to whether it is checked.
 fn task(printer: &mut Printer, given: &Given, around: Surroundings) -> Result<(), AllocError>
     ensures { OnOk result (printer.new ≡ printing [] (texts.task_pieces (given_of given.now) around) printer.old) }
 {

@@ -22,13 +22,13 @@ returns c =
     let F : Bool → Printer = λ b. printing ending (when b (Forced ∷ [])) start in
     let L : Bool → Printer → Printer = λ b s. printing ending (when b (Needed ∷ [])) s in
     subst P
-    (ap (λ b. L b c.put.new.self) c.unless-unclosed.ensures
+    (ap (λ b. L b c.put.new.self) c.is_unclosed.ensures
     ∙ ap (λ s. printing ending last s)
     (c.in_ok-put.ensures
     ∙ ap (λ s. printing ending end s)
     (c.in_ok-need_if.ensures
     ∙ ap (λ s. printing ending needed s)
-    (c.in_ok-force_if.ensures ∙ ap F (c.runs_out.ensures c.unless-unclosed.ensures))))
+    (c.in_ok-force_if.ensures ∙ ap F c.runs_out.ensures)))
     ∙ sym (printing-append ending forced (needed ++ (end ++ last)) start
     ∙ printing-append ending needed (end ++ last) (printing ending forced start)
     ∙ printing-append ending end last (printing ending needed (printing ending forced start)))
