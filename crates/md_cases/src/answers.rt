@@ -81,7 +81,7 @@ fn by_compile(alloc: Global, script: &Script<'_>) -> Result<String, RunError> {
     )?)
 }
 
-/// What `compile_counted` answers; `Memory` unless each event is visited once at least and three times at most.
+/// What `compile_counted` answers; `Memory` unless there are two visits of each event at least and three at most.
 fn by_counted(alloc: Global, script: &Script<'_>) -> Result<String, RunError> {
     let counted = compile_counted(
         alloc,
@@ -90,8 +90,8 @@ fn by_counted(alloc: Global, script: &Script<'_>) -> Result<String, RunError> {
         &script.options,
         &REFERENCE_NAMES,
     )?;
-    let events = script.events.len();
-    if events <= counted.visits && counted.visits / 3 <= events {
+    let (visits, events) = (counted.visits as u128, script.events.len() as u128);
+    if 2 * events <= visits && visits <= 3 * events {
         Ok(counted.text)
     } else {
         Err(RunError::Memory)

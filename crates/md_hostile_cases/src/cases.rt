@@ -84,7 +84,7 @@ fn compiled(
     text
 }
 
-/// Whether a counted answer is the same one, with a visit of each event and at most five of them.
+/// Whether a counted answer is the same one, with two visits of each event at least and three at most.
 fn is_counted(
     answer: &Result<String, CompileError>,
     counted: &Result<Counted, CompileError>,
@@ -92,7 +92,8 @@ fn is_counted(
 ) -> bool {
     match (answer, counted) {
         (Ok(text), Ok(counted)) => {
-            counted.text == *text && events <= counted.visits && counted.visits / 5 <= events
+            let (visits, events) = (counted.visits as u128, events as u128);
+            counted.text == *text && 2 * events <= visits && visits <= 3 * events
         }
         (Err(refusal), Err(counted)) => counted == refusal,
         _ => false,
