@@ -1,9 +1,10 @@
 -- Each name that isn't captured prints at its exit what its group's table has for it; the others have nothing.
--- So `close` asks one table, while the definition goes through all four.
-use Rattle.std.proofs.Common.{◌≡◌, ℕ, Bool, List, ◌++◌, refl, sym, ap, ◌∙◌}
+-- So `close` asks one table, while the definition goes through all four; so does `close_medium` for most others.
+use Rattle.std.proofs.Common.{◌≡◌, ◌≢◌, ℕ, Bool, true, false, List, [], ◌++◌, refl, sym, ap, ◌∙◌}
+use Rattle.std.specs.Prelude.{if◌then◌else◌}
 use Rattle.std.proofs.lemmas.List.{append-nil}
 use Rattle.md_base.specs.declared.event.Name.{Name}
-use Rattle.md_base.specs.declared.event.Name.TheVariants.{LineEnding, BlankLineEnding, Emphasis, Strong, GfmStrikethrough, HardBreakEscape, HardBreakTrailing, GfmTaskListItemCheck, GfmTaskListItemValueChecked, ListItem, Paragraph, CodeIndented, CodeFenced, MathFlow, CodeFencedFence, MathFlowFence, AutolinkEmail, AutolinkProtocol, GfmAutolinkLiteralEmail, GfmAutolinkLiteralMailto, GfmAutolinkLiteralProtocol, GfmAutolinkLiteralWww, GfmAutolinkLiteralXmpp, CodeText}
+use Rattle.md_base.specs.declared.event.Name.TheVariants.{LineEnding, BlankLineEnding, Emphasis, Strong, GfmStrikethrough, HardBreakEscape, HardBreakTrailing, GfmTaskListItemCheck, GfmTaskListItemValueChecked, ListItem, Paragraph, CodeIndented, CodeFenced, MathFlow, CodeFencedFence, MathFlowFence, AutolinkEmail, AutolinkProtocol, GfmAutolinkLiteralEmail, GfmAutolinkLiteralMailto, GfmAutolinkLiteralProtocol, GfmAutolinkLiteralWww, GfmAutolinkLiteralXmpp, CodeText, MathText, Link, Image, GfmFootnoteCall, GfmTableCell}
 use Rattle.md_meaning.specs.Piece.{Piece, Sheet}
 use Rattle.md_base.specs.declared.event.Point.{Point}
 use Rattle.md_meaning.specs.Given.{Given}
@@ -13,6 +14,9 @@ use Rattle.md_meaning.specs.declared.context.Ahead.{Ahead}
 use Rattle.md_meaning.specs.declared.context.Passed.{Passed}
 use Rattle.md_meaning.specs.Printed.{text_closing, block_closing, media_closing, gfm_closing, is_captured}
 use Rattle.md_printer.specs.Machine.{Printer, printing}
+use Rattle.md_printer.specs.declared.frames.Exit.{Exit}
+use Rattle.md_printer.specs.Given.{left_at}
+use Rattle.md_around.specs.Steps.{first_or}
 use Rattle.md_print.specs.declared.groups.Group.{Group}
 use Rattle.md_print.specs.Closings.{group_of, in_group, is_captured_group}
 
@@ -28,6 +32,20 @@ pub record At : Type 0 where
   pub end : Point
   pub inner : Sheet
 
+-- what is handed where a node is exited, whose children tell this ahead
+abbrev pub at_exit : Given → Exit → Ahead → Sheet → Printer → At
+at_exit given exit ahead inner state = record {
+  given = given;
+  around = exit.around;
+  left = left_at exit state.log.called (first_or [] state.tables);
+  ahead = ahead;
+  passed = state.frame.passed;
+  last = exit.is_last;
+  start = exit.start;
+  end = exit.end;
+  inner = inner;
+}
+
 abbrev pub text : At → Name → List Piece
 text at name = text_closing at.given at.around at.left at.last at.start at.end at.inner name
 
@@ -40,8 +58,12 @@ medium at name = media_closing at.given at.around at.ahead at.start at.end at.in
 abbrev pub table : At → Name → List Piece
 table at name = gfm_closing at.given at.around at.left at.ahead at.passed at.inner name
 
+-- what a node prints, from all four tables
+abbrev pub whole : At → Name → List Piece
+whole at name = text at name ++ (block at name ++ (medium at name ++ table at name))
+
 -- what a node prints is what its group prints
-pub closing-group : (at : At) (name : Name) → text at name ++ (block at name ++ (medium at name ++ table at name))
+pub closing-group : (at : At) (name : Name) → whole at name
     ≡ in_group (group_of name) (text at name) (block at name) (medium at name) (table at name)
 closing-group at LineEnding = append-nil (text at LineEnding)
 closing-group at BlankLineEnding = append-nil (text at BlankLineEnding)
@@ -77,7 +99,38 @@ captured-group _ = refl
 pub printing-group : (ending : List ℕ) (at : At) (name : Name) (group : Group) → group ≡ group_of name →
     (state : Printer) →
     printing ending (in_group group (text at name) (block at name) (medium at name) (table at name)) state
-    ≡ printing ending (text at name ++ (block at name ++ (medium at name ++ table at name))) state
+    ≡ printing ending (whole at name) state
 printing-group ending at name group same state =
     ap (λ g. printing ending (in_group g (text at name) (block at name) (medium at name) (table at name)) state) same
     ∙ ap (λ pieces. printing ending pieces state) (sym (closing-group at name))
+
+-- a captured name that prints neither as code nor as a part of a table or a footnote call
+abbrev pub is_medium : Name → Bool
+is_medium name = elim name [
+  | CodeText ↦ false
+  | MathText ↦ false
+  | GfmFootnoteCall ↦ false
+  | GfmTableCell ↦ false
+  | other ↦ is_captured other
+]
+
+pub captured-medium : (name : Name) → name ≢ CodeText → name ≢ MathText → name ≢ GfmFootnoteCall →
+    name ≢ GfmTableCell → is_captured name ≡ true → is_medium name ≡ true
+captured-medium CodeText code math call cell captured = absurd (code refl)
+captured-medium MathText code math call cell captured = absurd (math refl)
+captured-medium GfmFootnoteCall code math call cell captured = absurd (call refl)
+captured-medium GfmTableCell code math call cell captured = absurd (cell refl)
+captured-medium _ code math call cell captured = captured
+
+-- what such a node prints is what the table of media has for it
+closing-medium : (at : At) (name : Name) →
+    (if is_medium name then whole at name else medium at name) ≡ medium at name
+closing-medium at Link = append-nil (medium at Link)
+closing-medium at Image = append-nil (medium at Image)
+closing-medium at _ = refl
+
+pub printing-medium : (ending : List ℕ) (at : At) (name : Name) → is_medium name ≡ true → (state : Printer) →
+    printing ending (medium at name) state ≡ printing ending (whole at name) state
+printing-medium ending at name same state =
+    ap (λ pieces. printing ending pieces state) (sym (closing-medium at name)
+    ∙ ap (λ b. if b then whole at name else medium at name) same)

@@ -219,6 +219,26 @@ pub fn close_captured(
             let tag = "<code class=\"language-math math-inline\">";
             code(given.alloc, printer, exit.around, tag, &inner.sheet)
         }
+        Name::GfmFootnoteCall => call(printer, given, exit, inner.place),
+        Name::GfmTableCell => close_cell(given.alloc, printer, given.ending, exit, &inner.sheet),
+        _ => close_medium(printer, given, exit, inner, name),
+    }
+}
+
+/// Prints a link or an image, or notes a heading's text, a destination, a title or a resource.
+fn close_medium(
+    printer: &mut Printer,
+    given: &Given,
+    exit: &Exit,
+    inner: Inner,
+    name: Name,
+) -> Result<(), AllocError>
+    requires { is_captured name ≡ true }
+    ensures { OnOk result (printer.new ≡ printing given.now.ending.now
+        (printed.media_closing (given_of given.now) exit.now.around (ahead_by inner.place) exit.now.start
+        exit.now.end inner.sheet name) printer.old) }
+{
+    match name {
         Name::HeadingSetextText => {
             printer.note_heading(inner.sheet.into_text(given.alloc)?);
             Ok(())
@@ -245,8 +265,6 @@ pub fn close_captured(
         }
         Name::Link => link(printer, given, exit, inner),
         Name::Image => image(printer, given, exit, inner),
-        Name::GfmFootnoteCall => call(printer, given, exit, inner.place),
-        Name::GfmTableCell => close_cell(given.alloc, printer, given.ending, exit, &inner.sheet),
         _ => Ok(()),
     }
 }

@@ -33,6 +33,16 @@ without_place line sign rest e nothing =
     unplaced (kind_of sign) (name_of (before_first is_space rest)) (point_of (after_first is_space rest))
     (ap point_of nothing) ∙ ap event_of (sym e)
 
+-- the parts of a line make up its event
+pub event_built : (line : List ℕ) (sign : ℕ) (rest before after : List ℕ) (kind : Option Kind) (name : Option Name)
+    (point : Option Point) → line ≡ sign ∷ rest → before ≡ before_first is_space rest →
+    after ≡ after_first is_space rest → kind ≡ kind_of sign → name ≡ name_of before → point ≡ point_of after →
+    built kind name point ≡ event_of line
+event_built line sign rest before after kind name point whole front back kinds names points =
+    ap (λ k. built k name point) kinds ∙ ap (λ n. built (kind_of sign) n point) (names ∙ ap name_of front)
+    ∙ ap (built (kind_of sign) (name_of (before_first is_space rest))) (points ∙ ap point_of back)
+    ∙ ap event_of (sym whole)
+
 -- ---- the first line
 
 pub lines_at : (input : List ℕ) → true ≡ list_any is_line_feed input →

@@ -89,6 +89,16 @@ fn take_line<'a>(
         events.push(event)?;
         return Ok(true);
     }
+    keep_setting(settings, line)
+}
+
+/// Keeps a line that sets an option, if none of those before it sets the same one; whether it was kept.
+fn keep_setting<'a>(settings: &mut Vec<&'a [u8]>, line: &'a [u8]) -> Result<bool, AllocError>
+    ensures kept { IfOk result (λ kept. kept ≡ (is_setting line.now
+        && is_new (texts_of settings.old.items) (option_name line.now))) }
+    ensures settings { IfOk result (λ kept. kept ≡ true → texts_of settings.new.items
+        ≡ texts_of settings.old.items ++ line.now ∷ []) }
+{
     if is_setting(line) && is_new(settings.as_slice(), line) {
         settings.push(line)?;
         return Ok(true);

@@ -194,6 +194,11 @@ pub(crate) fn options_given(alloc: Global, lines: &[&[u8]]) -> Result<CompileOpt
     ensures { IfOk result (HasOptions (spec.texts_of lines.now)) }
 {
     Ok(CompileOptions {
+        gfm_footnote_back_label: text_given(alloc, lines, b"gfm_footnote_back_label")?,
+        gfm_footnote_clobber_prefix: text_given(alloc, lines, b"gfm_footnote_clobber_prefix")?,
+        gfm_footnote_label: text_given(alloc, lines, b"gfm_footnote_label")?,
+        gfm_footnote_label_attributes: text_given(alloc, lines, b"gfm_footnote_label_attributes")?,
+        gfm_footnote_label_tag_name: text_given(alloc, lines, b"gfm_footnote_label_tag_name")?,
         allow_any_img_src: is_given(lines, b"allow_any_img_src"),
         allow_dangerous_html: is_given(lines, b"allow_dangerous_html"),
         allow_dangerous_protocol: is_given(lines, b"allow_dangerous_protocol"),
@@ -201,10 +206,5 @@ pub(crate) fn options_given(alloc: Global, lines: &[&[u8]]) -> Result<CompileOpt
         gfm_tagfilter: is_given(lines, b"gfm_tagfilter"),
         gfm_footnote_number_ids: is_given(lines, b"gfm_footnote_number_ids"),
         default_line_ending: line_ending_given(lines),
-        gfm_footnote_back_label: text_given(alloc, lines, b"gfm_footnote_back_label")?,
-        gfm_footnote_clobber_prefix: text_given(alloc, lines, b"gfm_footnote_clobber_prefix")?,
-        gfm_footnote_label: text_given(alloc, lines, b"gfm_footnote_label")?,
-        gfm_footnote_label_attributes: text_given(alloc, lines, b"gfm_footnote_label_attributes")?,
-        gfm_footnote_label_tag_name: text_given(alloc, lines, b"gfm_footnote_label_tag_name")?,
     })
 }

@@ -1,5 +1,5 @@
 -- What is found of a node by the index of the event that enters it. Only contracts of private functions speak of it.
-use Rattle.std.specs.Prelude.{◌≡◌, ℕ, zero, suc, Option, Some, None, List, slice_get}
+use Rattle.std.specs.Prelude.{◌≡◌, ℕ, zero, suc, Option, Some, None, option_and_then, List, slice_get}
 use Rattle.md_base.specs.declared.event.Name.{Name}
 use Rattle.md_base.specs.declared.event.Event.{Event}
 use Rattle.md_base.specs.declared.event.Position.{Position}
@@ -36,14 +36,14 @@ abbrev pub partner_event : List Event → Option Fact → Option Event
 partner_event events None = None
 partner_event events (Some fact) = slice_get events fact.partner
 
--- the place of the node that the event at an index enters; 0 stands for no index
+-- the place of the node that the event at an index enters
 abbrev pub position_there : List Event → List Fact → ℕ → Option Position
 position_there events facts index = position_from (slice_get events index)
     (partner_event events (slice_get facts index))
 
+-- the same, where 0 stands for no index
 abbrev pub position_at : List Event → List Fact → ℕ → Option Position
-position_at events facts zero = None
-position_at events facts (suc index) = position_there events facts (suc index)
+position_at events facts index = option_and_then (λ there. position_there events facts there) (index_if index)
 
 -- the place of the node that the event at an index exits
 abbrev pub position_ended : List Event → List Fact → ℕ → Option Position

@@ -1,6 +1,6 @@
 -- What leads nowhere.
 use Rattle.std.specs.BTreeSet.{BTreeSet}
-use Rattle.std.specs.Prelude.{◌≡◌, ◌↔◌, ℕ, Option, Some, option_map, List, map, slice_get, string_bytes, String}
+use Rattle.std.specs.Prelude.{◌≡◌, ◌↔◌, ℕ, Option, Some, None, option_map, List, map, slice_get, string_bytes, String}
 use Rattle.std.specs.List.{Contains}
 use Rattle.std.specs.declared.alloc.Global.{Global}
 use Rattle.md_base.specs.declared.event.Position.{Position}
@@ -39,17 +39,16 @@ identifiers_of found = map (λ text. option_map string_bytes text) found.keys
 abbrev pub HaveSame : List (Option (List ℕ)) → List (Option (List ℕ)) → Type 0
 HaveSame some others = (identifier : Option (List ℕ)) → Contains some identifier ↔ Contains others identifier
 
--- what a mention leads to is among these identifiers of definitions and footnote definitions
-abbrev pub IsFound : List ℕ → List (Option (List ℕ)) → List (Option (List ℕ)) → Mention → Type 0
-IsFound bytes definitions footnotes (Reference label) = Contains definitions (identifier_at bytes label)
-IsFound bytes definitions footnotes (Call label) = Contains footnotes (identifier_at bytes label)
-IsFound bytes definitions footnotes _ = Unit {0}
+-- a rule is broken exactly where a claim does not hold: only contracts of private functions speak of it
+abbrev pub IsJudged : Type 0 → Rule → Option Rule → Type 0
+IsJudged claim judged None = claim
+IsJudged claim judged (Some broken) = (broken ≡ judged) × (claim → ⊥)
 
--- it isn't, and so the rule is broken
-abbrev pub IsMissing : List ℕ → List (Option (List ℕ)) → List (Option (List ℕ)) → Mention → Rule →
-    Type 0
-IsMissing bytes definitions footnotes (Reference label) broken = (broken ≡ rule.Definition)
-    × (Contains definitions (identifier_at bytes label) → ⊥)
-IsMissing bytes definitions footnotes (Call label) broken = (broken ≡ rule.Footnote)
-    × (Contains footnotes (identifier_at bytes label) → ⊥)
-IsMissing bytes definitions footnotes _ broken = ⊥
+-- the rule that a mention breaks that leads to none of these definitions or footnote definitions
+abbrev pub IsMentionJudged : List ℕ → List (Option (List ℕ)) → List (Option (List ℕ)) → Mention →
+    Option Rule → Type 0
+IsMentionJudged bytes definitions footnotes (Reference label) broken =
+    IsJudged (Contains definitions (identifier_at bytes label)) rule.Definition broken
+IsMentionJudged bytes definitions footnotes (Call label) broken =
+    IsJudged (Contains footnotes (identifier_at bytes label)) rule.Footnote broken
+IsMentionJudged bytes definitions footnotes _ broken = broken ≡ None

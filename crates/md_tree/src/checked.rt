@@ -3,7 +3,7 @@
 ghost use Rattle.std.specs.Prelude.{◌≡◌, ◌↔◌, ◌<◌, Some, length, map, option_map, slice_get, IsTrue};
 ghost use Rattle.md_base.specs.declared.event.Event.{Event};
 ghost use Rattle.md_infer.specs.declared.facts.Fact.{Fact};
-ghost use Rattle.md_tree.specs.Found.{index_if, position_at, position_ended};
+ghost use Rattle.md_tree.specs.Found.{index_if, position_at, position_there, position_ended};
 ghost use Rattle.md_tree.specs.Texts.{IsEventAt};
 
 use crate::input::{label_at, text_at};
@@ -265,7 +265,7 @@ impl<'a> Checked<'a> {
         ensures entered { EntersNode self.now index }
         ensures reads { IsReadAt self.now index result }
     {
-        position_of(self.events, &self.facts, self.fact(index).read_at)
+        position_read(self.events, &self.facts, self.fact(index))
     }
 
     /// Whether the link or the image that the event at the index enters has a resource.
@@ -370,13 +370,17 @@ fn partner_at(facts: &[Fact], index: usize) -> Option<usize>
     }
 }
 
-/// Where the node lies that the event at the index enters, if the index isn't 0.
-fn position_of(events: &[Event], facts: &[Fact], index: usize) -> Option<Position>
-    ensures { result ≡ position_at events.now facts.now index }
+/// Where the node lies that is read of the node of a fact, if there is one.
+fn position_read(events: &[Event], facts: &[Fact], fact: Fact) -> Option<Position>
+    ensures { result ≡ position_at events.now facts.now fact.read_at }
 {
-    if index == 0 {
-        return None;
-    }
+    position_of(events, facts, index_if(fact.read_at)?)
+}
+
+/// Where the node lies that the event at the index enters.
+fn position_of(events: &[Event], facts: &[Fact], index: usize) -> Option<Position>
+    ensures { result ≡ position_there events.now facts.now index }
+{
     let first = events.get(index)?;
     let fact = facts.get(index)?;
     let last = events.get(fact.partner)?;

@@ -1,8 +1,8 @@
 //! The rules that are judged where a node ends.
 
-ghost use Rattle.std.specs.Prelude.{◌≡◌, List, length, nat_lt, option_copied, IfOk, if◌then◌else◌};
+ghost use Rattle.std.specs.Prelude.{◌≡◌, ◌&&◌, List, length, nat_lt, nat_le, is_some, option_copied, IfOk, if◌then◌else◌};
 ghost use Rattle.md_base.specs.Place.{fits, text_between, label_between};
-ghost use Rattle.md_base.specs.Reference.{name_table, is_number};
+ghost use Rattle.md_base.specs.Reference.{name_table, is_number, decoded};
 ghost use Rattle.md_tree.specs.Rules.{is_line_ending, is_decodable, is_list_number, is_rank, marker_after, columns, unless, broken_by, broken_by_target, broken_rule, target_at};
 ghost use Rattle.md_tree.specs.Mentions.{mention_of};
 ghost use Rattle.md_tree.specs.Walk.{point_at, place_at, target_seen};
@@ -105,8 +105,17 @@ fn broken_value(
     let Some(marker) = marker(before) else {
         return Ok(None);
     };
-    let value = decode_character_reference(input.alloc, text, marker, input.names)?;
-    Ok(rule_unless(value.is_some(), Rule::CharacterReference))
+    let decodes = is_decodable(input, marker, text)?;
+    Ok(rule_unless(decodes, Rule::CharacterReference))
+}
+
+/// Whether the value of a character reference with this marker stands for a text.
+fn is_decodable(input: Input, marker: u8, value: &str) -> Result<bool, AllocError>
+    ensures { IfOk result
+        (λ decodes. decodes ≡ is_some (decoded (name_table input.entry.names.now) marker value.now)) }
+{
+    let text = decode_character_reference(input.alloc, value, marker, input.names)?;
+    Ok(text.is_some())
 }
 
 /// The marker of the reference whose value stands after a symbol, where it is one of its marks.
@@ -157,9 +166,16 @@ fn is_rank(around: Role, before: Option<Symbol>, length: usize) -> bool
     ensures { result ≡ is_rank around before length }
 {
     match (around, before) {
-        (Role::Heading, None) => 1 <= length && length <= 6,
+        (Role::Heading, None) => is_heading_rank(length),
         _ => true,
     }
+}
+
+/// Whether headings have this rank.
+fn is_heading_rank(rank: usize) -> bool
+    ensures { result ≡ (nat_le 1 rank && nat_le rank 6) }
+{
+    1 <= rank && rank <= 6
 }
 
 /// The first byte of an underline.

@@ -1,9 +1,10 @@
 //! Whether the definitions are there to which links, images and footnote calls lead.
 
-ghost use Rattle.std.specs.Prelude.{◌≡◌, ◌↔◌, option_map, string_bytes, IfOk, OnOk, IfErr, IfSome, None, IsTrue};
+ghost use Rattle.std.specs.Prelude.{◌≡◌, ◌↔◌, option_map, string_bytes, IfOk, OnOk, IfErr, IsTrue};
 ghost use Rattle.std.specs.List.{All, Contains};
 ghost use Rattle.md_tree.specs.Mentions.{identifier_at, defined, footnoted, mentions_among, IsResolved};
-ghost use Rattle.md_tree.specs.Resolve.{IsUnresolved, identifiers_of, HaveSame, IsFound, IsMissing};
+ghost use Rattle.md_tree.specs.Resolve.{IsUnresolved, identifiers_of, HaveSame, IsJudged, IsMentionJudged};
+ghost use Rattle.md_tree.specs.declared.rule.Rule.TheVariants as rule;
 
 use crate::input::label_at;
 use crate::judge::rule_unless;
@@ -97,22 +98,57 @@ fn unresolved(
     definitions: &Identifiers,
     footnotes: &Identifiers,
 ) -> Result<Option<Rule>, AllocError>
-    ensures none { IfOk result
-        (λ rule. rule ≡ None
-        → IsFound bytes.now (identifiers_of definitions.now) (identifiers_of footnotes.now) mention) }
-    ensures some { IfOk result
-        (λ broken. IfSome broken (λ rule. IsMissing bytes.now (identifiers_of definitions.now)
-        (identifiers_of footnotes.now) mention rule)) }
+    ensures { IfOk result
+        (λ broken. IsMentionJudged bytes.now (identifiers_of definitions.now) (identifiers_of footnotes.now)
+        mention broken) }
 {
     match mention {
-        Mention::Reference(label) => {
-            let wanted = identifier(alloc, bytes, label)?;
-            Ok(rule_unless(is_among(definitions, &wanted), Rule::Definition))
-        }
-        Mention::Call(label) => {
-            let wanted = identifier(alloc, bytes, label)?;
-            Ok(rule_unless(is_among(footnotes, &wanted), Rule::Footnote))
-        }
+        Mention::Reference(label) => broken_reference(alloc, bytes, label, definitions),
+        Mention::Call(label) => broken_call(alloc, bytes, label, footnotes),
         _ => Ok(None),
     }
+}
+
+/// The rule that a link or an image breaks whose definition isn't among these.
+fn broken_reference(
+    alloc: Global,
+    bytes: &[u8],
+    label: Position,
+    definitions: &Identifiers,
+) -> Result<Option<Rule>, AllocError>
+    ensures { IfOk result
+        (λ broken. IsJudged (Contains (identifiers_of definitions.now) (identifier_at bytes.now label))
+        rule.Definition broken) }
+{
+    let is_defined = is_found(alloc, bytes, label, definitions)?;
+    Ok(rule_unless(is_defined, Rule::Definition))
+}
+
+/// The rule that a footnote call breaks whose footnote definition isn't among these.
+fn broken_call(
+    alloc: Global,
+    bytes: &[u8],
+    label: Position,
+    footnotes: &Identifiers,
+) -> Result<Option<Rule>, AllocError>
+    ensures { IfOk result
+        (λ broken. IsJudged (Contains (identifiers_of footnotes.now) (identifier_at bytes.now label))
+        rule.Footnote broken) }
+{
+    let is_defined = is_found(alloc, bytes, label, footnotes)?;
+    Ok(rule_unless(is_defined, Rule::Footnote))
+}
+
+/// Whether the identifier at a label's place is among these.
+fn is_found(
+    alloc: Global,
+    bytes: &[u8],
+    label: Position,
+    among: &Identifiers,
+) -> Result<bool, AllocError>
+    ensures { IfOk result
+        (λ found. IsTrue found ↔ Contains (identifiers_of among.now) (identifier_at bytes.now label)) }
+{
+    let wanted = identifier(alloc, bytes, label)?;
+    Ok(is_among(among, &wanted))
 }

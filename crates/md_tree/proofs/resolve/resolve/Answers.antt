@@ -11,7 +11,7 @@ returns-in-Some-clause-refused c =
     IsUnresolvedBy-at c.args.bytes.now c.args.mentions.now (identifiers_of c.in_ok-definitions.definitions)
     (identifiers_of c.in_ok-footnotes.footnotes) c.loop-mentioned.mentioned-index _ c.in-Some.rule
     c.in_ok-definitions.ensures c.in_ok-footnotes.ensures c.loop-mentioned-test.true
-    (rw c.in-Some.is at c.in_ok-rule.ensures.some)
+    (rw c.in-Some.is at c.in_ok-rule.ensures)
 
 pub loop-mentioned-preserved : goal.loop-mentioned-preserved
 loop-mentioned-preserved c = λ k d below.
@@ -20,4 +20,4 @@ loop-mentioned-preserved c = λ k d below.
     (λ i h. c.loop-mentioned.invariant i d h)
     (IsResolved-at c.args.bytes.now c.args.mentions.now (identifiers_of c.in_ok-definitions.definitions)
     (identifiers_of c.in_ok-footnotes.footnotes) c.loop-mentioned.mentioned-index _ d c.in_ok-definitions.ensures
-    c.in_ok-footnotes.ensures c.loop-mentioned-test.true (c.in_ok-rule.ensures.none c.in_default.is)) k below
+    c.in_ok-footnotes.ensures c.loop-mentioned-test.true (rw c.in_default.is at c.in_ok-rule.ensures)) k below

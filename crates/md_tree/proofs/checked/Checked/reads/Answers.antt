@@ -34,7 +34,7 @@ returns-clause-reads c = λ name children enters reader entered.
     let given = c.args.self.now in
     let index = c.args.index in
     let found = c.fact.ensures.fact name children enters entered in
-    c.position_of.ensures
+    c.position_read.ensures
     ∙ ap (λ (g : Handed). position_at g.events c.deref.result.now c.fact.result.read_at) c.self.view_is
     ∙ ap (λ fs. position_at given.events fs c.fact.result.read_at) (c.deref.ensures.value
     ∙ facts_are c.self.inside given index c.self.invariant c.self.view_is)
