@@ -4,6 +4,7 @@ ghost use Rattle.std.specs.Prelude.{◌≡◌, ◌∷◌, ◌+◌, ◌≤◌, �
 ghost use Rattle.md_base.specs.Reference.{name_table};
 ghost use Rattle.md_base.specs.Tree.{Forest, flatten};
 ghost use Rattle.md_base.specs.declared.event.Kind.TheVariants.{Enter};
+ghost use Rattle.md_base.specs.declared.event.Name.TheVariants.{GfmFootnoteCall, GfmFootnoteDefinition, Definition};
 ghost use Rattle.md_tree.specs.Grammar.{IsChecked, handed};
 ghost use Rattle.md_tree.specs.Texts.{EntersAt};
 ghost use Rattle.md_tree.specs.Reads.{is_reader};
@@ -213,9 +214,9 @@ fn count_checked(
         definitions: &definitions,
         ..alone
     };
-    let ran = run(&given, checked)?;
-    let visits = visits.saturating_add(ran.visits);
-    let text = ran.printer.into_text(alloc, options, given.ending)?;
+    let printed = print(&given, checked)?;
+    let visits = visits.saturating_add(printed.visits);
+    let text = printed.text;
     Ok(Counted { text, visits })
 }
 
@@ -321,22 +322,47 @@ fn close_and_log(
         (machine.logging given.now.bytes.now (machine.ahead_by inner.place) name inner.sheet printer.old)) }
 {
     match name {
-        Name::GfmFootnoteCall => {
-            let place = inner.place;
-            close_captured(printer, given, exit, inner, name)?;
-            printer.log_call(identifier_at(given.alloc, given.bytes, place)?)
-        }
-        Name::GfmFootnoteDefinition => {
-            let identifier = identifier_at(given.alloc, given.bytes, inner.place)?;
-            printer.log_footnote(identifier, inner.sheet.into_text(given.alloc)?)
-        }
-        Name::Definition => {
-            let identifier = identifier_at(given.alloc, given.bytes, inner.place)?;
-            let target = inner.sheet.into_target();
-            printer.log_definition(Defined { identifier, target })
-        }
+        Name::GfmFootnoteCall => close_call(printer, given, exit, inner),
+        Name::GfmFootnoteDefinition => keep_footnote(printer, given, inner),
+        Name::Definition => keep_definition(printer, given, inner),
         _ => close_captured(printer, given, exit, inner, name),
     }
+}
+
+/// Prints a call of a footnote, and logs it.
+fn close_call(
+    printer: &mut Printer,
+    given: &Given,
+    exit: &Exit,
+    inner: Inner,
+) -> Result<(), AllocError>
+    ensures { OnOk result (printer.new ≡ machine.printing given.now.ending.now
+        (closing_at (given_of given.now) exit.now printer.old.log.called (steps.first_or [] printer.old.tables)
+        (machine.ahead_by inner.place) printer.old.frame.passed inner.sheet GfmFootnoteCall)
+        (machine.logging given.now.bytes.now (machine.ahead_by inner.place) GfmFootnoteCall inner.sheet printer.old)) }
+{
+    let place = inner.place;
+    close_captured(printer, given, exit, inner, Name::GfmFootnoteCall)?;
+    printer.log_call(identifier_at(given.alloc, given.bytes, place)?)
+}
+
+/// Logs a footnote, which prints nothing where it stands.
+fn keep_footnote(printer: &mut Printer, given: &Given, inner: Inner) -> Result<(), AllocError>
+    ensures { OnOk result (printer.new ≡ machine.logging given.now.bytes.now
+        (machine.ahead_by inner.place) GfmFootnoteDefinition inner.sheet printer.old) }
+{
+    let identifier = identifier_at(given.alloc, given.bytes, inner.place)?;
+    printer.log_footnote(identifier, inner.sheet.into_text(given.alloc)?)
+}
+
+/// Logs a definition, which prints nothing where it stands.
+fn keep_definition(printer: &mut Printer, given: &Given, inner: Inner) -> Result<(), AllocError>
+    ensures { OnOk result (printer.new ≡ machine.logging given.now.bytes.now
+        (machine.ahead_by inner.place) Definition inner.sheet printer.old) }
+{
+    let identifier = identifier_at(given.alloc, given.bytes, inner.place)?;
+    let target = inner.sheet.into_target();
+    printer.log_definition(Defined { identifier, target })
 }
 
 /// Exits a node whose children are captured.
@@ -509,6 +535,19 @@ fn advance(
     }
     step(printer, given, checked, visit)?;
     Ok(0)
+}
+
+/// The text of the events and of the footnotes' section, and how many events were visited for it.
+fn print(given: &Given, checked: &Checked) -> Result<Counted, AllocError>
+    ensures text { IfOk result (λ counted. (document : Forest) → flatten document ≡ checked.now.events
+        → string_bytes counted.text ≡ (machine.finished (given_of given.now)
+        (machine.run (given_of given.now) checked.now.events (children_of document) machine.beginning)).text) }
+    ensures visits { IfOk result (λ counted. counted.visits ≡ length checked.now.events) }
+    ensures fits { OnOk result (length checked.now.events < 2 ^ 63) }
+{
+    let Ran { printer, visits } = run(given, checked)?;
+    let text = printer.into_text(given.alloc, given.options, given.ending)?;
+    Ok(Counted { text, visits })
 }
 
 /// What was printed, and how many events were visited for it.

@@ -12,7 +12,6 @@ use Rattle.md_base.specs.Reference.{name_table}
 use Rattle.md_base.specs.Tree.{Forest, flatten}
 use Rattle.md_meaning.specs.Given.{Given, Defined}
 use Rattle.md_base.specs.declared.event.Event.{Event}
-use Rattle.md_printer.specs.Machine.{finished}
 use Rattle.md_pattern.specs.Shape.{IsShaped}
 use Rattle.md_html.specs.OwnDefinitions.{own_definitions}
 use Rattle.md_html.proofs.OwnEvents.{document-definitions}
@@ -48,9 +47,9 @@ returns c =
     read.1.grammatical in
     let few : length (flatten read.0) < 2 ^ 64 = omega (ap length read.1.flattened, c.visits.ensures, arith) in
     let printed : (document : Forest) → flatten document ≡ checked.events →
-    string_bytes c.in_ok-text.text ≡ printed_meaning options checked.names checked.bytes document = λ document flat.
-    c.in_ok-text.ensures
-    ∙ ap (λ s. (finished (given ending known) s).text) (c.in_ok-ran.ensures.printed document flat)
+    string_bytes c.in_ok-printed.printed.text ≡ printed_meaning options checked.names checked.bytes document =
+    λ document flat.
+    c.in_ok-printed.ensures.text document flat
     ∙ text-run options names bytes given_events ending known document flat
     (c.ending_of.ensures.ending document flat ∙ ap (λ b. ending_at options b (first_ending document))
     (sym c.bytes.ensures))
@@ -82,8 +81,8 @@ returns c =
           (distinct-ids checked.bytes checked.names options read.0 built underlined keeps few);
       least = omega (
         arith,
-        c.in_ok-ran.ensures.visits,
-        c.in_ok-ran.ensures.fits,
+        c.in_ok-printed.ensures.visits,
+        c.in_ok-printed.ensures.fits,
         c.visits.ensures,
         c.saturating_add-visits.ensures,
         c.saturating_add-visits-2.ensures,
@@ -91,7 +90,7 @@ returns c =
       most = omega (
         arith,
         own,
-        c.in_ok-ran.ensures.visits,
+        c.in_ok-printed.ensures.visits,
         c.visits.ensures,
         c.saturating_add-visits.ensures,
         c.saturating_add-visits-2.ensures,
