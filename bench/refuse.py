@@ -1,10 +1,10 @@
 #!/usr/bin/env python3
-"""Refuses each request for memory of md_memory_cases in turn.
+"""Refuses each request for memory of md_failure_cases in turn.
 
-usage: bench/refuse.py PROGRAM      (crates/md_memory_cases/out/md_memory_cases, once `rt run` there has built it)
+usage: bench/refuse.py PROGRAM      (crates/md_failure_cases/out/md_failure_cases, once `rt run` there has built it)
 
 The Nth request is refused, N from 1 upwards until a run meets no refusal: each run must end with status 0 and write
-what crates/md_memory_cases/stdout has. The calls that need nothing that takes memory must answer where each request is
+what crates/md_failure_cases/stdout has. The calls that need nothing that takes memory must answer where each request is
 refused, and those that read what was checked must make no request more. Ends with status 1 where one of these fails.
 """
 
@@ -14,7 +14,7 @@ import sys
 import tempfile
 
 HERE = os.path.dirname(os.path.abspath(__file__))
-WANTED = os.path.join(HERE, "..", "crates", "md_memory_cases", "stdout")
+WANTED = os.path.join(HERE, "..", "crates", "md_failure_cases", "stdout")
 MOST_RUNS = 5000
 
 
@@ -68,7 +68,7 @@ def main():
         subprocess.run([compiler, "-O1", *shared, os.path.join(HERE, "refuse.c")], check=True)
         program = os.path.abspath(sys.argv[1])
         faults, refused = faults_without_memory(program, folder, wanted), 0
-        for asked in (b"", b"methods"):
+        for asked in (b"memory", b"methods"):
             found, count = refuse_each(program, folder, wanted, asked)
             faults, refused = faults + found, refused + count
     for fault in faults:

@@ -1,9 +1,9 @@
 #!/usr/bin/env python3
-"""Compares the clients' list of numbers with the tables in the sources of the crate md_ffi.
+"""Compares the clients' list of numbers with the tables in the sources of the crates md_ffi and md_abi.
 
-    numbers_test.py CRATE
+    numbers_test.py CRATE..
 
-Reads the crate's tables as text: the names' array, the constants of statuses, and the matches of rules, kinds, line
+Reads the crates' tables as text: the names' array, the constants of statuses, and the matches of rules, kinds, line
 endings and options. Ends with status 1 where one isn't the list's.
 """
 
@@ -33,9 +33,9 @@ def names(source):
     return [(name, at) for at, name in enumerate(found, 1)] + ([("Other", int(other[1]))] if other else [])
 
 
-def tables(crate):
-    """The crate's pairs of a name and a number, by the list's groups."""
-    source = {path.stem: path.read_text() for path in (crate / "src").glob("*.rt")}
+def tables(crates):
+    """The crates' pairs of a name and a number, by the list's groups."""
+    source = {path.stem: path.read_text() for crate in crates for path in (crate / "src").glob("*.rt")}
     statuses = re.findall(r"^const (\w+): u32 = (\d+);", source["answer"], re.MULTILINE)
     rules = re.findall(r"Rule::(\w+) => (\d+),", source["answer"])
     kinds = re.findall(r"(\d+) => Some\(Kind::(\w+)\)", source["event"])
@@ -55,7 +55,7 @@ def tables(crate):
 
 def main(arguments):
     """Compares each group; the status to end with."""
-    found = tables(pathlib.Path(arguments[0]))
+    found = tables([pathlib.Path(argument) for argument in arguments])
     wrong = [group for group, pairs in found.items() if pairs != listed(group) or not pairs]
     for group in wrong:
         print(f"numbers: {group}: the crate has {found[group]}, the list {listed(group)}")

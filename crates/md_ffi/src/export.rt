@@ -3,21 +3,16 @@
 ghost use Rattle.std.specs.Prelude.{◌≡◌};
 ghost use Rattle.md_script.specs.Run.{IsTextOf};
 ghost use Rattle.md_script.specs.Script.{IsReadable, IsFirstUnreadable};
-ghost use Rattle.md_ffi.specs.Numbers.{refused, no_event, no_name, no_option, no_line};
-ghost use Rattle.md_ffi.specs.Standing.{IsFirstWithout};
-ghost use Rattle.md_ffi.specs.Events.{event_of};
-ghost use Rattle.md_ffi.specs.References.{reference_of};
-ghost use Rattle.md_ffi.specs.Options.{StandsForNone};
-ghost use Rattle.md_ffi.specs.Rendered.{IsRendered, IsRefusedBy, IsRefusedIn};
-ghost use Rattle.md_ffi.specs.Buffer.{HandsOver};
-ghost use Rattle.md_ffi.specs.Answers.{IsOfCompile, IsOfRun};
+ghost use Rattle.md_abi.specs.Numbers.{refused, no_event, no_name, no_option, no_line};
+ghost use Rattle.md_abi.specs.Standing.{IsFirstWithout};
+ghost use Rattle.md_abi.specs.Events.{event_of};
+ghost use Rattle.md_abi.specs.References.{reference_of};
+ghost use Rattle.md_abi.specs.Options.{StandsForNone};
+ghost use Rattle.md_abi.specs.Rendered.{IsRendered, IsRefusedBy, IsRefusedIn};
+ghost use Rattle.md_abi.specs.Buffer.{HandsOver};
+ghost use Rattle.md_abi.specs.Answers.{IsOfCompile, IsOfRun};
 
-use crate::answer::{Answer, answer_to, hand_over};
-use crate::event::CEvent;
-use crate::failure::Failure;
-use crate::given::compile_given;
-use crate::option::COptions;
-use crate::reference::CReference;
+use md_abi::{Answer, CEvent, COptions, CReference, Failure, answer_to, compile_given, hand_over};
 use md_script::run;
 use std::alloc::Global;
 

@@ -545,9 +545,14 @@ fn print(given: &Given, checked: &Checked) -> Result<Counted, AllocError>
     ensures visits { IfOk result (λ counted. counted.visits ≡ length checked.now.events) }
     ensures fits { OnOk result (length checked.now.events < 2 ^ 63) }
 {
-    let Ran { printer, visits } = run(given, checked)?;
-    let text = printer.into_text(given.alloc, given.options, given.ending)?;
-    Ok(Counted { text, visits })
+    let ran = run(given, checked)?;
+    let text = ran
+        .printer
+        .into_text(given.alloc, given.options, given.ending)?;
+    Ok(Counted {
+        text,
+        visits: ran.visits,
+    })
 }
 
 /// What was printed, and how many events were visited for it.

@@ -1,8 +1,8 @@
 -- What an answer says of a text, and of a failure, clause by clause.
 -- By itself the search doesn't go through the statuses of an answer: `AnswerLemmas` does.
 use Rattle.std.proofs.Common.{subst, sym}
-use Rattle.md_ffi.specs.Rendered.{IsRendered}
-use Rattle.md_ffi.proofs.AnswerLemmas.{handed_over, text_status, text_of_compile, text_says, failure_hands_over, failure_of_compile, failure_says}
+use Rattle.md_abi.specs.Rendered.{IsRendered}
+use Rattle.md_abi.proofs.AnswerLemmas.{handed_over, text_status, text_of_compile, text_says, failure_hands_over, failure_of_compile, failure_says}
 use Rattle.md_ffi.proofs.export.bivdrazo_compile.Goals as goal
 
 pub returns-in-Ok-clause-text : goal.returns-in-Ok-clause-text

@@ -2,8 +2,8 @@
 -- By itself the search doesn't go through the statuses of an answer: `AnswerLemmas` does.
 use Rattle.std.proofs.Common.{subst, sym, ap, ◌∙◌}
 use Rattle.md_script.specs.Run.{IsTextOf}
-use Rattle.md_ffi.specs.Failures.{answer_of}
-use Rattle.md_ffi.proofs.AnswerLemmas.{handed_over, text_status, text_of_run, text_says_of_script, failure_hands_over, failure_of_script, failure_says_of_script}
+use Rattle.md_abi.specs.Failures.{answer_of}
+use Rattle.md_abi.proofs.AnswerLemmas.{handed_over, text_status, text_of_run, text_says_of_script, failure_hands_over, failure_of_script, failure_says_of_script}
 use Rattle.md_ffi.proofs.export.bivdrazo_run.Goals as goal
 
 pub returns-in-Ok-clause-text : goal.returns-in-Ok-clause-text

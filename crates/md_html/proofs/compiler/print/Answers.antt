@@ -8,4 +8,4 @@ use Rattle.md_html.proofs.compiler.print.Goals as goal
 pub returns-clause-text : goal.returns-clause-text
 returns-clause-text c = λ document flat.
     c.in_ok-text.ensures
-    ∙ ap (λ s. (finished (given_of c.args.given.now) s).text) (c.in_ok-printer.ensures.printed document flat)
+    ∙ ap (λ s. (finished (given_of c.args.given.now) s).text) (c.in_ok-ran.ensures.printed document flat)

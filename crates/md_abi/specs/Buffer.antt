@@ -1,0 +1,43 @@
+-- A text that is handed over in a buffer.
+use Rattle.std.specs.Prelude.{◌≡◌, ◌≢◌, ◌⊎◌, ℕ, ◌<◌, ◌≤◌, List, length, take, drop}
+use Rattle.md_abi.specs.Numbers.{written, too_short}
+use Rattle.md_abi.specs.declared.answer.Answer.{Answer}
+
+-- there is such a text, of this length, and the buffer is shorter
+pub record IsLonger (claim : List ℕ → Type 0) (buffer : List ℕ) (size : ℕ) : Type 0 where
+  pub text : List ℕ
+  pub claimed : claim text
+  pub counted : length text ≡ size
+  pub longer : length buffer < size
+
+-- what an answer says of a buffer: with status `written` the buffer begins with a text of which the claim holds,
+-- and what lies after that is as before; with `too_short` there is such a text, and it is longer; with all but
+-- `written` all is as before
+pub record HandsOver (claim : List ℕ → Type 0) (old new : List ℕ) (answer : Answer) : Type 0 where
+  pub text : answer.status ≡ written → claim (take answer.length new)
+  pub fits : answer.status ≡ written → answer.length ≤ length old
+  pub rest : answer.status ≡ written → drop answer.length new ≡ drop answer.length old
+  pub short : answer.status ≡ too_short → IsLonger claim old answer.length
+  pub untouched : answer.status ≢ written → new ≡ old
+
+-- ---- what a text is handed over by; only contracts of private functions speak of it
+
+-- the answer tells only the length
+abbrev pub with_length : ℕ → ℕ → Answer
+with_length status size = record { status = status; rule = 0; index = 0; length = size }
+
+-- the text is written
+pub record IsWritten (text old new : List ℕ) (answer : Answer) : Type 0 where
+  pub answered : answer ≡ with_length written (length text)
+  pub fits : length text ≤ length old
+  pub start : take (length text) new ≡ text
+  pub rest : drop (length text) new ≡ drop (length text) old
+
+-- there is no room for it
+pub record IsKept (text old new : List ℕ) (answer : Answer) : Type 0 where
+  pub answered : answer ≡ with_length too_short (length text)
+  pub longer : length old < length text
+  pub untouched : new ≡ old
+
+abbrev pub IsHandedOver : List ℕ → List ℕ → List ℕ → Answer → Type 0
+IsHandedOver text old new answer = IsWritten text old new answer ⊎ IsKept text old new answer

@@ -1,0 +1,116 @@
+//! What a call answers.
+
+ghost use Rattle.std.specs.Prelude.{◌≡◌};
+ghost use Rattle.md_abi.specs.Numbers.{rule_number};
+ghost use Rattle.md_abi.specs.Failures.{answer_of};
+ghost use Rattle.md_abi.specs.Buffer.{IsHandedOver};
+
+use crate::failure::Failure;
+use md_tree::Rule;
+
+/// The text is in the buffer.
+const OK: u32 = 0;
+
+/// The buffer is too short.
+const TOO_SHORT: u32 = 1;
+
+/// An event is refused.
+const REFUSED: u32 = 2;
+
+/// An event stands for none.
+const NO_EVENT: u32 = 3;
+
+/// A named character reference stands for none.
+const NO_NAME: u32 = 4;
+
+/// An option stands for none.
+const NO_OPTION: u32 = 5;
+
+/// A line of a script can't be read.
+const NO_LINE: u32 = 6;
+
+/// There is no more memory.
+const MEMORY: u32 = 7;
+
+/// What a call answers. A field of which the status says nothing is 0.
+#[repr(C)]
+#[derive(Clone, Copy)]
+pub struct Answer {
+    /// Whether there is a text, or why not.
+    pub status: u32,
+    /// The number of the rule that a refused event breaks, from 1.
+    pub rule: u32,
+    /// The index of an event or of a named character reference, the number of an option, or a script's line, from 1.
+    pub index: usize,
+    /// How many bytes the text has.
+    pub length: usize,
+}
+
+/// The answer to a failure.
+pub fn answer_to(failure: &Failure) -> Answer
+    ensures { result ≡ answer_of failure.now }
+{
+    match failure {
+        Failure::Memory => about(MEMORY, 0),
+        Failure::Event(index) => about(NO_EVENT, *index),
+        Failure::Name(index) => about(NO_NAME, *index),
+        Failure::Option(number) => about(NO_OPTION, *number),
+        Failure::Line(number) => about(NO_LINE, *number),
+        Failure::Refused { index, rule } => Answer {
+            rule: rule_number(*rule),
+            ..about(REFUSED, *index)
+        },
+    }
+}
+
+/// The answer that tells only a status and an index.
+fn about(status: u32, index: usize) -> Answer
+    ensures { result ≡ record { status = status; rule = 0; index = index; length = 0 } }
+{
+    Answer {
+        status,
+        rule: 0,
+        index,
+        length: 0,
+    }
+}
+
+/// The number of a rule.
+fn rule_number(rule: Rule) -> u32
+    ensures { result ≡ rule_number rule }
+{
+    match rule {
+        Rule::Order => 1,
+        Rule::Mdx => 2,
+        Rule::Place => 3,
+        Rule::LineEnding => 4,
+        Rule::HeadingMark => 5,
+        Rule::ListNumber => 6,
+        Rule::CharacterReference => 7,
+        Rule::Definition => 8,
+        Rule::Footnote => 9,
+        Rule::Target => 10,
+    }
+}
+
+/// Writes a text into a buffer where there is room for it, and tells its length.
+pub fn hand_over(text: &str, buffer: &mut [u8]) -> Answer
+    ensures { IsHandedOver text.now buffer.old buffer.new result }
+{
+    let bytes = text.as_bytes();
+    if bytes.len() > buffer.len() {
+        return with_length(TOO_SHORT, bytes.len());
+    }
+    buffer[..bytes.len()].copy_from_slice(bytes);
+    with_length(OK, bytes.len())
+}
+
+/// The answer that tells only a status and a length.
+fn with_length(status: u32, length: usize) -> Answer
+    ensures { result ≡ record { status = status; rule = 0; index = 0; length = length } }
+{
+    Answer {
+        length,
+        ..about(status, 0)
+    }
+}

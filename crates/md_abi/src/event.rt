@@ -1,0 +1,80 @@
+//! Events as C hands them in.
+
+ghost use Rattle.std.specs.Prelude.{◌≡◌, ◌++◌, [], ◌∷◌, IfOk, IfErr, OnOk};
+ghost use Rattle.md_abi.specs.Events.{event_of, kind_of};
+ghost use Rattle.md_abi.specs.Standing.{StandFor};
+ghost use Rattle.md_abi.specs.Failures.{IsEventFault};
+
+use crate::failure::Failure;
+use crate::names::read_name;
+use md_base::{Event, Kind, Point};
+use std::alloc::{AllocError, Global};
+
+/// An event.
+#[repr(C)]
+#[derive(Clone, Copy)]
+pub struct CEvent {
+    /// How many bytes of the document stand before it.
+    pub index: usize,
+    /// The number of the name that it enters or exits.
+    pub name: u16,
+    /// The number of its own of a name that is none of the others.
+    pub other: u16,
+    /// 1 where it enters a node, 2 where it exits one.
+    pub kind: u8,
+    /// How many columns of a tab, from 0 to 4, are already taken.
+    pub columns: u8,
+}
+
+/// The events that a slice stands for.
+///
+/// # Errors
+///
+/// Tells the index of the first event that stands for none, or that it is out of memory.
+pub(crate) fn read_events(alloc: Global, events: &[CEvent]) -> Result<Vec<Event>, Failure>
+    ensures ok { IfOk result (λ read. StandFor event_of events.now read.items) }
+    ensures err { IfErr result (IsEventFault events.now) }
+{
+    let mut read = Vec::new(alloc);
+    for event in events {
+        match read_event(event) {
+            Some(event) => keep(&mut read, event)?,
+            None => return Err(Failure::Event(read.as_slice().len())),
+        }
+    }
+    Ok(read)
+}
+
+/// Adds an event to those before it.
+fn keep(events: &mut Vec<Event>, event: Event) -> Result<(), AllocError>
+    ensures { OnOk result (events.new.items ≡ events.old.items ++ event ∷ []) }
+{
+    events.push(event)?;
+    Ok(())
+}
+
+/// The event that one stands for.
+fn read_event(event: &CEvent) -> Option<Event>
+    ensures { result ≡ event_of event.now }
+{
+    let kind = read_kind(event.kind)?;
+    let name = read_name(event.name, event.other)?;
+    let point = Point {
+        line: 1,
+        column: 1,
+        index: event.index,
+        vs: usize::from(event.columns),
+    };
+    Some(Event { kind, name, point })
+}
+
+/// The kind under a number.
+fn read_kind(number: u8) -> Option<Kind>
+    ensures { result ≡ kind_of number }
+{
+    match number {
+        1 => Some(Kind::Enter),
+        2 => Some(Kind::Exit),
+        _ => None,
+    }
+}

@@ -1,0 +1,59 @@
+//! Named character references as C hands them in.
+
+ghost use Rattle.std.specs.Prelude.{◌≡◌, IfOk, IfErr, OnOk, option_map, [], ◌∷◌, ◌++◌};
+ghost use Rattle.md_base.specs.Reference.{name_table};
+ghost use Rattle.md_abi.specs.References.{reference_of, pair_of};
+ghost use Rattle.md_abi.specs.Standing.{StandFor};
+ghost use Rattle.md_abi.specs.Failures.{IsNameFault};
+
+use crate::failure::Failure;
+use crate::text::read_utf8;
+use std::alloc::{AllocError, Global};
+
+/// A named character reference.
+#[repr(C)]
+pub struct CReference<'a> {
+    /// What stands between `&` and `;`.
+    pub name: &'a [u8],
+    /// What it stands for.
+    pub text: &'a [u8],
+}
+
+/// The names that a slice stands for, each with its text.
+///
+/// # Errors
+///
+/// Tells the index of the first that stands for none, or that it is out of memory.
+pub(crate) fn read_references<'a>(
+    alloc: Global,
+    references: &[CReference<'a>],
+) -> Result<Vec<(&'a str, &'a str)>, Failure>
+    ensures ok { IfOk result (λ read. StandFor reference_of references.now (name_table read.items)) }
+    ensures err { IfErr result (IsNameFault references.now) }
+{
+    let mut read = Vec::new(alloc);
+    for reference in references {
+        match read_reference(reference) {
+            Some(pair) => keep(&mut read, pair)?,
+            None => return Err(Failure::Name(read.as_slice().len())),
+        }
+    }
+    Ok(read)
+}
+
+/// Adds a name and its text to those before it.
+fn keep<'a>(pairs: &mut Vec<(&'a str, &'a str)>, pair: (&'a str, &'a str)) -> Result<(), AllocError>
+    ensures { OnOk result (pairs.new.items ≡ pairs.old.items ++ pair.entry ∷ []) }
+{
+    pairs.push(pair)?;
+    Ok(())
+}
+
+/// The name and the text of a reference, where both are UTF-8.
+fn read_reference<'a>(reference: &CReference<'a>) -> Option<(&'a str, &'a str)>
+    ensures { option_map pair_of result ≡ reference_of reference.now }
+{
+    let name = read_utf8(reference.name)?;
+    let text = read_utf8(reference.text)?;
+    Some((name, text))
+}
