@@ -37,16 +37,16 @@ impl fmt::Display for Rule {
 
     fn fmt<W: fmt::Write>(&self, f: &mut fmt::Formatter<W>) -> fmt::Result {
         match *self {
-            Rule::Order => write!(f, "Order"),
-            Rule::Mdx => write!(f, "Mdx"),
-            Rule::Place => write!(f, "Place"),
-            Rule::LineEnding => write!(f, "LineEnding"),
-            Rule::HeadingMark => write!(f, "HeadingMark"),
-            Rule::ListNumber => write!(f, "ListNumber"),
-            Rule::CharacterReference => write!(f, "CharacterReference"),
-            Rule::Definition => write!(f, "Definition"),
-            Rule::Footnote => write!(f, "Footnote"),
-            Rule::Target => write!(f, "Target"),
+            Rule::Order => f.write_str("Order"),
+            Rule::Mdx => f.write_str("Mdx"),
+            Rule::Place => f.write_str("Place"),
+            Rule::LineEnding => f.write_str("LineEnding"),
+            Rule::HeadingMark => f.write_str("HeadingMark"),
+            Rule::ListNumber => f.write_str("ListNumber"),
+            Rule::CharacterReference => f.write_str("CharacterReference"),
+            Rule::Definition => f.write_str("Definition"),
+            Rule::Footnote => f.write_str("Footnote"),
+            Rule::Target => f.write_str("Target"),
         }
     }
 }
