@@ -115,34 +115,45 @@ fn random_trees(rt: HostRuntime) -> Result<(), Fail> {
     Ok(())
 }
 
-/// The reader refuses what isn't HTML of the listed elements, or leads elsewhere.
-#[test]
-fn reader_refuses(rt: HostRuntime) -> Result<(), Fail> {
-    for text in [
-        "<p>",
-        "</p>",
-        "<p></p",
-        "<b></b>",
-        "a & b",
-        "\"",
-        "<p><em></p></em>",
-        "<p class=\"x\"></p>",
-        "<a href=\"x\" href=\"y\"></a>",
-        "<a href=x></a>",
-        "<a  href=\"x\"></a>",
-        "<a href=\"x\"title=\"y\"></a>",
-        "<br></br>",
-        "<p />",
-        "<a href=\"javascript:x\"></a>",
-        "<a href=\" \tJava\nScript:x\"></a>",
-        "<img src=\"irc:x\" />",
-        "<img src=\"&quot;:x\" />",
-    ] {
+/// Texts that aren't HTML of the listed elements, or lead elsewhere.
+const REFUSED: [&str; 18] = [
+    "<p>",
+    "</p>",
+    "<p></p",
+    "<b></b>",
+    "a & b",
+    "\"",
+    "<p><em></p></em>",
+    "<p class=\"x\"></p>",
+    "<a href=\"x\" href=\"y\"></a>",
+    "<a href=x></a>",
+    "<a  href=\"x\"></a>",
+    "<a href=\"x\"title=\"y\"></a>",
+    "<br></br>",
+    "<p />",
+    "<a href=\"javascript:x\"></a>",
+    "<a href=\" \tJava\nScript:x\"></a>",
+    "<img src=\"irc:x\" />",
+    "<img src=\"&quot;:x\" />",
+];
+
+/// A text that is HTML of the listed elements.
+const READ: &str =
+    "a<p>&lt;<a href=\"http://x?y:z\" title=\"\">b</a><img src=\"x/y:z\" /></p>\n<hr />";
+
+/// The reader refuses each of these texts.
+fn are_refused(rt: &(impl Abort + AllocGlobal), texts: &[&str]) -> Result<(), Fail> {
+    for text in texts {
         let fault = fault(rt.alloc(), text)?;
         assert!(rt; fault.is_some(), "{text}");
     }
-    let text = "a<p>&lt;<a href=\"http://x?y:z\" title=\"\">b</a><img src=\"x/y:z\" /></p>\n<hr />";
-    let fault = fault(rt.alloc(), text)?;
+    Ok(())
+}
+
+#[test]
+fn reader_refuses(rt: HostRuntime) -> Result<(), Fail> {
+    are_refused(&rt, &REFUSED)?;
+    let fault = fault(rt.alloc(), READ)?;
     assert!(rt; fault.is_none(), "{fault:?}");
     Ok(())
 }
