@@ -64,8 +64,8 @@ fn say_answer(
 
 /// What is answered to a question.
 fn answer_to(alloc: Global, asked: &Asked<'_>, question: &str) -> Result<String, AllocError> {
-    let (part, call) = question.split_once(' ').unwrap_or((question, ""));
-    let (name, argument) = call.split_once(' ').unwrap_or((call, ""));
+    let (part, call) = word_and_rest(question);
+    let (name, argument) = word_and_rest(call);
     let call = Call { name, argument };
     match part {
         "text" => texts::answer(alloc, asked, call),
@@ -82,6 +82,16 @@ fn answer_to(alloc: Global, asked: &Asked<'_>, question: &str) -> Result<String,
 /// What is answered where there is no such call.
 fn no_such_call(alloc: Global) -> Result<String, AllocError> {
     String::from_str(alloc, "no such call")
+}
+
+/// A text up to its first space, and what comes after it.
+fn word_and_rest(text: &str) -> (&str, &str) {
+    text.split_once(' ').unwrap_or((text, ""))
+}
+
+/// Whether something is so.
+fn boolean(alloc: Global, is_so: bool) -> Result<String, AllocError> {
+    format!(in alloc; "{is_so}")
 }
 
 /// A number that may not be there.
@@ -119,7 +129,7 @@ fn read_head<'a>(
         if let Some(question) = text.strip_prefix(QUESTION) {
             questions.push(question)?;
         } else if let Some(name) = text.strip_prefix('=') {
-            names.push(name.split_once(' ').unwrap_or((name, "")))?;
+            names.push(word_and_rest(name))?;
         } else {
             break;
         }

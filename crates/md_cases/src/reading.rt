@@ -154,7 +154,26 @@ pub(crate) fn name_of(text: &str) -> Option<Name> {
     if let Some(number) = text.strip_prefix("Other") {
         return Some(Name::Other(number.parse().ok()?));
     }
-    listed(&NAMES, text)
+    block_name(text)
+        .or(code_name(text))
+        .or(medium_name(text))
+        .or(text_name(text))
+}
+
+fn block_name(text: &str) -> Option<Name> {
+    listed(&BLOCKS, text)
+}
+
+fn code_name(text: &str) -> Option<Name> {
+    listed(&CODE, text)
+}
+
+fn medium_name(text: &str) -> Option<Name> {
+    listed(&MEDIA, text)
+}
+
+fn text_name(text: &str) -> Option<Name> {
+    listed(&TEXTS, text)
 }
 
 /// The name beside a spelling.
@@ -167,18 +186,8 @@ fn listed(names: &[(&str, Name)], text: &str) -> Option<Name> {
     None
 }
 
-/// The names of nodes, save `Other`.
-static NAMES: [(&str, Name); 86] = [
-    ("AutolinkEmail", Name::AutolinkEmail),
-    ("AutolinkProtocol", Name::AutolinkProtocol),
-    ("GfmAutolinkLiteralEmail", Name::GfmAutolinkLiteralEmail),
-    ("GfmAutolinkLiteralMailto", Name::GfmAutolinkLiteralMailto),
-    (
-        "GfmAutolinkLiteralProtocol",
-        Name::GfmAutolinkLiteralProtocol,
-    ),
-    ("GfmAutolinkLiteralWww", Name::GfmAutolinkLiteralWww),
-    ("GfmAutolinkLiteralXmpp", Name::GfmAutolinkLiteralXmpp),
+/// The names of containers, headings and lines.
+static BLOCKS: [(&str, Name); 22] = [
     ("LineEnding", Name::LineEnding),
     ("BlankLineEnding", Name::BlankLineEnding),
     ("BlockQuote", Name::BlockQuote),
@@ -198,18 +207,22 @@ static NAMES: [(&str, Name); 86] = [
         "GfmFootnoteDefinitionLabelString",
         Name::GfmFootnoteDefinitionLabelString,
     ),
-    ("Data", Name::Data),
-    ("CharacterEscapeValue", Name::CharacterEscapeValue),
-    ("CharacterReferenceMarker", Name::CharacterReferenceMarker),
+    ("HeadingAtx", Name::HeadingAtx),
+    ("HeadingAtxSequence", Name::HeadingAtxSequence),
+    ("HeadingAtxText", Name::HeadingAtxText),
+    ("HeadingSetextText", Name::HeadingSetextText),
     (
-        "CharacterReferenceMarkerNumeric",
-        Name::CharacterReferenceMarkerNumeric,
+        "HeadingSetextUnderlineSequence",
+        Name::HeadingSetextUnderlineSequence,
     ),
-    (
-        "CharacterReferenceMarkerHexadecimal",
-        Name::CharacterReferenceMarkerHexadecimal,
-    ),
-    ("CharacterReferenceValue", Name::CharacterReferenceValue),
+    ("Paragraph", Name::Paragraph),
+    ("ThematicBreak", Name::ThematicBreak),
+    ("Frontmatter", Name::Frontmatter),
+    ("SpaceOrTab", Name::SpaceOrTab),
+];
+
+/// The names of code, math, HTML and MDX.
+static CODE: [(&str, Name); 23] = [
     ("CodeIndented", Name::CodeIndented),
     ("CodeFenced", Name::CodeFenced),
     ("CodeFencedFence", Name::CodeFencedFence),
@@ -228,6 +241,25 @@ static NAMES: [(&str, Name); 86] = [
     ("HtmlFlowData", Name::HtmlFlowData),
     ("HtmlText", Name::HtmlText),
     ("HtmlTextData", Name::HtmlTextData),
+    ("MdxEsm", Name::MdxEsm),
+    ("MdxFlowExpression", Name::MdxFlowExpression),
+    ("MdxTextExpression", Name::MdxTextExpression),
+    ("MdxJsxFlowTag", Name::MdxJsxFlowTag),
+    ("MdxJsxTextTag", Name::MdxJsxTextTag),
+];
+
+/// The names of links, images, definitions and calls of footnotes.
+static MEDIA: [(&str, Name); 20] = [
+    ("AutolinkEmail", Name::AutolinkEmail),
+    ("AutolinkProtocol", Name::AutolinkProtocol),
+    ("GfmAutolinkLiteralEmail", Name::GfmAutolinkLiteralEmail),
+    ("GfmAutolinkLiteralMailto", Name::GfmAutolinkLiteralMailto),
+    (
+        "GfmAutolinkLiteralProtocol",
+        Name::GfmAutolinkLiteralProtocol,
+    ),
+    ("GfmAutolinkLiteralWww", Name::GfmAutolinkLiteralWww),
+    ("GfmAutolinkLiteralXmpp", Name::GfmAutolinkLiteralXmpp),
     ("Definition", Name::Definition),
     ("DefinitionLabelString", Name::DefinitionLabelString),
     (
@@ -244,14 +276,22 @@ static NAMES: [(&str, Name); 86] = [
     ("ResourceTitleString", Name::ResourceTitleString),
     ("ReferenceString", Name::ReferenceString),
     ("GfmFootnoteCall", Name::GfmFootnoteCall),
-    ("HeadingAtx", Name::HeadingAtx),
-    ("HeadingAtxSequence", Name::HeadingAtxSequence),
-    ("HeadingAtxText", Name::HeadingAtxText),
-    ("HeadingSetextText", Name::HeadingSetextText),
+];
+
+/// The names of tables, and of what else stands in a text.
+static TEXTS: [(&str, Name); 21] = [
+    ("Data", Name::Data),
+    ("CharacterEscapeValue", Name::CharacterEscapeValue),
+    ("CharacterReferenceMarker", Name::CharacterReferenceMarker),
     (
-        "HeadingSetextUnderlineSequence",
-        Name::HeadingSetextUnderlineSequence,
+        "CharacterReferenceMarkerNumeric",
+        Name::CharacterReferenceMarkerNumeric,
     ),
+    (
+        "CharacterReferenceMarkerHexadecimal",
+        Name::CharacterReferenceMarkerHexadecimal,
+    ),
+    ("CharacterReferenceValue", Name::CharacterReferenceValue),
     ("GfmTable", Name::GfmTable),
     ("GfmTableHead", Name::GfmTableHead),
     ("GfmTableBody", Name::GfmTableBody),
@@ -273,13 +313,4 @@ static NAMES: [(&str, Name); 86] = [
     ),
     ("HardBreakEscape", Name::HardBreakEscape),
     ("HardBreakTrailing", Name::HardBreakTrailing),
-    ("Paragraph", Name::Paragraph),
-    ("ThematicBreak", Name::ThematicBreak),
-    ("Frontmatter", Name::Frontmatter),
-    ("SpaceOrTab", Name::SpaceOrTab),
-    ("MdxEsm", Name::MdxEsm),
-    ("MdxFlowExpression", Name::MdxFlowExpression),
-    ("MdxTextExpression", Name::MdxTextExpression),
-    ("MdxJsxFlowTag", Name::MdxJsxFlowTag),
-    ("MdxJsxTextTag", Name::MdxJsxTextTag),
 ];

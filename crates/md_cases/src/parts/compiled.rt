@@ -20,8 +20,8 @@ pub(super) fn answer(
         "compile_counted" => said_of(alloc, by_counted(alloc, asked)),
         "compile_safe" => said_safe(alloc, by_safe(alloc, asked)),
         "page" => page_titled(alloc, asked, call.argument),
-        "default" => listed(alloc, &CompileOptions::default()),
-        "gfm" => listed(alloc, &CompileOptions::gfm()),
+        "default" => listed(alloc, CompileOptions::default()),
+        "gfm" => listed(alloc, CompileOptions::gfm()),
         _ => no_such_call(alloc),
     }
 }
@@ -33,7 +33,7 @@ fn said_safe(alloc: Global, answer: Result<SafeHtml, SafeError>) -> Result<Strin
     }
 }
 
-fn listed(alloc: Global, options: &CompileOptions) -> Result<String, AllocError> {
+fn listed(alloc: Global, options: CompileOptions) -> Result<String, AllocError> {
     format!(in alloc; "{options:?}")
 }
 

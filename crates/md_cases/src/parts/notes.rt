@@ -1,6 +1,6 @@
 //! Questions on what is kept by identifier: calls of footnotes, footnotes, definitions, ids.
 
-use super::{Asked, Call, document, no_such_call, with_line_feeds};
+use super::{Asked, Call, boolean, document, no_such_call, number, with_line_feeds, word_and_rest};
 use md_html::CompileOptions;
 use md_sheet::{
     Calls, Defined, Definitions, Footnotes, NumberedFootnote, Settings, Sheet, Target, call_id,
@@ -28,9 +28,9 @@ pub(super) fn answer(
 /// What a call answers of the calls of the names.
 fn answer_of_calls(alloc: Global, calls: &Calls, call: Call<'_>) -> Result<String, AllocError> {
     match call.name {
-        "number" => format!(in alloc; "{}", calls.number(call.argument)),
-        "count_of" => format!(in alloc; "{}", calls.count_of(call.argument)),
-        "is_empty" => format!(in alloc; "{}", calls.is_empty()),
+        "number" => number(alloc, Some(calls.number(call.argument))),
+        "count_of" => number(alloc, Some(calls.count_of(call.argument))),
+        "is_empty" => boolean(alloc, calls.is_empty()),
         "at" => call_at(alloc, calls, call.argument),
         _ => no_such_call(alloc),
     }
@@ -157,7 +157,7 @@ fn own_id(alloc: Global, asked: &Asked<'_>, number: &str) -> Result<String, Allo
 
 /// The id of a call of that footnote, by its number and by which of its calls it is.
 fn id_of_call(alloc: Global, asked: &Asked<'_>, numbers: &str) -> Result<String, AllocError> {
-    let (number, occurrence) = numbers.split_once(' ').unwrap_or((numbers, ""));
+    let (number, occurrence) = word_and_rest(numbers);
     let footnote = NumberedFootnote {
         identifier: document(asked),
         number: number.parse().unwrap_or(0),

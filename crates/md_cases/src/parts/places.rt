@@ -1,6 +1,6 @@
 //! Questions on the first two events: what stands between their places, and whether their names are the same.
 
-use super::{Asked, Call, no_such_call};
+use super::{Asked, Call, boolean, no_such_call};
 use md_html::{Event, Position, Slice, is_same_name};
 use std::alloc::{AllocError, Global};
 
@@ -19,7 +19,7 @@ pub(super) fn answer(
         "slice" => slice(alloc, Slice::from_position(bytes, &between(start, end))),
         "slice_from_indices" => slice(alloc, Slice::from_indices(bytes, from, to)),
         "to_indices" => format!(in alloc; "{from} to {to}"),
-        "is_same_name" => format!(in alloc; "{}", is_same_name(start.name, end.name)),
+        "is_same_name" => boolean(alloc, is_same_name(start.name, end.name)),
         _ => no_such_call(alloc),
     }
 }

@@ -97,12 +97,17 @@ fn append_parts(
     said: &mut String,
     document: &str,
 ) -> Result<(), AllocError> {
-    write!(said, "{:?} ", text.last_byte())?;
+    say_last_byte(said, text)?;
     for part in document.split('\n') {
         append_part(alloc, text, part)?;
-        write!(said, "{:?} ", text.last_byte())?;
+        say_last_byte(said, text)?;
     }
     Ok(())
+}
+
+/// Says the last byte of a text.
+fn say_last_byte(said: &mut String, text: &Rope) -> Result<(), AllocError> {
+    write!(said, "{:?} ", text.last_byte())
 }
 
 /// Appends a line between `<` and `>`.

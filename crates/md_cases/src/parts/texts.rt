@@ -14,45 +14,36 @@ pub(super) fn answer(
     call: Call<'_>,
 ) -> Result<String, AllocError> {
     let text = document(asked);
-    let names = asked.names.as_slice();
     match call.name {
         "normalize_identifier" => normalize_identifier(alloc, text),
-        "decode_character_reference" => decode(alloc, text, call.argument, names),
+        "decode_character_reference" => decode(alloc, asked, call.argument),
         "encode" => encode(alloc, text, call.argument == "html"),
         "sanitize" => sanitize(alloc, text),
-        "sanitize_with_protocols" => permit(alloc, text, call.argument, names),
+        "sanitize_with_protocols" => permit(alloc, asked, call.argument),
         "gfm_tagfilter" => gfm_tagfilter(alloc, text),
         _ => no_such_call(alloc),
     }
 }
 
 /// The text of a reference whose marker is the argument's first byte.
-fn decode(
-    alloc: Global,
-    value: &str,
-    marker: &str,
-    names: &[(&str, &str)],
-) -> Result<String, AllocError> {
+fn decode(alloc: Global, asked: &Asked<'_>, marker: &str) -> Result<String, AllocError> {
     let marker = marker.as_bytes().first().copied().unwrap_or(0);
-    match decode_character_reference(alloc, value, marker, names)? {
+    let names = asked.names.as_slice();
+    match decode_character_reference(alloc, document(asked), marker, names)? {
         Some(text) => Ok(text),
         None => String::from_str(alloc, "(none)"),
     }
 }
 
 /// A URL under the protocols of links or of images, or else under those that are named.
-fn permit(
-    alloc: Global,
-    url: &str,
-    list: &str,
-    names: &[(&str, &str)],
-) -> Result<String, AllocError> {
+fn permit(alloc: Global, asked: &Asked<'_>, list: &str) -> Result<String, AllocError> {
+    let url = document(asked);
     match list {
         "href" => sanitize_with_protocols(alloc, url, &SAFE_PROTOCOL_HREF),
         "src" => sanitize_with_protocols(alloc, url, &SAFE_PROTOCOL_SRC),
         _ => {
             let mut protocols = Vec::new(alloc);
-            for (protocol, _) in names {
+            for (protocol, _) in &asked.names {
                 protocols.push(*protocol)?;
             }
             sanitize_with_protocols(alloc, url, protocols.as_slice())

@@ -1,6 +1,6 @@
 //! Questions on events: whether they are a document, and what `check` finds of its nodes.
 
-use super::{Asked, Call, no_such_call, number};
+use super::{Asked, Call, boolean, no_such_call, number, word_and_rest};
 use crate::reading::name_of;
 use md_html::{Checked, Name, Position, check, gfm_table_align, list_item_loose, list_loose};
 use std::alloc::{AllocError, Global};
@@ -19,27 +19,34 @@ pub(super) fn answer(
     }
 }
 
-/// What a call answers of all events, or of the one at an index.
+/// What a call answers of all events, or of one of them.
 fn answer_checked(
     alloc: Global,
     asked: &Asked<'_>,
     checked: &Checked<'_>,
     call: Call<'_>,
 ) -> Result<String, AllocError> {
-    let (place, name) = call.argument.split_once(' ').unwrap_or((call.argument, ""));
-    let index: usize = place.parse().unwrap_or(0);
     match call.name {
         "check" => String::from_str(alloc, "accepted"),
-        "kept" => format!(in alloc; "{}", is_kept(asked, checked)),
+        "kept" => boolean(alloc, is_kept(asked, checked)),
         "definitions" => format!(in alloc; "{:?}", checked.definitions()),
+        _ => answer_at(alloc, checked, call),
+    }
+}
+
+/// What a call answers of the event at an index, after which a name may stand.
+fn answer_at(alloc: Global, checked: &Checked<'_>, call: Call<'_>) -> Result<String, AllocError> {
+    let (place, name) = word_and_rest(call.argument);
+    let index: usize = place.parse().unwrap_or(0);
+    match call.name {
         "partner" => number(alloc, checked.partner(index)),
-        "enters" => format!(in alloc;
-            "{}",
-            name_of(name).is_some_and(|name| checked.enters(index, name))
+        "enters" => boolean(
+            alloc,
+            name_of(name).is_some_and(|name| checked.enters(index, name)),
         ),
-        "exits" => format!(in alloc;
-            "{}",
-            name_of(name).is_some_and(|name| checked.exits(index, name))
+        "exits" => boolean(
+            alloc,
+            name_of(name).is_some_and(|name| checked.exits(index, name)),
         ),
         _ => answer_found(alloc, checked, call.name, index),
     }
@@ -138,7 +145,7 @@ fn span(alloc: Global, place: Option<Position>) -> Result<String, AllocError> {
 
 fn flag(alloc: Global, flag: Option<bool>) -> Result<String, AllocError> {
     match flag {
-        Some(flag) => format!(in alloc; "{flag}"),
+        Some(flag) => boolean(alloc, flag),
         None => no_such_node(alloc),
     }
 }
