@@ -2,10 +2,10 @@
 
 use crate::log::{Log, again};
 use crate::plain;
-use crate::rows::{NAMED, NAMES, ROWS, Row, Wanted};
+use crate::rows::{NAMES, Row, Wanted, answered, named, refused};
 use md_html::{
-    AlignKind, Checked, CompileError, CompileOptions, Name, SafeError, SafeHtml, check, compile,
-    compile_checked, compile_counted, compile_safe, gfm_table_align,
+    AlignKind, Checked, CompileError, CompileOptions, Counted, Name, SafeError, SafeHtml, check,
+    compile, compile_checked, compile_counted, compile_safe, gfm_table_align,
 };
 use md_script::{RunError, run};
 use std::alloc::{AllocError, Global};
@@ -13,18 +13,24 @@ use std::io;
 
 /// Makes each call over each document.
 pub fn ask_each<R: Print + AllocGlobal>(rt: &R, log: &mut Log) -> io::Result<()> {
-    ask_rows(rt, log, &ROWS)?;
-    ask(rt, log, &NAMED, &NAMES)
+    ask_rows(rt, log, answered())?;
+    ask_rows(rt, log, refused())?;
+    ask(rt, log, named(), &NAMES)
 }
 
 /// Makes each call over each of these documents.
 fn ask_rows<R: Print + AllocGlobal>(rt: &R, log: &mut Log, rows: &[Row]) -> io::Result<()> {
     for row in rows {
-        let is_right = runs(rt.alloc(), log, row);
-        log.tell(rt, is_right, "run", row.name)?;
+        ask_script(rt, log, row)?;
         ask(rt, log, row, &[])?;
     }
     Ok(())
+}
+
+/// Makes the call over a script.
+fn ask_script<R: Print + AllocGlobal>(rt: &R, log: &mut Log, row: &Row) -> io::Result<()> {
+    let is_right = runs(rt.alloc(), log, row);
+    log.tell(rt, is_right, "run", row.name)
 }
 
 /// Makes the calls over events.
@@ -34,13 +40,33 @@ fn ask<R: Print + AllocGlobal>(
     row: &Row,
     names: &[(&str, &str)],
 ) -> io::Result<()> {
+    ask_compilers(rt, log, row, names)?;
+    ask_check(rt, log, row, names)
+}
+
+/// Makes the calls that compile events.
+fn ask_compilers<R: Print + AllocGlobal>(
+    rt: &R,
+    log: &mut Log,
+    row: &Row,
+    names: &[(&str, &str)],
+) -> io::Result<()> {
     let is_right = compiles(rt.alloc(), log, row, names);
     log.tell(rt, is_right, "compile", row.name)?;
     let is_right = counts(rt.alloc(), log, row, names);
-    log.tell(rt, is_right, "compile_counted", row.name)?;
-    match checked_of(rt.alloc(), log, row, names) {
-        Ok(checked) => ask_checked(rt, log, row, &checked),
-        Err(cause) => log.tell(rt, is_refusal(&cause, &row.wanted), "check", row.name),
+    log.tell(rt, is_right, "compile_counted", row.name)
+}
+
+/// Makes the call that checks events, and those over what it answers.
+fn ask_check<R: Print + AllocGlobal>(
+    rt: &R,
+    log: &mut Log,
+    row: &Row,
+    names: &[(&str, &str)],
+) -> io::Result<()> {
+    match &checked_of(rt.alloc(), log, row, names) {
+        Ok(checked) => ask_checked(rt, log, row, checked),
+        Err(cause) => log.tell(rt, is_refusal(cause, &row.wanted), "check", row.name),
     }
 }
 
@@ -63,7 +89,8 @@ pub fn check_each<R: Print + AllocGlobal>(
     log: &mut Log,
     asks_methods: bool,
 ) -> io::Result<()> {
-    check_rows(rt, log, &ROWS, asks_methods)
+    check_rows(rt, log, answered(), asks_methods)?;
+    check_rows(rt, log, refused(), asks_methods)
 }
 
 /// The same for these documents.
@@ -74,41 +101,53 @@ fn check_rows<R: Print + AllocGlobal>(
     asks_methods: bool,
 ) -> io::Result<()> {
     for row in rows {
-        let checked = checked_of(rt.alloc(), log, row, &[]);
-        let safe = safe_of(rt.alloc(), log, row);
-        if asks_methods {
-            ask_methods(rt, log, row, checked.as_ref().ok(), safe.as_ref().ok())?;
-        }
+        check_row(rt, log, row, asks_methods)?;
+        compile_row(rt, log, row, asks_methods)?;
     }
     Ok(())
 }
 
-/// Makes the calls that read what was checked and what was compiled as safe.
-fn ask_methods<R: Print>(
+/// Checks a document; then, where asked, makes the calls that read what was checked.
+fn check_row<R: Print + AllocGlobal>(
     rt: &R,
-    log: &Log,
+    log: &mut Log,
     row: &Row,
-    checked: Option<&Checked>,
-    safe: Option<&SafeHtml>,
+    asks_methods: bool,
 ) -> io::Result<()> {
-    if let Some(checked) = checked {
-        plain::ask_of_checked(rt, log, row, checked)?;
-    }
-    match safe {
-        Some(html) => log.tell(rt, is_text(html.as_str(), &row.wanted), "as_str", row.name),
-        None => Ok(()),
+    match &checked_of(rt.alloc(), log, row, &[]) {
+        Ok(checked) if asks_methods => plain::ask_of_checked(rt, log, row, checked),
+        _ => Ok(()),
     }
 }
 
-/// The answer of `compile_safe`.
+/// Compiles a document as safe; then, where asked, makes the call that reads the text.
+fn compile_row<R: Print + AllocGlobal>(
+    rt: &R,
+    log: &mut Log,
+    row: &Row,
+    asks_methods: bool,
+) -> io::Result<()> {
+    match &safe_of(rt.alloc(), log, row) {
+        Ok(html) if asks_methods => {
+            log.tell(rt, is_text(html.as_str(), &row.wanted), "as_str", row.name)
+        }
+        _ => Ok(()),
+    }
+}
+
+/// The answer of `compile_safe`; where it is out of memory, that of the same call made again.
 fn safe_of(alloc: Global, log: &mut Log, row: &Row) -> Result<SafeHtml, SafeError> {
-    let options = CompileOptions::default();
-    let bytes = row.document.as_bytes();
     again!(
         log,
         Err(SafeError::Compile(CompileError::Memory)),
-        compile_safe(alloc, row.events, bytes, &options, &[])
+        compiled_as_safe(alloc, row)
     )
+}
+
+/// The answer of `compile_safe`.
+fn compiled_as_safe(alloc: Global, row: &Row) -> Result<SafeHtml, SafeError> {
+    let options = CompileOptions::default();
+    compile_safe(alloc, row.events, row.document.as_bytes(), &options, &[])
 }
 
 /// The answer of `check`.
@@ -142,43 +181,43 @@ fn runs(alloc: Global, log: &mut Log, row: &Row) -> bool {
 
 /// Whether `compile` answers what is wanted.
 fn compiles(alloc: Global, log: &mut Log, row: &Row, names: &[(&str, &str)]) -> bool {
-    let options = CompileOptions::default();
-    let bytes = row.document.as_bytes();
-    match again!(
-        log,
-        Err(CompileError::Memory),
-        compile(alloc, row.events, bytes, &options, names)
-    ) {
+    match again!(log, Err(CompileError::Memory), compiled(alloc, row, names)) {
         Ok(text) => is_text(text.as_str(), &row.wanted),
         Err(cause) => is_refusal(&cause, &row.wanted),
     }
 }
 
+/// The answer of `compile`.
+fn compiled(alloc: Global, row: &Row, names: &[(&str, &str)]) -> Result<String, CompileError> {
+    let options = CompileOptions::default();
+    compile(alloc, row.events, row.document.as_bytes(), &options, names)
+}
+
 /// Whether `compile_counted` answers what is wanted.
 fn counts(alloc: Global, log: &mut Log, row: &Row, names: &[(&str, &str)]) -> bool {
-    let options = CompileOptions::default();
-    let bytes = row.document.as_bytes();
-    match again!(
-        log,
-        Err(CompileError::Memory),
-        compile_counted(alloc, row.events, bytes, &options, names)
-    ) {
+    match again!(log, Err(CompileError::Memory), counted(alloc, row, names)) {
         Ok(counted) => is_text(counted.text.as_str(), &row.wanted),
         Err(cause) => is_refusal(&cause, &row.wanted),
     }
 }
 
+/// The answer of `compile_counted`.
+fn counted(alloc: Global, row: &Row, names: &[(&str, &str)]) -> Result<Counted, CompileError> {
+    let options = CompileOptions::default();
+    compile_counted(alloc, row.events, row.document.as_bytes(), &options, names)
+}
+
 /// Whether `compile_checked` answers what is wanted.
 fn compiles_checked(alloc: Global, log: &mut Log, row: &Row, checked: &Checked) -> bool {
-    let options = CompileOptions::default();
-    match again!(
-        log,
-        Err(AllocError),
-        compile_checked(alloc, checked, &options)
-    ) {
+    match again!(log, Err(AllocError), compiled_checked(alloc, checked)) {
         Ok(text) => is_text(text.as_str(), &row.wanted),
         Err(AllocError) => false,
     }
+}
+
+/// The answer of `compile_checked`.
+fn compiled_checked(alloc: Global, checked: &Checked) -> Result<String, AllocError> {
+    compile_checked(alloc, checked, &CompileOptions::default())
 }
 
 /// Whether `gfm_table_align` answers one column without an alignment, where the first node is a table.

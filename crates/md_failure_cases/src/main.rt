@@ -22,19 +22,30 @@ fn main(rt: HostRuntime) -> io::Result<()> {
     let mut word = [0u8; 8];
     rt.reader().read(&mut word)?;
     let mut log = Log { refusals: 0 };
-    if word.starts_with(b"plain") {
-        plain::ask_each(&rt, &log)?;
-    } else if word.starts_with(b"checked") {
-        documents::check_each(&rt, &mut log, false)?;
-    } else if word.starts_with(b"methods") {
-        documents::check_each(&rt, &mut log, true)?;
-    } else {
-        plain::ask_each(&rt, &log)?;
-        texts::ask_each(&rt, &mut log)?;
-        documents::ask_each(&rt, &mut log)?;
-        if !word.starts_with(b"memory") {
-            serving::ask_each(&rt, &log)?;
-        }
-    }
+    ask(&rt, &mut log, &word)?;
     log.close(&rt)
+}
+
+/// Makes the calls that this word asks for.
+fn ask<R: Print + AllocGlobal>(rt: &R, log: &mut Log, word: &[u8]) -> io::Result<()> {
+    if word.starts_with(b"plain") {
+        plain::ask_each(rt, log)
+    } else if word.starts_with(b"checked") {
+        documents::check_each(rt, log, false)
+    } else if word.starts_with(b"methods") {
+        documents::check_each(rt, log, true)
+    } else {
+        ask_with_memory(rt, log)?;
+        if word.starts_with(b"memory") {
+            return Ok(());
+        }
+        serving::ask_each(rt, log)
+    }
+}
+
+/// Makes the calls over texts and documents, and those that take no memory.
+fn ask_with_memory<R: Print + AllocGlobal>(rt: &R, log: &mut Log) -> io::Result<()> {
+    plain::ask_each(rt, log)?;
+    texts::ask_each(rt, log)?;
+    documents::ask_each(rt, log)
 }

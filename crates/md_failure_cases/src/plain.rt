@@ -15,10 +15,18 @@ use std::str::FromStr;
 
 /// Makes the calls that ask for nothing that takes memory.
 pub fn ask_each<R: Print>(rt: &R, log: &Log) -> io::Result<()> {
-    log.tell(rt, endings_answer(), "as_str and from_str", "line endings")?;
-    log.tell(rt, options_answer(), "default and gfm", "options")?;
-    log.tell(rt, errors_answer(), "status", "errors")?;
-    log.tell(rt, slices_answer(), "each call but serialize", "slices")
+    let answers = [
+        (endings_answer(), "as_str and from_str", "line endings"),
+        (options_answer(), "default and gfm", "options"),
+        (errors_answer(), "status", "errors"),
+        (
+            cut_slice_answers(),
+            "each call but serialize",
+            "a slice that is cut within tabs",
+        ),
+        (inner_slice_answers(), "from_indices and as_str", "a slice"),
+    ];
+    log.tell_each(rt, &answers)
 }
 
 /// Whether line endings have their texts.
@@ -38,42 +46,60 @@ fn errors_answer() -> bool {
     RunError::Line(1).status() == 2 && ServeError::Input.status() == 4
 }
 
-/// Whether the calls of slices answer over a chunk that is cut within a tab.
-fn slices_answer() -> bool {
+/// Whether the calls of slices answer over a chunk that is cut within tabs.
+fn cut_slice_answers() -> bool {
     let position = Position {
         start: point(0, 2),
         end: point(2, 3),
     };
-    let between = Slice::from_indices(b"\ta\t", 1, 2);
-    match (Slice::from_position(b"\ta\t", &position), between) {
-        (Some(slice), Some(between)) => {
-            position.to_indices() == (0, 2)
-                && slice.len() == 6
-                && slice.as_str() == Some("a\t")
-                && between.as_str() == Some("a")
+    match Slice::from_position(b"\ta\t", &position) {
+        Some(slice) => {
+            position.to_indices() == (0, 2) && slice.len() == 6 && slice.as_str() == Some("a\t")
         }
-        _ => false,
+        None => false,
+    }
+}
+
+/// Whether the calls of slices answer between the tabs.
+fn inner_slice_answers() -> bool {
+    match Slice::from_indices(b"\ta\t", 1, 2) {
+        Some(slice) => slice.as_str() == Some("a"),
+        None => false,
     }
 }
 
 /// Makes the calls that ask for what was checked.
 pub fn ask_of_checked<R: Print>(rt: &R, log: &Log, row: &Row, checked: &Checked) -> io::Result<()> {
-    let is_right = is_kept(row, checked);
-    log.tell(rt, is_right, "events, visits, bytes and names", row.name)?;
-    log.tell(rt, partners_answer(row, checked), "partner", row.name)?;
-    log.tell(rt, list_answers(checked), "list_loose", row.name)?;
-    let is_right = item_answers(checked);
-    log.tell(
-        rt,
-        is_right,
-        "list_item_loose and last_contributing",
-        row.name,
-    )?;
+    ask_of_each(rt, log, row, checked)?;
+    ask_of_link(rt, log, row, checked)
+}
+
+/// Makes those that each document has.
+fn ask_of_each<R: Print>(rt: &R, log: &Log, row: &Row, checked: &Checked) -> io::Result<()> {
+    let answers = [
+        (
+            is_kept(row, checked),
+            "events, visits, bytes and names",
+            row.name,
+        ),
+        (partners_answer(row, checked), "partner", row.name),
+        (list_answers(checked), "list_loose", row.name),
+        (
+            item_answers(checked),
+            "list_item_loose and last_contributing",
+            row.name,
+        ),
+    ];
+    log.tell_each(rt, &answers)
+}
+
+/// Makes those of a link by a label, where it is the second node.
+fn ask_of_link<R: Print>(rt: &R, log: &Log, row: &Row, checked: &Checked) -> io::Result<()> {
     if checked.enters(1, Name::Link)
         && checked.exits(5, Name::Data)
         && checked.exits(6, Name::LabelText)
     {
-        log.tell(rt, link_answers(checked), "the calls of a link", row.name)?;
+        return log.tell(rt, link_answers(checked), "the calls of a link", row.name);
     }
     Ok(())
 }

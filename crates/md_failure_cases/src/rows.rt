@@ -63,8 +63,22 @@ macro_rules! row {
     };
 }
 
-/// The documents without names of their own.
-pub static ROWS: [Row; 17] = [
+/// The documents that have a text, without names of their own.
+pub fn answered() -> &'static [Row] {
+    &ANSWERED
+}
+
+/// The documents that are refused.
+pub fn refused() -> &'static [Row] {
+    &REFUSED
+}
+
+/// A document that reads one of [`NAMES`]; no script tells of it.
+pub fn named() -> &'static Row {
+    &NAMED
+}
+
+static ANSWERED: [Row; 6] = [
     row! {
         "a chunk that is cut within a tab", "\ta\t", Wanted::Text("<pre><code>  a\t  \n</code></pre>");
         + CodeIndented 0; + CodeFlowChunk 0 . 2; - CodeFlowChunk 2 . 3; - CodeIndented 3;
@@ -122,6 +136,9 @@ pub static ROWS: [Row; 17] = [
         + CharacterReferenceMarkerNumeric 3; - CharacterReferenceMarkerNumeric 4;
         + CharacterReferenceValue 4; - CharacterReferenceValue 6; - ListItem 7; - ListUnordered 7;
     },
+];
+
+static REFUSED: [Row; 11] = [
     row! {
         "an exit alone", "", Wanted::Refusal(0, Rule::Order);
         - Paragraph 0;
@@ -173,8 +190,7 @@ pub static ROWS: [Row; 17] = [
 /// The names of the last document.
 pub static NAMES: [(&str, &str); 1] = [("x", "<")];
 
-/// A document that reads one of these names; no script tells of it.
-pub static NAMED: Row = row! {
+static NAMED: Row = row! {
     "a reference with a name", "&x;", Wanted::Text("&lt;");
     + CharacterReferenceMarker 0; - CharacterReferenceMarker 1; + CharacterReferenceValue 1;
     - CharacterReferenceValue 2;

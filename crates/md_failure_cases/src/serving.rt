@@ -106,14 +106,17 @@ const BREAK_TEXT: &[u8] = b"<hr />";
 /// Makes each call of `serve`, and those that tell of its errors.
 pub fn ask_each<R: Print + AllocGlobal>(rt: &R, log: &Log) -> io::Result<()> {
     let alloc = rt.alloc();
-    log.tell(rt, is_written(alloc), "serve", "a break")?;
-    log.tell(rt, is_appended(alloc) == Ok(true), "append_text", "a break")?;
-    log.tell(rt, reads_are_told(alloc), "serve", "reads that fail")?;
-    log.tell(rt, writes_are_told(alloc), "serve", "writes that fail")?;
-    log.tell(rt, stuck_is_told(alloc), "serve", "writers that are stuck")?;
-    log.tell(rt, refusals_are_told(alloc), "serve", "refused scripts")?;
-    log.tell(rt, endless_is_told(alloc), "serve", "an endless reader")?;
-    log.tell(rt, have_messages(alloc) == Ok(true), "to_string", "errors")
+    let answers = [
+        (is_written(alloc), "serve", "a break"),
+        (is_appended(alloc) == Ok(true), "append_text", "a break"),
+        (reads_are_told(alloc), "serve", "reads that fail"),
+        (writes_are_told(alloc), "serve", "writes that fail"),
+        (stuck_is_told(alloc), "serve", "writers that are stuck"),
+        (refusals_are_told(alloc), "serve", "refused scripts"),
+        (endless_is_told(alloc), "serve", "an endless reader"),
+        (have_messages(alloc) == Ok(true), "to_string", "errors"),
+    ];
+    log.tell_each(rt, &answers)
 }
 
 /// What `serve` answers, and what it wrote, where these reads and writes fail, and how often it read.
@@ -244,31 +247,52 @@ fn endless_is_told(alloc: Global) -> bool {
 
 /// Whether each error has its status and its line.
 fn have_messages(alloc: Global) -> Result<bool, AllocError> {
+    Ok(
+        serve_errors_say(alloc)?
+            && run_errors_say(alloc)?
+            && CompileError::Memory.to_string(alloc)?.as_str() == "out of memory",
+    )
+}
+
+/// Whether each error of `serve` has its status and its line.
+fn serve_errors_say(alloc: Global) -> Result<bool, AllocError> {
+    let cases = [
+        (ServeError::Run(RunError::Memory), 3, "out of memory"),
+        (ServeError::Run(RunError::Line(4)), 2, "line 4: unreadable"),
+        (ServeError::Input, 4, "input or output failed"),
+        (ServeError::Output, 4, "input or output failed"),
+    ];
+    for (error, status, message) in &cases {
+        if !serve_says(alloc, error, *status, message)? {
+            return Ok(false);
+        }
+    }
+    Ok(true)
+}
+
+/// Whether each error of `run` has its status and its line.
+fn run_errors_say(alloc: Global) -> Result<bool, AllocError> {
     let place = RunError::Event {
         index: 3,
         rule: Rule::Place,
     };
-    Ok(
-        serve_says(alloc, ServeError::Run(RunError::Memory), 3, "out of memory")?
-            && serve_says(
-                alloc,
-                ServeError::Run(RunError::Line(4)),
-                2,
-                "line 4: unreadable",
-            )?
-            && serve_says(alloc, ServeError::Input, 4, "input or output failed")?
-            && serve_says(alloc, ServeError::Output, 4, "input or output failed")?
-            && run_says(alloc, RunError::Memory, 3, "out of memory")?
-            && run_says(alloc, RunError::Line(4), 2, "line 4: unreadable")?
-            && run_says(alloc, place, 1, "event 3: Place")?
-            && CompileError::Memory.to_string(alloc)?.as_str() == "out of memory",
-    )
+    let cases = [
+        (RunError::Memory, 3, "out of memory"),
+        (RunError::Line(4), 2, "line 4: unreadable"),
+        (place, 1, "event 3: Place"),
+    ];
+    for (error, status, message) in &cases {
+        if !run_says(alloc, error, *status, message)? {
+            return Ok(false);
+        }
+    }
+    Ok(true)
 }
 
 /// Whether an error of `serve` has this status and this line.
 fn serve_says(
     alloc: Global,
-    error: ServeError,
+    error: &ServeError,
     status: u8,
     message: &str,
 ) -> Result<bool, AllocError> {
@@ -276,6 +300,11 @@ fn serve_says(
 }
 
 /// Whether an error of `run` has this status and this line.
-fn run_says(alloc: Global, error: RunError, status: u8, message: &str) -> Result<bool, AllocError> {
+fn run_says(
+    alloc: Global,
+    error: &RunError,
+    status: u8,
+    message: &str,
+) -> Result<bool, AllocError> {
     Ok(error.status() == status && error.to_string(alloc)?.as_str() == message)
 }

@@ -133,11 +133,11 @@ fn is_answered(
 /// What a call answers.
 fn answer(alloc: Global, tool: &Tool, text: &str) -> Result<Option<String>, AllocError> {
     match tool {
-        Tool::Encode(encodes) => Ok(Some(encode(alloc, text, *encodes)?)),
-        Tool::Sanitize => Ok(Some(sanitize(alloc, text)?)),
-        Tool::SanitizeWithHttp => Ok(Some(sanitize_with_protocols(alloc, text, &["http"])?)),
-        Tool::Tagfilter => Ok(Some(gfm_tagfilter(alloc, text)?)),
-        Tool::Normalize => Ok(Some(normalize_identifier(alloc, text)?)),
+        Tool::Encode(encodes) => encode(alloc, text, *encodes).map(Some),
+        Tool::Sanitize => sanitize(alloc, text).map(Some),
+        Tool::SanitizeWithHttp => sanitize_with_protocols(alloc, text, &["http"]).map(Some),
+        Tool::Tagfilter => gfm_tagfilter(alloc, text).map(Some),
+        Tool::Normalize => normalize_identifier(alloc, text).map(Some),
         Tool::Decode(marker) => decode_character_reference(alloc, text, *marker, &NAMES),
         Tool::Serialize => serialize(alloc, text.as_bytes()),
     }
