@@ -351,8 +351,9 @@ fn keep_footnote(printer: &mut Printer, given: &Given, inner: Inner) -> Result<(
     ensures { OnOk result (printer.new ≡ machine.logging given.now.bytes.now
         (machine.ahead_by inner.place) GfmFootnoteDefinition inner.sheet printer.old) }
 {
+    let text = inner.sheet.into_text(given.alloc)?;
     let identifier = identifier_at(given.alloc, given.bytes, inner.place)?;
-    printer.log_footnote(identifier, inner.sheet.into_text(given.alloc)?)
+    printer.log_footnote(identifier, text)
 }
 
 /// Logs a definition, which prints nothing where it stands.
@@ -360,8 +361,8 @@ fn keep_definition(printer: &mut Printer, given: &Given, inner: Inner) -> Result
     ensures { OnOk result (printer.new ≡ machine.logging given.now.bytes.now
         (machine.ahead_by inner.place) Definition inner.sheet printer.old) }
 {
-    let identifier = identifier_at(given.alloc, given.bytes, inner.place)?;
     let target = inner.sheet.into_target();
+    let identifier = identifier_at(given.alloc, given.bytes, inner.place)?;
     printer.log_definition(Defined { identifier, target })
 }
 
@@ -545,31 +546,20 @@ fn print(given: &Given, checked: &Checked) -> Result<Counted, AllocError>
     ensures visits { IfOk result (λ counted. counted.visits ≡ length checked.now.events) }
     ensures fits { OnOk result (length checked.now.events < 2 ^ 63) }
 {
-    let ran = run(given, checked)?;
-    let text = ran
-        .printer
-        .into_text(given.alloc, given.options, given.ending)?;
-    Ok(Counted {
-        text,
-        visits: ran.visits,
-    })
+    let mut printer = Printer::new(given.alloc);
+    let ran = run(&mut printer, given, checked);
+    // The printer is used up before the run's error is answered, so that no path has its many parts to drop.
+    let text = printer.into_text(given.alloc, given.options, given.ending)?;
+    Ok(Counted { text, visits: ran? })
 }
 
-/// What was printed, and how many events were visited for it.
-#[derive(Drop)]
-struct Ran {
-    printer: Printer,
-    visits: usize,
-}
-
-/// Prints the events, one after another.
-fn run(given: &Given, checked: &Checked) -> Result<Ran, AllocError>
-    ensures printed { IfOk result (λ ran. (document : Forest) → flatten document ≡ checked.now.events
-        → ran.printer ≡ machine.run (given_of given.now) checked.now.events (children_of document) machine.beginning) }
-    ensures visits { IfOk result (λ ran. ran.visits ≡ length checked.now.events) }
+/// Prints the events, one after another, and says how many were visited.
+fn run(printer: &mut Printer, given: &Given, checked: &Checked) -> Result<usize, AllocError>
+    ensures printed { OnOk result ((document : Forest) → flatten document ≡ checked.now.events
+        → printer.new ≡ machine.run (given_of given.now) checked.now.events (children_of document) printer.old) }
+    ensures visits { IfOk result (λ visits. visits ≡ length checked.now.events) }
     ensures fits { OnOk result (length checked.now.events < 2 ^ 63) }
 {
-    let mut printer = Printer::new(given.alloc);
     let mut rest = checked.events();
     let mut index = 0;
     while let Some((event, later)) = rest.split_first() {
@@ -578,11 +568,10 @@ fn run(given: &Given, checked: &Checked) -> Result<Ran, AllocError>
             event,
             later,
         };
-        let more = advance(&mut printer, given, checked, visit)?;
+        let more = advance(printer, given, checked, visit)?;
         rest = &later[more..];
         // Each turn visits an event, or an entry and its own exit.
         index += 1 + more;
     }
-    let visits = index;
-    Ok(Ran { printer, visits })
+    Ok(index)
 }

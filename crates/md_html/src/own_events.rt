@@ -55,16 +55,20 @@ fn node_events(events: &[Event], entry: usize, partner: Option<usize>) -> &[Even
     }
 }
 
-/// Prints the events of the node that is entered at an index, as if nothing stood before it and around it.
-fn run_node(given: &Given, checked: &Checked, entry: usize) -> Result<Printer, AllocError>
+/// Prints the events of the node that is entered at an index, and no others.
+fn run_node(
+    printer: &mut Printer,
+    given: &Given,
+    checked: &Checked,
+    entry: usize,
+) -> Result<(), AllocError>
     ensures grammatical { IsChecked checked.now }
-    ensures printed { IfOk result (λ printer. (document : Forest) → flatten document ≡ checked.now.events
-        → printer ≡ machine.run (given_of given.now)
+    ensures printed { OnOk result ((document : Forest) → flatten document ≡ checked.now.events
+        → printer.new ≡ machine.run (given_of given.now)
         (events_at checked.now.events entry (slice_get (partners_of 0 document) entry))
-        (drop entry (children_of document)) machine.beginning) }
+        (drop entry (children_of document)) printer.old) }
 {
     let events = checked.events();
-    let mut printer = Printer::new(given.alloc);
     let mut rest = node_events(events, entry, checked.partner(entry));
     let mut index = entry;
     // Each turn visits an event, which `visits_at` counts.
@@ -74,11 +78,11 @@ fn run_node(given: &Given, checked: &Checked, entry: usize) -> Result<Printer, A
             event,
             later,
         };
-        step(&mut printer, given, checked, visit)?;
+        step(printer, given, checked, visit)?;
         rest = later;
         index += 1;
     }
-    Ok(printer)
+    Ok(())
 }
 
 /// What the definition whose entry is at an index defines.
@@ -87,8 +91,11 @@ fn defined_at(given: &Given, checked: &Checked, entry: usize) -> Result<Option<D
         → slice_get (entries_of 0 document) place ≡ Some entry
         → defined ≡ slice_get (own_definitions (given_of given.now) document) place) }
 {
-    let printer = run_node(given, checked, entry)?;
+    let mut printer = Printer::new(given.alloc);
+    // The printer is used up before an error is answered, so that no path has its many parts to drop.
+    let ran = run_node(&mut printer, given, checked, entry);
     let mut logged = printer.into_definitions();
+    ran?;
     Ok(logged.pop())
 }
 

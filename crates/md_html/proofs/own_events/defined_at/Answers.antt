@@ -18,7 +18,7 @@ use Rattle.md_html.proofs.own_events.defined_at.Goals as goal
 pub returns : goal.returns
 returns c = λ document flat place there.
     let given : Given = given_of c.args.given.now in
-    let read = c.run_node.ensures.grammatical in
+    let read = c.run_node-ran.ensures.grammatical in
     let shaped : IsShaped document =
     subst IsShaped (flatten_one GfmTable (record { line = 0; column = 0; index = 0; vs = 0 }) read.0 document
     (read.1.flattened ∙ sym flat)) read.1.grammatical.shape
@@ -26,7 +26,10 @@ returns c = λ document flat place there.
     let own = own-run given document place c.args.entry shaped there in
     let logged : c.into_definitions-logged.result.items ≡ own.0 ∷ [] =
     c.into_definitions-logged.ensures
-    ∙ ap (λ (s : Printer). s.log.definitions) (c.in_ok-printer.ensures.printed document flat)
+    ∙ ap (λ (s : Printer). s.log.definitions) (c.in_ok-ran.ensures.printed document flat
+    ∙ ap (λ s. machine.run given (events_at c.args.checked.now.events c.args.entry
+    (slice_get (partners_of 0 document) c.args.entry)) (drop c.args.entry (children_of document)) s)
+    c.new-printer.ensures)
     ∙ ap (λ es. (machine.run given (events_at es c.args.entry (slice_get (partners_of 0 document) c.args.entry))
     (drop c.args.entry (children_of document)) machine.beginning).log.definitions) (sym flat)
     ∙ own.2

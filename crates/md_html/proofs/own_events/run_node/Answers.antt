@@ -23,12 +23,10 @@ loop-event-init c =
     let part = events-part all c.args.entry c.partner.result in (
       (part.0, part.1 ∙ ap (λ own. own ++ part.0) (sym rest_is)),
       λ document flat.
-          ap (λ s. machine.run (given_of c.args.given.now) c.node_events-rest.result.now
-          (drop c.args.entry (children_of document)) s) c.new-printer.ensures
-          ∙ ap (λ own. machine.run (given_of c.args.given.now) own
-          (drop c.args.entry (children_of document)) machine.beginning) rest_is
+          ap (λ own. machine.run (given_of c.args.given.now) own
+          (drop c.args.entry (children_of document)) c.args.printer.now) rest_is
           ∙ ap (λ p. machine.run (given_of c.args.given.now) (events_at all c.args.entry p)
-          (drop c.args.entry (children_of document)) machine.beginning)
+          (drop c.args.entry (children_of document)) c.args.printer.now)
           (partner-at c.args.checked.now c.args.entry c.partner.result document c.partner.ensures flat),
     )
 

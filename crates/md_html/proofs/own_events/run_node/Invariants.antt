@@ -5,7 +5,7 @@ use Rattle.md_base.specs.declared.event.Event.{Event}
 use Rattle.md_base.specs.Tree.{Forest, flatten}
 use Rattle.md_tree.specs.Entered.{children_of}
 use Rattle.md_infer.specs.Partners.{partners_of}
-use Rattle.md_printer.specs.Machine.{run, beginning}
+use Rattle.md_printer.specs.Machine.{run}
 use Rattle.md_printer.specs.Given.{given_of}
 use Rattle.md_html.specs.OwnDefinitions.{events_at}
 use Rattle.md_html.proofs.own_events.run_node.Given as goal
@@ -16,7 +16,7 @@ invariant-loop-event l =
     × ((document : Forest) → flatten document ≡ l.checked.events
     → run (given_of l.given) l.rest (drop l.index (children_of document)) l.printer
     ≡ run (given_of l.given) (events_at l.checked.events l.entry (slice_get (partners_of 0 document) l.entry))
-    (drop l.entry (children_of document)) beginning)
+    (drop l.entry (children_of document)) l.fn.printer)
 
 abbrev pub decreases-loop-event : goal.decreases-loop-event
 decreases-loop-event l = length l.rest
