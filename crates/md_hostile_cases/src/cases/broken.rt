@@ -2,7 +2,7 @@
 
 use super::growing::{Tree, grow};
 use super::random::Random;
-use super::{Given, OTHER_NAMES, compiled, point};
+use super::{Given, compiled, other_names, point};
 use Break::{Double, Move, Remove, Rename, Swap};
 use Verdict::{Open, Refused, Same};
 use md_html::{CompileError, CompileOptions, Event, Kind, Name, Rule, is_same_name};
@@ -215,7 +215,7 @@ fn text_of(
     let given = Given {
         events,
         bytes,
-        names: &OTHER_NAMES,
+        names: other_names(),
     };
     compiled(rt, &given, &CompileOptions::default())
 }
@@ -239,7 +239,7 @@ fn break_tree(
 fn broken_trees(rt: HostRuntime) -> Result<(), Fail> {
     let mut random = Random::new(7);
     for seed in 0..TREES {
-        let tree = grow(rt.alloc(), seed, &OTHER_NAMES)?;
+        let tree = grow(rt.alloc(), seed, other_names())?;
         break_tree(&rt, &tree, &mut random)?;
     }
     Ok(())

@@ -1,6 +1,6 @@
 //! Every list of a few events of four names.
 
-use super::{Given, SCRIPT_NAMES, compiled_as_script, event, point};
+use super::{Given, compiled_as_script, event, point, script_names};
 use md_html::{CompileError, Event, Kind, Name, Rule};
 use std::alloc::{AllocError, Global};
 use std::process::Abort;
@@ -73,7 +73,7 @@ fn has_text(rt: &(impl Abort + AllocGlobal), events: &[Event]) -> Result<bool, F
     let given = Given {
         events,
         bytes: &[],
-        names: &SCRIPT_NAMES,
+        names: script_names(),
     };
     let fault = fault(rt.alloc(), events)?;
     let answer = compiled_as_script(rt, &given);

@@ -71,7 +71,7 @@ const IDENTIFIERS: [(usize, usize); 7] = [
 ];
 
 /// A definition and a footnote for each identifier.
-pub(super) const DEFINITIONS: [Part; 8] = [
+pub(super) static DEFINITIONS: [Part; 8] = [
     Node(
         Name::Definition,
         &[
@@ -135,6 +135,16 @@ pub(super) const DEFINITIONS: [Part; 8] = [
             Many(Flow),
         ],
     ),
+];
+
+/// What a document has beside them.
+pub(super) static OTHERS: [Part; 6] = [
+    Many(Flow),
+    Many(Flow),
+    Many(Flow),
+    Many(Flow),
+    Many(Flow),
+    Many(Flow),
 ];
 
 /// Texts of a document.

@@ -1,7 +1,6 @@
 //! Grows trees of the grammar at random, as the events that go through them and the bytes of their documents.
 
-use super::grammar::Class::Flow;
-use super::grammar::{DEFINITIONS, MARKS, PREAMBLE, Part, WRAPPERS, choices};
+use super::grammar::{DEFINITIONS, MARKS, OTHERS, PREAMBLE, Part, WRAPPERS, choices};
 use super::random::Random;
 use super::{event, point};
 use md_html::Kind::{Enter, Exit};
@@ -71,17 +70,13 @@ pub(super) fn grow(
 impl Grower {
     /// Plans a document: its definitions come first or last.
     fn plan(&mut self) -> Result<(), AllocError> {
-        let is_first = self.random.once_in(2);
-        if !is_first {
-            self.put(&DEFINITIONS)?;
+        let definitions = Part::All(&DEFINITIONS);
+        let others = Part::All(&OTHERS);
+        if self.random.once_in(2) {
+            self.put(&[definitions, others])
+        } else {
+            self.put(&[others, definitions])
         }
-        for _ in 0..6 {
-            self.parts.push(Part::Many(Flow))?;
-        }
-        if is_first {
-            self.put(&DEFINITIONS)?;
-        }
-        Ok(())
     }
 
     /// Plans some parts, the first of them next.

@@ -61,56 +61,62 @@ const LINK_PROTOCOLS: [&str; 6] = ["http", "https", "irc", "ircs", "mailto", "xm
 /// Where images may come from.
 const IMAGE_PROTOCOLS: [&str; 2] = ["http", "https"];
 
-/// The characters that a browser drops at the start of a URL.
-const LEADING: [char; 33] = [
-    '\u{0}', '\u{1}', '\u{2}', '\u{3}', '\u{4}', '\u{5}', '\u{6}', '\u{7}', '\u{8}', '\u{9}',
-    '\u{a}', '\u{b}', '\u{c}', '\u{d}', '\u{e}', '\u{f}', '\u{10}', '\u{11}', '\u{12}', '\u{13}',
-    '\u{14}', '\u{15}', '\u{16}', '\u{17}', '\u{18}', '\u{19}', '\u{1a}', '\u{1b}', '\u{1c}',
-    '\u{1d}', '\u{1e}', '\u{1f}', '\u{20}',
+/// What a browser reads in place of what is written in a URL: characters in place of references, and no tabs or line
+/// endings.
+const READ: [(&str, &str); 7] = [
+    ("&lt;", "<"),
+    ("&gt;", ">"),
+    ("&quot;", "\""),
+    ("&amp;", "&"),
+    ("\t", ""),
+    ("\n", ""),
+    ("\r", ""),
 ];
 
-/// What is wrong with a text, if something is.
-pub(super) fn fault(alloc: Global, text: &str) -> Result<Option<&'static str>, AllocError> {
-    let mut open: Vec<&str> = Vec::new(alloc);
+/// Whether a text is such HTML.
+pub(super) fn is_html(alloc: Global, text: &str) -> Result<bool, AllocError> {
     let (before, _) = text.split_once('<').unwrap_or((text, ""));
-    if !is_plain(before) {
-        return Ok(Some("a text before all tags"));
-    }
+    let mut open = Vec::new(alloc);
+    let mut is_html = is_plain(before);
     for piece in text.split('<').skip(1) {
-        let Some((tag, after)) = piece.split_once('>') else {
-            return Ok(Some("a tag without its end"));
-        };
-        if !is_plain(after) {
-            return Ok(Some("a text after a tag"));
-        }
-        if let Some(fault) = take_tag(alloc, &mut open, tag)? {
-            return Ok(Some(fault));
-        }
+        is_html = is_html && take_piece(alloc, &mut open, piece)?;
     }
-    Ok((!open.is_empty()).then_some("an element without its end"))
+    Ok(is_html && open.is_empty())
 }
 
-/// Takes a tag, given without its brackets, into the list of open elements.
-fn take_tag<'a>(
+/// Takes a tag and the text after it, without the bracket at the start, and says whether both have their form.
+fn take_piece<'a>(
     alloc: Global,
     open: &mut Vec<&'a str>,
-    tag: &'a str,
-) -> Result<Option<&'static str>, AllocError> {
+    piece: &'a str,
+) -> Result<bool, AllocError> {
+    match piece.split_once('>') {
+        Some((tag, after)) => Ok(is_plain(after) && take_tag(alloc, open, tag)?),
+        None => Ok(false),
+    }
+}
+
+/// Takes a tag, given without its brackets, into the list of open elements, and says whether it has its form.
+fn take_tag<'a>(alloc: Global, open: &mut Vec<&'a str>, tag: &'a str) -> Result<bool, AllocError> {
     if let Some(name) = tag.strip_prefix('/') {
-        return Ok((open.pop() != Some(name)).then_some("the end of another element"));
+        return Ok(open.pop() == Some(name));
     }
     if let Some(inside) = tag.strip_suffix(" /") {
-        let name = name_of(inside);
-        return attributes_fault(
-            alloc,
-            &VOID_TAGS,
-            name,
-            inside.strip_prefix(name).unwrap_or(""),
-        );
+        return is_tag(alloc, &VOID_TAGS, inside);
     }
-    let name = name_of(tag);
-    open.push(name)?;
-    attributes_fault(alloc, &ELEMENTS, name, tag.strip_prefix(name).unwrap_or(""))
+    open.push(name_of(tag))?;
+    is_tag(alloc, &ELEMENTS, tag)
+}
+
+/// Whether the inside of a tag is the name of one of these, with attributes that it may have.
+fn is_tag(alloc: Global, tags: &[Tag], inside: &str) -> Result<bool, AllocError> {
+    let name = name_of(inside);
+    match tags.iter().find(|(tag, _)| *tag == name) {
+        Some((_, permitted)) => {
+            are_attributes(alloc, permitted, inside.strip_prefix(name).unwrap_or(""))
+        }
+        None => Ok(false),
+    }
 }
 
 /// The name with which the inside of a tag starts.
@@ -121,35 +127,32 @@ fn name_of(inside: &str) -> &str {
     }
 }
 
-/// What is wrong with the attributes of a tag, or with the tag itself.
-fn attributes_fault(
-    alloc: Global,
-    tags: &[Tag],
-    name: &str,
-    attributes: &str,
-) -> Result<Option<&'static str>, AllocError> {
-    let Some((_, permitted)) = tags.iter().find(|(tag, _)| *tag == name) else {
-        return Ok(Some("another element"));
-    };
-    let mut left = attributes;
-    let mut seen: Vec<&str> = Vec::new(alloc);
-    for _ in 0..=permitted.len() {
-        if left.is_empty() {
-            return Ok(None);
-        }
-        let Some((attribute, value, others)) = attribute_of(left) else {
-            return Ok(Some("a tag without its form"));
-        };
-        if !permitted.contains(&attribute) || seen.contains(&attribute) {
-            return Ok(Some("another attribute"));
-        }
-        if let Some(fault) = value_fault(alloc, attribute, value)? {
-            return Ok(Some(fault));
-        }
-        seen.push(attribute)?;
-        left = others;
+/// Whether a text is some of the permitted attributes, each once.
+fn are_attributes(alloc: Global, permitted: &[&str], text: &str) -> Result<bool, AllocError> {
+    let mut seen = Vec::new(alloc);
+    let mut left = text;
+    for _ in permitted {
+        left = take_attribute(alloc, permitted, &mut seen, left)?;
     }
-    Ok(Some("more attributes than there are"))
+    Ok(left.is_empty())
+}
+
+/// Takes the first attribute of a text among those that were seen, and returns what follows it; the text itself where
+/// it doesn't begin with another one that is permitted.
+fn take_attribute<'a>(
+    alloc: Global,
+    permitted: &[&str],
+    seen: &mut Vec<&'a str>,
+    text: &'a str,
+) -> Result<&'a str, AllocError> {
+    let Some((name, value, others)) = attribute_of(text) else {
+        return Ok(text);
+    };
+    if seen.contains(&name) || !permitted.contains(&name) || !is_value(alloc, name, value)? {
+        return Ok(text);
+    }
+    seen.push(name)?;
+    Ok(others)
 }
 
 /// The first attribute of a tag, as its name and its value, and what follows it.
@@ -159,22 +162,14 @@ fn attribute_of(attributes: &str) -> Option<(&str, &str, &str)> {
     Some((name, value, others))
 }
 
-/// What is wrong with the value of an attribute.
-fn value_fault(
-    alloc: Global,
-    attribute: &str,
-    value: &str,
-) -> Result<Option<&'static str>, AllocError> {
-    if !is_plain(value) {
-        return Ok(Some("a value"));
-    }
-    let permitted: &[&str] = match attribute {
-        "href" => &LINK_PROTOCOLS,
-        "src" => &IMAGE_PROTOCOLS,
-        _ => return Ok(None),
+/// Whether an attribute may have a value.
+fn is_value(alloc: Global, name: &str, value: &str) -> Result<bool, AllocError> {
+    let leads_where_permitted = match name {
+        "href" => leads_among(alloc, value, &LINK_PROTOCOLS)?,
+        "src" => leads_among(alloc, value, &IMAGE_PROTOCOLS)?,
+        _ => true,
     };
-    let is_fine = leads_where_permitted(alloc, value, permitted)?;
-    Ok((!is_fine).then_some("a protocol"))
+    Ok(leads_where_permitted && is_plain(value))
 }
 
 /// Whether a text has no character that would end it, and each ampersand starts a reference.
@@ -190,30 +185,28 @@ fn is_after_ampersand(text: &str) -> bool {
 }
 
 /// Whether a URL has no protocol or a permitted one, as a browser takes it.
-///
-/// A browser reads references back, drops tabs and line endings anywhere, and control characters and spaces at the
-/// start.
-fn leads_where_permitted(
-    alloc: Global,
-    value: &str,
-    permitted: &[&str],
-) -> Result<bool, AllocError> {
-    let read = value
-        .replace(alloc, "&lt;", "<")?
-        .replace(alloc, "&gt;", ">")?
-        .replace(alloc, "&quot;", "\"")?
-        .replace(alloc, "&amp;", "&")?;
-    let kept = read
-        .replace(alloc, "\t", "")?
-        .replace(alloc, "\n", "")?
-        .replace(alloc, "\r", "")?;
-    let url = kept.trim_start_matches(LEADING);
-    let Some((protocol, _)) = url.split_once(':') else {
-        return Ok(true);
-    };
-    if protocol.contains(['?', '#', '/']) {
-        return Ok(true);
+fn leads_among(alloc: Global, value: &str, permitted: &[&str]) -> Result<bool, AllocError> {
+    let url = url_read(alloc, value)?;
+    match url.trim_start_matches(is_dropped).split_once(':') {
+        Some((protocol, _)) => {
+            let is_path = protocol.contains(['?', '#', '/']);
+            let protocol = protocol.to_ascii_lowercase(alloc)?;
+            Ok(is_path || permitted.contains(&protocol.as_str()))
+        }
+        None => Ok(true),
     }
-    let protocol = protocol.to_ascii_lowercase(alloc)?;
-    Ok(permitted.contains(&protocol.as_str()))
+}
+
+/// A URL as a browser reads it, save what it drops at the start.
+fn url_read(alloc: Global, value: &str) -> Result<String, AllocError> {
+    let mut url = String::from_str(alloc, value)?;
+    for (written, read) in READ {
+        url = url.replace(alloc, written, read)?;
+    }
+    Ok(url)
+}
+
+/// Whether a browser drops a character at the start of a URL: a control character or a space.
+fn is_dropped(character: char) -> bool {
+    character <= ' '
 }

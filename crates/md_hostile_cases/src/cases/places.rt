@@ -1,6 +1,6 @@
 //! Hostile places, and names that are refused.
 
-use super::{Given, SCRIPT_NAMES, compiled, compiled_as_script, event, point};
+use super::{Given, compiled, compiled_as_script, event, point, script_names};
 use Wanted::{Far, Late, Refused, Text};
 use md_html::Kind::{Enter, Exit};
 use md_html::{CompileError, CompileOptions, Event, Kind, Name, Rule};
@@ -150,7 +150,7 @@ fn is_answered(rt: &(impl Abort + AllocGlobal), case: &Case) -> Result<bool, All
     let given = Given {
         events: events.as_slice(),
         bytes: case.text.as_bytes(),
-        names: &SCRIPT_NAMES,
+        names: script_names(),
     };
     let answer = match case.wanted {
         Far(_) => compiled(rt, &given, &CompileOptions::default()),

@@ -1,9 +1,9 @@
 //! Trees that grow at random: each is a document, and its text under the safe options is HTML that leads where it may.
 
 use super::growing::{Tree, grow};
-use super::html::fault;
+use super::html::is_html;
 use super::random::Random;
-use super::{Given, OTHER_NAMES, SCRIPT_NAMES, compiled, compiled_as_script};
+use super::{Given, compiled, compiled_as_script, other_names, script_names};
 use md_html::{CompileOptions, LineEnding};
 use std::alloc::{AllocError, Global};
 use std::process::Abort;
@@ -82,35 +82,46 @@ fn given<'a>(tree: &'a Tree, names: &'a [(&'a str, &'a str)]) -> Given<'a> {
     }
 }
 
-fn has_no_fault(rt: &impl Abort, fault: Option<&'static str>, seed: u64) {
-    let reason = fault.unwrap_or("");
-    assert!(rt; reason.is_empty(), "seed {seed}: {reason}");
+/// The text of a tree under the safe options of a seed.
+fn safe_text(
+    rt: &(impl Abort + AllocGlobal),
+    given: &Given<'_>,
+    seed: u64,
+) -> Result<String, Fail> {
+    let options = options(rt.alloc(), seed, true)?;
+    Ok(compiled(rt, given, &options)?)
 }
 
 /// The text of a tree under safe options is read.
 fn is_read(rt: &(impl Abort + AllocGlobal), given: &Given<'_>, seed: u64) -> Result<(), Fail> {
-    let options = options(rt.alloc(), seed, true)?;
-    let text = compiled(rt, given, &options)?;
-    let fault = fault(rt.alloc(), &text)?;
-    has_no_fault(rt, fault, seed);
+    let text = safe_text(rt, given, seed)?;
+    let is_html = is_html(rt.alloc(), &text)?;
+    assert!(rt; is_html, "seed {seed}: {text}");
     Ok(())
 }
 
-/// The trees of a seed are compiled: one as a script too, the other with any options.
-fn are_compiled(rt: &(impl Abort + AllocGlobal), seed: u64) -> Result<(), Fail> {
-    let tree = grow(rt.alloc(), seed, &SCRIPT_NAMES)?;
-    compiled_as_script(rt, &given(&tree, &SCRIPT_NAMES))?;
-    is_read(rt, &given(&tree, &SCRIPT_NAMES), seed)?;
-    let other = grow(rt.alloc(), seed, &OTHER_NAMES)?;
+/// The tree of a seed with the names of a script is compiled, as a script too.
+fn is_script(rt: &(impl Abort + AllocGlobal), seed: u64) -> Result<(), Fail> {
+    let tree = grow(rt.alloc(), seed, script_names())?;
+    let given = given(&tree, script_names());
+    compiled_as_script(rt, &given)?;
+    is_read(rt, &given, seed)
+}
+
+/// The tree of a seed with other names is compiled, with any options too.
+fn is_compiled(rt: &(impl Abort + AllocGlobal), seed: u64) -> Result<(), Fail> {
+    let tree = grow(rt.alloc(), seed, other_names())?;
+    let given = given(&tree, other_names());
     let any = options(rt.alloc(), seed, false)?;
-    compiled(rt, &given(&other, &OTHER_NAMES), &any)?;
-    is_read(rt, &given(&other, &OTHER_NAMES), seed)
+    compiled(rt, &given, &any)?;
+    is_read(rt, &given, seed)
 }
 
 #[test]
 fn random_trees(rt: HostRuntime) -> Result<(), Fail> {
     for seed in 0..TREES {
-        are_compiled(&rt, seed)?;
+        is_script(&rt, seed)?;
+        is_compiled(&rt, seed)?;
     }
     Ok(())
 }
@@ -141,19 +152,17 @@ const REFUSED: [&str; 18] = [
 const READ: &str =
     "a<p>&lt;<a href=\"http://x?y:z\" title=\"\">b</a><img src=\"x/y:z\" /></p>\n<hr />";
 
-/// The reader refuses each of these texts.
-fn are_refused(rt: &(impl Abort + AllocGlobal), texts: &[&str]) -> Result<(), Fail> {
+/// Whether each of these texts is read, or none of them.
+fn are_read(rt: &(impl Abort + AllocGlobal), texts: &[&str], are_read: bool) -> Result<(), Fail> {
     for text in texts {
-        let fault = fault(rt.alloc(), text)?;
-        assert!(rt; fault.is_some(), "{text}");
+        let is_html = is_html(rt.alloc(), text)?;
+        assert!(rt; is_html == are_read, "{text}");
     }
     Ok(())
 }
 
 #[test]
 fn reader_refuses(rt: HostRuntime) -> Result<(), Fail> {
-    are_refused(&rt, &REFUSED)?;
-    let fault = fault(rt.alloc(), READ)?;
-    assert!(rt; fault.is_none(), "{fault:?}");
-    Ok(())
+    are_read(&rt, &REFUSED, false)?;
+    are_read(&rt, &[READ], true)
 }
