@@ -1,8 +1,8 @@
 //! What a script answers, by `run` and by the calls that it makes.
 
 use crate::parts::{QUESTION, answer_questions};
-use crate::reading::{REFERENCE_NAMES, Script, read};
-use md_html::{check, compile, compile_checked, compile_counted};
+use crate::reading::{REFERENCE_NAMES, Script};
+use md_html::{CompileError, Counted};
 use md_script::{RunError, run};
 use std::alloc::{AllocError, Global};
 
@@ -28,9 +28,21 @@ fn say_calls(
     if let Err(RunError::Line(_)) = answer {
         return Ok(());
     }
-    match read(alloc, script) {
-        Ok(script) => say_others(alloc, said, &script, answer),
-        Err(error) => write!(said, "\n! read: {error}"),
+    say_reading(alloc, said, &mut Script::new(alloc), script, answer)
+}
+
+/// Reads the script, and says which calls answer otherwise.
+fn say_reading<'a>(
+    alloc: Global,
+    said: &mut String,
+    script: &mut Script<'a>,
+    input: &'a [u8],
+    answer: &Result<String, RunError>,
+) -> Result<(), AllocError> {
+    if script.read(alloc, input)? {
+        say_others(alloc, said, script, answer)
+    } else {
+        said.push_str("\n! read: a line is unreadable")
     }
 }
 
@@ -41,17 +53,32 @@ fn say_others(
     script: &Script<'_>,
     answer: &Result<String, RunError>,
 ) -> Result<(), AllocError> {
-    say_unless(said, by_compile(alloc, script) == *answer, "compile")?;
-    say_unless(
-        said,
-        by_counted(alloc, script) == *answer,
-        "compile_counted",
-    )?;
-    say_unless(
-        said,
-        by_checked(alloc, script) == *answer,
-        "compile_checked",
-    )
+    let names = &REFERENCE_NAMES;
+    let compiled = script.compile(alloc, names);
+    say_unless(said, is_same(compiled, answer), "compile")?;
+    let counted = text_of(script, script.compile_counted(alloc, names));
+    say_unless(said, is_same(counted, answer), "compile_counted")?;
+    let checked = script.compile_checked(alloc, names);
+    say_unless(said, is_same(checked, answer), "compile_checked")
+}
+
+/// Whether a call answers what `run` does.
+fn is_same(answer: Result<String, CompileError>, wanted: &Result<String, RunError>) -> bool {
+    answer.map_err(RunError::from) == *wanted
+}
+
+/// The text that was counted; `Memory` unless there are two visits of each event at least and three at most.
+fn text_of(
+    script: &Script<'_>,
+    answer: Result<Counted, CompileError>,
+) -> Result<String, CompileError> {
+    let counted = answer?;
+    let (visits, events) = (counted.visits as u128, script.events.len() as u128);
+    if 2 * events <= visits && visits <= 3 * events {
+        Ok(counted.text)
+    } else {
+        Err(CompileError::Memory)
+    }
 }
 
 /// The text, or why there is none.
@@ -68,39 +95,4 @@ fn say_unless(said: &mut String, is_same: bool, call: &str) -> Result<(), AllocE
         return Ok(());
     }
     write!(said, "\n! {call} answers otherwise")
-}
-
-/// What `compile` answers.
-fn by_compile(alloc: Global, script: &Script<'_>) -> Result<String, RunError> {
-    Ok(compile(
-        alloc,
-        script.events.as_slice(),
-        script.document,
-        &script.options,
-        &REFERENCE_NAMES,
-    )?)
-}
-
-/// What `compile_counted` answers; `Memory` unless there are two visits of each event at least and three at most.
-fn by_counted(alloc: Global, script: &Script<'_>) -> Result<String, RunError> {
-    let counted = compile_counted(
-        alloc,
-        script.events.as_slice(),
-        script.document,
-        &script.options,
-        &REFERENCE_NAMES,
-    )?;
-    let (visits, events) = (counted.visits as u128, script.events.len() as u128);
-    if 2 * events <= visits && visits <= 3 * events {
-        Ok(counted.text)
-    } else {
-        Err(RunError::Memory)
-    }
-}
-
-/// What `compile_checked` answers, once the events are checked.
-fn by_checked(alloc: Global, script: &Script<'_>) -> Result<String, RunError> {
-    let events = script.events.as_slice();
-    let checked = check(alloc, events, script.document, &REFERENCE_NAMES)?;
-    Ok(compile_checked(alloc, &checked, &script.options)?)
 }

@@ -5,44 +5,22 @@
 #![tactic(auto)]
 
 mod answers;
+mod compiling;
 mod parts;
 mod reading;
 
 use answers::answer;
 use md_script::{ServeError, read_input};
-use std::alloc::{AllocError, Global};
 use std::process::ExitCode;
 
 /// How a case begins.
 const MARK: &[u8] = b"%%%% ";
 
-/// A case: its first line, and its script.
-#[derive(Drop)]
+/// A case: its first line, and where its script begins.
+#[derive(Clone, Copy)]
 struct Case<'a> {
     title: &'a [u8],
-    script: Vec<u8>,
-    has_lines: bool,
-}
-
-impl<'a> Case<'a> {
-    /// A case with no script yet.
-    fn new(alloc: Global, title: &'a [u8]) -> Self {
-        Case {
-            title,
-            script: Vec::new(alloc),
-            has_lines: false,
-        }
-    }
-
-    /// Adds a line to the script.
-    fn add(&mut self, line: &[u8]) -> Result<(), AllocError> {
-        if self.has_lines {
-            self.script.push(b'\n')?;
-        }
-        self.has_lines = true;
-        self.script.extend_from_slice(line)?;
-        Ok(())
-    }
+    start: usize,
 }
 
 fn main(rt: HostRuntime) -> ExitCode {
@@ -62,37 +40,47 @@ fn answer_cases<R: Input + Print + AllocGlobal>(rt: &R) -> Result<(), ServeError
     answer_each(rt, input.as_slice())
 }
 
-/// Answers each case of an input.
+/// Answers each case of an input: one ends before the line that begins the next.
 fn answer_each<R: Print + AllocGlobal>(rt: &R, input: &[u8]) -> Result<(), ServeError> {
     let mut case: Option<Case<'_>> = None;
+    let mut start: usize = 0;
     for line in input.split(|byte| *byte == b'\n') {
-        take_line(rt, &mut case, line)?;
+        let next = start.saturating_add(line.len()).saturating_add(1);
+        if line.starts_with(MARK) {
+            answer_until(rt, case, input, start)?;
+            case = Some(Case {
+                title: line,
+                start: next,
+            });
+        }
+        start = next;
     }
-    write_answer(rt, case.as_ref())
+    answer_until(rt, case, input, start)
 }
 
-/// Takes a line: one that begins a case ends the case before it.
-fn take_line<'a, R: Print + AllocGlobal>(
+/// Answers a case whose script ends before the line that starts at an index.
+fn answer_until<R: Print + AllocGlobal>(
     rt: &R,
-    case: &mut Option<Case<'a>>,
-    line: &'a [u8],
+    case: Option<Case<'_>>,
+    input: &[u8],
+    next: usize,
 ) -> Result<(), ServeError> {
-    if line.starts_with(MARK) {
-        write_answer(rt, case.as_ref())?;
-        *case = Some(Case::new(rt.alloc(), line));
-    } else if let Some(open) = case {
-        open.add(line)?;
-    }
-    Ok(())
-}
-
-/// Writes a case's first line and its answer.
-fn write_answer<R: Print + AllocGlobal>(rt: &R, case: Option<&Case<'_>>) -> Result<(), ServeError> {
     let Some(case) = case else {
         return Ok(());
     };
-    let answer = answer(rt.alloc(), case.script.as_slice())?;
-    for part in [case.title, b"\n", answer.as_bytes(), b"\n"] {
+    let end = next.saturating_sub(1);
+    let script = input.get(case.start..end).unwrap_or(&[]);
+    write_answer(rt, case.title, script)
+}
+
+/// Writes a case's first line and its answer.
+fn write_answer<R: Print + AllocGlobal>(
+    rt: &R,
+    title: &[u8],
+    script: &[u8],
+) -> Result<(), ServeError> {
+    let answer = answer(rt.alloc(), script)?;
+    for part in [title, b"\n", answer.as_bytes(), b"\n"] {
         match rt.write_all(part) {
             Ok(()) => {}
             Err(_) => return Err(ServeError::Output),

@@ -10,7 +10,7 @@ mod sheets;
 mod texts;
 mod trees;
 
-use crate::reading::{Script, read};
+use crate::reading::Script;
 use std::alloc::{AllocError, Global};
 
 /// How a question begins.
@@ -33,9 +33,25 @@ struct Call<'a> {
 
 /// What is answered to each question of a script.
 pub(crate) fn answer_questions(alloc: Global, input: &[u8]) -> Result<String, AllocError> {
-    match read_asked(alloc, input)? {
-        Some(asked) => answers_to(alloc, &asked),
-        None => String::from_str(alloc, "! unreadable"),
+    let mut asked = Asked {
+        questions: Vec::new(alloc),
+        names: Vec::new(alloc),
+        script: Script::new(alloc),
+    };
+    answer_read(alloc, &mut asked, input)
+}
+
+/// Reads questions and their script, and answers each.
+fn answer_read<'a>(
+    alloc: Global,
+    asked: &mut Asked<'a>,
+    input: &'a [u8],
+) -> Result<String, AllocError> {
+    let script = read_head(asked, input)?;
+    if asked.script.read(alloc, script)? {
+        answers_to(alloc, asked)
+    } else {
+        String::from_str(alloc, "! unreadable")
     }
 }
 
@@ -102,40 +118,32 @@ fn number(alloc: Global, number: Option<usize>) -> Result<String, AllocError> {
     }
 }
 
-/// Reads the questions and the names before a script, and the script; `None` where it can't be read.
-fn read_asked(alloc: Global, input: &[u8]) -> Result<Option<Asked<'_>>, AllocError> {
-    let mut questions = Vec::new(alloc);
-    let mut names = Vec::new(alloc);
-    let script = read_head(&mut questions, &mut names, input)?;
-    match read(alloc, script) {
-        Ok(script) => Ok(Some(Asked {
-            questions,
-            names,
-            script,
-        })),
-        Err(_) => Ok(None),
-    }
-}
-
 /// Reads the questions and the names, after which the script is.
-fn read_head<'a>(
-    questions: &mut Vec<&'a str>,
-    names: &mut Vec<(&'a str, &'a str)>,
-    input: &'a [u8],
-) -> Result<&'a [u8], AllocError> {
+fn read_head<'a>(asked: &mut Asked<'a>, input: &'a [u8]) -> Result<&'a [u8], AllocError> {
     let mut length: usize = 0;
     for line in input.split(|byte| *byte == b'\n') {
-        let text = std::str::from_utf8(line).unwrap_or("");
-        if let Some(question) = text.strip_prefix(QUESTION) {
-            questions.push(question)?;
-        } else if let Some(name) = text.strip_prefix('=') {
-            names.push(word_and_rest(name))?;
-        } else {
+        if !take_line(asked, line)? {
             break;
         }
         length = length.saturating_add(line.len()).saturating_add(1);
     }
     Ok(input.get(length..).unwrap_or(&[]))
+}
+
+/// Takes a line that is a question or a name, and tells whether it is.
+fn take_line<'a>(asked: &mut Asked<'a>, line: &'a [u8]) -> Result<bool, AllocError> {
+    let text = std::str::from_utf8(line).unwrap_or("");
+    if let Some(question) = text.strip_prefix(QUESTION) {
+        asked.questions.push(question)?;
+        return Ok(true);
+    }
+    match text.strip_prefix('=') {
+        Some(name) => {
+            asked.names.push(word_and_rest(name))?;
+            Ok(true)
+        }
+        None => Ok(false),
+    }
 }
 
 /// The document as a text.

@@ -1,7 +1,6 @@
 //! Scripts read apart from the program's own reader, so that the calls that `run` makes are asked as well.
 
 use md_html::{CompileOptions, Event, Kind, LineEnding, Name, Point};
-use md_script::RunError;
 use std::alloc::{AllocError, Global};
 
 /// What a script stands for.
@@ -25,34 +24,31 @@ pub(crate) static REFERENCE_NAMES: [(&str, &str); 9] = [
     ("quest", "?"),
 ];
 
-/// Reads a script of which each line can be read; of another it may name a wrong line.
-pub(crate) fn read(alloc: Global, input: &[u8]) -> Result<Script<'_>, RunError> {
-    let mut script = Script {
-        events: Vec::new(alloc),
-        document: &[],
-        options: CompileOptions::default(),
-    };
-    script.document = take_lines(alloc, &mut script, input)?;
-    Ok(script)
-}
-
-/// Takes the lines before the document, which is what comes after them.
-fn take_lines<'a>(
-    alloc: Global,
-    script: &mut Script<'_>,
-    input: &'a [u8],
-) -> Result<&'a [u8], RunError> {
-    let mut length: usize = 0;
-    for line in input.split(|byte| *byte == b'\n') {
-        length = length.saturating_add(line.len()).saturating_add(1);
-        if line == b"--".as_slice() {
-            return Ok(input.get(length..).unwrap_or(&[]));
-        }
-        if !take_line(alloc, script, line)? {
-            break;
+impl<'a> Script<'a> {
+    /// A script of no line.
+    pub(crate) fn new(alloc: Global) -> Self {
+        Script {
+            events: Vec::new(alloc),
+            document: &[],
+            options: CompileOptions::default(),
         }
     }
-    Err(RunError::Line(length))
+
+    /// Reads the lines before the document, which is what comes after them, and tells whether each could be read.
+    pub(crate) fn read(&mut self, alloc: Global, input: &'a [u8]) -> Result<bool, AllocError> {
+        let mut length: usize = 0;
+        for line in input.split(|byte| *byte == b'\n') {
+            length = length.saturating_add(line.len()).saturating_add(1);
+            if line == b"--".as_slice() {
+                self.document = input.get(length..).unwrap_or(&[]);
+                return Ok(true);
+            }
+            if !take_line(alloc, self, line)? {
+                break;
+            }
+        }
+        Ok(false)
+    }
 }
 
 /// Takes a line, and tells whether it could be read.

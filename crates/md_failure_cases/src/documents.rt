@@ -2,7 +2,7 @@
 
 use crate::log::{Log, again};
 use crate::plain;
-use crate::rows::{NAMES, Row, Wanted, answered, named, refused};
+use crate::rows::{NAMES, Row, Wanted, documents, named};
 use md_html::{
     AlignKind, Checked, CompileError, CompileOptions, Counted, Name, SafeError, SafeHtml, check,
     compile, compile_checked, compile_counted, compile_safe, gfm_table_align,
@@ -13,8 +13,9 @@ use std::io;
 
 /// Makes each call over each document.
 pub fn ask_each<R: Print + AllocGlobal>(rt: &R, log: &mut Log) -> io::Result<()> {
-    ask_rows(rt, log, answered())?;
-    ask_rows(rt, log, refused())?;
+    for rows in documents() {
+        ask_rows(rt, log, rows)?;
+    }
     ask(rt, log, named(), &NAMES)
 }
 
@@ -89,8 +90,10 @@ pub fn check_each<R: Print + AllocGlobal>(
     log: &mut Log,
     asks_methods: bool,
 ) -> io::Result<()> {
-    check_rows(rt, log, answered(), asks_methods)?;
-    check_rows(rt, log, refused(), asks_methods)
+    for rows in documents() {
+        check_rows(rt, log, rows, asks_methods)?;
+    }
+    Ok(())
 }
 
 /// The same for these documents.

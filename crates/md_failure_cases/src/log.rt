@@ -44,14 +44,6 @@ impl Log {
         }
     }
 
-    /// The same for several answers, each with its call and what that was asked.
-    pub fn tell_each<R: Print>(&self, rt: &R, answers: &[(bool, &str, &str)]) -> io::Result<()> {
-        for (is_right, call, asked) in answers {
-            self.tell(rt, *is_right, call, asked)?;
-        }
-        Ok(())
-    }
-
     /// Writes that each call was made. Only one request is refused in a run, so that at most one
     /// call may run out of memory.
     pub fn close<R: Print>(&self, rt: &R) -> io::Result<()> {

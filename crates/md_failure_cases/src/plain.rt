@@ -15,18 +15,17 @@ use std::str::FromStr;
 
 /// Makes the calls that ask for nothing that takes memory.
 pub fn ask_each<R: Print>(rt: &R, log: &Log) -> io::Result<()> {
-    let answers = [
-        (endings_answer(), "as_str and from_str", "line endings"),
-        (options_answer(), "default and gfm", "options"),
-        (errors_answer(), "status", "errors"),
-        (
-            cut_slice_answers(),
-            "each call but serialize",
-            "a slice that is cut within tabs",
-        ),
-        (inner_slice_answers(), "from_indices and as_str", "a slice"),
-    ];
-    log.tell_each(rt, &answers)
+    let cut = "a slice that is cut within tabs";
+    log.tell(rt, endings_answer(), "as_str and from_str", "line endings")?;
+    log.tell(rt, options_answer(), "default and gfm", "options")?;
+    log.tell(rt, errors_answer(), "status", "errors")?;
+    log.tell(rt, cut_slice_answers(), "each call but serialize", cut)?;
+    log.tell(
+        rt,
+        inner_slice_answers(),
+        "from_indices and as_str",
+        "a slice",
+    )
 }
 
 /// Whether line endings have their texts.
@@ -76,21 +75,16 @@ pub fn ask_of_checked<R: Print>(rt: &R, log: &Log, row: &Row, checked: &Checked)
 
 /// Makes those that each document has.
 fn ask_of_each<R: Print>(rt: &R, log: &Log, row: &Row, checked: &Checked) -> io::Result<()> {
-    let answers = [
-        (
-            is_kept(row, checked),
-            "events, visits, bytes and names",
-            row.name,
-        ),
-        (partners_answer(row, checked), "partner", row.name),
-        (list_answers(checked), "list_loose", row.name),
-        (
-            item_answers(checked),
-            "list_item_loose and last_contributing",
-            row.name,
-        ),
-    ];
-    log.tell_each(rt, &answers)
+    let (name, of_item) = (row.name, "list_item_loose and last_contributing");
+    log.tell(
+        rt,
+        is_kept(row, checked),
+        "events, visits, bytes and names",
+        name,
+    )?;
+    log.tell(rt, partners_answer(row, checked), "partner", name)?;
+    log.tell(rt, list_answers(checked), "list_loose", name)?;
+    log.tell(rt, item_answers(checked), of_item, name)
 }
 
 /// Makes those of a link by a label, where it is the second node.

@@ -63,13 +63,28 @@ macro_rules! row {
     };
 }
 
-/// The documents that have a text, without names of their own.
-pub fn answered() -> &'static [Row] {
-    &ANSWERED
+/// The documents without names of their own: those that have a text, then those that are refused.
+pub fn documents() -> [&'static [Row]; 5] {
+    [links(), tables(), footnotes(), items(), refused()]
 }
 
-/// The documents that are refused.
-pub fn refused() -> &'static [Row] {
+fn links() -> &'static [Row] {
+    &LINKS
+}
+
+fn tables() -> &'static [Row] {
+    &TABLES
+}
+
+fn footnotes() -> &'static [Row] {
+    &FOOTNOTES
+}
+
+fn items() -> &'static [Row] {
+    &ITEMS
+}
+
+fn refused() -> &'static [Row] {
     &REFUSED
 }
 
@@ -78,7 +93,7 @@ pub fn named() -> &'static Row {
     &NAMED
 }
 
-static ANSWERED: [Row; 6] = [
+static LINKS: [Row; 2] = [
     row! {
         "a chunk that is cut within a tab", "\ta\t", Wanted::Text("<pre><code>  a\t  \n</code></pre>");
         + CodeIndented 0; + CodeFlowChunk 0 . 2; - CodeFlowChunk 2 . 3; - CodeIndented 3;
@@ -93,35 +108,40 @@ static ANSWERED: [Row; 6] = [
         + Data 13; - Data 14; - DefinitionLabelString 14; + DefinitionDestinationString 17; + Data 17;
         - Data 18; - DefinitionDestinationString 18; - Definition 18;
     },
-    row! {
-        "a table", "|a|\n|-|\n|b|c|",
-        Wanted::Text("<table>\n<thead>\n<tr>\n<th>a</th>\n</tr>\n</thead>\n<tbody>\n<tr>\n<td>b</td>\n</tr>\n\
-            </tbody>\n</table>");
-        + GfmTable 0; + GfmTableHead 0; + GfmTableRow 0; + GfmTableCell 0; + Data 1; - Data 2;
-        - GfmTableCell 3; - GfmTableRow 3; + LineEnding 3; - LineEnding 4; + GfmTableDelimiterRow 4;
-        + GfmTableDelimiterCellValue 5; - GfmTableDelimiterCellValue 6; - GfmTableDelimiterRow 7;
-        - GfmTableHead 7; + LineEnding 7; - LineEnding 8; + GfmTableBody 8; + GfmTableRow 8;
-        + GfmTableCell 8; + Data 9; - Data 10; - GfmTableCell 10; + GfmTableCell 10; + Data 11; - Data 12;
-        - GfmTableCell 13; - GfmTableRow 13; - GfmTableBody 13; - GfmTable 13;
-    },
-    row! {
-        "two calls of a footnote", "[^b][^b][^b]:c",
-        Wanted::Text("<p><sup><a href=\"#user-content-fn-b\" id=\"user-content-fnref-b\" data-footnote-ref=\"\" \
-            aria-describedby=\"footnote-label\">1</a></sup><sup><a href=\"#user-content-fn-b\" \
-            id=\"user-content-fnref-b-2\" data-footnote-ref=\"\" \
-            aria-describedby=\"footnote-label\">1</a></sup></p>\n<section data-footnotes=\"\" \
-            class=\"footnotes\"><h2 id=\"footnote-label\" class=\"sr-only\">Footnotes</h2>\n<ol>\n<li \
-            id=\"user-content-fn-b\">\n<p>c <a href=\"#user-content-fnref-b\" data-footnote-backref=\"\" \
-            aria-label=\"Back to content\" class=\"data-footnote-backref\">↩</a> <a \
-            href=\"#user-content-fnref-b-2\" data-footnote-backref=\"\" aria-label=\"Back to content\" \
-            class=\"data-footnote-backref\">↩<sup>2</sup></a></p>\n</li>\n</ol>\n</section>\n");
-        + Paragraph 0; + GfmFootnoteCall 0; + Label 0; + LabelText 2; - LabelText 3; - Label 4;
-        - GfmFootnoteCall 4; + GfmFootnoteCall 4; + Label 4; + LabelText 6; - LabelText 7; - Label 8;
-        - GfmFootnoteCall 8; - Paragraph 8; + GfmFootnoteDefinition 8; + GfmFootnoteDefinitionPrefix 8;
-        + GfmFootnoteDefinitionLabelString 10; - GfmFootnoteDefinitionLabelString 11;
-        - GfmFootnoteDefinitionPrefix 13; + Paragraph 13; + Data 13; - Data 14; - Paragraph 14;
-        - GfmFootnoteDefinition 14;
-    },
+];
+
+static TABLES: [Row; 1] = [row! {
+    "a table", "|a|\n|-|\n|b|c|",
+    Wanted::Text("<table>\n<thead>\n<tr>\n<th>a</th>\n</tr>\n</thead>\n<tbody>\n<tr>\n<td>b</td>\n</tr>\n\
+        </tbody>\n</table>");
+    + GfmTable 0; + GfmTableHead 0; + GfmTableRow 0; + GfmTableCell 0; + Data 1; - Data 2;
+    - GfmTableCell 3; - GfmTableRow 3; + LineEnding 3; - LineEnding 4; + GfmTableDelimiterRow 4;
+    + GfmTableDelimiterCellValue 5; - GfmTableDelimiterCellValue 6; - GfmTableDelimiterRow 7;
+    - GfmTableHead 7; + LineEnding 7; - LineEnding 8; + GfmTableBody 8; + GfmTableRow 8;
+    + GfmTableCell 8; + Data 9; - Data 10; - GfmTableCell 10; + GfmTableCell 10; + Data 11; - Data 12;
+    - GfmTableCell 13; - GfmTableRow 13; - GfmTableBody 13; - GfmTable 13;
+}];
+
+static FOOTNOTES: [Row; 1] = [row! {
+    "two calls of a footnote", "[^b][^b][^b]:c",
+    Wanted::Text("<p><sup><a href=\"#user-content-fn-b\" id=\"user-content-fnref-b\" data-footnote-ref=\"\" \
+        aria-describedby=\"footnote-label\">1</a></sup><sup><a href=\"#user-content-fn-b\" \
+        id=\"user-content-fnref-b-2\" data-footnote-ref=\"\" \
+        aria-describedby=\"footnote-label\">1</a></sup></p>\n<section data-footnotes=\"\" \
+        class=\"footnotes\"><h2 id=\"footnote-label\" class=\"sr-only\">Footnotes</h2>\n<ol>\n<li \
+        id=\"user-content-fn-b\">\n<p>c <a href=\"#user-content-fnref-b\" data-footnote-backref=\"\" \
+        aria-label=\"Back to content\" class=\"data-footnote-backref\">↩</a> <a \
+        href=\"#user-content-fnref-b-2\" data-footnote-backref=\"\" aria-label=\"Back to content\" \
+        class=\"data-footnote-backref\">↩<sup>2</sup></a></p>\n</li>\n</ol>\n</section>\n");
+    + Paragraph 0; + GfmFootnoteCall 0; + Label 0; + LabelText 2; - LabelText 3; - Label 4;
+    - GfmFootnoteCall 4; + GfmFootnoteCall 4; + Label 4; + LabelText 6; - LabelText 7; - Label 8;
+    - GfmFootnoteCall 8; - Paragraph 8; + GfmFootnoteDefinition 8; + GfmFootnoteDefinitionPrefix 8;
+    + GfmFootnoteDefinitionLabelString 10; - GfmFootnoteDefinitionLabelString 11;
+    - GfmFootnoteDefinitionPrefix 13; + Paragraph 13; + Data 13; - Data 14; - Paragraph 14;
+    - GfmFootnoteDefinition 14;
+}];
+
+static ITEMS: [Row; 2] = [
     row! {
         "a line feed by number", "- &#10;", Wanted::Text("<ul>\n<li>\n</li>\n</ul>");
         + ListUnordered 0; + ListItem 0; + ListItemPrefix 0; + ListItemMarker 0; - ListItemMarker 1;

@@ -105,18 +105,26 @@ const BREAK_TEXT: &[u8] = b"<hr />";
 
 /// Makes each call of `serve`, and those that tell of its errors.
 pub fn ask_each<R: Print + AllocGlobal>(rt: &R, log: &Log) -> io::Result<()> {
+    ask_of_scripts(rt, log)?;
+    ask_of_failures(rt, log)
+}
+
+/// Makes those where each read and write succeeds, and those that tell of errors.
+fn ask_of_scripts<R: Print + AllocGlobal>(rt: &R, log: &Log) -> io::Result<()> {
     let alloc = rt.alloc();
-    let answers = [
-        (is_written(alloc), "serve", "a break"),
-        (is_appended(alloc) == Ok(true), "append_text", "a break"),
-        (reads_are_told(alloc), "serve", "reads that fail"),
-        (writes_are_told(alloc), "serve", "writes that fail"),
-        (stuck_is_told(alloc), "serve", "writers that are stuck"),
-        (refusals_are_told(alloc), "serve", "refused scripts"),
-        (endless_is_told(alloc), "serve", "an endless reader"),
-        (have_messages(alloc) == Ok(true), "to_string", "errors"),
-    ];
-    log.tell_each(rt, &answers)
+    log.tell(rt, is_written(alloc), "serve", "a break")?;
+    log.tell(rt, is_appended(alloc) == Ok(true), "append_text", "a break")?;
+    log.tell(rt, refusals_are_told(alloc), "serve", "refused scripts")?;
+    log.tell(rt, have_messages(alloc) == Ok(true), "to_string", "errors")
+}
+
+/// Makes those where one fails, or never ends.
+fn ask_of_failures<R: Print + AllocGlobal>(rt: &R, log: &Log) -> io::Result<()> {
+    let alloc = rt.alloc();
+    log.tell(rt, reads_are_told(alloc), "serve", "reads that fail")?;
+    log.tell(rt, writes_are_told(alloc), "serve", "writes that fail")?;
+    log.tell(rt, stuck_is_told(alloc), "serve", "writers that are stuck")?;
+    log.tell(rt, endless_is_told(alloc), "serve", "an endless reader")
 }
 
 /// What `serve` answers, and what it wrote, where these reads and writes fail, and how often it read.
@@ -254,15 +262,31 @@ fn have_messages(alloc: Global) -> Result<bool, AllocError> {
     )
 }
 
+/// Errors of `serve`, with their statuses and their lines.
+static SERVE_ERRORS: [(ServeError, u8, &str); 4] = [
+    (ServeError::Run(RunError::Memory), 3, "out of memory"),
+    (ServeError::Run(RunError::Line(4)), 2, "line 4: unreadable"),
+    (ServeError::Input, 4, "input or output failed"),
+    (ServeError::Output, 4, "input or output failed"),
+];
+
+/// Errors of `run`, likewise.
+static RUN_ERRORS: [(RunError, u8, &str); 3] = [
+    (RunError::Memory, 3, "out of memory"),
+    (RunError::Line(4), 2, "line 4: unreadable"),
+    (
+        RunError::Event {
+            index: 3,
+            rule: Rule::Place,
+        },
+        1,
+        "event 3: Place",
+    ),
+];
+
 /// Whether each error of `serve` has its status and its line.
 fn serve_errors_say(alloc: Global) -> Result<bool, AllocError> {
-    let cases = [
-        (ServeError::Run(RunError::Memory), 3, "out of memory"),
-        (ServeError::Run(RunError::Line(4)), 2, "line 4: unreadable"),
-        (ServeError::Input, 4, "input or output failed"),
-        (ServeError::Output, 4, "input or output failed"),
-    ];
-    for (error, status, message) in &cases {
+    for (error, status, message) in &SERVE_ERRORS {
         if !serve_says(alloc, error, *status, message)? {
             return Ok(false);
         }
@@ -272,16 +296,7 @@ fn serve_errors_say(alloc: Global) -> Result<bool, AllocError> {
 
 /// Whether each error of `run` has its status and its line.
 fn run_errors_say(alloc: Global) -> Result<bool, AllocError> {
-    let place = RunError::Event {
-        index: 3,
-        rule: Rule::Place,
-    };
-    let cases = [
-        (RunError::Memory, 3, "out of memory"),
-        (RunError::Line(4), 2, "line 4: unreadable"),
-        (place, 1, "event 3: Place"),
-    ];
-    for (error, status, message) in &cases {
+    for (error, status, message) in &RUN_ERRORS {
         if !run_says(alloc, error, *status, message)? {
             return Ok(false);
         }

@@ -1,10 +1,7 @@
 //! Questions on a script that `run` can't ask: by the names as references, as a page, with its visits.
 
 use super::{Asked, Call, no_such_call, with_line_feeds};
-use md_html::{
-    CompileError, CompileOptions, SafeError, SafeHtml, check, compile, compile_checked,
-    compile_counted, compile_safe,
-};
+use md_html::{CompileError, CompileOptions, Counted, SafeError, SafeHtml, compile_safe};
 use md_page::page;
 use std::alloc::{AllocError, Global};
 
@@ -14,10 +11,11 @@ pub(super) fn answer(
     asked: &Asked<'_>,
     call: Call<'_>,
 ) -> Result<String, AllocError> {
+    let (script, names) = (&asked.script, asked.names.as_slice());
     match call.name {
-        "compile" => said_of(alloc, by_compile(alloc, asked)),
-        "compile_checked" => said_of(alloc, by_checked(alloc, asked)),
-        "compile_counted" => said_of(alloc, by_counted(alloc, asked)),
+        "compile" => said_of(alloc, script.compile(alloc, names)),
+        "compile_checked" => said_of(alloc, script.compile_checked(alloc, names)),
+        "compile_counted" => said_counted(alloc, script.compile_counted(alloc, names)),
         "compile_safe" => said_safe(alloc, by_safe(alloc, asked)),
         "page" => page_titled(alloc, asked, call.argument),
         "default" => listed(alloc, CompileOptions::default()),
@@ -44,29 +42,15 @@ fn said_of(alloc: Global, answer: Result<String, CompileError>) -> Result<String
     }
 }
 
-/// What `compile` answers.
-fn by_compile(alloc: Global, asked: &Asked<'_>) -> Result<String, CompileError> {
-    let script = &asked.script;
-    let events = script.events.as_slice();
-    let names = asked.names.as_slice();
-    compile(alloc, events, script.document, &script.options, names)
-}
-
-/// What `compile_checked` answers, once the events are checked.
-fn by_checked(alloc: Global, asked: &Asked<'_>) -> Result<String, CompileError> {
-    let script = &asked.script;
-    let events = script.events.as_slice();
-    let checked = check(alloc, events, script.document, asked.names.as_slice())?;
-    Ok(compile_checked(alloc, &checked, &script.options)?)
-}
-
-/// What `compile_counted` answers: how many events were visited, and the text.
-fn by_counted(alloc: Global, asked: &Asked<'_>) -> Result<String, CompileError> {
-    let script = &asked.script;
-    let events = script.events.as_slice();
-    let names = asked.names.as_slice();
-    let counted = compile_counted(alloc, events, script.document, &script.options, names)?;
-    Ok(format!(in alloc; "{} visits, {}", counted.visits, counted.text)?)
+/// How many events were visited, and the text.
+fn said_counted(
+    alloc: Global,
+    answer: Result<Counted, CompileError>,
+) -> Result<String, AllocError> {
+    match answer {
+        Ok(counted) => format!(in alloc; "{} visits, {}", counted.visits, counted.text),
+        Err(error) => format!(in alloc; "! {error}"),
+    }
 }
 
 /// What `compile_safe` answers.

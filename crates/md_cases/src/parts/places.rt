@@ -37,10 +37,19 @@ fn slice(alloc: Global, slice: Option<Slice<'_>>) -> Result<String, AllocError> 
     let Some(slice) = slice else {
         return String::from_str(alloc, "(none)");
     };
-    let length = slice.len();
-    let text = slice.as_str().unwrap_or("(none)");
     match slice.serialize(alloc)? {
-        Some(serialized) => format!(in alloc; "{length} bytes, [{text}], [{serialized}]"),
-        None => format!(in alloc; "{length} bytes, {text}"),
+        Some(serialized) => slice_and(alloc, &slice, serialized.as_str()),
+        None => format!(in alloc; "{} bytes, {}", slice.len(), text_of(&slice)),
     }
+}
+
+/// How long a slice is, its text, and the other text.
+fn slice_and(alloc: Global, slice: &Slice<'_>, serialized: &str) -> Result<String, AllocError> {
+    let (length, text) = (slice.len(), text_of(slice));
+    format!(in alloc; "{length} bytes, [{text}], [{serialized}]")
+}
+
+/// The text of a slice.
+fn text_of<'a>(slice: &Slice<'a>) -> &'a str {
+    slice.as_str().unwrap_or("(none)")
 }

@@ -41,12 +41,18 @@ fn permit(alloc: Global, asked: &Asked<'_>, list: &str) -> Result<String, AllocE
     match list {
         "href" => sanitize_with_protocols(alloc, url, &SAFE_PROTOCOL_HREF),
         "src" => sanitize_with_protocols(alloc, url, &SAFE_PROTOCOL_SRC),
-        _ => {
-            let mut protocols = Vec::new(alloc);
-            for (protocol, _) in &asked.names {
-                protocols.push(*protocol)?;
-            }
-            sanitize_with_protocols(alloc, url, protocols.as_slice())
-        }
+        _ => permit_named(alloc, asked, &mut Vec::new(alloc)),
     }
+}
+
+/// A URL under the protocols that are named, which are put into a list.
+fn permit_named<'a>(
+    alloc: Global,
+    asked: &Asked<'a>,
+    protocols: &mut Vec<&'a str>,
+) -> Result<String, AllocError> {
+    for (protocol, _) in &asked.names {
+        protocols.push(*protocol)?;
+    }
+    sanitize_with_protocols(alloc, document(asked), protocols.as_slice())
 }

@@ -1,0 +1,37 @@
+//! The calls that compile a script.
+
+use crate::reading::Script;
+use md_html::{CompileError, Counted, check, compile, compile_checked, compile_counted};
+use std::alloc::Global;
+
+impl Script<'_> {
+    /// What `compile` answers under these names of references.
+    pub(crate) fn compile(
+        &self,
+        alloc: Global,
+        names: &[(&str, &str)],
+    ) -> Result<String, CompileError> {
+        let events = self.events.as_slice();
+        compile(alloc, events, self.document, &self.options, names)
+    }
+
+    /// What `compile_counted` answers.
+    pub(crate) fn compile_counted(
+        &self,
+        alloc: Global,
+        names: &[(&str, &str)],
+    ) -> Result<Counted, CompileError> {
+        let events = self.events.as_slice();
+        compile_counted(alloc, events, self.document, &self.options, names)
+    }
+
+    /// What `compile_checked` answers, once the events are checked.
+    pub(crate) fn compile_checked(
+        &self,
+        alloc: Global,
+        names: &[(&str, &str)],
+    ) -> Result<String, CompileError> {
+        let checked = check(alloc, self.events.as_slice(), self.document, names)?;
+        compile_checked(alloc, &checked, &self.options).map_err(CompileError::from)
+    }
+}
