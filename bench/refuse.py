@@ -1,10 +1,10 @@
 #!/usr/bin/env python3
-"""Refuses each request for memory of md_failure_cases in turn.
+"""Refuses each request for memory of the calls of md_failure_cases in turn, which md_cases makes.
 
-usage: bench/refuse.py PROGRAM      (crates/md_failure_cases/out/md_failure_cases, once `rt run` there has built it)
+usage: bench/refuse.py PROGRAM      (crates/md_cases/out/md_cases, once `rt run` there has built it)
 
 The Nth request is refused, N from 1 upwards until a run meets no refusal: each run must end with status 0 and write
-what crates/md_failure_cases/stdout has. The calls that need nothing that takes memory must answer where each request is
+that each call was made. The calls that need nothing that takes memory must answer where each request is
 refused, and those that read what was checked must make no request more. Ends with status 1 where one of these fails.
 """
 
@@ -14,7 +14,7 @@ import sys
 import tempfile
 
 HERE = os.path.dirname(os.path.abspath(__file__))
-WANTED = os.path.join(HERE, "..", "crates", "md_failure_cases", "stdout")
+WANTED = b"each call was made\n"
 MOST_RUNS = 5000
 
 
@@ -31,25 +31,25 @@ def run(program, folder, refused, asked=b""):
     return ran.returncode, ran.stdout, requests
 
 
-def refuse_each(program, folder, wanted, asked):
+def refuse_each(program, folder, asked):
     """Each thing that is wrong, as a line, and the number of requests that were refused."""
     status, output, ample = run(program, folder, 0, asked)
-    if (status, output) != (0, wanted) or ample == 0:
+    if (status, output) != (0, WANTED) or ample == 0:
         return [f"with ample memory: status {status}, {ample} requests, {output.decode()}"], 0
     faults = []
     for number in range(1, MOST_RUNS):
         status, output, requests = run(program, folder, number, asked)
-        if (status, output) != (0, wanted):
+        if (status, output) != (0, WANTED):
             faults.append(f"request {number} refused: status {status}, {output.decode()}")
         if requests < number:
             return faults, number - 1
     return [*faults, f"more than {MOST_RUNS} requests"], MOST_RUNS
 
 
-def faults_without_memory(program, folder, wanted):
+def faults_without_memory(program, folder):
     """What is wrong with the calls that take no memory."""
     faults = []
-    if run(program, folder, "all", b"plain") != (0, wanted, 0):
+    if run(program, folder, "all", b"plain") != (0, WANTED, 0):
         faults.append("a call that takes no memory doesn't answer where each request is refused")
     checked, methods = (run(program, folder, 0, asked) for asked in (b"checked", b"methods"))
     if checked != methods:
@@ -60,16 +60,14 @@ def faults_without_memory(program, folder, wanted):
 def main():
     if len(sys.argv) != 2:
         sys.exit(__doc__)
-    with open(WANTED, "rb") as file:
-        wanted = file.read()
     with tempfile.TemporaryDirectory() as folder:
         compiler = os.environ.get("CC", "cc")
         shared = ["-shared", "-fPIC", "-o", os.path.join(folder, "refuse.so")]
         subprocess.run([compiler, "-O1", *shared, os.path.join(HERE, "refuse.c")], check=True)
         program = os.path.abspath(sys.argv[1])
-        faults, refused = faults_without_memory(program, folder, wanted), 0
+        faults, refused = faults_without_memory(program, folder), 0
         for asked in (b"memory", b"methods"):
-            found, count = refuse_each(program, folder, wanted, asked)
+            found, count = refuse_each(program, folder, asked)
             faults, refused = faults + found, refused + count
     for fault in faults:
         print(f"refused memory: {fault}")

@@ -1,6 +1,8 @@
-//! Runs the worked cases that come on standard input, and writes what each answers.
+//! Runs the worked cases that come on standard input, and writes what each answers; then makes the calls of
+//! `md_failure_cases`.
 //!
-//! A case begins with a line `%%%% GROUP: NAME`. Its script goes on to the line ending before the next such line. For
+//! Where the first word of standard input isn't `worked`, it says which of those calls are made, and nothing else is
+//! read: so no memory is taken before them. A case begins with a line `%%%% GROUP: NAME`. Its script goes on to the line ending before the next such line. For
 //! each case that line is written, and then the text, or `! ` and why there is none.
 #![tactic(auto)]
 
@@ -10,7 +12,9 @@ mod parts;
 mod reading;
 
 use answers::answer;
+use md_failure_cases::ask_each;
 use md_script::{ServeError, read_input};
+use std::io::Read;
 use std::process::ExitCode;
 
 /// How a case begins.
@@ -24,13 +28,29 @@ struct Case<'a> {
 }
 
 fn main(rt: HostRuntime) -> ExitCode {
-    match answer_cases(&rt) {
+    match ask(&rt) {
         Ok(()) => ExitCode::SUCCESS,
         Err(error) => {
             let status = error.status();
             let _ = rt.eprintln(error);
             ExitCode::from(status)
         }
+    }
+}
+
+/// Answers the cases if they are asked for, and makes the calls.
+fn ask<R: Input + Print + AllocGlobal>(rt: &R) -> Result<(), ServeError> {
+    let mut word = [0u8; 8];
+    match rt.reader().read(&mut word) {
+        Ok(_) => {}
+        Err(_) => return Err(ServeError::Input),
+    }
+    if word.starts_with(b"worked") {
+        answer_cases(rt)?;
+    }
+    match ask_each(rt, &word) {
+        Ok(()) => Ok(()),
+        Err(_) => Err(ServeError::Output),
     }
 }
 

@@ -109,8 +109,8 @@ fn compiled_as_script(
     rt: &(impl Abort + AllocGlobal),
     given: &Given<'_>,
 ) -> Result<String, CompileError> {
-    let text = compiled(rt, given, &CompileOptions::default());
     let script = script(rt.alloc(), given)?;
+    let text = compiled(rt, given, &CompileOptions::default());
     let ran = run(rt.alloc(), script.as_slice());
     assert!(rt; is_run(&text, &ran), "{ran:?}");
     text

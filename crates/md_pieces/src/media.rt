@@ -1,9 +1,10 @@
 //! What links, images and autolinks print.
 
-ghost use Rattle.std.specs.Prelude.{◌≡◌, ◌∷◌, [], ◌++◌, ◌||◌, OnOk, IfOk, unwrap_or, string_bytes, option_copied, option_map};
+ghost use Rattle.std.specs.Prelude.{◌≡◌, ◌∷◌, [], ◌++◌, ◌||◌, OnOk, IfOk, unwrap_or, codes, string_bytes, option_copied, option_map};
 ghost use Rattle.md_printer.specs.Machine.{printing, ahead_by};
 ghost use Rattle.md_meaning.specs.Media as media;
-ghost use Rattle.md_meaning.specs.Piece.{nowhere};
+ghost use Rattle.md_meaning.specs.Piece.{Text, nowhere};
+ghost use Rattle.md_meaning.specs.Texts.{said};
 ghost use Rattle.md_meaning.specs.Places.{identifier_at};
 ghost use Rattle.md_printer.specs.Given.{given_of};
 
@@ -129,20 +130,40 @@ fn link_end(alloc: Global, printer: &mut Printer, label: Rope) -> Result<(), All
     printer.put("</a>")
 }
 
-/// Prints a link to a target around its label.
-fn link_to(
-    alloc: Global,
+/// Prints the beginning of a link, with its title.
+fn link_head(
     printer: &mut Printer,
-    options: &CompileOptions,
-    target: Option<&Target>,
+    given: &Given,
+    place: Option<Position>,
+    notes: &Notes,
+) -> Result<(), AllocError>
+    ensures { OnOk result (printer.new ≡ printing []
+        (let target = media.target_of (given_of given.now) (ahead_by place) notes.now in
+        media.link_start given.now.options.now target.destination ++ media.title_pieces target.title) printer.old) }
+{
+    let target = target_of(given.alloc, given.bytes, given.definitions, place, notes)?;
+    link_start(given.alloc, printer, given.options, destination_of(target))?;
+    title(printer, title_of(target))
+}
+
+/// Prints a link with a label: in an image only its label.
+fn link_with_label(
+    printer: &mut Printer,
+    given: &Given,
+    around: Surroundings,
+    place: Option<Position>,
+    notes: &Notes,
     label: Rope,
 ) -> Result<(), AllocError>
     ensures { OnOk result (printer.new
-        ≡ printing [] (media.link_to options.now (unwrap_or (option_copied target.entry) nowhere) label) printer.old) }
+        ≡ printing [] (media.link_pieces (given_of given.now) around (ahead_by place)
+        (record { text = label; notes = notes.now })) printer.old) }
 {
-    link_start(alloc, printer, options, destination_of(target))?;
-    title(printer, title_of(target))?;
-    link_end(alloc, printer, label)
+    if around.in_image {
+        return printer.append(given.alloc, label);
+    }
+    link_head(printer, given, place, notes)?;
+    link_end(given.alloc, printer, label)
 }
 
 /// Prints a link: in an image only its label.
@@ -162,30 +183,33 @@ pub fn link(
 {
     let Inner { place, sheet } = inner;
     let (label, notes) = sheet.into_parts();
-    if exit.around.in_image {
-        return printer.append(given.alloc, label);
-    }
-    let target = target_of(given.alloc, given.bytes, given.definitions, place, &notes)?;
-    link_to(given.alloc, printer, given.options, target, label)
+    link_with_label(printer, given, exit.around, place, &notes, label)
 }
 
-/// Prints the beginning of an image, up to its title.
+/// Prints the beginning of an image, up to its alternative text.
 fn image_start(
     alloc: Global,
     printer: &mut Printer,
     options: &CompileOptions,
     destination: &str,
-    label: Rope,
 ) -> Result<(), AllocError>
-    ensures { OnOk result (printer.new ≡ printing [] (media.image_start options.now destination.now label)
-        printer.old) }
+    ensures { OnOk result (printer.new ≡ printing [] (Text (codes "<img src=\"")
+        ∷ Text (media.src_of options.now destination.now) ∷ Text (codes "\" alt=\"") ∷ []) printer.old) }
 {
     let url = src_of(alloc, options, destination)?;
     printer.put("<img src=\"")?;
     printer.put(url.as_str())?;
-    printer.put("\" alt=\"")?;
-    printer.append(alloc, label)?;
-    printer.put("\"")
+    printer.put("\" alt=\"")
+}
+
+/// Prints the rest of an image, after its alternative text.
+fn image_end(printer: &mut Printer, title_text: Option<&str>) -> Result<(), AllocError>
+    ensures { OnOk result (printer.new ≡ printing []
+        (Text (codes "\"") ∷ media.title_pieces (option_copied title_text.entry) ++ said (codes " />")) printer.old) }
+{
+    printer.put("\"")?;
+    title(printer, title_text)?;
+    printer.put(" />")
 }
 
 /// Prints an image of a target, whose alternative text is its label.
@@ -199,9 +223,29 @@ fn image_of(
     ensures { OnOk result (printer.new
         ≡ printing [] (media.image_of options.now (unwrap_or (option_copied target.entry) nowhere) label) printer.old) }
 {
-    image_start(alloc, printer, options, destination_of(target), label)?;
-    title(printer, title_of(target))?;
-    printer.put(" />")
+    image_start(alloc, printer, options, destination_of(target))?;
+    printer.append(alloc, label)?;
+    image_end(printer, title_of(target))
+}
+
+/// Prints an image with a label: in another only its label.
+fn image_with_label(
+    printer: &mut Printer,
+    given: &Given,
+    around: Surroundings,
+    place: Option<Position>,
+    notes: &Notes,
+    label: Rope,
+) -> Result<(), AllocError>
+    ensures { OnOk result (printer.new
+        ≡ printing [] (media.image_pieces (given_of given.now) around (ahead_by place)
+        (record { text = label; notes = notes.now })) printer.old) }
+{
+    if around.in_image {
+        return printer.append(given.alloc, label);
+    }
+    let target = target_of(given.alloc, given.bytes, given.definitions, place, notes)?;
+    image_of(given.alloc, printer, given.options, target, label)
 }
 
 /// Prints an image: in another only its label.
@@ -221,11 +265,7 @@ pub fn image(
 {
     let Inner { place, sheet } = inner;
     let (label, notes) = sheet.into_parts();
-    if exit.around.in_image {
-        return printer.append(given.alloc, label);
-    }
-    let target = target_of(given.alloc, given.bytes, given.definitions, place, &notes)?;
-    image_of(given.alloc, printer, given.options, target, label)
+    image_with_label(printer, given, exit.around, place, &notes, label)
 }
 
 /// A prefix and a text, as one.

@@ -1,10 +1,10 @@
 -- Each name that isn't captured prints at its exit what its group's table has for it; the others have nothing.
--- So `close` asks one table, while the definition goes through all four; so does `close_medium` for most others.
+-- So `close` asks one table, while the definition goes through all four; so does `close_captured` for most others.
 use Rattle.std.proofs.Common.{◌≡◌, ◌≢◌, ℕ, Bool, true, false, List, [], ◌++◌, refl, sym, ap, ◌∙◌}
 use Rattle.std.specs.Prelude.{if◌then◌else◌}
 use Rattle.std.proofs.lemmas.List.{append-nil}
 use Rattle.md_base.specs.declared.event.Name.{Name}
-use Rattle.md_base.specs.declared.event.Name.TheVariants.{LineEnding, BlankLineEnding, Emphasis, Strong, GfmStrikethrough, HardBreakEscape, HardBreakTrailing, GfmTaskListItemCheck, GfmTaskListItemValueChecked, ListItem, Paragraph, CodeIndented, CodeFenced, MathFlow, CodeFencedFence, MathFlowFence, AutolinkEmail, AutolinkProtocol, GfmAutolinkLiteralEmail, GfmAutolinkLiteralMailto, GfmAutolinkLiteralProtocol, GfmAutolinkLiteralWww, GfmAutolinkLiteralXmpp, CodeText, MathText, Link, Image, GfmFootnoteCall, GfmTableCell}
+use Rattle.md_base.specs.declared.event.Name.TheVariants.{LineEnding, BlankLineEnding, Emphasis, Strong, GfmStrikethrough, HardBreakEscape, HardBreakTrailing, GfmTaskListItemCheck, GfmTaskListItemValueChecked, ListItem, Paragraph, CodeIndented, CodeFenced, MathFlow, CodeFencedFence, MathFlowFence, AutolinkEmail, AutolinkProtocol, GfmAutolinkLiteralEmail, GfmAutolinkLiteralMailto, GfmAutolinkLiteralProtocol, GfmAutolinkLiteralWww, GfmAutolinkLiteralXmpp, CodeText, MathText, HeadingSetextText, DefinitionDestinationString, DefinitionTitleString, Link, Image, Resource, ResourceDestinationString, ResourceTitleString, GfmFootnoteCall, GfmTableCell}
 use Rattle.md_meaning.specs.Piece.{Piece, Sheet}
 use Rattle.md_base.specs.declared.event.Point.{Point}
 use Rattle.md_meaning.specs.Given.{Given}
@@ -12,6 +12,7 @@ use Rattle.md_meaning.specs.Places.{Left}
 use Rattle.md_meaning.specs.declared.context.Surroundings.{Surroundings}
 use Rattle.md_meaning.specs.declared.context.Ahead.{Ahead}
 use Rattle.md_meaning.specs.declared.context.Passed.{Passed}
+use Rattle.md_meaning.specs.Blocks.{when}
 use Rattle.md_meaning.specs.Printed.{text_closing, block_closing, media_closing, gfm_closing, is_captured}
 use Rattle.md_printer.specs.Machine.{Printer, printing}
 use Rattle.md_printer.specs.declared.frames.Exit.{Exit}
@@ -104,33 +105,59 @@ printing-group ending at name group same state =
     ap (λ g. printing ending (in_group g (text at name) (block at name) (medium at name) (table at name)) state) same
     ∙ ap (λ pieces. printing ending pieces state) (sym (closing-group at name))
 
--- a captured name that prints neither as code nor as a part of a table or a footnote call
-abbrev pub is_medium : Name → Bool
-is_medium name = elim name [
-  | CodeText ↦ false
-  | MathText ↦ false
-  | GfmFootnoteCall ↦ false
-  | GfmTableCell ↦ false
+-- nothing more is printed
+pub alone : (ending : List ℕ) (pieces : List Piece) (state : Printer) →
+    printing [] pieces state ≡ printing ending pieces state →
+    printing [] pieces state ≡ printing ending (pieces ++ []) state
+alone ending pieces state same = same ∙ ap (λ ps. printing ending ps state) (sym (append-nil pieces))
+
+-- what code, a footnote call or a cell prints
+abbrev pub read : At → Name → List Piece
+read at name = when (is_captured name) (text at name ++ table at name)
+
+-- none of it is for a name beside these
+pub nothing-read : (at : At) (name : Name) → name ≢ CodeText → name ≢ MathText → name ≢ GfmFootnoteCall →
+    name ≢ GfmTableCell → [] ≡ read at name
+nothing-read at CodeText code math call cell = absurd (code refl)
+nothing-read at MathText code math call cell = absurd (math refl)
+nothing-read at GfmFootnoteCall code math call cell = absurd (call refl)
+nothing-read at GfmTableCell code math call cell = absurd (cell refl)
+nothing-read at _ code math call cell = refl
+
+-- a captured name that prints or notes nothing from the table of media
+abbrev pub is_read : Name → Bool
+is_read name = elim name [
+  | HeadingSetextText ↦ false
+  | DefinitionDestinationString ↦ false
+  | ResourceDestinationString ↦ false
+  | DefinitionTitleString ↦ false
+  | ResourceTitleString ↦ false
+  | Resource ↦ false
+  | Link ↦ false
+  | Image ↦ false
   | other ↦ is_captured other
 ]
 
-pub captured-medium : (name : Name) → name ≢ CodeText → name ≢ MathText → name ≢ GfmFootnoteCall →
-    name ≢ GfmTableCell → is_captured name ≡ true → is_medium name ≡ true
-captured-medium CodeText code math call cell captured = absurd (code refl)
-captured-medium MathText code math call cell captured = absurd (math refl)
-captured-medium GfmFootnoteCall code math call cell captured = absurd (call refl)
-captured-medium GfmTableCell code math call cell captured = absurd (cell refl)
-captured-medium _ code math call cell captured = captured
+pub captured-read : (name : Name) → name ≢ HeadingSetextText → name ≢ DefinitionDestinationString →
+    name ≢ ResourceDestinationString → name ≢ DefinitionTitleString → name ≢ ResourceTitleString →
+    name ≢ Resource → name ≢ Link → name ≢ Image → is_captured name ≡ true → is_read name ≡ true
+captured-read HeadingSetextText a b c d e f g h captured = absurd (a refl)
+captured-read DefinitionDestinationString a b c d e f g h captured = absurd (b refl)
+captured-read ResourceDestinationString a b c d e f g h captured = absurd (c refl)
+captured-read DefinitionTitleString a b c d e f g h captured = absurd (d refl)
+captured-read ResourceTitleString a b c d e f g h captured = absurd (e refl)
+captured-read Resource a b c d e f g h captured = absurd (f refl)
+captured-read Link a b c d e f g h captured = absurd (g refl)
+captured-read Image a b c d e f g h captured = absurd (h refl)
+captured-read _ a b c d e f g h captured = captured
 
--- what such a node prints is what the table of media has for it
-closing-medium : (at : At) (name : Name) →
-    (if is_medium name then whole at name else medium at name) ≡ medium at name
-closing-medium at Link = append-nil (medium at Link)
-closing-medium at Image = append-nil (medium at Image)
-closing-medium at _ = refl
+-- what such a node prints is all of it
+closing-read : (at : At) (name : Name) → (if is_read name then whole at name else read at name) ≡ read at name
+closing-read at CodeText = refl
+closing-read at _ = refl
 
-pub printing-medium : (ending : List ℕ) (at : At) (name : Name) → is_medium name ≡ true → (state : Printer) →
-    printing ending (medium at name) state ≡ printing ending (whole at name) state
-printing-medium ending at name same state =
-    ap (λ pieces. printing ending pieces state) (sym (closing-medium at name)
-    ∙ ap (λ b. if b then whole at name else medium at name) same)
+pub printing-read : (ending : List ℕ) (at : At) (name : Name) → is_read name ≡ true → (state : Printer) →
+    printing ending (read at name) state ≡ printing ending (whole at name) state
+printing-read ending at name same state =
+    ap (λ pieces. printing ending pieces state) (sym (closing-read at name)
+    ∙ ap (λ b. if b then whole at name else read at name) same)

@@ -5,7 +5,8 @@ ghost use Rattle.md_printer.specs.Machine.{printing, ahead_by};
 ghost use Rattle.md_print.specs.Closings.{group_of};
 ghost use Rattle.md_print.specs.declared.groups.Group.TheVariants as group;
 ghost use Rattle.md_around.specs.Steps.{first_or};
-ghost use Rattle.md_meaning.specs.Piece.{Text, Needed, Forced, blank};
+ghost use Rattle.md_meaning.specs.Piece.{Text, Needed, Forced, Noted, blank};
+ghost use Rattle.md_meaning.specs.Piece as piece;
 ghost use Rattle.md_meaning.specs.Texts as texts;
 ghost use Rattle.md_meaning.specs.Texts.{said};
 ghost use Rattle.md_meaning.specs.Blocks as blocks;
@@ -214,6 +215,38 @@ pub fn close_captured(
         (ahead_by inner.place) printer.old.frame.passed inner.sheet name) printer.old) }
 {
     match name {
+        Name::HeadingSetextText => heading_text(printer, given, inner),
+        Name::DefinitionDestinationString | Name::ResourceDestinationString => {
+            destination(printer, given, inner)
+        }
+        Name::DefinitionTitleString | Name::ResourceTitleString => title(printer, given, inner),
+        Name::Resource => {
+            printer.note_resource(inner.sheet.into_target());
+            Ok(())
+        }
+        Name::Link => link(printer, given, exit, inner),
+        Name::Image => image(printer, given, exit, inner),
+        _ => close_read(printer, given, exit, &inner, name),
+    }
+}
+
+/// Prints code, a footnote call or a cell, which read what is inside them and keep nothing of it.
+fn close_read(
+    printer: &mut Printer,
+    given: &Given,
+    exit: &Exit,
+    inner: &Inner,
+    name: Name,
+) -> Result<(), AllocError>
+    ensures { OnOk result (printer.new ≡ printing given.now.ending.now
+        (blocks.when (is_captured name) (printed.text_closing (given_of given.now) exit.now.around
+        (left_at exit.now printer.old.log.called (first_or [] printer.old.tables))
+        exit.now.is_last exit.now.start exit.now.end inner.now.sheet name
+        ++ printed.gfm_closing (given_of given.now) exit.now.around
+        (left_at exit.now printer.old.log.called (first_or [] printer.old.tables))
+        (ahead_by inner.now.place) printer.old.frame.passed inner.now.sheet name)) printer.old) }
+{
+    match name {
         Name::CodeText => code(given.alloc, printer, exit.around, "<code>", &inner.sheet),
         Name::MathText => {
             let tag = "<code class=\"language-math math-inline\">";
@@ -221,52 +254,32 @@ pub fn close_captured(
         }
         Name::GfmFootnoteCall => call(printer, given, exit, inner.place),
         Name::GfmTableCell => close_cell(given.alloc, printer, given.ending, exit, &inner.sheet),
-        _ => close_medium(printer, given, exit, inner, name),
+        _ => Ok(()),
     }
 }
 
-/// Prints a link or an image, or notes a heading's text, a destination, a title or a resource.
-fn close_medium(
-    printer: &mut Printer,
-    given: &Given,
-    exit: &Exit,
-    inner: Inner,
-    name: Name,
-) -> Result<(), AllocError>
-    requires { is_captured name ≡ true }
-    ensures { OnOk result (printer.new ≡ printing given.now.ending.now
-        (printed.media_closing (given_of given.now) exit.now.around (ahead_by inner.place) exit.now.start
-        exit.now.end inner.sheet name) printer.old) }
+/// Notes a heading's text, to be printed once its underline tells its rank.
+fn heading_text(printer: &mut Printer, given: &Given, inner: Inner) -> Result<(), AllocError>
+    ensures { OnOk result (printer.new ≡ printing [] (Noted (piece.Heading inner.sheet.text) ∷ []) printer.old) }
 {
-    match name {
-        Name::HeadingSetextText => {
-            printer.note_heading(inner.sheet.into_text(given.alloc)?);
-            Ok(())
-        }
-        Name::DefinitionDestinationString => {
-            printer.note_destination(inner.sheet.into_text(given.alloc)?);
-            Ok(())
-        }
-        Name::DefinitionTitleString => {
-            printer.note_title(inner.sheet.into_text(given.alloc)?);
-            Ok(())
-        }
-        Name::ResourceDestinationString => {
-            printer.note_destination(inner.sheet.into_text(given.alloc)?);
-            Ok(())
-        }
-        Name::ResourceTitleString => {
-            printer.note_title(inner.sheet.into_text(given.alloc)?);
-            Ok(())
-        }
-        Name::Resource => {
-            printer.note_resource(inner.sheet.into_target());
-            Ok(())
-        }
-        Name::Link => link(printer, given, exit, inner),
-        Name::Image => image(printer, given, exit, inner),
-        _ => Ok(()),
-    }
+    printer.note_heading(inner.sheet.into_text(given.alloc)?);
+    Ok(())
+}
+
+/// Notes a title.
+fn title(printer: &mut Printer, given: &Given, inner: Inner) -> Result<(), AllocError>
+    ensures { OnOk result (printer.new ≡ printing [] (Noted (piece.Title inner.sheet.text) ∷ []) printer.old) }
+{
+    printer.note_title(inner.sheet.into_text(given.alloc)?);
+    Ok(())
+}
+
+/// Notes a destination: what its children print, so that its references are decoded before its protocol is judged.
+fn destination(printer: &mut Printer, given: &Given, inner: Inner) -> Result<(), AllocError>
+    ensures { OnOk result (printer.new ≡ printing [] (Noted (piece.Destination inner.sheet.text) ∷ []) printer.old) }
+{
+    printer.note_destination(inner.sheet.into_text(given.alloc)?);
+    Ok(())
 }
 
 /// A blank line ending at the document's end needs a line ending.

@@ -50,7 +50,7 @@ impl fmt::Display for RunError {
 
     fn fmt<W: fmt::Write>(&self, f: &mut fmt::Formatter<W>) -> fmt::Result {
         match self {
-            RunError::Memory => write!(f, "out of memory"),
+            RunError::Memory => f.write_str("out of memory"),
             RunError::Line(number) => write!(f, "line {number}: unreadable"),
             RunError::Event { index, rule } => write!(f, "event {index}: {rule}"),
         }
@@ -101,8 +101,8 @@ impl fmt::Display for SafeRunError {
 
     fn fmt<W: fmt::Write>(&self, f: &mut fmt::Formatter<W>) -> fmt::Result {
         match self {
-            SafeRunError::Options => write!(f, "unsafe options"),
-            SafeRunError::Run(error) => write!(f, "{error}"),
+            SafeRunError::Options => f.write_str("unsafe options"),
+            SafeRunError::Run(error) => fmt::Display::fmt(error, f),
         }
     }
 }

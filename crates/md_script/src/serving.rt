@@ -59,8 +59,8 @@ impl fmt::Display for ServeError {
 
     fn fmt<W: fmt::Write>(&self, f: &mut fmt::Formatter<W>) -> fmt::Result {
         match self {
-            ServeError::Run(error) => write!(f, "{error}"),
-            ServeError::Input | ServeError::Output => write!(f, "input or output failed"),
+            ServeError::Run(error) => fmt::Display::fmt(error, f),
+            ServeError::Input | ServeError::Output => f.write_str("input or output failed"),
         }
     }
 }

@@ -66,6 +66,17 @@ fn renamed(event: Event) -> Event {
     Event { name, ..event }
 }
 
+/// What stands in place of two events, the first of which is broken: these, as many as are counted.
+fn changed(first: Event, second: Event, change: Break, moved: Event) -> ([Event; 3], usize) {
+    match change {
+        Remove => ([second, second, second], 1),
+        Double => ([first, first, second], 3),
+        Swap => ([second, first, first], 2),
+        Rename => ([renamed(first), second, second], 2),
+        Move => ([moved, second, second], 2),
+    }
+}
+
 /// The list of events with its event at a place broken, which the next one follows.
 fn broken(
     alloc: Global,
@@ -77,13 +88,8 @@ fn broken(
     let mut list = Vec::new(alloc);
     list.extend_from_slice(events.get(..place).unwrap_or(&[]))?;
     if let Some([first, second, after @ ..]) = events.get(place..) {
-        match change {
-            Remove => list.extend_from_slice(&[*second])?,
-            Double => list.extend_from_slice(&[*first, *first, *second])?,
-            Swap => list.extend_from_slice(&[*second, *first])?,
-            Rename => list.extend_from_slice(&[renamed(*first), *second])?,
-            Move => list.extend_from_slice(&[moved, *second])?,
-        }
+        let (pieces, count) = changed(*first, *second, change, moved);
+        list.extend_from_slice(pieces.get(..count).unwrap_or(&[]))?;
         list.extend_from_slice(after)?;
     }
     Ok(list)
@@ -199,11 +205,14 @@ fn break_once(
     let list = broken(rt.alloc(), events, place, change, moved)?;
     let answer = text_of(rt, list.as_slice(), tree.bytes.as_slice());
     let is_right = is_right(&answer, verdict, whole, change, place);
-    let mended = text_of(rt, events, tree.bytes.as_slice())?;
-    assert!(rt;
-        is_right && mended.as_str() == whole,
-        "{change:?} at {place}: {answer:?}"
-    );
+    assert!(rt; is_right, "{change:?} at {place}: {answer:?}");
+    mend(rt, tree, whole)
+}
+
+/// The tree as it was gives its text again.
+fn mend(rt: &(impl Abort + AllocGlobal), tree: &Tree, whole: &str) -> Result<(), Fail> {
+    let mended = text_of(rt, tree.events.as_slice(), tree.bytes.as_slice())?;
+    assert!(rt; mended.as_str() == whole, "mended");
     Ok(())
 }
 

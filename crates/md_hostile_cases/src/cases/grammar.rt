@@ -42,10 +42,22 @@ pub(super) enum Part {
 /// The nodes of a class.
 pub(super) fn choices(class: Class) -> &'static [Part] {
     match class {
-        Strings => &STRINGS,
-        Phrasing => &PHRASING,
-        Flow => &FLOW,
+        Strings => strings(),
+        Phrasing => phrasing(),
+        Flow => flow(),
     }
+}
+
+fn strings() -> &'static [Part] {
+    &STRINGS
+}
+
+fn phrasing() -> &'static [Part] {
+    &PHRASING
+}
+
+fn flow() -> &'static [Part] {
+    &FLOW
 }
 
 /// The names that are passed over, save the one that has nothing inside.

@@ -3,6 +3,7 @@
 //! An answer is put together by the rules of HTML for Markdown, apart from the events of its document.
 
 use super::is_text;
+use Part::{Each, Once, Shuffled};
 use Step::{Enter, Exit, Number, Text};
 use md_html::{CompileOptions, Event, Kind, Name, Point, compile};
 use std::alloc::{AllocError, Global};
@@ -27,6 +28,24 @@ enum Step {
     Text(&'static str),
     /// The number of the item stands there.
     Number,
+}
+
+/// A part of a document, of these steps, or of the text that it should give, by this pattern.
+#[derive(Clone, Copy)]
+enum Part<T> {
+    /// It stands there once.
+    Once(T),
+    /// It stands there for each level or item, by their numbers.
+    Each(T),
+    /// The same out of order.
+    Shuffled(T),
+}
+
+/// A document, and the text that it should give; in that `[n]` stands for an item's number and `[place]` for its place,
+/// from 1.
+struct Shape {
+    document: &'static [Part<&'static [Step]>],
+    text: &'static [Part<&'static str>],
 }
 
 /// A document that is written from its start to its end, with its events.
@@ -75,53 +94,63 @@ impl Document {
         Ok(())
     }
 
-    /// Takes the steps once, outside all items.
-    fn once(&mut self, steps: &[Step]) -> Result<(), AllocError> {
-        self.item(steps, 0)
-    }
-
-    /// Takes the steps of each level.
-    fn levels(&mut self, steps: &[Step]) -> Result<(), AllocError> {
-        for level in 0..SIZE {
-            self.item(steps, level)?;
+    /// Takes the steps of each item; from one to the next it is this far.
+    fn items(&mut self, steps: &[Step], stride: usize) -> Result<(), AllocError> {
+        for place in 0..SIZE {
+            self.item(steps, number_at(place, stride))?;
         }
         Ok(())
     }
 
-    /// Takes the steps of each item, in the order of these numbers.
-    fn items(&mut self, numbers: &[usize], steps: &[Step]) -> Result<(), AllocError> {
-        for number in numbers {
-            self.item(steps, *number)?;
+    /// Adds a part.
+    fn part(&mut self, part: Part<&[Step]>) -> Result<(), AllocError> {
+        match part {
+            Once(steps) => self.item(steps, 0),
+            Each(steps) => self.items(steps, 1),
+            Shuffled(steps) => self.items(steps, STRIDE),
         }
-        Ok(())
     }
 }
 
-/// The numbers of the items in their order.
-fn in_order(alloc: Global) -> Result<Vec<usize>, AllocError> {
-    (0..SIZE).collect(alloc)
+/// The number of the item at a place, where it is this far from one to the next.
+fn number_at(place: usize, stride: usize) -> usize {
+    place.saturating_mul(stride) % SIZE
 }
 
-/// The same numbers in another order.
-fn out_of_order(alloc: Global) -> Result<Vec<usize>, AllocError> {
-    (0..SIZE).map(|place| place * STRIDE % SIZE).collect(alloc)
-}
-
-/// A text between `SIZE` openings and as many closings.
-fn between(alloc: Global, opening: &str, text: &str, closing: &str) -> Result<String, AllocError> {
-    let before = opening.repeat(alloc, SIZE)?;
-    let after = closing.repeat(alloc, SIZE)?;
-    format!(in alloc; "{before}{text}{after}")
-}
-
-/// What a pattern says of each item, where `[n]` stands for its number and `[place]` for its place, from 1.
-fn each(alloc: Global, numbers: &[usize], pattern: &str) -> Result<String, AllocError> {
-    let mut texts = String::new(alloc);
-    for (number, place) in numbers.iter().zip(1..=SIZE) {
-        let text = with_number(alloc, pattern, "[n]", *number)?;
-        texts.push_str(&with_number(alloc, &text, "[place]", place)?)?;
+/// The document of these parts.
+fn document_of(alloc: Global, parts: &[Part<&[Step]>]) -> Result<Document, AllocError> {
+    let mut document = Document::new(alloc);
+    for part in parts {
+        document.part(*part)?;
     }
-    Ok(texts)
+    Ok(document)
+}
+
+/// The text of these parts.
+fn text_of(alloc: Global, parts: &[Part<&str>]) -> Result<String, AllocError> {
+    let mut text = String::new(alloc);
+    for part in parts {
+        say(alloc, &mut text, *part)?;
+    }
+    Ok(text)
+}
+
+/// Adds a part of a text.
+fn say(alloc: Global, text: &mut String, part: Part<&str>) -> Result<(), AllocError> {
+    match part {
+        Once(said) => text.push_str(said),
+        Each(said) => text.push_str(&said.repeat(alloc, SIZE)?),
+        Shuffled(pattern) => say_each(alloc, text, pattern),
+    }
+}
+
+/// Adds what a pattern says of each item out of order.
+fn say_each(alloc: Global, text: &mut String, pattern: &str) -> Result<(), AllocError> {
+    for (place, counted) in (0..SIZE).zip(1..=SIZE) {
+        let said = with_number(alloc, pattern, "[n]", number_at(place, STRIDE))?;
+        text.push_str(&with_number(alloc, &said, "[place]", counted)?)?;
+    }
+    Ok(())
 }
 
 /// A text with a number in place of a mark.
@@ -130,80 +159,54 @@ fn with_number(alloc: Global, text: &str, mark: &str, number: usize) -> Result<S
     text.replace(alloc, mark, &number)
 }
 
-/// A document compiles to exactly this text under the default options.
-fn compiles(
-    rt: &(impl Abort + AllocGlobal),
-    document: &Document,
-    expected: &str,
-) -> Result<(), Fail> {
-    let options = CompileOptions::default();
-    let bytes = document.text.as_bytes();
-    let text = compile(rt.alloc(), &document.events, bytes, &options, &[])?;
-    is_text(rt, &text, expected);
+/// A shape's document compiles to exactly its text under the default options.
+fn compiles(rt: &(impl Abort + AllocGlobal), shape: &Shape) -> Result<(), Fail> {
+    let document = document_of(rt.alloc(), shape.document)?;
+    let expected = text_of(rt.alloc(), shape.text)?;
+    let (events, bytes) = (document.events.as_slice(), document.text.as_bytes());
+    let text = compile(rt.alloc(), events, bytes, &CompileOptions::default(), &[])?;
+    is_text(rt, &text, &expected);
     Ok(())
 }
 
 /// One character of text.
-const LETTER: [Step; 3] = [Enter(Name::Data), Text("x"), Exit(Name::Data)];
+const LETTER: Part<&[Step]> = Once(&[Enter(Name::Data), Text("x"), Exit(Name::Data)]);
 
-/// A document of so many levels: the steps at the start of each, in the innermost, and at the end of each.
-fn nested(
-    alloc: Global,
-    opening: &[Step],
-    innermost: &[Step],
-    closing: &[Step],
-) -> Result<Document, AllocError> {
-    let mut document = Document::new(alloc);
-    document.levels(opening)?;
-    document.once(innermost)?;
-    document.levels(closing)?;
-    Ok(document)
-}
+/// A paragraph starts.
+const PARAGRAPH: Part<&[Step]> = Once(&[Enter(Name::Paragraph)]);
 
-/// The same in a paragraph, with one character in the innermost level.
-fn nested_in_paragraph(
-    alloc: Global,
-    opening: &[Step],
-    closing: &[Step],
-) -> Result<Document, AllocError> {
-    let mut document = Document::new(alloc);
-    document.once(&[Enter(Name::Paragraph)])?;
-    document.levels(opening)?;
-    document.once(&LETTER)?;
-    document.levels(closing)?;
-    document.once(&[Exit(Name::Paragraph)])?;
-    Ok(document)
-}
+/// A paragraph ends.
+const PARAGRAPH_END: Part<&[Step]> = Once(&[Exit(Name::Paragraph)]);
 
-#[test]
-fn nested_block_quotes(rt: HostRuntime) -> Result<(), Fail> {
-    let document = nested(
-        rt.alloc(),
-        &[
+static BLOCK_QUOTES: Shape = Shape {
+    document: &[
+        Each(&[
             Enter(Name::BlockQuote),
             Enter(Name::BlockQuotePrefix),
             Text("> "),
             Exit(Name::BlockQuotePrefix),
-        ],
-        &[
-            Enter(Name::Paragraph),
-            Enter(Name::Data),
-            Text("x"),
-            Exit(Name::Data),
-            Exit(Name::Paragraph),
-        ],
-        &[Exit(Name::BlockQuote)],
-    )?;
-    let expected = between(rt.alloc(), "<blockquote>\n", "<p>x</p>", "\n</blockquote>")?;
-    compiles(&rt, &document, &expected)
+        ]),
+        PARAGRAPH,
+        LETTER,
+        PARAGRAPH_END,
+        Each(&[Exit(Name::BlockQuote)]),
+    ],
+    text: &[
+        Each("<blockquote>\n"),
+        Once("<p>x</p>"),
+        Each("\n</blockquote>"),
+    ],
+};
+
+#[test]
+fn nested_block_quotes(rt: HostRuntime) -> Result<(), Fail> {
+    compiles(&rt, &BLOCK_QUOTES)
 }
 
 /// The innermost item holds a thematic break, which stands on its own line as a list does.
-#[test]
-fn nested_lists(rt: HostRuntime) -> Result<(), Fail> {
-    let document = nested(
-        rt.alloc(),
-        &[
+static LISTS: Shape = Shape {
+    document: &[
+        Each(&[
             Enter(Name::ListUnordered),
             Enter(Name::ListItem),
             Enter(Name::ListItemPrefix),
@@ -214,41 +217,56 @@ fn nested_lists(rt: HostRuntime) -> Result<(), Fail> {
             Text(" "),
             Exit(Name::SpaceOrTab),
             Exit(Name::ListItemPrefix),
-        ],
-        &[
+        ]),
+        Once(&[
             Enter(Name::ThematicBreak),
             Text("***"),
             Exit(Name::ThematicBreak),
-        ],
-        &[Exit(Name::ListItem), Exit(Name::ListUnordered)],
-    )?;
-    let expected = between(rt.alloc(), "<ul>\n<li>\n", "<hr />", "\n</li>\n</ul>")?;
-    compiles(&rt, &document, &expected)
+        ]),
+        Each(&[Exit(Name::ListItem), Exit(Name::ListUnordered)]),
+    ],
+    text: &[Each("<ul>\n<li>\n"), Once("<hr />"), Each("\n</li>\n</ul>")],
+};
+
+#[test]
+fn nested_lists(rt: HostRuntime) -> Result<(), Fail> {
+    compiles(&rt, &LISTS)
 }
+
+static EMPHASIS: Shape = Shape {
+    document: &[
+        PARAGRAPH,
+        Each(&[Enter(Name::Emphasis), Text("*")]),
+        LETTER,
+        Each(&[Text("*"), Exit(Name::Emphasis)]),
+        PARAGRAPH_END,
+    ],
+    text: &[
+        Once("<p>"),
+        Each("<em>"),
+        Once("x"),
+        Each("</em>"),
+        Once("</p>"),
+    ],
+};
 
 #[test]
 fn nested_emphasis(rt: HostRuntime) -> Result<(), Fail> {
-    let document = nested_in_paragraph(
-        rt.alloc(),
-        &[Enter(Name::Emphasis), Text("*")],
-        &[Text("*"), Exit(Name::Emphasis)],
-    )?;
-    let spans = between(rt.alloc(), "<em>", "x", "</em>")?;
-    let expected = format!(in rt.alloc(); "<p>{spans}</p>")?;
-    compiles(&rt, &document, &expected)
+    compiles(&rt, &EMPHASIS)
 }
 
-/// Links or images with a destination, each in the label of the one around it.
-fn nested_media(alloc: Global, name: Name, marker: &'static str) -> Result<Document, AllocError> {
-    nested_in_paragraph(
-        alloc,
-        &[
-            Enter(name),
+/// Links with a destination, each in the label of the one around it.
+static LINKS: Shape = Shape {
+    document: &[
+        PARAGRAPH,
+        Each(&[
+            Enter(Name::Link),
             Enter(Name::Label),
-            Text(marker),
+            Text("["),
             Enter(Name::LabelText),
-        ],
-        &[
+        ]),
+        LETTER,
+        Each(&[
             Exit(Name::LabelText),
             Text("]"),
             Exit(Name::Label),
@@ -261,156 +279,164 @@ fn nested_media(alloc: Global, name: Name, marker: &'static str) -> Result<Docum
             Exit(Name::ResourceDestinationString),
             Text(")"),
             Exit(Name::Resource),
-            Exit(name),
-        ],
-    )
-}
+            Exit(Name::Link),
+        ]),
+        PARAGRAPH_END,
+    ],
+    text: &[
+        Once("<p>"),
+        Each("<a href=\"u\">"),
+        Once("x"),
+        Each("</a>"),
+        Once("</p>"),
+    ],
+};
 
 #[test]
 fn nested_links(rt: HostRuntime) -> Result<(), Fail> {
-    let document = nested_media(rt.alloc(), Name::Link, "[")?;
-    let links = between(rt.alloc(), "<a href=\"u\">", "x", "</a>")?;
-    let expected = format!(in rt.alloc(); "<p>{links}</p>")?;
-    compiles(&rt, &document, &expected)
+    compiles(&rt, &LINKS)
 }
 
-/// In an image only the text of the label is left.
+/// Images in one another: only the text of the label is left inside one.
+static IMAGES: Shape = Shape {
+    document: &[
+        PARAGRAPH,
+        Each(&[
+            Enter(Name::Image),
+            Enter(Name::Label),
+            Text("!["),
+            Enter(Name::LabelText),
+        ]),
+        LETTER,
+        Each(&[
+            Exit(Name::LabelText),
+            Text("]"),
+            Exit(Name::Label),
+            Enter(Name::Resource),
+            Text("("),
+            Enter(Name::ResourceDestinationString),
+            Enter(Name::Data),
+            Text("u"),
+            Exit(Name::Data),
+            Exit(Name::ResourceDestinationString),
+            Text(")"),
+            Exit(Name::Resource),
+            Exit(Name::Image),
+        ]),
+        PARAGRAPH_END,
+    ],
+    text: &[Once("<p><img src=\"u\" alt=\"x\" /></p>")],
+};
+
 #[test]
 fn nested_images(rt: HostRuntime) -> Result<(), Fail> {
-    let document = nested_media(rt.alloc(), Name::Image, "![")?;
-    compiles(&rt, &document, "<p><img src=\"u\" alt=\"x\" /></p>")
+    compiles(&rt, &IMAGES)
 }
 
-/// A definition of the item's number, with a destination of its own.
-const DEFINITION: [Step; 16] = [
-    Enter(Name::Definition),
-    Text("["),
-    Enter(Name::DefinitionLabelString),
-    Number,
-    Exit(Name::DefinitionLabelString),
-    Text("]: "),
-    Enter(Name::DefinitionDestinationString),
-    Enter(Name::Data),
-    Text("u"),
-    Number,
-    Exit(Name::Data),
-    Exit(Name::DefinitionDestinationString),
-    Exit(Name::Definition),
-    Enter(Name::LineEnding),
-    Text("\n"),
-    Exit(Name::LineEnding),
-];
+/// Definitions, each with a destination of its own, and after them links out of order.
+static DEFINITIONS: Shape = Shape {
+    document: &[
+        Each(&[
+            Enter(Name::Definition),
+            Text("["),
+            Enter(Name::DefinitionLabelString),
+            Number,
+            Exit(Name::DefinitionLabelString),
+            Text("]: "),
+            Enter(Name::DefinitionDestinationString),
+            Enter(Name::Data),
+            Text("u"),
+            Number,
+            Exit(Name::Data),
+            Exit(Name::DefinitionDestinationString),
+            Exit(Name::Definition),
+            Enter(Name::LineEnding),
+            Text("\n"),
+            Exit(Name::LineEnding),
+        ]),
+        PARAGRAPH,
+        Shuffled(&[
+            Enter(Name::Link),
+            Enter(Name::Label),
+            Text("["),
+            Enter(Name::LabelText),
+            Enter(Name::Data),
+            Number,
+            Exit(Name::Data),
+            Exit(Name::LabelText),
+            Text("]"),
+            Exit(Name::Label),
+            Exit(Name::Link),
+        ]),
+        PARAGRAPH_END,
+    ],
+    text: &[
+        Once("<p>"),
+        Shuffled("<a href=\"u[n]\">[n]</a>"),
+        Once("</p>"),
+    ],
+};
 
-/// A link by the item's number.
-const LINK: [Step; 11] = [
-    Enter(Name::Link),
-    Enter(Name::Label),
-    Text("["),
-    Enter(Name::LabelText),
-    Enter(Name::Data),
-    Number,
-    Exit(Name::Data),
-    Exit(Name::LabelText),
-    Text("]"),
-    Exit(Name::Label),
-    Exit(Name::Link),
-];
-
-/// A paragraph with the steps of each item, in the order of these numbers.
-fn add_paragraph(
-    document: &mut Document,
-    numbers: &[usize],
-    steps: &[Step],
-) -> Result<(), AllocError> {
-    document.once(&[Enter(Name::Paragraph)])?;
-    document.items(numbers, steps)?;
-    document.once(&[Exit(Name::Paragraph)])
-}
-
-/// Definitions, and after them links in this order.
-fn linked(alloc: Global, order: &[usize]) -> Result<Document, AllocError> {
-    let mut document = Document::new(alloc);
-    document.items(&in_order(alloc)?, &DEFINITION)?;
-    add_paragraph(&mut document, order, &LINK)?;
-    Ok(document)
-}
-
-/// Each definition has a destination of its own.
 #[test]
 fn links_to_definitions(rt: HostRuntime) -> Result<(), Fail> {
-    let order = out_of_order(rt.alloc())?;
-    let document = linked(rt.alloc(), &order)?;
-    let links = each(rt.alloc(), &order, "<a href=\"u[n]\">[n]</a>")?;
-    let expected = format!(in rt.alloc(); "<p>{links}</p>")?;
-    compiles(&rt, &document, &expected)
+    compiles(&rt, &DEFINITIONS)
 }
 
-/// A call of the footnote with the item's number.
-const CALL: [Step; 11] = [
-    Enter(Name::GfmFootnoteCall),
-    Enter(Name::Label),
-    Text("[^"),
-    Enter(Name::LabelText),
-    Enter(Name::Data),
-    Number,
-    Exit(Name::Data),
-    Exit(Name::LabelText),
-    Text("]"),
-    Exit(Name::Label),
-    Exit(Name::GfmFootnoteCall),
-];
+/// Calls out of order, and after them the footnotes, each with a text of its own: its number is the place of its call.
+static CALLS: Shape = Shape {
+    document: &[
+        PARAGRAPH,
+        Shuffled(&[
+            Enter(Name::GfmFootnoteCall),
+            Enter(Name::Label),
+            Text("[^"),
+            Enter(Name::LabelText),
+            Enter(Name::Data),
+            Number,
+            Exit(Name::Data),
+            Exit(Name::LabelText),
+            Text("]"),
+            Exit(Name::Label),
+            Exit(Name::GfmFootnoteCall),
+        ]),
+        PARAGRAPH_END,
+        Each(&[
+            Enter(Name::LineEnding),
+            Text("\n"),
+            Exit(Name::LineEnding),
+            Enter(Name::GfmFootnoteDefinition),
+            Enter(Name::GfmFootnoteDefinitionPrefix),
+            Text("[^"),
+            Enter(Name::GfmFootnoteDefinitionLabelString),
+            Number,
+            Exit(Name::GfmFootnoteDefinitionLabelString),
+            Text("]: "),
+            Exit(Name::GfmFootnoteDefinitionPrefix),
+            Enter(Name::Paragraph),
+            Enter(Name::Data),
+            Text("t"),
+            Number,
+            Exit(Name::Data),
+            Exit(Name::Paragraph),
+            Exit(Name::GfmFootnoteDefinition),
+        ]),
+    ],
+    text: &[
+        Once("<p>"),
+        Shuffled(
+            "<sup><a href=\"#user-content-fn-[n]\" id=\"user-content-fnref-[n]\" data-footnote-ref=\"\" aria-describedby=\"footnote-label\">[place]</a></sup>",
+        ),
+        Once(
+            "</p>\n<section data-footnotes=\"\" class=\"footnotes\"><h2 id=\"footnote-label\" class=\"sr-only\">Footnotes</h2>\n<ol>\n",
+        ),
+        Shuffled(
+            "<li id=\"user-content-fn-[n]\">\n<p>t[n] <a href=\"#user-content-fnref-[n]\" data-footnote-backref=\"\" aria-label=\"Back to content\" class=\"data-footnote-backref\">↩</a></p>\n</li>\n",
+        ),
+        Once("</ol>\n</section>\n"),
+    ],
+};
 
-/// A footnote of the item's number, with a text of its own.
-const FOOTNOTE: [Step; 18] = [
-    Enter(Name::LineEnding),
-    Text("\n"),
-    Exit(Name::LineEnding),
-    Enter(Name::GfmFootnoteDefinition),
-    Enter(Name::GfmFootnoteDefinitionPrefix),
-    Text("[^"),
-    Enter(Name::GfmFootnoteDefinitionLabelString),
-    Number,
-    Exit(Name::GfmFootnoteDefinitionLabelString),
-    Text("]: "),
-    Exit(Name::GfmFootnoteDefinitionPrefix),
-    Enter(Name::Paragraph),
-    Enter(Name::Data),
-    Text("t"),
-    Number,
-    Exit(Name::Data),
-    Exit(Name::Paragraph),
-    Exit(Name::GfmFootnoteDefinition),
-];
-
-/// Calls in this order, and after them the footnotes.
-fn called(alloc: Global, order: &[usize]) -> Result<Document, AllocError> {
-    let mut document = Document::new(alloc);
-    add_paragraph(&mut document, order, &CALL)?;
-    document.items(&in_order(alloc)?, &FOOTNOTE)?;
-    Ok(document)
-}
-
-/// The text of calls in this order, and of their footnotes.
-fn text_of_calls(alloc: Global, order: &[usize]) -> Result<String, AllocError> {
-    let calls = each(
-        alloc,
-        order,
-        "<sup><a href=\"#user-content-fn-[n]\" id=\"user-content-fnref-[n]\" data-footnote-ref=\"\" aria-describedby=\"footnote-label\">[place]</a></sup>",
-    )?;
-    let items = each(
-        alloc,
-        order,
-        "<li id=\"user-content-fn-[n]\">\n<p>t[n] <a href=\"#user-content-fnref-[n]\" data-footnote-backref=\"\" aria-label=\"Back to content\" class=\"data-footnote-backref\">↩</a></p>\n</li>\n",
-    )?;
-    format!(in alloc;
-        "<p>{calls}</p>\n<section data-footnotes=\"\" class=\"footnotes\"><h2 id=\"footnote-label\" class=\"sr-only\">Footnotes</h2>\n<ol>\n{items}</ol>\n</section>\n"
-    )
-}
-
-/// Each footnote has a text of its own, and its number is the place of its call.
 #[test]
 fn calls_of_footnotes(rt: HostRuntime) -> Result<(), Fail> {
-    let order = out_of_order(rt.alloc())?;
-    let document = called(rt.alloc(), &order)?;
-    compiles(&rt, &document, &text_of_calls(rt.alloc(), &order)?)
+    compiles(&rt, &CALLS)
 }

@@ -1,6 +1,6 @@
 -- A line that is read is one step of progress; the line that ends the script, an unreadable one or the input's end
 -- says what is answered. By itself the search can't tell what all lines say from the last one.
-use Rattle.std.proofs.Common.{◌≡◌, ◌+◌, ◌++◌, true, refl, sym, ◌∙◌, subst, option_to_list}
+use Rattle.std.proofs.Common.{rules, ◌≡◌, ◌+◌, ◌++◌, true, refl, sym, ◌∙◌, subst, option_to_list}
 use Rattle.md_script.specs.Line.{event_of}
 use Rattle.md_script.specs.Setting.{texts_of, HasOptions}
 use Rattle.md_script.proofs.ScriptLemmas.{Progress, takes, line_more, plain_more, script_ends_at, line_stops, input_stops}
@@ -45,3 +45,6 @@ lines-preserved c =
     (subst (λ settings. Progress c.args.input.now (c.lines.read_lines + 1) (c.lines.events.items
     ++ option_to_list (event_of line)) settings c.in-Some-following.following.now)
     (sym (c.in_ok-take_line.ensures.settings c.if-not-branch.false)) more)
+
+pub lines-init : goal.lines-init
+lines-init c = search rules

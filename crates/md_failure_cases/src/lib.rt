@@ -2,9 +2,7 @@
 //! writes which of them answered wrong.
 //!
 //! A call that runs out of memory is made once more, and the second answer counts: so where one request for
-//! memory is refused the same is written. Standard input says what is asked: `plain` the calls that need nothing that
-//! takes memory, `checked` what is needed for the others that take none, `methods` this and those, `memory` all that
-//! takes memory, else everything.
+//! memory is refused the same is written.
 #![tactic(auto)]
 
 mod appending;
@@ -16,14 +14,15 @@ mod serving;
 mod texts;
 
 use log::Log;
-use std::io::{self, Read};
+use std::io;
 
-fn main(rt: HostRuntime) -> io::Result<()> {
-    let mut word = [0u8; 8];
-    rt.reader().read(&mut word)?;
+/// Makes the calls that a word asks for, and writes which of them answered wrong, or that each was made: `plain` the
+/// calls that need nothing that takes memory, `checked` what is needed for the others that take none, `methods` this
+/// and those, `memory` all that takes memory, else everything.
+pub fn ask_each<R: Print + AllocGlobal>(rt: &R, word: &[u8]) -> io::Result<()> {
     let mut log = Log { refusals: 0 };
-    ask(&rt, &mut log, &word)?;
-    log.close(&rt)
+    ask(rt, &mut log, word)?;
+    log.close(rt)
 }
 
 /// Makes the calls that this word asks for.
