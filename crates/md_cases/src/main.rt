@@ -2,7 +2,9 @@
 //! `md_failure_cases`.
 //!
 //! Where the first word of standard input isn't `worked`, it says which of those calls are made, and nothing else is
-//! read: so no memory is taken before them. A case begins with a line `%%%% GROUP: NAME`. Its script goes on to the line ending before the next such line. For
+//! read: so no memory is taken before them.
+//!
+//! A case begins with a line `%%%% GROUP: NAME`. Its script goes on to the line ending before the next such line. For
 //! each case that line is written, and then the text, or `! ` and why there is none.
 #![tactic(auto)]
 
