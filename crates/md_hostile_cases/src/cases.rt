@@ -1,15 +1,14 @@
 //! What the cases ask.
 
 mod broken;
-mod cuts;
 mod depth;
 mod few;
 mod grammar;
 mod growing;
 mod html;
-mod places;
 mod random;
 mod scale;
+mod shapes;
 mod trees;
 
 use md_html::{
@@ -19,7 +18,6 @@ use md_script::{RunError, run};
 use std::alloc::{AllocError, Global};
 use std::fmt::Write;
 use std::process::Abort;
-use std::test::Fail;
 
 /// The names of references in a script's document, each with its text.
 fn script_names() -> &'static [(&'static str, &'static str)] {
@@ -104,15 +102,14 @@ fn is_counted(
     }
 }
 
-/// The same of a script of these events, whose document has the names of a script.
+/// The same under the default options, with the names of a script, as a script too.
 fn compiled_as_script(
     rt: &(impl Abort + AllocGlobal),
     given: &Given<'_>,
 ) -> Result<String, CompileError> {
-    let script = script(rt.alloc(), given)?;
     let text = compiled(rt, given, &CompileOptions::default());
-    let ran = run(rt.alloc(), script.as_slice());
-    assert!(rt; is_run(&text, &ran), "{ran:?}");
+    let ran = run_as_script(rt.alloc(), given);
+    assert!(rt; is_run(&text, &ran), "the script has another answer");
     text
 }
 
@@ -133,45 +130,47 @@ fn is_run(answer: &Result<String, CompileError>, ran: &Result<String, RunError>)
     }
 }
 
-/// The script of events over a document.
-fn script(alloc: Global, given: &Given<'_>) -> Result<Vec<u8>, AllocError> {
+/// What the script of events over a document gives.
+fn run_as_script(alloc: Global, given: &Given<'_>) -> Result<String, RunError> {
     let mut lines = String::new(alloc);
-    for event in given.events {
-        write_line(&mut lines, event)?;
-    }
-    lines.push_str("--\n")?;
+    write_lines(&mut lines, given.events)?;
     let mut script = lines.into_bytes();
     script.extend_from_slice(given.bytes)?;
-    Ok(script)
+    run(alloc, script.as_slice())
+}
+
+/// Writes the lines of a script before its document.
+fn write_lines(lines: &mut String, events: &[Event]) -> Result<(), AllocError> {
+    for event in events {
+        write_line(lines, event)?;
+    }
+    lines.push_str("--\n")
 }
 
 /// Writes the line of an event.
 fn write_line(lines: &mut String, event: &Event) -> Result<(), AllocError> {
-    let sign = match event.kind {
+    lines.push(match event.kind {
         Kind::Enter => '+',
         Kind::Exit => '-',
-    };
+    })?;
+    write_name(lines, event.name)?;
     let (index, vs) = (event.point.index, event.point.vs);
-    match event.name {
-        Name::Other(number) => writeln!(lines, "{sign}Other{number} {index}.{vs}"),
-        name => writeln!(lines, "{sign}{name:?} {index}.{vs}"),
-    }
+    writeln!(lines, " {index}.{vs}")
 }
 
-/// Events over a document with the names of a script give exactly this text, as a script too.
-fn answers(rt: &(impl Abort + AllocGlobal), events: &[Event], expected: &str) -> Result<(), Fail> {
-    let given = Given {
-        events,
-        bytes: &[],
-        names: script_names(),
-    };
-    let text = compiled_as_script(rt, &given)?;
-    is_text(rt, &text, expected);
-    Ok(())
+/// Writes the name of an event as scripts do.
+fn write_name(lines: &mut String, name: Name) -> Result<(), AllocError> {
+    match name {
+        Name::Other(number) => write!(lines, "Other{number}"),
+        _ => write!(lines, "{name:?}"),
+    }
 }
 
 /// A text is exactly the expected one.
 fn is_text(rt: &impl Abort, text: &str, expected: &str) {
-    assert_eq!(rt; text.len(), expected.len());
-    assert!(rt; text == expected, "other text of the same length");
+    let (length, wanted) = (text.len(), expected.len());
+    assert!(rt;
+        text == expected,
+        "other text, of {length} bytes in place of {wanted}"
+    );
 }

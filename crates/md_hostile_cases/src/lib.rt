@@ -1,4 +1,4 @@
-//! Hostile events, places and scripts: cases that are judged apart from the calls that they ask.
+//! Hostile events: cases that are judged apart from the calls that they ask.
 #![tactic(auto)]
 
 #[cfg(test)]

@@ -6,7 +6,7 @@ use super::{Given, compiled, other_names, point};
 use Break::{Double, Move, Remove, Rename, Swap};
 use Verdict::{Open, Refused, Same};
 use md_html::{CompileError, CompileOptions, Event, Kind, Name, Rule, is_same_name};
-use std::alloc::{AllocError, Global};
+use std::alloc::AllocError;
 use std::process::Abort;
 use std::test::Fail;
 
@@ -77,22 +77,20 @@ fn changed(first: Event, second: Event, change: Break, moved: Event) -> ([Event;
     }
 }
 
-/// The list of events with its event at a place broken, which the next one follows.
-fn broken(
-    alloc: Global,
+/// Adds the events with the one at a place broken, which the next one follows.
+fn add_broken(
+    list: &mut Vec<Event>,
     events: &[Event],
-    place: usize,
-    change: Break,
+    breaking: Breaking,
     moved: Event,
-) -> Result<Vec<Event>, AllocError> {
-    let mut list = Vec::new(alloc);
-    list.extend_from_slice(events.get(..place).unwrap_or(&[]))?;
-    if let Some([first, second, after @ ..]) = events.get(place..) {
-        let (pieces, count) = changed(*first, *second, change, moved);
+) -> Result<(), AllocError> {
+    list.extend_from_slice(events.get(..breaking.place).unwrap_or(&[]))?;
+    if let Some([first, second, after @ ..]) = events.get(breaking.place..) {
+        let (pieces, count) = changed(*first, *second, breaking.change, moved);
         list.extend_from_slice(pieces.get(..count).unwrap_or(&[]))?;
         list.extend_from_slice(after)?;
     }
-    Ok(list)
+    Ok(())
 }
 
 /// Whether the place of an event is read.
@@ -192,21 +190,41 @@ fn break_once(
     whole: &str,
     breaking: Breaking,
 ) -> Result<(), Fail> {
+    if let Some([first, second, ..]) = tree.events.as_slice().get(breaking.place..) {
+        break_first(rt, tree, whole, breaking, (*first, *second));
+    }
+    mend(rt, tree, whole)
+}
+
+/// Breaks a tree at the first of two events.
+fn break_first(
+    rt: &(impl Abort + AllocGlobal),
+    tree: &Tree,
+    whole: &str,
+    breaking: Breaking,
+    (first, second): (Event, Event),
+) {
     let Breaking { place, change, to } = breaking;
-    let events = tree.events.as_slice();
-    let Some([first, second, ..]) = events.get(place..) else {
-        return Ok(());
-    };
     let moved = Event {
         point: point(to.0, to.1),
-        ..*first
+        ..first
     };
-    let verdict = judged(*first, *second, change, moved, tree.bytes.len());
-    let list = broken(rt.alloc(), events, place, change, moved)?;
-    let answer = text_of(rt, list.as_slice(), tree.bytes.as_slice());
+    let verdict = judged(first, second, change, moved, tree.bytes.len());
+    let answer = broken_text(rt, tree, breaking, moved);
     let is_right = is_right(&answer, verdict, whole, change, place);
     assert!(rt; is_right, "{change:?} at {place}: {answer:?}");
-    mend(rt, tree, whole)
+}
+
+/// What a broken tree gives.
+fn broken_text(
+    rt: &(impl Abort + AllocGlobal),
+    tree: &Tree,
+    breaking: Breaking,
+    moved: Event,
+) -> Result<String, CompileError> {
+    let mut list = Vec::new(rt.alloc());
+    add_broken(&mut list, tree.events.as_slice(), breaking, moved)?;
+    text_of(rt, list.as_slice(), tree.bytes.as_slice())
 }
 
 /// The tree as it was gives its text again.
@@ -229,6 +247,12 @@ fn text_of(
     compiled(rt, &given, &CompileOptions::default())
 }
 
+/// Breaks the tree of a seed in each way, at some places.
+fn break_seed(rt: &(impl Abort + AllocGlobal), seed: u64, random: &mut Random) -> Result<(), Fail> {
+    let tree = grow(rt.alloc(), seed, other_names())?;
+    break_tree(rt, &tree, random)
+}
+
 /// Breaks a tree in each way, at some places.
 fn break_tree(
     rt: &(impl Abort + AllocGlobal),
@@ -236,9 +260,19 @@ fn break_tree(
     random: &mut Random,
 ) -> Result<(), Fail> {
     let whole = text_of(rt, tree.events.as_slice(), tree.bytes.as_slice())?;
+    break_in_each_way(rt, tree, whole.as_str(), random)
+}
+
+/// The same, where it is known what the tree gives.
+fn break_in_each_way(
+    rt: &(impl Abort + AllocGlobal),
+    tree: &Tree,
+    whole: &str,
+    random: &mut Random,
+) -> Result<(), Fail> {
     for change in BREAKS {
         for _ in 0..TIMES {
-            break_once(rt, tree, &whole, way_to_break(tree, change, random))?;
+            break_once(rt, tree, whole, way_to_break(tree, change, random))?;
         }
     }
     Ok(())
@@ -248,8 +282,7 @@ fn break_tree(
 fn broken_trees(rt: HostRuntime) -> Result<(), Fail> {
     let mut random = Random::new(7);
     for seed in 0..TREES {
-        let tree = grow(rt.alloc(), seed, other_names())?;
-        break_tree(&rt, &tree, &mut random)?;
+        break_seed(&rt, seed, &mut random)?;
     }
     Ok(())
 }

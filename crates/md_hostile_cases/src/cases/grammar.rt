@@ -1,8 +1,8 @@
 //! The grammar of events, as what each node is grown from.
 
-use Class::{Flow, Phrasing, Strings};
+use Class::{Code, Containers, Flow, Notes, Phrasing, Plain, Strings};
 use Part::{All, Any, Leaf, Many, Mark, Naming, Node, One, Perhaps, Reference};
-use md_html::{Event, Name};
+use md_html::Name;
 
 /// Nodes that may stand in the same places.
 #[derive(Clone, Copy)]
@@ -10,6 +10,14 @@ pub(super) enum Class {
     Strings,
     Phrasing,
     Flow,
+    /// Flow that is phrasing, paragraphs, lines or without children.
+    Plain,
+    /// Flow in which other nodes stand: quotes, lists, headings.
+    Containers,
+    /// Code, math and HTML.
+    Code,
+    /// Tables, definitions and footnotes.
+    Notes,
 }
 
 /// A part of a tree that is still to come.
@@ -35,8 +43,8 @@ pub(super) enum Part {
     Many(Class),
     /// One node of a class.
     One(Class),
-    /// The end of the node that is open.
-    End(Event),
+    /// The end of the innermost node that is open.
+    End,
 }
 
 /// The nodes of a class.
@@ -45,7 +53,21 @@ pub(super) fn choices(class: Class) -> &'static [Part] {
         Strings => strings(),
         Phrasing => phrasing(),
         Flow => flow(),
+        Plain => plain(),
+        Containers => containers(),
+        Code => code(),
+        Notes => notes(),
     }
+}
+
+/// A definition and a footnote for each identifier.
+pub(super) fn definitions() -> &'static [Part] {
+    &DEFINITIONS
+}
+
+/// What a document has beside them.
+pub(super) fn others() -> &'static [Part] {
+    &OTHERS
 }
 
 fn strings() -> &'static [Part] {
@@ -58,6 +80,22 @@ fn phrasing() -> &'static [Part] {
 
 fn flow() -> &'static [Part] {
     &FLOW
+}
+
+fn plain() -> &'static [Part] {
+    &PLAIN
+}
+
+fn containers() -> &'static [Part] {
+    &CONTAINERS
+}
+
+fn code() -> &'static [Part] {
+    &CODE
+}
+
+fn notes() -> &'static [Part] {
+    &NOTES
 }
 
 /// The names that are passed over, save the one that has nothing inside.
@@ -82,8 +120,7 @@ const IDENTIFIERS: [(usize, usize); 7] = [
     (0, 0),
 ];
 
-/// A definition and a footnote for each identifier.
-pub(super) static DEFINITIONS: [Part; 8] = [
+static DEFINITIONS: [Part; 8] = [
     Node(
         Name::Definition,
         &[
@@ -149,8 +186,7 @@ pub(super) static DEFINITIONS: [Part; 8] = [
     ),
 ];
 
-/// What a document has beside them.
-pub(super) static OTHERS: [Part; 6] = [
+static OTHERS: [Part; 6] = [
     Many(Flow),
     Many(Flow),
     Many(Flow),
@@ -364,10 +400,30 @@ const HEAD: Part = Node(
 
 const BODY: Part = Node(Name::GfmTableBody, &[Any(&[ROW, LINE])]);
 
-static FLOW: [Part; 20] = [
+/// The classes of which flow is.
+static FLOW: [Part; 8] = [
+    One(Plain),
+    One(Plain),
+    One(Plain),
+    One(Containers),
+    One(Containers),
+    One(Code),
+    One(Code),
+    One(Notes),
+];
+
+static PLAIN: [Part; 8] = [
     One(Phrasing),
     One(Phrasing),
     BLANK,
+    Node(Name::Paragraph, &[Many(Phrasing)]),
+    Node(Name::Paragraph, &[Many(Phrasing)]),
+    Node(Name::Paragraph, &[Many(Strings)]),
+    Node(Name::ThematicBreak, &[]),
+    Node(Name::Frontmatter, &[LINES]),
+];
+
+static CONTAINERS: [Part; 5] = [
     Node(Name::BlockQuote, &[Many(Flow)]),
     Node(
         Name::ListUnordered,
@@ -377,8 +433,6 @@ static FLOW: [Part; 20] = [
         Name::ListOrdered,
         &[FIRST_ITEM, Any(&[LATER_ITEM, LINE, BLANK])],
     ),
-    Node(Name::Paragraph, &[Many(Phrasing)]),
-    Node(Name::Paragraph, &[Many(Phrasing)]),
     Node(
         Name::HeadingAtx,
         &[
@@ -391,6 +445,9 @@ static FLOW: [Part; 20] = [
         LINES,
         Leaf(Name::HeadingSetextUnderlineSequence, &UNDERLINES),
     ]),
+];
+
+static CODE: [Part; 4] = [
     Node(Name::CodeIndented, &[CHUNKS]),
     Node(
         Name::CodeFenced,
@@ -421,7 +478,9 @@ static FLOW: [Part; 20] = [
         Name::HtmlFlow,
         &[Any(&[Leaf(Name::HtmlFlowData, &TEXTS), LINE, BLANK])],
     ),
-    Node(Name::ThematicBreak, &[]),
+];
+
+static NOTES: [Part; 3] = [
     Node(Name::GfmTable, &[HEAD, LINES, Perhaps(&[BODY, LINES])]),
     Node(
         Name::Definition,
@@ -448,6 +507,4 @@ static FLOW: [Part; 20] = [
             Many(Flow),
         ],
     ),
-    Node(Name::Frontmatter, &[LINES]),
-    Node(Name::Paragraph, &[Many(Strings)]),
 ];

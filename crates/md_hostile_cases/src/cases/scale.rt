@@ -1,182 +1,23 @@
-//! Hostile shapes at a great size, with the exact answers.
-//!
-//! An answer is put together by the rules of HTML for Markdown, apart from the events of its document.
+//! Shapes at a great size.
 
-use super::is_text;
-use Part::{Each, Once, Shuffled};
-use Step::{Enter, Exit, Number, Text};
-use md_html::{CompileOptions, Event, Kind, Name, Point, compile};
-use std::alloc::{AllocError, Global};
-use std::fmt::Write;
+use super::shapes::Part::{self, Each, Once, Shuffled};
+use super::shapes::Step::{Enter, Exit, Number, Place, Text};
+use super::shapes::{Shape, compiles};
+use md_html::Name;
 use std::process::Abort;
 use std::test::Fail;
 
 /// How many levels or items each shape has.
 const SIZE: usize = 100_000;
 
-/// How far it is from item to item out of order; without a factor in common with `SIZE`, so that each item comes once.
-const STRIDE: usize = 7_919;
-
-/// What is done to a document at one place.
-#[derive(Clone, Copy)]
-enum Step {
-    /// A node starts.
-    Enter(Name),
-    /// A node ends.
-    Exit(Name),
-    /// Some text stands there.
-    Text(&'static str),
-    /// The number of the item stands there.
-    Number,
-}
-
-/// A part of a document, of these steps, or of the text that it should give, by this pattern.
-#[derive(Clone, Copy)]
-enum Part<T> {
-    /// It stands there once.
-    Once(T),
-    /// It stands there for each level or item, by their numbers.
-    Each(T),
-    /// The same out of order.
-    Shuffled(T),
-}
-
-/// A document, and the text that it should give; in that `[n]` stands for an item's number and `[place]` for its place,
-/// from 1.
-struct Shape {
-    document: &'static [Part<&'static [Step]>],
-    text: &'static [Part<&'static str>],
-}
-
-/// A document that is written from its start to its end, with its events.
-#[derive(Drop)]
-struct Document {
-    text: String,
-    events: Vec<Event>,
-}
-
-impl Document {
-    /// A document of nothing.
-    fn new(alloc: Global) -> Self {
-        Document {
-            text: String::new(alloc),
-            events: Vec::new(alloc),
-        }
-    }
-
-    /// Adds an event at the end of the text.
-    fn event(&mut self, kind: Kind, name: Name) -> Result<(), AllocError> {
-        let point = Point {
-            line: 1,
-            column: 1,
-            index: self.text.len(),
-            vs: 0,
-        };
-        self.events.push(Event { kind, name, point })?;
-        Ok(())
-    }
-
-    /// Takes a step of the item with this number.
-    fn step(&mut self, step: Step, number: usize) -> Result<(), AllocError> {
-        match step {
-            Enter(name) => self.event(Kind::Enter, name),
-            Exit(name) => self.event(Kind::Exit, name),
-            Text(text) => self.text.push_str(text),
-            Number => write!(self.text, "{number}"),
-        }
-    }
-
-    /// Takes all steps of the item with this number.
-    fn item(&mut self, steps: &[Step], number: usize) -> Result<(), AllocError> {
-        for step in steps {
-            self.step(*step, number)?;
-        }
-        Ok(())
-    }
-
-    /// Takes the steps of each item; from one to the next it is this far.
-    fn items(&mut self, steps: &[Step], stride: usize) -> Result<(), AllocError> {
-        for place in 0..SIZE {
-            self.item(steps, number_at(place, stride))?;
-        }
-        Ok(())
-    }
-
-    /// Adds a part.
-    fn part(&mut self, part: Part<&[Step]>) -> Result<(), AllocError> {
-        match part {
-            Once(steps) => self.item(steps, 0),
-            Each(steps) => self.items(steps, 1),
-            Shuffled(steps) => self.items(steps, STRIDE),
-        }
-    }
-}
-
-/// The number of the item at a place, where it is this far from one to the next.
-fn number_at(place: usize, stride: usize) -> usize {
-    place.saturating_mul(stride) % SIZE
-}
-
-/// The document of these parts.
-fn document_of(alloc: Global, parts: &[Part<&[Step]>]) -> Result<Document, AllocError> {
-    let mut document = Document::new(alloc);
-    for part in parts {
-        document.part(*part)?;
-    }
-    Ok(document)
-}
-
-/// The text of these parts.
-fn text_of(alloc: Global, parts: &[Part<&str>]) -> Result<String, AllocError> {
-    let mut text = String::new(alloc);
-    for part in parts {
-        say(alloc, &mut text, *part)?;
-    }
-    Ok(text)
-}
-
-/// Adds a part of a text.
-fn say(alloc: Global, text: &mut String, part: Part<&str>) -> Result<(), AllocError> {
-    match part {
-        Once(said) => text.push_str(said),
-        Each(said) => text.push_str(&said.repeat(alloc, SIZE)?),
-        Shuffled(pattern) => say_each(alloc, text, pattern),
-    }
-}
-
-/// Adds what a pattern says of each item out of order.
-fn say_each(alloc: Global, text: &mut String, pattern: &str) -> Result<(), AllocError> {
-    for (place, counted) in (0..SIZE).zip(1..=SIZE) {
-        let said = with_number(alloc, pattern, "[n]", number_at(place, STRIDE))?;
-        text.push_str(&with_number(alloc, &said, "[place]", counted)?)?;
-    }
-    Ok(())
-}
-
-/// A text with a number in place of a mark.
-fn with_number(alloc: Global, text: &str, mark: &str, number: usize) -> Result<String, AllocError> {
-    let number = format!(in alloc; "{number}")?;
-    text.replace(alloc, mark, &number)
-}
-
-/// A shape's document compiles to exactly its text under the default options.
-fn compiles(rt: &(impl Abort + AllocGlobal), shape: &Shape) -> Result<(), Fail> {
-    let document = document_of(rt.alloc(), shape.document)?;
-    let expected = text_of(rt.alloc(), shape.text)?;
-    let (events, bytes) = (document.events.as_slice(), document.text.as_bytes());
-    let text = compile(rt.alloc(), events, bytes, &CompileOptions::default(), &[])?;
-    is_text(rt, &text, &expected);
-    Ok(())
-}
-
 /// One character of text.
-const LETTER: Part<&[Step]> = Once(&[Enter(Name::Data), Text("x"), Exit(Name::Data)]);
+const LETTER: Part = Once(&[Enter(Name::Data), Text("x"), Exit(Name::Data)]);
 
 /// A paragraph starts.
-const PARAGRAPH: Part<&[Step]> = Once(&[Enter(Name::Paragraph)]);
+const PARAGRAPH: Part = Once(&[Enter(Name::Paragraph)]);
 
 /// A paragraph ends.
-const PARAGRAPH_END: Part<&[Step]> = Once(&[Exit(Name::Paragraph)]);
+const PARAGRAPH_END: Part = Once(&[Exit(Name::Paragraph)]);
 
 static BLOCK_QUOTES: Shape = Shape {
     document: &[
@@ -192,15 +33,15 @@ static BLOCK_QUOTES: Shape = Shape {
         Each(&[Exit(Name::BlockQuote)]),
     ],
     text: &[
-        Each("<blockquote>\n"),
-        Once("<p>x</p>"),
-        Each("\n</blockquote>"),
+        Each(&[Text("<blockquote>\n")]),
+        Once(&[Text("<p>x</p>")]),
+        Each(&[Text("\n</blockquote>")]),
     ],
 };
 
 #[test]
 fn nested_block_quotes(rt: HostRuntime) -> Result<(), Fail> {
-    compiles(&rt, &BLOCK_QUOTES)
+    compiles(&rt, &BLOCK_QUOTES, SIZE)
 }
 
 /// The innermost item holds a thematic break, which stands on its own line as a list does.
@@ -225,12 +66,16 @@ static LISTS: Shape = Shape {
         ]),
         Each(&[Exit(Name::ListItem), Exit(Name::ListUnordered)]),
     ],
-    text: &[Each("<ul>\n<li>\n"), Once("<hr />"), Each("\n</li>\n</ul>")],
+    text: &[
+        Each(&[Text("<ul>\n<li>\n")]),
+        Once(&[Text("<hr />")]),
+        Each(&[Text("\n</li>\n</ul>")]),
+    ],
 };
 
 #[test]
 fn nested_lists(rt: HostRuntime) -> Result<(), Fail> {
-    compiles(&rt, &LISTS)
+    compiles(&rt, &LISTS, SIZE)
 }
 
 static EMPHASIS: Shape = Shape {
@@ -242,17 +87,17 @@ static EMPHASIS: Shape = Shape {
         PARAGRAPH_END,
     ],
     text: &[
-        Once("<p>"),
-        Each("<em>"),
-        Once("x"),
-        Each("</em>"),
-        Once("</p>"),
+        Once(&[Text("<p>")]),
+        Each(&[Text("<em>")]),
+        Once(&[Text("x")]),
+        Each(&[Text("</em>")]),
+        Once(&[Text("</p>")]),
     ],
 };
 
 #[test]
 fn nested_emphasis(rt: HostRuntime) -> Result<(), Fail> {
-    compiles(&rt, &EMPHASIS)
+    compiles(&rt, &EMPHASIS, SIZE)
 }
 
 /// Links with a destination, each in the label of the one around it.
@@ -284,17 +129,17 @@ static LINKS: Shape = Shape {
         PARAGRAPH_END,
     ],
     text: &[
-        Once("<p>"),
-        Each("<a href=\"u\">"),
-        Once("x"),
-        Each("</a>"),
-        Once("</p>"),
+        Once(&[Text("<p>")]),
+        Each(&[Text("<a href=\"u\">")]),
+        Once(&[Text("x")]),
+        Each(&[Text("</a>")]),
+        Once(&[Text("</p>")]),
     ],
 };
 
 #[test]
 fn nested_links(rt: HostRuntime) -> Result<(), Fail> {
-    compiles(&rt, &LINKS)
+    compiles(&rt, &LINKS, SIZE)
 }
 
 /// Images in one another: only the text of the label is left inside one.
@@ -325,12 +170,12 @@ static IMAGES: Shape = Shape {
         ]),
         PARAGRAPH_END,
     ],
-    text: &[Once("<p><img src=\"u\" alt=\"x\" /></p>")],
+    text: &[Once(&[Text("<p><img src=\"u\" alt=\"x\" /></p>")])],
 };
 
 #[test]
 fn nested_images(rt: HostRuntime) -> Result<(), Fail> {
-    compiles(&rt, &IMAGES)
+    compiles(&rt, &IMAGES, SIZE)
 }
 
 /// Definitions, each with a destination of its own, and after them links out of order.
@@ -371,15 +216,21 @@ static DEFINITIONS: Shape = Shape {
         PARAGRAPH_END,
     ],
     text: &[
-        Once("<p>"),
-        Shuffled("<a href=\"u[n]\">[n]</a>"),
-        Once("</p>"),
+        Once(&[Text("<p>")]),
+        Shuffled(&[
+            Text("<a href=\"u"),
+            Number,
+            Text("\">"),
+            Number,
+            Text("</a>"),
+        ]),
+        Once(&[Text("</p>")]),
     ],
 };
 
 #[test]
 fn links_to_definitions(rt: HostRuntime) -> Result<(), Fail> {
-    compiles(&rt, &DEFINITIONS)
+    compiles(&rt, &DEFINITIONS, SIZE)
 }
 
 /// Calls out of order, and after them the footnotes, each with a text of its own: its number is the place of its call.
@@ -422,21 +273,35 @@ static CALLS: Shape = Shape {
         ]),
     ],
     text: &[
-        Once("<p>"),
-        Shuffled(
-            "<sup><a href=\"#user-content-fn-[n]\" id=\"user-content-fnref-[n]\" data-footnote-ref=\"\" aria-describedby=\"footnote-label\">[place]</a></sup>",
-        ),
-        Once(
+        Once(&[Text("<p>")]),
+        Shuffled(&[
+            Text("<sup><a href=\"#user-content-fn-"),
+            Number,
+            Text("\" id=\"user-content-fnref-"),
+            Number,
+            Text("\" data-footnote-ref=\"\" aria-describedby=\"footnote-label\">"),
+            Place,
+            Text("</a></sup>"),
+        ]),
+        Once(&[Text(
             "</p>\n<section data-footnotes=\"\" class=\"footnotes\"><h2 id=\"footnote-label\" class=\"sr-only\">Footnotes</h2>\n<ol>\n",
-        ),
-        Shuffled(
-            "<li id=\"user-content-fn-[n]\">\n<p>t[n] <a href=\"#user-content-fnref-[n]\" data-footnote-backref=\"\" aria-label=\"Back to content\" class=\"data-footnote-backref\">↩</a></p>\n</li>\n",
-        ),
-        Once("</ol>\n</section>\n"),
+        )]),
+        Shuffled(&[
+            Text("<li id=\"user-content-fn-"),
+            Number,
+            Text("\">\n<p>t"),
+            Number,
+            Text(" <a href=\"#user-content-fnref-"),
+            Number,
+            Text(
+                "\" data-footnote-backref=\"\" aria-label=\"Back to content\" class=\"data-footnote-backref\">↩</a></p>\n</li>\n",
+            ),
+        ]),
+        Once(&[Text("</ol>\n</section>\n")]),
     ],
 };
 
 #[test]
 fn calls_of_footnotes(rt: HostRuntime) -> Result<(), Fail> {
-    compiles(&rt, &CALLS)
+    compiles(&rt, &CALLS, SIZE)
 }

@@ -12,39 +12,25 @@ use std::test::Fail;
 /// How many trees grow for each test.
 const TREES: u64 = 400;
 
-/// Texts of options.
+/// Texts of options; none is chosen as often as any of them together.
 const TEXTS: [&str; 6] = ["", "a", "<\"&>", "\0", "javascript:x", "' id='"];
 
-/// The options of a seed; where they are to be safe, those that are not stay off.
-fn options(alloc: Global, seed: u64, is_safe: bool) -> Result<CompileOptions, AllocError> {
-    let mut random = Random::new(seed);
-    let mut options = CompileOptions {
-        gfm_task_list_item_checkable: random.once_in(2),
-        gfm_tagfilter: random.once_in(2),
-        gfm_footnote_number_ids: random.once_in(2),
-        default_line_ending: ending(random.below(3)),
-        ..CompileOptions::default()
-    };
-    set_texts(alloc, &mut options, &mut random)?;
-    if !is_safe {
-        set_unsafe(alloc, &mut options, &mut random)?;
-    }
-    Ok(options)
-}
-
-/// Sets the texts that are safe.
-fn set_texts(
+/// Sets the options that are safe, as a seed chooses.
+fn set_safe(
     alloc: Global,
     options: &mut CompileOptions,
     random: &mut Random,
 ) -> Result<(), AllocError> {
-    options.gfm_footnote_back_label = text(alloc, random)?;
-    options.gfm_footnote_clobber_prefix = text(alloc, random)?;
-    options.gfm_footnote_label = text(alloc, random)?;
-    Ok(())
+    options.gfm_task_list_item_checkable = random.once_in(2);
+    options.gfm_tagfilter = random.once_in(2);
+    options.gfm_footnote_number_ids = random.once_in(2);
+    options.default_line_ending = ending(random.below(3));
+    set_text(alloc, &mut options.gfm_footnote_back_label, random)?;
+    set_text(alloc, &mut options.gfm_footnote_clobber_prefix, random)?;
+    set_text(alloc, &mut options.gfm_footnote_label, random)
 }
 
-/// Sets the options that are not safe.
+/// Sets the options that are not safe, as a seed chooses.
 fn set_unsafe(
     alloc: Global,
     options: &mut CompileOptions,
@@ -53,9 +39,8 @@ fn set_unsafe(
     options.allow_any_img_src = random.once_in(2);
     options.allow_dangerous_html = random.once_in(2);
     options.allow_dangerous_protocol = random.once_in(2);
-    options.gfm_footnote_label_attributes = text(alloc, random)?;
-    options.gfm_footnote_label_tag_name = text(alloc, random)?;
-    Ok(())
+    set_text(alloc, &mut options.gfm_footnote_label_attributes, random)?;
+    set_text(alloc, &mut options.gfm_footnote_label_tag_name, random)
 }
 
 fn ending(number: usize) -> LineEnding {
@@ -66,12 +51,17 @@ fn ending(number: usize) -> LineEnding {
     }
 }
 
-fn text(alloc: Global, random: &mut Random) -> Result<Option<String>, AllocError> {
+/// Sets an option that is a text, once in two times.
+fn set_text(
+    alloc: Global,
+    option: &mut Option<String>,
+    random: &mut Random,
+) -> Result<(), AllocError> {
     if random.once_in(2) {
-        return Ok(None);
+        let text = random.pick(&TEXTS).unwrap_or("");
+        *option = Some(String::from_str(alloc, text)?);
     }
-    let text = random.pick(&TEXTS).unwrap_or("");
-    Ok(Some(String::from_str(alloc, text)?))
+    Ok(())
 }
 
 fn given<'a>(tree: &'a Tree, names: &'a [(&'a str, &'a str)]) -> Given<'a> {
@@ -82,52 +72,67 @@ fn given<'a>(tree: &'a Tree, names: &'a [(&'a str, &'a str)]) -> Given<'a> {
     }
 }
 
-/// The text of a tree under the safe options of a seed.
-fn safe_text(
-    rt: &(impl Abort + AllocGlobal),
-    given: &Given<'_>,
-    seed: u64,
-) -> Result<String, Fail> {
-    let options = options(rt.alloc(), seed, true)?;
-    Ok(compiled(rt, given, &options)?)
-}
-
-/// The text of a tree under safe options is read.
-fn is_read(rt: &(impl Abort + AllocGlobal), given: &Given<'_>, seed: u64) -> Result<(), Fail> {
-    let text = safe_text(rt, given, seed)?;
-    let is_html = is_html(rt.alloc(), &text)?;
-    assert!(rt; is_html, "seed {seed}: {text}");
-    Ok(())
-}
-
 /// The tree of a seed with the names of a script is compiled, as a script too.
 fn is_script(rt: &(impl Abort + AllocGlobal), seed: u64) -> Result<(), Fail> {
     let tree = grow(rt.alloc(), seed, script_names())?;
-    let given = given(&tree, script_names());
-    compiled_as_script(rt, &given)?;
-    is_read(rt, &given, seed)
+    is_script_of(rt, &given(&tree, script_names()), seed)
 }
 
-/// The tree of a seed with other names is compiled, with any options too.
-fn is_compiled(rt: &(impl Abort + AllocGlobal), seed: u64) -> Result<(), Fail> {
+/// The same, where the tree has grown.
+fn is_script_of(rt: &(impl Abort + AllocGlobal), given: &Given<'_>, seed: u64) -> Result<(), Fail> {
+    compiled_as_script(rt, given)?;
+    is_compiled(rt, given, seed)
+}
+
+/// The tree of a seed with other names is compiled.
+fn is_tree(rt: &(impl Abort + AllocGlobal), seed: u64) -> Result<(), Fail> {
     let tree = grow(rt.alloc(), seed, other_names())?;
-    let given = given(&tree, other_names());
-    let any = options(rt.alloc(), seed, false)?;
-    compiled(rt, &given, &any)?;
-    is_read(rt, &given, seed)
+    is_compiled(rt, &given(&tree, other_names()), seed)
+}
+
+/// A tree is compiled under the options of a seed.
+fn is_compiled(rt: &(impl Abort + AllocGlobal), given: &Given<'_>, seed: u64) -> Result<(), Fail> {
+    let mut options = CompileOptions::default();
+    is_compiled_under(rt, given, &mut options, &mut Random::new(seed))
+}
+
+/// A tree is compiled under safe options, and its text is read; and then under some of the others too.
+fn is_compiled_under(
+    rt: &(impl Abort + AllocGlobal),
+    given: &Given<'_>,
+    options: &mut CompileOptions,
+    random: &mut Random,
+) -> Result<(), Fail> {
+    set_safe(rt.alloc(), options, random)?;
+    is_read(rt, given, options)?;
+    set_unsafe(rt.alloc(), options, random)?;
+    compiled(rt, given, options)?;
+    Ok(())
+}
+
+/// The text of a tree under safe options is read.
+fn is_read(
+    rt: &(impl Abort + AllocGlobal),
+    given: &Given<'_>,
+    options: &CompileOptions,
+) -> Result<(), Fail> {
+    let text = compiled(rt, given, options)?;
+    let is_html = is_html(rt.alloc(), &text)?;
+    assert!(rt; is_html, "{text}");
+    Ok(())
 }
 
 #[test]
 fn random_trees(rt: HostRuntime) -> Result<(), Fail> {
     for seed in 0..TREES {
         is_script(&rt, seed)?;
-        is_compiled(&rt, seed)?;
+        is_tree(&rt, seed)?;
     }
     Ok(())
 }
 
 /// Texts that aren't HTML of the listed elements, or lead elsewhere.
-const REFUSED: [&str; 18] = [
+static REFUSED: [&str; 22] = [
     "<p>",
     "</p>",
     "<p></p",
@@ -140,6 +145,10 @@ const REFUSED: [&str; 18] = [
     "<a href=x></a>",
     "<a  href=\"x\"></a>",
     "<a href=\"x\"title=\"y\"></a>",
+    "<a title=\"x\" href=\"y\"></a>",
+    "<a =\"x\"></a>",
+    "<p =\"x\"></p>",
+    "<a></a href=\"x\">",
     "<br></br>",
     "<p />",
     "<a href=\"javascript:x\"></a>",
@@ -150,7 +159,7 @@ const REFUSED: [&str; 18] = [
 
 /// A text that is HTML of the listed elements.
 const READ: &str =
-    "a<p>&lt;<a href=\"http://x?y:z\" title=\"\">b</a><img src=\"x/y:z\" /></p>\n<hr />";
+    "a<p>&lt;<a href=\"http://x?y:z\" title=\" \">b</a><img src=\"x/y:z\" /></p>\n<hr />";
 
 /// Whether each of these texts is read, or none of them.
 fn are_read(rt: &(impl Abort + AllocGlobal), texts: &[&str], are_read: bool) -> Result<(), Fail> {
