@@ -46,5 +46,6 @@ lines-preserved c =
     ++ option_to_list (event_of line)) settings c.in-Some-following.following.now)
     (sym (c.in_ok-take_line.ensures.settings c.if-not-branch.false)) more)
 
+-- The search that proves this one, and no other: a wrong body is refused by it in a second.
 pub lines-init : goal.lines-init
 lines-init c = search rules

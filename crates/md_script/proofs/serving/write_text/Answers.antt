@@ -19,5 +19,6 @@ loop-rest-preserved g c =
     let n = c.in-Ok.count in
     (done ++ take n rest, moves_front _ done rest n split, Appends-trans _ _ _ _ _ appended c.in-Ok.ensures.bytes)
 
+-- The search that proves this one, and no other: a wrong body is refused by it in a second.
 pub returns-in-Ok-flush-clause-ok : goal.returns-in-Ok-flush-clause-ok
 returns-in-Ok-flush-clause-ok c = grind (arith, common_steps)
