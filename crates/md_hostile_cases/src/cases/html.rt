@@ -131,8 +131,8 @@ fn are_attributes(permitted: &str, text: &str) -> bool {
     length == text.len()
 }
 
-/// How long the attribute of this name is with which a text begins; 0 where it doesn't begin with it, or its value may not
-/// be.
+/// How long the attribute of this name is with which a text begins; 0 where it doesn't begin with it, or it may not
+/// have that value.
 fn attribute_length(text: &str, name: &str) -> usize {
     match attribute_of(text, name) {
         Some((value, others)) if is_value(name, value) => text.len().saturating_sub(others.len()),
