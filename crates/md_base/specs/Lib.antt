@@ -1,7 +1,11 @@
--- What the definitions of all crates rest on: `Tree` and its events, `Place`, names, identifiers and references.
+-- What the definitions of all crates rest on: `Tree` and its events, `Place`, names, identifiers and references. Only
+-- the contract of `names_by_length` cites `NamesByLength`.
 pub mod Identifier
 pub mod Place
 pub mod Reference
 pub mod Tree
 pub mod NameTests
 pub mod Children
+pub mod EventNames
+pub mod NamesByLength
+pub mod Table

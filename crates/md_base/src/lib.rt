@@ -1,8 +1,9 @@
-//! Markdown events, their places in a document's bytes, and the text rules of identifiers and
-//! character references.
+//! Markdown events, their names as scripts write them, their places in a document's bytes, and the text rules of
+//! identifiers and character references.
 #![tactic(auto)]
 
 mod event;
+mod event_names;
 mod identifier;
 mod lists;
 mod name;
@@ -12,6 +13,7 @@ mod reference;
 mod slice;
 
 pub use event::{AlignKind, Event, Kind, Name, Point, Position};
+pub use event_names::names_by_length;
 pub use identifier::normalize_identifier;
 pub use lists::{GFM_HTML_TAGFILTER_NAMES, SAFE_PROTOCOL_HREF, SAFE_PROTOCOL_SRC};
 pub use name::is_same_name;

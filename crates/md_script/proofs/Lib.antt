@@ -1,9 +1,3 @@
--- The lemmas of scripts: numbers, names, lines and settings, then a whole script, and what is answered of it.
-pub mod LineLemmas
-pub mod NameLemmas
-pub mod NumberLemmas
-pub mod PlainLemmas
+-- The lemmas of scripts: a whole script, and what is answered of it.
 pub mod RunLemmas
 pub mod ScriptLemmas
-pub mod SettingLemmas
-pub mod SplitLemmas

@@ -1,19 +1,12 @@
 -- What a whole script stands for, and which of its lines can't be read.
-use Rattle.std.specs.Prelude.{◌≡◌, ℕ, ◌+◌, Bool, ◌&&◌, ◌||◌, ◌==◌, IsTrue, IsFalse, List, [], ◌∷◌, ◌++◌, length, filter_map, is_some, bytes_eq, codes}
-use Rattle.std.specs.List.{slice_split, join_with_byte}
+use Rattle.std.specs.Prelude.{◌≡◌, ℕ, ◌+◌, Bool, ◌&&◌, ◌||◌, IsTrue, IsFalse, List, [], ◌∷◌, ◌++◌, length, filter_map, is_some, bytes_eq, codes}
+use Rattle.std.specs.List.{join_with_byte}
 use Rattle.md_base.specs.declared.event.Event as event
 use Rattle.md_script.specs.declared.error.RunError.{RunError}
 use Rattle.md_script.specs.declared.error.RunError.TheVariants.{Memory, Line, Event}
-use Rattle.md_script.specs.Line.{event_of}
-use Rattle.md_script.specs.Setting.{is_setting, option_name, is_new, HasOptions}
+use Rattle.md_line.specs.Line.{lines_of, event_of}
+use Rattle.md_line.specs.Setting.{is_setting, option_name, is_new, HasOptions}
 use Rattle.md_meaning.specs.declared.options.CompileOptions.{CompileOptions}
-
-abbrev pub is_line_feed : ℕ → Bool
-is_line_feed byte = byte == 10
-
--- the lines of an input; the last one may be empty
-abbrev pub lines_of : List ℕ → List (List ℕ)
-lines_of input = slice_split is_line_feed input
 
 -- the line that ends a script
 abbrev pub end_line : List ℕ

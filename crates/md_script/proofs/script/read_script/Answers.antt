@@ -1,8 +1,8 @@
 -- A line that is read is one step of progress; the line that ends the script, an unreadable one or the input's end
 -- says what is answered. By itself the search can't tell what all lines say from the last one.
 use Rattle.std.proofs.Common.{rules, ◌≡◌, ◌+◌, ◌++◌, true, refl, sym, ◌∙◌, subst, option_to_list}
-use Rattle.md_script.specs.Line.{event_of}
-use Rattle.md_script.specs.Setting.{texts_of, HasOptions}
+use Rattle.md_line.specs.Line.{event_of}
+use Rattle.md_line.specs.Setting.{texts_of, HasOptions}
 use Rattle.md_script.proofs.ScriptLemmas.{Progress, takes, line_more, plain_more, script_ends_at, line_stops, input_stops}
 use Rattle.md_script.proofs.script.read_script.Goals as goal
 

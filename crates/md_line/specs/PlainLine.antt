@@ -1,0 +1,22 @@
+-- What is read of a plain line in one go; only private contracts cite it.
+use Rattle.std.specs.Prelude.{◌≡◌, ℕ, ◌+◌, Bool, ◌||◌, List, ◌∷◌, ◌++◌, length, Some}
+use Rattle.md_base.specs.declared.event.Event.{Event}
+use Rattle.md_line.specs.Line.{is_space, is_line_feed, lines_of, event_of}
+use Rattle.md_line.specs.Number.{number_of}
+
+-- what a name ends before
+abbrev pub is_break : ℕ → Bool
+is_break byte = is_space byte || is_line_feed byte
+
+-- the first line of an input says this event, and this follows its line feed
+pub record BeginsWithEvent (input : List ℕ) (event : Event) (following : List ℕ) : Type 0 where
+  pub line : List ℕ
+  pub cut : lines_of input ≡ line ∷ lines_of following
+  pub size : length line + length following + 1 ≡ length input
+  pub says : event_of line ≡ Some event
+
+-- the digits of this index, and this after their line feed
+pub record BeginsWithIndex (bytes : List ℕ) (index : ℕ) (following : List ℕ) : Type 0 where
+  pub digits : List ℕ
+  pub whole : bytes ≡ digits ++ 10 ∷ following
+  pub value : number_of 9 digits ≡ Some index
