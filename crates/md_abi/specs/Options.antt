@@ -3,7 +3,7 @@ use Rattle.std.specs.Prelude.{◌≡◌, ℕ, ◌==◌, Bool, true, false, if◌
 use Rattle.md_base.specs.Place.{text_when}
 use Rattle.md_text.specs.declared.line_ending.LineEnding.{LineEnding}
 use Rattle.md_text.specs.declared.line_ending.LineEnding.TheVariants.{CarriageReturnLineFeed, CarriageReturn, LineFeed}
-use Rattle.md_meaning.specs.declared.options.CompileOptions.{CompileOptions}
+use Rattle.md_text.specs.declared.options.CompileOptions.{CompileOptions}
 use Rattle.md_abi.specs.declared.option.CText.{CText}
 use Rattle.md_abi.specs.declared.option.COptions.{COptions}
 

@@ -12,7 +12,7 @@ use crate::option::{COptions, read_options};
 use crate::reference::{CReference, read_references};
 use md_base::Event;
 use md_html::compile;
-use md_meaning::CompileOptions;
+use md_text::CompileOptions;
 use std::alloc::Global;
 
 /// The HTML of what is handed in.

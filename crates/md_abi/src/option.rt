@@ -6,8 +6,7 @@ ghost use Rattle.md_abi.specs.Failures.{IsOptionFault, IsFaultOf};
 
 use crate::failure::Failure;
 use crate::text::read_utf8;
-use md_meaning::CompileOptions;
-use md_text::LineEnding;
+use md_text::{CompileOptions, LineEnding};
 use std::alloc::Global;
 
 /// A text that may be unset.

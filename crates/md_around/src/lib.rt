@@ -2,4 +2,5 @@
 #![tactic(auto)]
 
 pub mod captured;
+pub mod frames;
 pub mod surroundings;

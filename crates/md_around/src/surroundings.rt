@@ -2,13 +2,14 @@
 
 ghost use Rattle.std.specs.Prelude.{◌≡◌, ◌+◌, IfOk, OnOk, ◌||◌, ◌&&◌, if◌then◌else◌, Some};
 ghost use Rattle.md_meaning.specs.declared.context.Container.TheVariants.{TightList, Another};
+ghost use Rattle.md_text.specs.declared.options.CompileOptions.{CompileOptions};
 ghost use Rattle.md_meaning.specs.Surroundings as spec;
 ghost use Rattle.md_around.specs.Steps as machine;
 ghost use Rattle.md_base.specs.NameTests.{is_transparent, is_cell, contributes};
 
 use md_base::name_tests::{contributes, is_cell, is_chunk, is_fence, is_transparent};
 use md_base::{Name, Point};
-use md_meaning::{CompileOptions, Container, Passed, Spine, Surroundings};
+use md_meaning::{Container, Passed, Spine, Surroundings};
 use std::alloc::AllocError;
 
 /// A list as the container of its items' children.
@@ -22,14 +23,11 @@ fn list_container(loose: bool) -> Container
     }
 }
 
-/// The surroundings of a node's children; `loose` says whether the node, as a list, is loose.
-pub fn inside(
-    options: &CompileOptions,
-    loose: bool,
-    name: Name,
-    around: Surroundings,
-) -> Surroundings
-    ensures { result ≡ spec.inside options.now loose name around }
+/// The surroundings of a node's children; `allows_html` says whether the options leave HTML as it is, and `loose` whether
+/// the node, as a list, is loose.
+pub fn inside(allows_html: bool, loose: bool, name: Name, around: Surroundings) -> Surroundings
+    ensures { (options : CompileOptions) → options.allow_dangerous_html ≡ allows_html
+        → result ≡ spec.inside options loose name around }
 {
     let inner = Surroundings {
         is_outermost: false,
@@ -69,7 +67,7 @@ pub fn inside(
             ..inner
         },
         Name::HtmlFlow | Name::HtmlText => Surroundings {
-            is_escaping: !options.allow_dangerous_html,
+            is_escaping: !allows_html,
             ..inner
         },
         Name::DefinitionDestinationString | Name::ResourceDestinationString => Surroundings {

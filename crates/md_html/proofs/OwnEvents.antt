@@ -22,7 +22,7 @@ use Rattle.md_tree.specs.Entered.{children_of}
 use Rattle.md_base.specs.Children.{is_empty}
 use Rattle.md_base.specs.NameTests.{is_definition, is_link_definition, is_transparent}
 use Rattle.md_infer.specs.Looseness.{is_loose}
-use Rattle.md_meaning.specs.declared.options.CompileOptions.{CompileOptions}
+use Rattle.md_text.specs.declared.options.CompileOptions.{CompileOptions}
 use Rattle.md_meaning.specs.declared.context.Surroundings.{Surroundings}
 use Rattle.md_meaning.specs.declared.context.Ahead.{Ahead}
 use Rattle.md_meaning.specs.declared.context.Passed.{Passed}

@@ -16,7 +16,7 @@ use Rattle.md_base.specs.Tree.{Forest, Empty, Node, flatten, exiting}
 use Rattle.md_base.specs.NameTests.{is_call, is_table, is_cell, is_link_definition, is_footnote_definition, is_transparent, contributes, is_fence, is_chunk}
 use Rattle.md_base.specs.Children.{spine_names, is_empty, last_name, last_contributing, or_else}
 use Rattle.md_infer.specs.Looseness.{is_loose}
-use Rattle.md_meaning.specs.declared.options.CompileOptions.{CompileOptions}
+use Rattle.md_text.specs.declared.options.CompileOptions.{CompileOptions}
 use Rattle.md_meaning.specs.declared.context.Surroundings.{Surroundings}
 use Rattle.md_meaning.specs.declared.context.Spine.{Spine}
 use Rattle.md_meaning.specs.declared.context.Ahead.{Ahead}

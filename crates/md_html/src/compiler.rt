@@ -31,7 +31,6 @@ use crate::own_events::definitions_at;
 use md_around::captured::is_captured;
 use md_base::name_tests::is_table;
 use md_base::{AlignKind, Event, Kind, Name, Point, Position, is_same_name};
-use md_meaning::CompileOptions;
 use md_print::close::{close, close_captured};
 use md_print::groups::{group_of, is_light};
 use md_print::open::open;
@@ -39,6 +38,7 @@ use md_printer::frames::{Exit, Inner, Lookahead};
 use md_printer::given::{Given, identifier_at};
 use md_printer::printer::Printer;
 use md_sheet::{Defined, Definitions};
+use md_text::CompileOptions;
 use md_tree::{Checked, CompileError, check, gfm_table_align, list_loose};
 use std::alloc::{AllocError, Global};
 

@@ -2,7 +2,7 @@
 
 ghost use Rattle.std.specs.Prelude.{◌≡◌, ℕ, Bool, false, List};
 ghost use Rattle.md_base.specs.Tree.{Forest};
-ghost use Rattle.md_meaning.specs.declared.options.CompileOptions.{CompileOptions};
+ghost use Rattle.md_text.specs.declared.options.CompileOptions.{CompileOptions};
 ghost use Rattle.md_meaning.specs.Meaning.{meaning};
 
 /// Where HTML isn't allowed, the tag filter changes no meaning.

@@ -11,9 +11,9 @@ pub use md_base::{
     AlignKind, Event, GFM_HTML_TAGFILTER_NAMES, Kind, Name, Point, Position, SAFE_PROTOCOL_HREF,
     SAFE_PROTOCOL_SRC, Slice, decode_character_reference, is_same_name, normalize_identifier,
 };
-pub use md_meaning::CompileOptions;
 pub use md_text::{
-    LineEnding, LineEndingError, encode, gfm_tagfilter, sanitize, sanitize_with_protocols,
+    CompileOptions, LineEnding, LineEndingError, encode, gfm_tagfilter, sanitize,
+    sanitize_with_protocols,
 };
 pub use md_tree::{
     Checked, CompileError, Rule, check, gfm_table_align, list_item_loose, list_loose,

@@ -12,7 +12,7 @@ ghost use Rattle.md_html.specs.Safe.{IsRefusedFor, OfCompile};
 
 use crate::compiler::compile;
 use md_base::Event;
-use md_meaning::CompileOptions;
+use md_text::CompileOptions;
 use md_tree::CompileError;
 use std::alloc::Global;
 use std::error::Error;

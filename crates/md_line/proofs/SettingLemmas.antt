@@ -9,7 +9,7 @@ use Rattle.std.proofs.lemmas.Bool.{cases_Bool, and_parts, eqb-true}
 use Rattle.std.proofs.lemmas.Str.{IsUtf8-from_is_utf8, is_utf8-from_IsUtf8}
 use Rattle.md_base.specs.Place.{text_when}
 use Rattle.md_base.specs.declared.event.Event.{Event}
-use Rattle.md_meaning.specs.declared.options.CompileOptions.{CompileOptions}
+use Rattle.md_text.specs.declared.options.CompileOptions.{CompileOptions}
 use Rattle.md_text.specs.declared.line_ending.LineEnding.TheVariants.{LineFeed}
 use Rattle.md_line.specs.Line.{event_of}
 use Rattle.md_line.specs.Setting.{is_setting, is_equals, option_name, is_name, is_given, text_given, value_of, is_new, ending_named, ending_name, HasOptions}

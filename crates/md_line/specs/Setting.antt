@@ -6,7 +6,7 @@ use Rattle.std.specs.Str.{is_utf8}
 use Rattle.md_base.specs.Place.{text_when}
 use Rattle.md_text.specs.declared.line_ending.LineEnding.{LineEnding}
 use Rattle.md_text.specs.declared.line_ending.LineEnding.TheVariants.{CarriageReturnLineFeed, CarriageReturn, LineFeed}
-use Rattle.md_meaning.specs.declared.options.CompileOptions.{CompileOptions}
+use Rattle.md_text.specs.declared.options.CompileOptions.{CompileOptions}
 
 -- the texts that a slice of texts points to
 abbrev pub texts_of : List (Bor (List ℕ)) → List (List ℕ)

@@ -8,8 +8,7 @@ ghost use Rattle.std.specs.Str.{is_utf8};
 ghost use Rattle.md_text.specs.declared.line_ending.LineEnding.TheVariants.{LineFeed};
 
 use crate::split::split_at_first;
-use md_meaning::CompileOptions;
-use md_text::LineEnding;
+use md_text::{CompileOptions, LineEnding};
 use std::alloc::{AllocError, Global};
 
 /// The options that are off or on.

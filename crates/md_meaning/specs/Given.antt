@@ -3,7 +3,7 @@ use Rattle.std.specs.Prelude.{ℕ, List, [], unwrap_or}
 use Rattle.md_base.specs.declared.event.Point.{Point}
 use Rattle.md_base.specs.Place.{text_between, serialized_between, label_between}
 use Rattle.md_meaning.specs.Piece.{Target}
-use Rattle.md_meaning.specs.declared.options.CompileOptions.{CompileOptions}
+use Rattle.md_text.specs.declared.options.CompileOptions.{CompileOptions}
 
 -- a definition: its identifier, and where it leads
 pub record Defined : Type 0 where

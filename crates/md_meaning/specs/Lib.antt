@@ -1,6 +1,5 @@
 -- What a document means (`Meaning`), which a reader must believe, and what the compiler prints for it (`Whole`):
 -- the same for each document of the grammar, by the theorem of `md_tie`.
-pub mod Defaults
 pub mod Piece
 pub mod Surroundings
 pub mod Given

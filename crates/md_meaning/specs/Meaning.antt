@@ -15,7 +15,7 @@ use Rattle.std.specs.Option.{option_map_or}
 use Rattle.md_base.specs.declared.event.Position.{Position}
 use Rattle.md_text.specs.LineEnding.{ending_text}
 use Rattle.md_base.specs.Tree.{Forest}
-use Rattle.md_meaning.specs.declared.options.CompileOptions.{CompileOptions}
+use Rattle.md_text.specs.declared.options.CompileOptions.{CompileOptions}
 use Rattle.md_meaning.specs.Surroundings.{outermost}
 use Rattle.md_meaning.specs.Given.{text_of}
 use Rattle.md_meaning.specs.Places.{first_ending}

@@ -5,7 +5,7 @@ use Rattle.md_base.specs.declared.event.Point.{Point}
 use Rattle.md_base.specs.declared.event.Position.{Position}
 use Rattle.md_text.specs.Encode.{encoded}
 use Rattle.md_text.specs.Url.{sanitized, sanitized_with, link_protocols, image_protocols}
-use Rattle.md_meaning.specs.declared.options.CompileOptions.{CompileOptions}
+use Rattle.md_text.specs.declared.options.CompileOptions.{CompileOptions}
 use Rattle.md_meaning.specs.declared.context.Surroundings.{Surroundings}
 use Rattle.md_meaning.specs.declared.context.Ahead.{Ahead}
 use Rattle.md_meaning.specs.Piece.{Piece, Text, Sheet, Notes, Target, nowhere}

@@ -12,7 +12,7 @@ use Rattle.md_meaning.specs.declared.context.Container.{Container}
 use Rattle.md_meaning.specs.declared.context.Container.TheVariants.{Nothing, TightList, Another}
 use Rattle.md_meaning.specs.declared.context.Surroundings.{Surroundings}
 use Rattle.md_meaning.specs.declared.context.Spine.{Spine}
-use Rattle.md_meaning.specs.declared.options.CompileOptions.{CompileOptions}
+use Rattle.md_text.specs.declared.options.CompileOptions.{CompileOptions}
 
 -- the surroundings of the document's own nodes
 abbrev pub outermost : Surroundings

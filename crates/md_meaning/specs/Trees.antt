@@ -12,8 +12,8 @@ use Prim.Native.String.{String}
 use Rattle.std.specs.Prelude.{◌≡◌, ℕ, List, [], ◌∷◌, ◌++◌, codes}
 use Rattle.md_base.specs.declared.event.Point.{Point}
 use Rattle.md_base.specs.Tree.{Forest}
-use Rattle.md_meaning.specs.Defaults.{default_options}
-use Rattle.md_meaning.specs.declared.options.CompileOptions.{CompileOptions}
+use Rattle.md_text.specs.Defaults.{default_options}
+use Rattle.md_text.specs.declared.options.CompileOptions.{CompileOptions}
 use Rattle.md_meaning.specs.Meaning.{meaning}
 
 -- a point before the byte at an index; and one with some columns of a tab taken

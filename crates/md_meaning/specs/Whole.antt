@@ -1,7 +1,7 @@
 -- The machine's: what the compiler prints for a document. It is the document's meaning by a theorem.
 use Rattle.std.specs.Prelude.{ℕ, List, [], ◌++◌}
 use Rattle.md_base.specs.Tree.{Forest}
-use Rattle.md_meaning.specs.declared.options.CompileOptions.{CompileOptions}
+use Rattle.md_text.specs.declared.options.CompileOptions.{CompileOptions}
 use Rattle.md_meaning.specs.Meaning.{ending_at}
 use Rattle.md_meaning.specs.Piece.{layout}
 use Rattle.md_meaning.specs.Surroundings.{outermost}

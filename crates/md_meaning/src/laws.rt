@@ -3,6 +3,7 @@
 ghost use Rattle.std.specs.Prelude.{◌≡◌, []};
 ghost use Rattle.md_base.specs.Tree.{Empty};
 ghost use Rattle.md_meaning.specs.Meaning.{meaning};
+ghost use Rattle.md_text.specs.declared.options.CompileOptions.{CompileOptions};
 ghost use Rattle.md_meaning.specs.Trees.Blocks as blocks;
 ghost use Rattle.md_meaning.specs.Trees.Endings as endings;
 ghost use Rattle.md_meaning.specs.Trees.Footnotes as footnotes;
@@ -12,8 +13,6 @@ ghost use Rattle.md_meaning.specs.Trees.Options as options;
 ghost use Rattle.md_meaning.specs.Trees.Spans as spans;
 ghost use Rattle.md_meaning.specs.Trees.Tables as tables;
 ghost use Rattle.md_meaning.specs.Trees.{Means, MeansWith};
-
-use crate::CompileOptions;
 
 /// The meaning of heading with emphasis.
 pub fn meaning_of_heading_with_emphasis()
@@ -283,8 +282,8 @@ pub fn meaning_of_item_with_a_blank_line()
 {}
 
 /// The meaning of no nodes, under all options: no text.
-pub fn meaning_of_nothing(options: &CompileOptions)
-    ensures { meaning options.now [] [] Empty ≡ [] }
+pub fn meaning_of_nothing()
+    ensures { (options : CompileOptions) → meaning options [] [] Empty ≡ [] }
 {}
 
 /// The meaning of spans and breaks.

@@ -3,7 +3,5 @@
 
 mod context;
 pub mod laws;
-mod options;
 
 pub use context::{Ahead, Container, Passed, Spine, Surroundings};
-pub use options::CompileOptions;

@@ -8,11 +8,11 @@ ghost use Rattle.md_meaning.specs.Footnotes as footnotes;
 ghost use Rattle.md_meaning.specs.Piece.{Text};
 
 use md_base::Position;
-use md_meaning::CompileOptions;
 use md_printer::frames::Exit;
-use md_printer::given::{Given, identifier_at};
+use md_printer::given::{Given, identifier_at, ids_by};
 use md_printer::printer::Printer;
 use md_sheet::{NumberedFootnote, call_id, footnote_id};
+use md_text::CompileOptions;
 use std::alloc::{AllocError, Global};
 
 /// Prints a call with its number and its occurrence.
@@ -27,8 +27,9 @@ fn tags(
         ≡ printing [] (footnotes.call_tags options.now footnote.now.identifier.now footnote.now.number occurrence)
         printer.old) }
 {
-    let target = footnote_id(alloc, options, footnote)?;
-    let id = call_id(alloc, options, footnote, occurrence)?;
+    let ids = ids_by(options);
+    let target = footnote_id(alloc, &ids, footnote)?;
+    let id = call_id(alloc, &ids, footnote, occurrence)?;
     let number = footnote.number.to_string(alloc)?;
     put_tags(printer, target.as_str(), id.as_str(), number.as_str())
 }

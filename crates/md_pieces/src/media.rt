@@ -9,12 +9,12 @@ ghost use Rattle.md_meaning.specs.Places.{identifier_at};
 ghost use Rattle.md_printer.specs.Given.{given_of};
 
 use md_base::{Position, SAFE_PROTOCOL_HREF, SAFE_PROTOCOL_SRC};
-use md_meaning::{CompileOptions, Surroundings};
+use md_meaning::Surroundings;
 use md_printer::frames::{Exit, Inner};
 use md_printer::given::{Given, identifier_at, text_of};
 use md_printer::printer::Printer;
 use md_sheet::{Definitions, Notes, Rope, Target};
-use md_text::{encode, sanitize, sanitize_with_protocols};
+use md_text::{CompileOptions, encode, sanitize, sanitize_with_protocols};
 use std::alloc::{AllocError, Global};
 
 /// A link's destination as it is written.

@@ -7,8 +7,7 @@ use Rattle.md_tree.specs.Entered.{children_of}
 use Rattle.md_printer.specs.declared.given.Given.{Given as GivenInside}
 use Rattle.md_base.specs.declared.event.Name.{Name}
 use Rattle.md_printer.specs.declared.frames.Exit.{Exit}
-use Rattle.md_printer.specs.declared.frames.Frame.{Frame as FrameInside}
-use Rattle.md_printer.specs.Machine.{Frame, Printer, ahead_by, document_frame}
+use Rattle.md_printer.specs.Machine.{Printer, document_frame}
 use Rattle.md_around.specs.Steps.{first_or}
 use Rattle.md_meaning.specs.Piece.{Piece, Sheet}
 use Rattle.md_meaning.specs.Places.{Left}
@@ -27,16 +26,6 @@ given_of given = record {
   options = given.options.now;
   ending = given.ending.now;
   definitions = given.definitions.now;
-}
-
--- an open node, as the machine has it
-abbrev pub frame_of : FrameInside → Frame
-frame_of frame = record {
-  around = frame.around;
-  start = frame.start;
-  is_slurping = frame.is_slurping;
-  ahead = ahead_by frame.place;
-  passed = frame.passed;
 }
 
 -- what the innermost node of a state is exited with

@@ -7,7 +7,6 @@ use Rattle.md_base.specs.declared.event.Name.TheVariants.{ListOrdered, ListUnord
 use Rattle.md_base.specs.declared.event.Kind.{Kind}
 use Rattle.md_base.specs.declared.event.Kind.TheVariants.{Enter, Exit}
 use Rattle.md_base.specs.declared.event.Point.{Point}
-use Rattle.md_base.specs.declared.event.Position.{Position}
 use Rattle.md_tree.specs.Reads.{reads}
 use Rattle.md_base.specs.declared.event.Event.{Event}
 use Rattle.md_base.specs.declared.event.AlignKind.{AlignKind}
@@ -19,13 +18,12 @@ use Rattle.md_meaning.specs.Footnotes.{Footnote, section_pieces}
 use Rattle.md_sheet.specs.Seen.{counted, noted}
 use Rattle.md_base.specs.NameTests.{is_call, is_table, is_link_definition, is_footnote_definition, is_transparent}
 use Rattle.md_meaning.specs.declared.context.Ahead.{Ahead}
-use Rattle.md_meaning.specs.declared.context.Surroundings.{Surroundings}
-use Rattle.md_meaning.specs.declared.context.Passed.{Passed}
 use Rattle.md_meaning.specs.declared.context.Spine.{Spine}
-use Rattle.md_meaning.specs.declared.options.CompileOptions.{CompileOptions}
+use Rattle.md_text.specs.declared.options.CompileOptions.{CompileOptions}
 use Rattle.md_meaning.specs.Piece.{Piece, Sheet, blank, lay}
-use Rattle.md_meaning.specs.Surroundings.{own_marks, inside, outermost}
+use Rattle.md_meaning.specs.Surroundings.{own_marks, inside}
 use Rattle.md_around.specs.Steps.{first_or, others_of, no_spine, nothing_passed, passing, slurps_after}
+pub use Rattle.md_around.specs.Frames.{Frame, ahead_by, document_frame}
 use Rattle.md_meaning.specs.Given.{Given, Defined}
 use Rattle.md_meaning.specs.Places.{Left, identifier_at}
 use Rattle.md_meaning.specs.Printed.{opening, closing, is_captured}
@@ -37,29 +35,9 @@ pub record Log : Type 0 where
   pub definitions : List Defined
   pub footnotes : List Footnote
 
--- what a node's children tell ahead, where its name reads this place
-abbrev pub ahead_by : Option Position → Ahead
-ahead_by place = record {
-  mark = place;
-  number = place;
-  label = place;
-  reference = None;
-  defined = place;
-  footnote = place;
-}
-
 -- what the children of a node of this name tell ahead
 abbrev pub ahead_told : Name → Option Forest → Ahead
 ahead_told name children = ahead_by (option_map_or (reads name) children None)
-
--- a node that is open: the surroundings of its children, where it starts and whether a line ending is slurped there,
--- what its children tell ahead, and what they tell so far
-pub record Frame : Type 0 where
-  pub around : Surroundings
-  pub start : Point
-  pub is_slurping : Bool
-  pub ahead : Ahead
-  pub passed : Passed
 
 -- the sheet, those below it (the newest first), what was seen, whether the last mark is a setting one, the innermost
 -- node that is open, those around it (the innermost first), and the alignments of the tables that are open (the
@@ -72,16 +50,6 @@ pub record Printer : Type 0 where
   pub frame : Frame
   pub frames : List Frame
   pub tables : List (List AlignKind)
-
--- the document around all nodes
-abbrev pub document_frame : Frame
-document_frame = record {
-  around = outermost;
-  start = record { line = 0; column = 0; index = 0; vs = 0 };
-  is_slurping = false;
-  ahead = ahead_by None;
-  passed = nothing_passed no_spine;
-}
 
 -- before the first event
 abbrev pub beginning : Printer

@@ -1,23 +1,8 @@
 //! What the printer keeps of a node.
 
 use md_base::{AlignKind, Name, Point, Position};
-use md_meaning::{Passed, Spine, Surroundings};
+use md_meaning::{Spine, Surroundings};
 use md_sheet::Sheet;
-
-/// A node that is open.
-#[derive(Clone, Copy)]
-pub struct Frame {
-    /// The surroundings of its children.
-    pub around: Surroundings,
-    /// Where it starts.
-    pub start: Point,
-    /// A line ending is slurped where it starts.
-    pub is_slurping: bool,
-    /// The place that its name reads in its children.
-    pub place: Option<Position>,
-    /// What its children tell so far.
-    pub passed: Passed,
-}
 
 /// A node that is exited.
 #[derive(Clone, Copy)]

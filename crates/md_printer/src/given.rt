@@ -9,8 +9,8 @@ ghost use Rattle.md_meaning.specs.Given as given;
 ghost use Rattle.md_meaning.specs.Places.{length_of, identifier_at, without_zeros, has_leading_zero};
 
 use md_base::{Point, Position, Slice, normalize_identifier};
-use md_meaning::CompileOptions;
-use md_sheet::Definitions;
+use md_sheet::{Definitions, IdOptions};
+use md_text::CompileOptions;
 use std::alloc::{AllocError, Global};
 
 /// What all nodes are given.
@@ -28,6 +28,17 @@ pub struct Given<'a> {
     pub ending: &'a str,
     /// The document's definitions.
     pub definitions: &'a Definitions,
+}
+
+/// How ids are made under these options.
+pub fn ids_by(options: &CompileOptions) -> IdOptions<'_>
+    ensures prefix { result.prefix.now ≡ options.now.gfm_footnote_clobber_prefix }
+    ensures number { result.by_number ≡ options.now.gfm_footnote_number_ids }
+{
+    IdOptions {
+        prefix: &options.gfm_footnote_clobber_prefix,
+        by_number: options.gfm_footnote_number_ids,
+    }
 }
 
 /// The text between two points, without the spaces of tabs that are cut there; empty where the points don't fit the

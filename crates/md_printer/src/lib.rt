@@ -1,4 +1,5 @@
-//! The compiler's state: the text so far and the nodes that are open, and what all nodes of a document are given.
+//! The compiler's state: the text so far and the nodes that are open, and what all nodes of a document are given; and
+//! the section of footnotes, with which a text ends.
 #![tactic(auto)]
 
 pub mod escape;
@@ -6,3 +7,5 @@ pub mod frames;
 pub mod given;
 pub mod lines;
 pub mod printer;
+pub mod section;
+mod ways_back;

@@ -10,11 +10,14 @@ ghost use Rattle.md_meaning.specs.Footnotes.{section_pieces};
 ghost use Rattle.md_sheet.specs.Seen.{counted, noted};
 ghost use Rattle.md_meaning.specs.Texts.{said};
 
-use crate::frames::{Exit, Frame, Lookahead};
-use md_around::surroundings::{NO_SPINE, inside, pass, slurps_after, spine_inside};
+use crate::frames::{Exit, Lookahead};
+use crate::section::{Settings, lay_section};
+use md_around::frames::{DOCUMENT_FRAME, Frame, leave};
+use md_around::surroundings::{inside, pass, slurps_after, spine_inside};
 use md_base::{AlignKind, Name, Point, Position};
-use md_meaning::{CompileOptions, Container, Passed, Spine, Surroundings};
-use md_sheet::{Calls, Defined, Footnotes, Rope, Settings, Sheet, Target, lay_section};
+use md_meaning::{Passed, Spine, Surroundings};
+use md_sheet::{Calls, Defined, Footnotes, Rope, Sheet, Target};
+use md_text::CompileOptions;
 use std::alloc::{AllocError, Global};
 use std::marker::Model;
 
@@ -35,7 +38,7 @@ pub struct Printer {
 impl Model for Printer {
     ghost use Rattle.std.specs.Prelude.{reverse, map};
     ghost use Rattle.md_printer.specs.Machine as machine;
-    ghost use Rattle.md_printer.specs.Given.{frame_of};
+    ghost use Rattle.md_around.specs.Frames.{frame_of, frames_of};
 
     ghost Value = { machine.Printer };
 
@@ -45,13 +48,13 @@ impl Model for Printer {
       log = record { called = p.calls; definitions = p.definitions.items; footnotes = p.footnotes };
       is_slurping = p.is_slurping;
       frame = frame_of p.frame;
-      frames = reverse (map frame_of p.frames.items);
+      frames = frames_of p.frames.items;
       tables = reverse (map (λ v. v.items) p.tables.items);
     } };
 }
 
 impl Printer {
-    ghost use Rattle.md_printer.specs.Given.{frame_of, exit_in, leaf_in};
+    ghost use Rattle.md_printer.specs.Given.{exit_in, leaf_in};
 
     /// Prints a text.
     ///
@@ -359,7 +362,12 @@ impl Printer {
     {
         self.frames.push(self.frame)?;
         let frame = &mut self.frame;
-        frame.around = inside(options, lookahead.loose, name, frame.around);
+        frame.around = inside(
+            options.allow_dangerous_html,
+            lookahead.loose,
+            name,
+            frame.around,
+        );
         frame.start = start;
         frame.is_slurping = self.is_slurping;
         frame.place = lookahead.place;
@@ -380,10 +388,7 @@ impl Printer {
         ensures { OnOk result (self.new ≡ machine.leaving name self.old) }
     {
         let inner = self.frame.passed.spine;
-        self.frame = match self.frames.pop() {
-            Some(parent) => parent,
-            None => DOCUMENT_FRAME,
-        };
+        leave(&mut self.frame, &mut self.frames);
         self.pass_child(name, inner)
     }
 
@@ -482,31 +487,3 @@ impl Printer {
         }
     }
 }
-
-/// The document around all nodes.
-const DOCUMENT_FRAME: Frame = Frame {
-    around: Surroundings {
-        container: Container::Nothing,
-        is_outermost: true,
-        in_image: false,
-        in_link: false,
-        in_table: false,
-        in_head: false,
-        in_code: false,
-        in_definition: false,
-        is_escaping: true,
-    },
-    start: Point {
-        line: 0,
-        column: 0,
-        index: 0,
-        vs: 0,
-    },
-    is_slurping: false,
-    place: None,
-    passed: Passed {
-        last: None,
-        contributing: None,
-        spine: NO_SPINE,
-    },
-};

@@ -1,7 +1,7 @@
 -- The ids of footnote calls, in their order: those after some calls, and those of calls one after another.
 use Rattle.std.proofs.Common.{◌≡◌, ℕ, suc, List, [], ◌∷◌, ◌++◌, sym, ap, ◌∙◌, append_assoc, append-nil}
 use Rattle.md_text.specs.References.{read_back}
-use Rattle.md_meaning.specs.declared.options.CompileOptions.{CompileOptions}
+use Rattle.md_text.specs.declared.options.CompileOptions.{CompileOptions}
 use Rattle.md_meaning.specs.Calls.{tally, number_among, count_among}
 use Rattle.md_meaning.specs.Footnotes.{call_id}
 

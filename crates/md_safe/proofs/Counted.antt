@@ -9,7 +9,7 @@ use Rattle.md_text.proofs.HtmlJoin.{nothing, text}
 use Rattle.md_text.proofs.HtmlWriting.{attributes_before, written_attributes-before}
 use Rattle.md_text.specs.Ids.{ids_in}
 use Rattle.md_text.proofs.HtmlIds.{occurs, is_without, none-attributes, Counts, counts-plain, counts-more, counts-join, counts-element, counts-takes}
-use Rattle.md_meaning.specs.declared.options.CompileOptions.{CompileOptions}
+use Rattle.md_text.specs.declared.options.CompileOptions.{CompileOptions}
 use Rattle.md_meaning.specs.Piece.{Piece, Sheet, lay}
 use Rattle.md_meaning.specs.Footnotes.{Footnote}
 use Rattle.md_safe.proofs.Claim.{Claim}

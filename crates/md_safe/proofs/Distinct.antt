@@ -14,7 +14,7 @@ use Rattle.md_text.specs.References.{read_back}
 use Rattle.md_text.proofs.EncodeLaws.{read_back-before, read_back-other}
 use Rattle.md_text.proofs.HtmlSplit.{split}
 use Rattle.md_text.proofs.HtmlIds.{occurs}
-use Rattle.md_meaning.specs.declared.options.CompileOptions.{CompileOptions}
+use Rattle.md_text.specs.declared.options.CompileOptions.{CompileOptions}
 use Rattle.md_meaning.specs.Calls.{Called, distinct, count_of, tally, number_among, count_among}
 use Rattle.md_meaning.specs.Footnotes.{prefix_of, id_of, numbered_id_of, occurrence_suffix, footnote_id, call_id}
 use Rattle.md_meaning.specs.Meaning.Footnotes.{place_among}

@@ -7,7 +7,7 @@ use Rattle.std.proofs.lemmas.Bool.{agree_below_at, not_from_false}
 use Rattle.md_base.specs.declared.event.Position.{Position}
 use Rattle.md_text.specs.Html.{opening_tag, closing_tag, is_tag, elements}
 use Rattle.md_text.proofs.HtmlJoin.{text, join}
-use Rattle.md_meaning.specs.declared.options.CompileOptions.{CompileOptions}
+use Rattle.md_text.specs.declared.options.CompileOptions.{CompileOptions}
 use Rattle.md_meaning.specs.Piece.{Piece, Text, Needed, Recalled}
 use Rattle.md_meaning.specs.Given.{text_of}
 use Rattle.md_meaning.specs.Places.{without_zeros}

@@ -11,7 +11,7 @@ use Rattle.md_text.specs.Html.{Attribute, HasReadingWith, is_tag, elements, void
 use Rattle.md_text.proofs.EncodeLaws.{is_escaped-encoded}
 use Rattle.md_text.proofs.EscapedLemmas.{escaped-append, sanitized-escaped, sanitized_with-escaped}
 use Rattle.md_text.proofs.HtmlJoin.{nothing, text, join}
-use Rattle.md_meaning.specs.declared.options.CompileOptions.{CompileOptions}
+use Rattle.md_text.specs.declared.options.CompileOptions.{CompileOptions}
 use Rattle.md_meaning.specs.Piece.{Piece, Text, Needed, Target}
 use Rattle.md_meaning.specs.Media.{href_of, src_of, link_to, image_of, link_start, link_end, title_pieces}
 use Rattle.md_meaning.specs.Footnotes.{escaped_option, prefix_of, back_label_of, heading_label_of, id_of, numbered_id_of, footnote_id, call_id, occurrence_suffix, occurrence_mark, call_tags, backreference, backreferences, arrow}

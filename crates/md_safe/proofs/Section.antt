@@ -9,7 +9,7 @@ use Rattle.md_text.specs.Html.{HasReadingWith, is_tag, elements}
 use Rattle.md_text.specs.Laws.{is_line_ends}
 use Rattle.md_text.proofs.EscapedLemmas.{escaped-append}
 use Rattle.md_text.proofs.HtmlJoin.{text, join}
-use Rattle.md_meaning.specs.declared.options.CompileOptions.{CompileOptions}
+use Rattle.md_text.specs.declared.options.CompileOptions.{CompileOptions}
 use Rattle.md_meaning.specs.Piece.{Piece, Text, Needed, Forced}
 use Rattle.md_meaning.specs.Calls.{Called}
 use Rattle.md_meaning.specs.Footnotes.{Footnote, escaped_option, tag_of, attributes_of, heading_label_of, footnote_id, backreferences, without_endings, paragraph_end, ends_in_paragraph, body_pieces, footnote_text, item_pieces, items_pieces, section_opening, section_closing, section_pieces}

@@ -5,7 +5,7 @@ use Rattle.std.proofs.Common.{◌≡◌, ℕ, Bool, true, false, not, ◌&&◌, 
 use Rattle.md_text.specs.Html.{Attribute, HasReadingWith, opening_tag, closing_tag, is_tag, elements, void_tags}
 use Rattle.md_text.proofs.HtmlJoin.{text, void, opening-before}
 use Rattle.md_text.proofs.HtmlWriting.{attributes_before, written_attributes-before}
-use Rattle.md_meaning.specs.declared.options.CompileOptions.{CompileOptions}
+use Rattle.md_text.specs.declared.options.CompileOptions.{CompileOptions}
 use Rattle.md_meaning.specs.Piece.{Piece, Text, Needed, Forced, Noted, Recalled}
 use Rattle.md_meaning.specs.Media.{href_of, src_of}
 use Rattle.md_safe.proofs.Texts.{Escaped}

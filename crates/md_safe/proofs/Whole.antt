@@ -23,7 +23,7 @@ use Rattle.md_base.specs.Tree.{Forest, Empty, Node, flatten, exiting}
 use Rattle.md_base.specs.Children.{or_else}
 use Rattle.md_base.specs.NameTests.{is_line_ending, is_call}
 use Rattle.std.proofs.lemmas.List.{length-append}
-use Rattle.md_meaning.specs.declared.options.CompileOptions.{CompileOptions}
+use Rattle.md_text.specs.declared.options.CompileOptions.{CompileOptions}
 use Rattle.md_meaning.specs.Piece.{Piece, blank, lay}
 use Rattle.md_meaning.specs.Surroundings.{outermost}
 use Rattle.md_meaning.specs.Given.{Given, text_of}

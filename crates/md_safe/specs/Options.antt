@@ -1,6 +1,6 @@
 -- The options under which output is safe.
 use Rattle.std.specs.Prelude.{◌≡◌, true, false, None}
-use Rattle.md_meaning.specs.declared.options.CompileOptions.{CompileOptions}
+use Rattle.md_text.specs.declared.options.CompileOptions.{CompileOptions}
 
 -- nothing is written as it is given: HTML is escaped, and the heading of the footnotes is the usual one
 pub record KeepsGrammar (options : CompileOptions) : Type 0 where

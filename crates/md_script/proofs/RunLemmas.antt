@@ -9,7 +9,7 @@ use Rattle.md_tree.specs.Refusal.{IsRefusal, IsOrder, IsMdx, IsOfNode, IsLost, I
 use Rattle.md_html.specs.Safe.{IsRefusedFor, OfCompile}
 use Rattle.md_html.specs.declared.safe_html.SafeError.{SafeError}
 use Rattle.md_html.specs.declared.safe_html.SafeError.TheVariants as safe
-use Rattle.md_meaning.specs.declared.options.CompileOptions.{CompileOptions}
+use Rattle.md_text.specs.declared.options.CompileOptions.{CompileOptions}
 use Rattle.md_script.specs.declared.error.RunError.{RunError}
 use Rattle.md_script.specs.Error.{run_error_of}
 use Rattle.md_script.specs.Run.{document_of, ExplainsEvents}

@@ -14,7 +14,7 @@ use Rattle.md_script.specs.Script.{end_line, is_readable_after, ReadsAfter, Stan
 use Rattle.md_script.specs.Script.{Explains}
 use Rattle.md_line.specs.PlainLine.{BeginsWithEvent}
 use Rattle.md_script.specs.declared.error.RunError.TheVariants.{Line}
-use Rattle.md_meaning.specs.declared.options.CompileOptions.{CompileOptions}
+use Rattle.md_text.specs.declared.options.CompileOptions.{CompileOptions}
 use Rattle.md_line.specs.Setting.{is_setting, option_name, is_new, HasOptions}
 use Rattle.md_line.proofs.SettingLemmas.{is_marked, setting_is_marked, event_is_unmarked, new_by_marked, options_by_marked}
 

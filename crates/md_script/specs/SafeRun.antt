@@ -7,7 +7,7 @@ use Rattle.md_tree.specs.declared.rule.CompileError.TheVariants as refusal
 use Rattle.md_tree.specs.Grammar.{IsChecked}
 use Rattle.md_tree.specs.Refusal.{IsRefusal}
 use Rattle.md_meaning.specs.Meaning.{meaning}
-use Rattle.md_meaning.specs.declared.options.CompileOptions.{CompileOptions}
+use Rattle.md_text.specs.declared.options.CompileOptions.{CompileOptions}
 use Rattle.md_text.specs.Ids.{HasDistinctIds}
 use Rattle.md_safe.specs.Options.{KeepsImages}
 use Rattle.md_html.specs.declared.safe_html.SafeError.{SafeError}

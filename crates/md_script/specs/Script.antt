@@ -6,7 +6,7 @@ use Rattle.md_script.specs.declared.error.RunError.{RunError}
 use Rattle.md_script.specs.declared.error.RunError.TheVariants.{Memory, Line, Event}
 use Rattle.md_line.specs.Line.{lines_of, event_of}
 use Rattle.md_line.specs.Setting.{is_setting, option_name, is_new, HasOptions}
-use Rattle.md_meaning.specs.declared.options.CompileOptions.{CompileOptions}
+use Rattle.md_text.specs.declared.options.CompileOptions.{CompileOptions}
 
 -- the line that ends a script
 abbrev pub end_line : List ℕ

@@ -3,8 +3,8 @@
 ghost use Rattle.std.specs.Prelude.{◌≡◌, ◌∷◌, ◌++◌, IfOk, OnOk, string_bytes, option_map};
 ghost use Rattle.std.specs.Fmt.{decimal};
 ghost use Rattle.md_meaning.specs.Footnotes as notes;
+ghost use Rattle.md_sheet.specs.Ids.{choosing};
 
-use md_meaning::CompileOptions;
 use md_text::{encode, sanitize};
 use std::alloc::{AllocError, Global};
 
@@ -15,6 +15,15 @@ pub struct NumberedFootnote<'a> {
     pub identifier: &'a str,
     /// Its place among the footnotes that are called, in the order of their first calls, from 1.
     pub number: usize,
+}
+
+/// How the ids of footnotes and of their calls are made.
+#[derive(Clone, Copy)]
+pub struct IdOptions<'a> {
+    /// What they begin with; unset: `user-content-`.
+    pub prefix: &'a Option<String>,
+    /// They have the footnote's number in place of its identifier.
+    pub by_number: bool,
 }
 
 /// A text that an option gives, escaped, or what stands where it gives none.
@@ -37,15 +46,10 @@ pub fn escaped_option(
 }
 
 /// `fn-` or `fnref-` after the prefix, and the identifier as a URL.
-fn id_of(
-    alloc: Global,
-    options: &CompileOptions,
-    kind: &str,
-    identifier: &str,
-) -> Result<String, AllocError>
-    ensures { IfOk result (λ id. string_bytes id ≡ notes.id_of options.now kind.now identifier.now) }
+fn id_of(alloc: Global, ids: &IdOptions, kind: &str, identifier: &str) -> Result<String, AllocError>
+    ensures { IfOk result (λ id. string_bytes id ≡ notes.id_of (choosing ids.now) kind.now identifier.now) }
 {
-    let mut id = escaped_option(alloc, &options.gfm_footnote_clobber_prefix, "user-content-")?;
+    let mut id = escaped_option(alloc, ids.prefix, "user-content-")?;
     id.push_str(kind)?;
     id.push_str(sanitize(alloc, identifier)?.as_str())?;
     Ok(id)
@@ -54,13 +58,13 @@ fn id_of(
 /// `fn-` or `fnref-` after the prefix, and the number.
 fn numbered_id_of(
     alloc: Global,
-    options: &CompileOptions,
+    ids: &IdOptions,
     kind: &str,
     number: usize,
 ) -> Result<String, AllocError>
-    ensures { IfOk result (λ id. string_bytes id ≡ notes.numbered_id_of options.now kind.now number) }
+    ensures { IfOk result (λ id. string_bytes id ≡ notes.numbered_id_of (choosing ids.now) kind.now number) }
 {
-    let mut id = escaped_option(alloc, &options.gfm_footnote_clobber_prefix, "user-content-")?;
+    let mut id = escaped_option(alloc, ids.prefix, "user-content-")?;
     id.push_str(kind)?;
     id.push_str(number.to_string(alloc)?.as_str())?;
     Ok(id)
@@ -73,16 +77,16 @@ fn numbered_id_of(
 /// Only where memory runs out.
 pub fn footnote_id(
     alloc: Global,
-    options: &CompileOptions,
+    ids: &IdOptions,
     footnote: &NumberedFootnote,
 ) -> Result<String, AllocError>
     ensures { IfOk result (λ id. string_bytes id
-        ≡ notes.footnote_id options.now footnote.now.identifier.now footnote.now.number) }
+        ≡ notes.footnote_id (choosing ids.now) footnote.now.identifier.now footnote.now.number) }
 {
-    if options.gfm_footnote_number_ids {
-        numbered_id_of(alloc, options, "fn-", footnote.number)
+    if ids.by_number {
+        numbered_id_of(alloc, ids, "fn-", footnote.number)
     } else {
-        id_of(alloc, options, "fn-", footnote.identifier)
+        id_of(alloc, ids, "fn-", footnote.identifier)
     }
 }
 
@@ -112,19 +116,19 @@ fn push_suffix(alloc: Global, text: &mut String, occurrence: usize) -> Result<()
 /// Only where memory runs out.
 pub fn call_id(
     alloc: Global,
-    options: &CompileOptions,
+    ids: &IdOptions,
     footnote: &NumberedFootnote,
     occurrence: usize,
 ) -> Result<String, AllocError>
     ensures { IfOk result (λ id. string_bytes id
-        ≡ notes.call_id options.now footnote.now.identifier.now footnote.now.number occurrence) }
+        ≡ notes.call_id (choosing ids.now) footnote.now.identifier.now footnote.now.number occurrence) }
 {
-    if options.gfm_footnote_number_ids {
-        let mut id = numbered_id_of(alloc, options, "fnref-", footnote.number)?;
+    if ids.by_number {
+        let mut id = numbered_id_of(alloc, ids, "fnref-", footnote.number)?;
         push_occurrence(alloc, &mut id, occurrence)?;
         Ok(id)
     } else {
-        let mut id = id_of(alloc, options, "fnref-", footnote.identifier)?;
+        let mut id = id_of(alloc, ids, "fnref-", footnote.identifier)?;
         push_suffix(alloc, &mut id, occurrence)?;
         Ok(id)
     }

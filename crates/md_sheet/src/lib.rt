@@ -9,15 +9,13 @@ mod ids;
 mod notes;
 mod places;
 mod rope;
-mod section;
 mod sheet;
-mod ways_back;
 
+pub use body::lay_body;
 pub use calls::Calls;
 pub use definitions::Definitions;
 pub use footnotes::Footnotes;
-pub use ids::{NumberedFootnote, call_id, footnote_id};
+pub use ids::{IdOptions, NumberedFootnote, call_id, escaped_option, footnote_id};
 pub use notes::{Defined, Notes, Target};
 pub use rope::Rope;
-pub use section::{Settings, lay_section};
 pub use sheet::Sheet;

@@ -2,6 +2,7 @@
 -- of the laws.
 pub mod Bytes
 pub mod LineEnding
+pub mod Defaults
 pub mod Encode
 pub mod Url
 pub mod Filter

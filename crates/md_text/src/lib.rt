@@ -1,5 +1,5 @@
-//! Texts that go into HTML: line endings, escaping, URLs and the tag filter, and a grammar of
-//! the HTML that is written.
+//! Texts that go into HTML: line endings, escaping, URLs and the tag filter, the options by which
+//! events are compiled, and a grammar of the HTML that is written.
 #![tactic(auto)]
 
 mod escape;
@@ -7,9 +7,11 @@ mod filter;
 pub mod laws;
 mod line_ending;
 mod names;
+mod options;
 mod url;
 
 pub use escape::{encode, first_replaced};
 pub use filter::gfm_tagfilter;
 pub use line_ending::{LineEnding, LineEndingError};
+pub use options::CompileOptions;
 pub use url::{sanitize, sanitize_with_protocols};

@@ -14,7 +14,7 @@ use Rattle.md_base.specs.declared.event.AlignKind.{AlignKind}
 use Rattle.md_base.specs.declared.event.AlignKind.TheVariants as align
 use Rattle.md_text.specs.Laws.{is_line_ends}
 use Rattle.md_text.specs.Url.{sanitized, sanitized_with, image_protocols}
-use Rattle.md_meaning.specs.declared.options.CompileOptions.{CompileOptions}
+use Rattle.md_text.specs.declared.options.CompileOptions.{CompileOptions}
 use Rattle.md_meaning.specs.Surroundings.{two_pass}
 use Rattle.md_meaning.specs.Texts as old
 use Rattle.md_meaning.specs.Blocks as old_blocks

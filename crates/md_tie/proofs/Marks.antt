@@ -10,7 +10,7 @@ use Rattle.md_infer.specs.Looseness.{is_loose}
 use Rattle.md_meaning.specs.declared.context.Surroundings.{Surroundings}
 use Rattle.md_meaning.specs.declared.context.Container.{Container}
 use Rattle.md_meaning.specs.declared.context.Container.TheVariants.{TightList}
-use Rattle.md_meaning.specs.declared.options.CompileOptions.{CompileOptions}
+use Rattle.md_text.specs.declared.options.CompileOptions.{CompileOptions}
 use Rattle.md_meaning.specs.Surroundings.{Mark, Sets, inside, spine_inside, spine_after_node, told_by, paragraph_marks}
 use Rattle.md_meaning.specs.Surroundings as machine
 use Rattle.md_meaning.specs.Places.{Before as Stood, before_next as next_stood}

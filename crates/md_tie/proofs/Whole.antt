@@ -7,7 +7,7 @@ use Rattle.md_pattern.specs.Spine.{spine}
 use Rattle.md_tree.specs.Grammar.{IsGrammatical}
 use Rattle.md_shape.specs.Built.{Blocks}
 use Rattle.md_shape.proofs.Grammatical.{grammatical-built}
-use Rattle.md_meaning.specs.declared.options.CompileOptions.{CompileOptions}
+use Rattle.md_text.specs.declared.options.CompileOptions.{CompileOptions}
 use Rattle.md_meaning.specs.Surroundings.{outermost}
 use Rattle.md_meaning.specs.Calls.{tally}
 use Rattle.md_meaning.specs.Given.{Defined}

@@ -3,7 +3,7 @@
 ghost use Rattle.std.specs.Prelude.{◌≡◌, ℕ, List};
 ghost use Rattle.md_base.specs.Tree.{Forest};
 ghost use Rattle.md_tree.specs.Grammar.{IsGrammatical};
-ghost use Rattle.md_meaning.specs.declared.options.CompileOptions.{CompileOptions};
+ghost use Rattle.md_text.specs.declared.options.CompileOptions.{CompileOptions};
 ghost use Rattle.md_meaning.specs.Meaning.{meaning};
 ghost use Rattle.md_meaning.specs.Whole.{printed_meaning};
 

@@ -2,9 +2,10 @@
 
 use super::{Asked, Call, boolean, document, no_such_call, number, with_line_feeds, word_and_rest};
 use md_html::CompileOptions;
+use md_printer::given::ids_by;
+use md_printer::section::{Settings, lay_section};
 use md_sheet::{
-    Calls, Defined, Definitions, Footnotes, NumberedFootnote, Settings, Sheet, Target, call_id,
-    footnote_id, lay_section,
+    Calls, Defined, Definitions, Footnotes, NumberedFootnote, Sheet, Target, call_id, footnote_id,
 };
 use std::alloc::{AllocError, Global};
 
@@ -152,7 +153,7 @@ fn own_id(alloc: Global, asked: &Asked<'_>, number: &str) -> Result<String, Allo
         identifier: document(asked),
         number: number.parse().unwrap_or(0),
     };
-    footnote_id(alloc, &asked.script.options, &footnote)
+    footnote_id(alloc, &ids_by(&asked.script.options), &footnote)
 }
 
 /// The id of a call of that footnote, by its number and by which of its calls it is.
@@ -163,5 +164,5 @@ fn id_of_call(alloc: Global, asked: &Asked<'_>, numbers: &str) -> Result<String,
         number: number.parse().unwrap_or(0),
     };
     let occurrence = occurrence.parse().unwrap_or(0);
-    call_id(alloc, &asked.script.options, &footnote, occurrence)
+    call_id(alloc, &ids_by(&asked.script.options), &footnote, occurrence)
 }

@@ -9,7 +9,7 @@ use Rattle.md_base.specs.Children.{or_else}
 use Rattle.md_meaning.specs.declared.context.Container.{Container}
 use Rattle.md_meaning.specs.declared.context.Container.TheVariants.{Nothing, TightList}
 use Rattle.md_meaning.specs.declared.context.Surroundings.{Surroundings}
-use Rattle.md_meaning.specs.declared.options.CompileOptions.{CompileOptions}
+use Rattle.md_text.specs.declared.options.CompileOptions.{CompileOptions}
 use Rattle.md_meaning.specs.Piece.{Target}
 use Rattle.md_meaning.specs.Given.{Defined}
 use Rattle.md_meaning.specs.Surroundings.{Mark}

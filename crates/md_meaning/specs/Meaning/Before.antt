@@ -8,7 +8,7 @@ use Rattle.md_infer.specs.Looseness.{is_loose}
 use Rattle.md_infer.specs.Alignments.{alignments}
 use Rattle.md_base.specs.NameTests.{is_fence, is_transparent, is_call, is_table}
 use Rattle.md_meaning.specs.declared.context.Surroundings.{Surroundings}
-use Rattle.md_meaning.specs.declared.options.CompileOptions.{CompileOptions}
+use Rattle.md_text.specs.declared.options.CompileOptions.{CompileOptions}
 use Rattle.md_meaning.specs.Surroundings.{Mark, Sets, Clears, inside, spine_inside, spine_after_node}
 use Rattle.md_meaning.specs.Meaning.Finds.{label_in_node}
 use Rattle.md_meaning.specs.Places.{identifier_at}

@@ -3,8 +3,8 @@ use Rattle.std.specs.Prelude.{ℕ, List, [], ◌∷◌, ◌++◌, codes}
 use Rattle.md_base.specs.declared.event.Name.TheVariants.{BlankLineEnding, BlockQuote, CodeFenced, CodeFencedFence, CodeIndented, CodeText, Data, Definition, DefinitionDestinationString, DefinitionLabelString, DefinitionTitleString, Frontmatter, GfmFootnoteCall, GfmFootnoteDefinition, GfmFootnoteDefinitionLabelString, GfmFootnoteDefinitionPrefix, GfmTable, GfmTableCell, GfmTableDelimiterRow, GfmTableHead, GfmTableRow, Label, LabelText, LineEnding, Link, ListItem, ListItemMarker, ListItemPrefix, ListUnordered, MathFlow, MathFlowFence, Other, Paragraph, SpaceOrTab, ThematicBreak}
 use Rattle.md_base.specs.Tree.{Forest, Empty, Node}
 use Rattle.md_text.specs.declared.line_ending.LineEnding.TheVariants.{CarriageReturn}
-use Rattle.md_meaning.specs.Defaults.{default_options}
-use Rattle.md_meaning.specs.declared.options.CompileOptions.{CompileOptions}
+use Rattle.md_text.specs.Defaults.{default_options}
+use Rattle.md_text.specs.declared.options.CompileOptions.{CompileOptions}
 use Rattle.md_meaning.specs.Trees.{at, call_tag, section_head, way_back}
 
 -- two endings after a definition: the tree, its bytes and its text

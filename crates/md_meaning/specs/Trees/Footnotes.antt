@@ -2,8 +2,8 @@
 use Rattle.std.specs.Prelude.{ℕ, true, List, [], ◌∷◌, ◌++◌, codes}
 use Rattle.md_base.specs.declared.event.Name.TheVariants.{BlankLineEnding, BlockQuote, BlockQuotePrefix, Data, GfmFootnoteCall, GfmFootnoteDefinition, GfmFootnoteDefinitionLabelString, GfmFootnoteDefinitionPrefix, HtmlFlow, HtmlFlowData, Image, Label, LabelText, LineEnding, Paragraph, Resource, ResourceDestinationString, ThematicBreak}
 use Rattle.md_base.specs.Tree.{Forest, Empty, Node}
-use Rattle.md_meaning.specs.Defaults.{default_options}
-use Rattle.md_meaning.specs.declared.options.CompileOptions.{CompileOptions}
+use Rattle.md_text.specs.Defaults.{default_options}
+use Rattle.md_text.specs.declared.options.CompileOptions.{CompileOptions}
 use Rattle.md_meaning.specs.Trees.{at, call_tag, section_head, way_back, numbered_way_back}
 
 -- footnote: the tree, its bytes and its text

@@ -2,8 +2,8 @@
 use Rattle.std.specs.Prelude.{ℕ, true, List, [], ◌∷◌, ◌++◌, codes}
 use Rattle.md_base.specs.declared.event.Name.TheVariants.{BlankLineEnding, BlockQuote, BlockQuotePrefix, CodeFenced, CodeFencedFence, CodeFlowChunk, Data, GfmTaskListItemCheck, GfmTaskListItemValueChecked, LineEnding, ListItem, ListItemMarker, ListItemPrefix, ListItemValue, ListOrdered, ListUnordered, Paragraph, SpaceOrTab}
 use Rattle.md_base.specs.Tree.{Forest, Empty, Node}
-use Rattle.md_meaning.specs.Defaults.{default_options}
-use Rattle.md_meaning.specs.declared.options.CompileOptions.{CompileOptions}
+use Rattle.md_text.specs.Defaults.{default_options}
+use Rattle.md_text.specs.declared.options.CompileOptions.{CompileOptions}
 use Rattle.md_meaning.specs.Trees.{at}
 
 -- tight list: the tree, its bytes and its text

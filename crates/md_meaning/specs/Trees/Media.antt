@@ -2,8 +2,8 @@
 use Rattle.std.specs.Prelude.{ℕ, true, List, [], ◌∷◌, ◌++◌, codes}
 use Rattle.md_base.specs.declared.event.Name.TheVariants.{AutolinkEmail, AutolinkProtocol, BlankLineEnding, CodeText, CodeTextData, Data, Definition, DefinitionDestinationString, DefinitionLabelString, DefinitionTitleString, Emphasis, GfmAutolinkLiteralEmail, GfmAutolinkLiteralMailto, GfmAutolinkLiteralProtocol, GfmAutolinkLiteralWww, GfmAutolinkLiteralXmpp, GfmTaskListItemCheck, HardBreakEscape, Image, Label, LabelText, LineEnding, Link, Paragraph, ReferenceString, Resource, ResourceDestinationString, ResourceTitleString, SpaceOrTab, Strong}
 use Rattle.md_base.specs.Tree.{Forest, Empty, Node}
-use Rattle.md_meaning.specs.Defaults.{default_options}
-use Rattle.md_meaning.specs.declared.options.CompileOptions.{CompileOptions}
+use Rattle.md_text.specs.Defaults.{default_options}
+use Rattle.md_text.specs.declared.options.CompileOptions.{CompileOptions}
 use Rattle.md_meaning.specs.Trees.{at}
 
 -- first definition: the tree, its bytes and its text

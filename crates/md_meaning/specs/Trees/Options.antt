@@ -4,8 +4,8 @@ use Rattle.std.specs.Prelude.{ℕ, true, List, [], ◌∷◌, ◌++◌, codes}
 use Rattle.md_base.specs.declared.event.Name.TheVariants.{AutolinkProtocol, Data, GfmFootnoteCall, GfmFootnoteDefinition, GfmFootnoteDefinitionLabelString, GfmFootnoteDefinitionPrefix, GfmTaskListItemCheck, HtmlFlow, HtmlFlowData, HtmlText, HtmlTextData, Image, Label, LabelText, Link, Paragraph, Resource, ResourceDestinationString}
 use Rattle.md_text.specs.declared.line_ending.LineEnding.TheVariants.{CarriageReturn, CarriageReturnLineFeed}
 use Rattle.md_base.specs.Tree.{Forest, Empty, Node}
-use Rattle.md_meaning.specs.Defaults.{default_options}
-use Rattle.md_meaning.specs.declared.options.CompileOptions.{CompileOptions}
+use Rattle.md_text.specs.Defaults.{default_options}
+use Rattle.md_text.specs.declared.options.CompileOptions.{CompileOptions}
 use Rattle.md_meaning.specs.Trees.{at}
 
 -- a link, an image, an autolink, data, HTML in a text, a task and a call in a paragraph; HTML by itself; a footnote

@@ -4,13 +4,10 @@ ghost use Rattle.std.specs.Prelude.{◌≡◌, ◌∷◌, [], ◌++◌, codes, O
 ghost use Rattle.md_meaning.specs.Piece.{lay, Text, Needed, Forced};
 ghost use Rattle.md_meaning.specs.Footnotes as notes;
 
-use crate::body::lay_body;
-use crate::calls::Calls;
-use crate::footnotes::Footnotes;
-use crate::ids::{NumberedFootnote, escaped_option, footnote_id};
-use crate::sheet::Sheet;
+use crate::given::ids_by;
 use crate::ways_back::backreferences;
-use md_meaning::CompileOptions;
+use md_sheet::{Calls, Footnotes, NumberedFootnote, Sheet, escaped_option, footnote_id, lay_body};
+use md_text::CompileOptions;
 use std::alloc::{AllocError, Global};
 
 /// What the section is laid by, whichever footnotes are called.
@@ -77,7 +74,7 @@ fn items(
             identifier,
             number: index,
         };
-        let id = footnote_id(alloc, options, &footnote)?;
+        let id = footnote_id(alloc, &ids_by(options), &footnote)?;
         let back = backreferences(alloc, options, &footnote, count)?;
         item(sheet, ending, id.as_str(), text, back.as_str())?;
     }

@@ -1,6 +1,6 @@
 //! How events are compiled to HTML: the options, and their defaults.
 
-use md_text::LineEnding;
+use crate::line_ending::LineEnding;
 
 /// How events are compiled to HTML.
 ///
@@ -37,7 +37,7 @@ pub struct CompileOptions {
 
 impl Default for CompileOptions {
     ghost use Rattle.std.specs.Prelude.{◌≡◌};
-    ghost use Rattle.md_meaning.specs.Defaults.{default_options};
+    ghost use Rattle.md_text.specs.Defaults.{default_options};
 
     ghost is_default = { λ options. options ≡ default_options };
 
@@ -70,7 +70,7 @@ impl Default for CompileOptions {
 
 impl CompileOptions {
     ghost use Rattle.std.specs.Prelude.{◌≡◌};
-    ghost use Rattle.md_meaning.specs.Defaults.{gfm_options};
+    ghost use Rattle.md_text.specs.Defaults.{gfm_options};
 
     /// The default with the tag filter of GitHub flavored Markdown on.
     ///

@@ -3,14 +3,33 @@
 use Rattle.std.proofs.Common.{◌+◌, List}
 use Rattle.md_meaning.specs.Piece.{lay}
 use Rattle.md_meaning.specs.Footnotes as notes
-use Rattle.md_sheet.proofs.section.items.Goals as goal
-use Rattle.std.proofs.Common.{ℕ, suc, ◌≡◌, ◌++◌, ap, sym, ◌∙◌, arith, drop}
+use Rattle.md_printer.proofs.section.items.Goals as goal
+use Rattle.std.proofs.Common.{ℕ, Bool, Option, String, Global, suc, ◌≡◌, ◌++◌, ap, sym, ◌∙◌, arith, drop}
 use Rattle.md_meaning.specs.Piece.{Piece}
 use Rattle.md_meaning.specs.Calls.{Called}
 use Rattle.md_sheet.proofs.Lists.{drop-found, drop-missing, lay-append}
+use Rattle.md_text.specs.declared.options.CompileOptions.{CompileOptions}
+use Rattle.md_text.specs.Defaults.{default_options}
 
 next : (n : ℕ) → n + 1 ≡ suc n
 next n = omega arith
+
+-- what ids are made by is all of the options that they need
+chosen : (prefix : Option (String Global)) (by_number : Bool) (options : CompileOptions) (identifier : List ℕ)
+    (number : ℕ) → prefix ≡ options.gfm_footnote_clobber_prefix → by_number ≡ options.gfm_footnote_number_ids →
+    notes.footnote_id (record default_options {
+      gfm_footnote_clobber_prefix = prefix;
+      gfm_footnote_number_ids = by_number;
+    }) identifier number ≡ notes.footnote_id options identifier number
+chosen prefix by_number options identifier number p b =
+    ap (λ prefix. notes.footnote_id (record default_options {
+      gfm_footnote_clobber_prefix = prefix;
+      gfm_footnote_number_ids = by_number;
+    }) identifier number) p
+    ∙ ap (λ by_number. notes.footnote_id (record default_options {
+      gfm_footnote_clobber_prefix = options.gfm_footnote_clobber_prefix;
+      gfm_footnote_number_ids = by_number;
+    }) identifier number) b
 
 pub loop-identifier-preserved : goal.loop-identifier-preserved
 loop-identifier-preserved c =
@@ -29,7 +48,8 @@ loop-identifier-preserved c =
       ap (λ s. lay ending s (rest (number + 1)))
           (c.in_ok-item.ensures
           ∙ ap (λ id. lay ending sheet (laid id c.text_of-text.result.now c.as_str-in-Some.result.now))
-          (c.as_str.ensures.value ∙ c.in_ok-id.ensures)
+          (c.as_str.ensures.value ∙ c.in_ok-id.ensures
+          ∙ chosen _ _ options called.identifier number c.ids_by.ensures.prefix c.ids_by.ensures.number)
           ∙ ap (λ back. lay ending sheet (laid (notes.footnote_id options called.identifier number)
           c.text_of-text.result.now back)) (c.as_str-in-Some.ensures.value ∙ c.in_ok-back.ensures)
           ∙ ap (λ text. lay ending sheet (notes.item_pieces options text called.identifier number called.count))

@@ -3,12 +3,12 @@
 use Rattle.std.proofs.Common.{◌≡◌, ◌∷◌, [], ◌++◌, ◌==◌, OnOk, length, false, List}
 use Rattle.md_meaning.specs.Piece.{lay}
 use Rattle.md_meaning.specs.Footnotes as notes
-use Rattle.md_sheet.proofs.section.lay_section.Goals as goal
+use Rattle.md_printer.proofs.section.lay_section.Goals as goal
 use Rattle.std.proofs.Common.{refl, ap, sym, ◌∙◌, subst}
 use Rattle.std.proofs.lemmas.Bool.{true≢false}
 use Rattle.md_meaning.specs.Piece.{Piece, Sheet}
 use Rattle.md_meaning.specs.Calls.{Called}
-use Rattle.md_meaning.specs.declared.options.CompileOptions.{CompileOptions}
+use Rattle.md_text.specs.declared.options.CompileOptions.{CompileOptions}
 use Rattle.md_sheet.proofs.Lists.{lay-append}
 
 -- where there is a call the section has its three parts

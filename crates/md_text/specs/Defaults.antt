@@ -1,7 +1,7 @@
 -- The options where none is set.
 use Rattle.std.specs.Prelude.{false, true, None}
 use Rattle.md_text.specs.declared.line_ending.LineEnding.TheVariants.{LineFeed}
-use Rattle.md_meaning.specs.declared.options.CompileOptions.{CompileOptions}
+use Rattle.md_text.specs.declared.options.CompileOptions.{CompileOptions}
 
 -- all off, all unset, and lines end in LF
 abbrev pub default_options : CompileOptions

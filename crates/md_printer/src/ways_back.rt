@@ -3,8 +3,9 @@
 ghost use Rattle.std.specs.Prelude.{◌≡◌, ◌∷◌, [], ◌++◌, ◌==◌, codes, IfOk, OnOk, string_bytes, if◌then◌else◌};
 ghost use Rattle.md_meaning.specs.Footnotes as notes;
 
-use crate::ids::{NumberedFootnote, call_id, escaped_option};
-use md_meaning::CompileOptions;
+use crate::given::ids_by;
+use md_sheet::{NumberedFootnote, call_id, escaped_option};
+use md_text::CompileOptions;
 use std::alloc::{AllocError, Global};
 
 /// Adds `<sup>` occurrence `</sup>`, from the second one on.
@@ -31,7 +32,7 @@ fn push_href(
         ++ (codes "<a href=\"#" ++ (notes.call_id options.now footnote.now.identifier.now footnote.now.number occurrence
         ++ codes "\" data-footnote-backref=\"\" aria-label=\""))) }
 {
-    let id = call_id(alloc, options, footnote, occurrence)?;
+    let id = call_id(alloc, &ids_by(options), footnote, occurrence)?;
     text.push_str("<a href=\"#")?;
     text.push_str(id.as_str())?;
     text.push_str("\" data-footnote-backref=\"\" aria-label=\"")

@@ -3,7 +3,7 @@
 use Rattle.std.proofs.Common.{◌≡◌, ◌+◌, ◌-◌, ◌≤◌, length, drop}
 use Rattle.md_meaning.specs.Piece.{lay}
 use Rattle.md_meaning.specs.Footnotes as notes
-use Rattle.md_sheet.proofs.section.items.Given as goal
+use Rattle.md_printer.proofs.section.items.Given as goal
 
 abbrev pub invariant-loop-identifier : goal.invariant-loop-identifier
 invariant-loop-identifier l =

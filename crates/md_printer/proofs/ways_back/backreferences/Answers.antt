@@ -2,9 +2,9 @@
 -- By itself the search can't go from the text to the definition for one more call.
 use Rattle.std.proofs.Common.{rules, ◌≡◌, ◌∷◌, [], ◌++◌, ◌==◌, suc, string_bytes, if◌then◌else◌, ℕ, ◌+◌, List}
 use Rattle.md_meaning.specs.Footnotes as notes
-use Rattle.md_sheet.proofs.ways_back.backreferences.Goals as goal
+use Rattle.md_printer.proofs.ways_back.backreferences.Goals as goal
 use Rattle.std.proofs.Common.{ap, sym, ◌∙◌, append_assoc, arith}
-use Rattle.md_meaning.specs.declared.options.CompileOptions.{CompileOptions}
+use Rattle.md_text.specs.declared.options.CompileOptions.{CompileOptions}
 
 one_more : (options : CompileOptions) (identifier : List ℕ) (number n : ℕ) →
     notes.backreferences options identifier number n ++ ((if n == 0 then [] else 32 ∷ [])
