@@ -1,4 +1,4 @@
--- The nodes that are open, the innermost first. Only contracts of private functions speak of them.
+-- The nodes that are open, the innermost first. Only contracts inside the compiler speak of them.
 use Rattle.std.specs.Prelude.{Bool, false, List, Option, None, reverse, map}
 use Rattle.md_base.specs.declared.event.Point.{Point}
 use Rattle.md_base.specs.declared.event.Position.{Position}

@@ -1,4 +1,5 @@
--- What the lines of a script say, which a reader must believe; only contracts that no promise cites speak of `PlainLine`.
+-- What the lines of a script say, which a reader must believe; of `PlainLine` only contracts that no promise cites
+-- speak.
 pub mod Line
 pub mod Number
 pub mod PlainLine
