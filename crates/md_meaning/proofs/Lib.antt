@@ -1,3 +1,4 @@
--- The lemmas on meanings that other crates share: identifiers, each once, and pieces laid in parts.
+-- The lemmas on meanings that other crates share: identifiers, each once, that of no text, and pieces laid in parts.
 pub mod Identifiers
+pub mod EmptyIdentifier
 pub mod Lays

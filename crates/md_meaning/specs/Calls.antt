@@ -1,21 +1,12 @@
--- Footnote calls: which identifiers are called, in which order, and how often. The tallies are the machine's.
-use Rattle.std.specs.Prelude.{ℕ, ◌+◌, suc, not, if◌then◌else◌, List, [], ◌∷◌, map, filter, find, bytes_eq}
+-- The machine's: which identifiers footnote calls have, in which order, and how often.
+pub use Rattle.md_meaning.specs.Meaning.Footnotes.{distinct, count_of}
+use Rattle.std.specs.Prelude.{ℕ, suc, if◌then◌else◌, List, [], ◌∷◌, map, find, bytes_eq}
 use Rattle.std.specs.Option.{option_map_or}
 
 -- an identifier that is called, and how often
 pub record Called : Type 0 where
   pub identifier : List ℕ
   pub count : ℕ
-
--- the distinct ones of some identifiers, in the order in which each comes first
-abbrev pub distinct : List (List ℕ) → List (List ℕ)
-distinct [] = []
-distinct (first ∷ others) = first ∷ filter (λ other. not (bytes_eq other first)) (distinct others)
-
--- how many of some calls have an identifier
-abbrev pub count_of : List (List ℕ) → List ℕ → ℕ
-count_of [] wanted = 0
-count_of (other ∷ others) wanted = (if bytes_eq other wanted then 1 else 0) + count_of others wanted
 
 -- the distinct identifiers of some calls, each with the count of its calls
 abbrev pub tally : List (List ℕ) → List Called

@@ -1,19 +1,9 @@
--- What all nodes of a document are given. The record of it is the machine's: the meaning has one with all calls.
+-- The machine's: what all nodes of a document are given.
+pub use Rattle.md_meaning.specs.Meaning.At.{Defined, Footnote}
 use Rattle.std.specs.Prelude.{ℕ, List, [], unwrap_or}
 use Rattle.md_base.specs.declared.event.Point.{Point}
 use Rattle.md_base.specs.Place.{text_between, serialized_between, label_between}
-use Rattle.md_meaning.specs.Piece.{Target}
 use Rattle.md_text.specs.declared.options.CompileOptions.{CompileOptions}
-
--- a definition: its identifier, and where it leads
-pub record Defined : Type 0 where
-  pub identifier : List ℕ
-  pub target : Target
-
--- a footnote: its identifier and the text of its definition
-pub record Footnote : Type 0 where
-  pub identifier : List ℕ
-  pub text : List ℕ
 
 -- the document's bytes, the names of references, the options, the line ending that is used, the definitions
 pub record Given : Type 0 where

@@ -1,7 +1,8 @@
 -- The meaning of a document: its text.
 pub mod Layout
-pub mod Finds
+pub mod Around
 pub mod At
+pub mod Finds
 pub mod Before
 pub mod Spans
 pub mod Blocks
@@ -16,34 +17,26 @@ use Rattle.md_base.specs.declared.event.Position.{Position}
 use Rattle.md_text.specs.LineEnding.{ending_text}
 use Rattle.md_base.specs.Tree.{Forest}
 use Rattle.md_text.specs.declared.options.CompileOptions.{CompileOptions}
-use Rattle.md_meaning.specs.Surroundings.{outermost}
-use Rattle.md_meaning.specs.Given.{text_of}
-use Rattle.md_meaning.specs.Places.{first_ending}
 use Rattle.md_meaning.specs.Meaning.Layout.{layout}
-use Rattle.md_meaning.specs.Meaning.At.{Given}
-use Rattle.md_meaning.specs.Meaning.Before.{nothing_before, calls_of}
-use Rattle.md_meaning.specs.Meaning.Nodes.{meant}
+use Rattle.md_meaning.specs.Meaning.Around.{outermost}
+use Rattle.md_meaning.specs.Meaning.At.{Given, text_in}
+use Rattle.md_meaning.specs.Meaning.Finds.{first_ending}
+use Rattle.md_meaning.specs.Meaning.Before.{nothing_before}
+use Rattle.md_meaning.specs.Meaning.Nodes.{Meant, meant}
 use Rattle.md_meaning.specs.Meaning.Footnotes.{section}
 
 -- the line ending that is used: the text of the document's first, else that of the options
 abbrev pub ending_at : CompileOptions → List ℕ → Option Position → List ℕ
-ending_at options bytes place =
-    option_map_or (λ found. text_of bytes found.start found.end) place (ending_text options.default_line_ending)
+ending_at options bytes place = option_map_or (text_in bytes) place (ending_text options.default_line_ending)
 
--- the meaning of a document over its bytes, given its definitions as well; the section of its footnotes stands at
--- the end
+-- the meaning of a document over its bytes, given its calls and then its definitions as well; the section of its
+-- footnotes stands at the end
 abbrev pub meaning : CompileOptions → List (List ℕ × List ℕ) → List ℕ → Forest → List ℕ
 meaning options names bytes document =
     let ending = ending_at options bytes (first_ending document) in
-    let alone : Given = record {
-      bytes = bytes;
-      names = names;
-      options = options;
-      ending = ending;
-      calls = calls_of bytes document;
-      definitions = [];
-    }
-    in
-    let given : Given = record alone { definitions = (meant alone outermost nothing_before document).definitions } in
-    let all = meant given outermost nothing_before document in
+    let alone : Given =
+    record { bytes = bytes; names = names; options = options; ending = ending; calls = []; definitions = [] } in
+    let called : Given = record alone { calls = (meant alone outermost nothing_before document).calls } in
+    let given : Given = record called { definitions = (meant called outermost nothing_before document).definitions } in
+    let all : Meant = meant given outermost nothing_before document in
     layout ending (all.pieces ++ section given all.footnotes)

@@ -1,10 +1,6 @@
--- The machine's: what nodes print as pieces and notes, and how it is laid out. The meaning reads only `Target`.
+-- The machine's: what nodes print as pieces and notes, and how it is laid out.
+pub use Rattle.md_meaning.specs.Meaning.At.{Target}
 use Rattle.std.specs.Prelude.{ℕ, ◌-◌, Bool, true, ◌||◌, ◌==◌, if◌then◌else◌, List, [], ◌∷◌, ◌++◌, length, Option, Some, None, slice_get}
-
--- where a link or an image leads, and its title
-pub record Target : Type 0 where
-  pub destination : List ℕ
-  pub title : Option (List ℕ)
 
 -- a text that is noted where it stands, and printed by a later node or by the one around it
 pub data Note : Type 0 where

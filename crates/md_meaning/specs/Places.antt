@@ -1,5 +1,5 @@
--- The machine's: what stands before a node, what its children tell ahead, and what they leave at their end. The meaning
--- reads of it how labels, numbers, marks and the first line ending are found.
+-- The machine's: what stands before a node, what its children tell ahead, and what they leave at their end.
+pub use Rattle.md_meaning.specs.Meaning.Finds.{first_ending}
 use Rattle.std.specs.Prelude.{ℕ, Bool, nat_lt, slice_index, ◌&&◌, ◌==◌, if◌then◌else◌, List, [], ◌∷◌, ◌++◌, length, Option, Some, None, unwrap_or}
 use Rattle.md_base.specs.declared.event.Name.{Name}
 use Rattle.md_base.specs.declared.event.Point.{Point}
@@ -7,7 +7,7 @@ use Rattle.md_base.specs.declared.event.Position.{Position}
 use Rattle.md_base.specs.Identifier.{normalized}
 use Rattle.md_base.specs.Place.{fits}
 use Rattle.md_base.specs.Tree.{Forest, Empty, Node}
-use Rattle.md_base.specs.NameTests.{is_line_ending, is_label, is_label_text, is_reference, is_definition_label, is_footnote_prefix, is_footnote_label, is_call, is_heading_mark, is_item, is_item_prefix, is_item_value, is_table}
+use Rattle.md_base.specs.NameTests.{is_label, is_label_text, is_reference, is_definition_label, is_footnote_prefix, is_footnote_label, is_call, is_heading_mark, is_item, is_item_prefix, is_item_value, is_table}
 use Rattle.md_base.specs.Children.{or_else, first_on_spine, spine_names, last_name, last_contributing}
 use Rattle.md_tree.specs.Rules.{place, columns}
 use Rattle.md_infer.specs.Looseness.{is_loose}
@@ -46,12 +46,6 @@ number_in_prefix children = first_on_spine is_item_value position children
 abbrev pub number_in_item : Forest → Option Position
 number_in_item children = unwrap_or (first_on_spine is_item_prefix
     (λ start end inner. number_in_prefix inner) children) None
-
--- the place of the line ending, blank or not, that exits first
-abbrev pub first_ending : Forest → Option Position
-first_ending Empty = None
-first_ending (Node name start end children rest) = or_else (first_ending children)
-    (or_else (if is_line_ending name then Some (place start end) else None) (first_ending rest))
 
 -- the place of the text in a label
 abbrev pub text_in_label : Forest → Option Position

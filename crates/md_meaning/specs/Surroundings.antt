@@ -1,5 +1,5 @@
--- What a node knows of the nodes around it and before it. The machine's of it are `told_by`, and the marks by its
--- record of a spine: the meaning has marks of its own.
+-- The machine's: what a node knows of the nodes before it.
+pub use Rattle.md_meaning.specs.Meaning.Around.{outermost, inside}
 use Rattle.std.specs.Prelude.{Bool, true, false, not, ◌&&◌, ◌||◌, if◌then◌else◌, List, [], ◌∷◌, ◌++◌, Option, Some, None, unwrap_or, count_by}
 use Rattle.std.specs.List.{list_any}
 use Rattle.md_base.specs.declared.event.Name.{Name}
@@ -13,41 +13,6 @@ use Rattle.md_meaning.specs.declared.context.Container.TheVariants.{Nothing, Tig
 use Rattle.md_meaning.specs.declared.context.Surroundings.{Surroundings}
 use Rattle.md_meaning.specs.declared.context.Spine.{Spine}
 use Rattle.md_text.specs.declared.options.CompileOptions.{CompileOptions}
-
--- the surroundings of the document's own nodes
-abbrev pub outermost : Surroundings
-outermost = record {
-  container = Nothing;
-  is_outermost = true;
-  in_image = false;
-  in_link = false;
-  in_table = false;
-  in_head = false;
-  in_code = false;
-  in_definition = false;
-  is_escaping = true;
-}
-
--- the surroundings of a node's children; `loose` says whether the node, as a list, is loose
-abbrev pub inside : CompileOptions → Bool → Name → Surroundings → Surroundings
-inside options loose name around = elim name [
-  | BlockQuote ↦ record around { container = Another; is_outermost = false }
-  | GfmFootnoteDefinition ↦ record around { container = Another; is_outermost = false }
-  | ListOrdered ↦ record around { container = if loose then Another else TightList; is_outermost = false }
-  | ListUnordered ↦ record around { container = if loose then Another else TightList; is_outermost = false }
-  | Image ↦ record around { in_image = true; is_outermost = false }
-  | Link ↦ record around { in_link = true; is_outermost = false }
-  | GfmTable ↦ record around { in_table = true; is_outermost = false }
-  | GfmTableHead ↦ record around { in_head = true; is_outermost = false }
-  | CodeText ↦ record around { in_code = true; is_outermost = false }
-  | MathText ↦ record around { in_code = true; is_outermost = false }
-  | Definition ↦ record around { in_definition = true; is_outermost = false }
-  | HtmlFlow ↦ record around { is_escaping = not options.allow_dangerous_html; is_outermost = false }
-  | HtmlText ↦ record around { is_escaping = not options.allow_dangerous_html; is_outermost = false }
-  | DefinitionDestinationString ↦ record around { is_escaping = false; is_outermost = false }
-  | ResourceDestinationString ↦ record around { is_escaping = false; is_outermost = false }
-  | _ ↦ record around { is_outermost = false }
-]
 
 -- where an exit lets the next line ending be slurped, and where one stops that
 pub data Mark : Type 0 where

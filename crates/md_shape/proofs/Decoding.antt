@@ -1,6 +1,6 @@
 -- Each reference of a document of the grammar decodes, by the mark that stands before its value.
-use Rattle.std.proofs.Common.{◌≡◌, inl, inr, ℕ, zero, suc, Bool, true, false, ◌&&◌, Option, Some, None, List, [], ◌∷◌, ◌++◌, refl, sym, ap, ◌∙◌, subst, append_assoc, append-nil}
-use Rattle.std.specs.Prelude.{if◌then◌else◌, is_some, replicate, unwrap_or}
+use Rattle.std.proofs.Common.{◌≡◌, inl, inr, ℕ, zero, suc, Bool, true, false, ◌&&◌, Option, Some, None, List, [], ◌∷◌, ◌++◌, refl, sym, ap, ◌∙◌, subst, append_assoc, append-nil, arith}
+use Rattle.std.specs.Prelude.{if◌then◌else◌, is_some, replicate, unwrap_or, length, slice_get, ◌-◌}
 use Rattle.std.specs.Option.{option_map_or}
 use Rattle.std.specs.List.{list_all}
 use Rattle.std.proofs.lemmas.Bool.{and_parts, and_from}
@@ -176,6 +176,26 @@ solid-names (Node n start end children rest) around before shaped =
     (solid-here (standing_of n) n children around before refl (told n) shaped.0.1 (solid-names children _ _ shaped.1))
     (solid-names rest _ _ shaped.2)
 
+-- the last of some names is the one at the last place
+got-later : (n : Name) (names : List Name) (k : ℕ) → slice_get (n ∷ names) (suc k) ≡ slice_get names k
+got-later n names k = refl
+
+pub last-got : (names : List Name) → last_of names ≡ slice_get names (length names - 1)
+last-got [] = refl
+last-got (n ∷ []) = refl
+last-got (n ∷ other ∷ names) =
+    let next : suc (length names) - 1 ≡ length names = omega arith in
+    let later : suc (suc (length names)) - 1 ≡ suc (length names) = omega arith in
+    ap (λ o. Some (unwrap_or o n)) (last-got (other ∷ names))
+    ∙ ap (λ k. Some (unwrap_or (slice_get (other ∷ names) k) n)) next
+    ∙ there names other
+    ∙ sym (ap (λ k. slice_get (n ∷ other ∷ names) k) later)
+  where
+    there : (names : List Name) (other : Name) →
+        Some (unwrap_or (slice_get (other ∷ names) (length names)) n) ≡ slice_get (other ∷ names) (length names)
+    there [] other = refl
+    there (more ∷ names) other = there names more
+
 -- ---- references
 
 mark-name : (n : Name) → is_mark (symbol_in (standing_of n)) ≡ true →
@@ -210,8 +230,10 @@ node-decodes : (bytes : List ℕ) (names : List (List ℕ × List ℕ)) (earlier
     are_well before (shown (standing_of n) (spine children)) ≡ true → before ≡ symbol_of (last_of earlier) →
     Decodes bytes names earlier n start end children
 node-decodes bytes names earlier name.CharacterReferenceValue start end children around before here well e =
-    value-decodes names before (text_between bytes start end) (last_of earlier)
-    (and_parts (is_mark before) true well).0 e here.1
+    subst (λ last. is_some (decoded names (option_map_or marker last 38) (unwrap_or (text_between bytes start end) []))
+    ≡ true) (last-got earlier)
+    (value-decodes names before (text_between bytes start end) (last_of earlier)
+    (and_parts (is_mark before) true well).0 e here.1)
 node-decodes bytes names earlier _ start end children around before here well e = tt
 
 -- what holds of children by themselves holds of them where they stand

@@ -32,7 +32,7 @@ use Rattle.md_tree.specs.Rules.{place, target_of}
 use Rattle.md_base.specs.NameTests.{is_label, is_label_text, is_reference, is_definition_label, is_footnote_prefix, is_footnote_label}
 use Rattle.md_base.specs.Children.{first_on_spine}
 use Rattle.md_meaning.specs.Places.{position, text_in_label, label_in_prefix}
-use Rattle.md_meaning.specs.Meaning.Finds.{label_in_node, referring_in, footnote_label}
+use Rattle.md_shape.specs.Labels.{label_in_node, referring_in, footnote_label}
 use Rattle.md_shape.specs.Leads.{label_target}
 use Rattle.md_shape.proofs.Admitted.{taken}
 use Rattle.md_shape.proofs.Firsts.{Agree}
@@ -545,10 +545,11 @@ by_reference children shaped node =
     (sym (reference-found role.Media children (symbol.ReferenceString ∷ []) shaped node
     ∙ ap (first_seen is_reference_symbol is_reference reference-agree position) rest))
 
--- a link or an image refers by its resource, else by the same label
-pub media-refers : (children : Forest) → AreShaped children role.Media None → Matches role.Media (spine children) →
-    (target_of children Missing ≡ Resource) ⊎ (target_of children Missing ≡ label_target (referring_in children))
-media-refers children shaped match =
+-- a link or an image has a resource after its label, or refers by the same label
+pub media-spine : (children : Forest) → AreShaped children role.Media None → Matches role.Media (spine children) →
+    (spine children ≡ symbol.Label ∷ symbol.Resource ∷ [])
+    ⊎ (target_of children Missing ≡ label_target (referring_in children))
+media-spine children shaped match =
     let fit = match.2 in
     let one = once-is symbol.Label (Maybe (Either symbol.Resource symbol.ReferenceString)
     ∷ []) fit.0 fit.1 match.0 fit.4 fit.3 fit.2 fit.5 in
@@ -559,13 +560,20 @@ media-refers children shaped match =
       | inl alone ↦ inr (by_label children shaped (labelled role.Media children [] shaped (f.are
           ∙ ap (λ s. symbol.Label ∷ s) alone)))
       | inr more ↦ elim more [
-        | inl resource ↦ inl (by_resource children (labelled role.Media children (symbol.Resource ∷ []) shaped (f.are
-            ∙ ap (λ s. symbol.Label ∷ s) resource)))
+        | inl resource ↦ inl (f.are ∙ ap (λ s. symbol.Label ∷ s) resource)
         | inr reference ↦ inr (by_reference children shaped
             (labelled role.Media children (symbol.ReferenceString ∷ []) shaped (f.are
             ∙ ap (λ s. symbol.Label ∷ s) reference)))
       ]
     ]
+
+-- a link or an image refers by its resource, else by the same label
+pub media-refers : (children : Forest) → AreShaped children role.Media None → Matches role.Media (spine children) →
+    (target_of children Missing ≡ Resource) ⊎ (target_of children Missing ≡ label_target (referring_in children))
+media-refers children shaped match = elim (media-spine children shaped match) [
+  | inl are ↦ inl (by_resource children (labelled role.Media children (symbol.Resource ∷ []) shaped are))
+  | inr label ↦ inr label
+]
 
 -- ---- what definitions are referred to by
 

@@ -6,29 +6,29 @@ use Rattle.std.proofs.lemmas.List.{map-append}
 use Rattle.md_base.specs.Tree.{Forest, Empty, Node}
 use Rattle.md_base.specs.Children.{is_empty}
 use Rattle.md_infer.specs.Looseness.{is_loose}
-use Rattle.md_base.specs.NameTests.{is_link_definition, is_footnote_definition, is_definition_label}
+use Rattle.md_base.specs.Is.{is}
+use Rattle.md_base.specs.declared.event.Name.TheVariants.{Definition, GfmFootnoteDefinition}
+use Rattle.md_tree.specs.Rules.{place}
 use Rattle.md_meaning.specs.declared.context.Surroundings.{Surroundings}
 use Rattle.md_meaning.specs.Surroundings.{inside}
-use Rattle.md_meaning.specs.Places.{identifier_at}
 use Rattle.md_meaning.specs.Given.{Defined}
 use Rattle.md_meaning.specs.Footnotes.{Footnote}
-use Rattle.md_meaning.specs.Meaning.Finds.{first, footnote_label}
-use Rattle.md_meaning.specs.Meaning.Layout.{layout}
-use Rattle.md_meaning.specs.Meaning.At.{Given, At, Before, target_in, Found}
-use Rattle.md_meaning.specs.Meaning.Before.{one_where, before_children, before_next}
-use Rattle.md_meaning.specs.Meaning.Nodes.{Meant, meant, found_at}
+use Rattle.md_meaning.specs.Meaning.Layout.{layout, when}
+use Rattle.md_meaning.specs.Meaning.At.{Given, At, Before, target_in, Found, identifier_of}
+use Rattle.md_meaning.specs.Meaning.Before.{before_children}
+use Rattle.md_meaning.specs.Meaning.Nodes.{Meant, meant, node, before_next}
 use Rattle.md_shape.specs.Leads.{defined_in, footnotes_defined_in}
 use Rattle.md_base.specs.declared.event.Point.{Point}
 
 -- a node with what is before, in and around it
-abbrev pub node_at : Surroundings → Before → Forest → Point → Point → Bool → Found → At
-node_at around before children start end last found = record {
+abbrev pub node_at : Surroundings → Before → Forest → Point → Point → Bool → Meant → At
+node_at around before children start end last inner = record {
   around = around;
   before = before;
   children = children;
-  found = found;
-  start = start;
-  end = end;
+  found = inner.found;
+  calls = before.calls ++ inner.calls;
+  place = place start end;
   is_last = last;
 }
 
@@ -57,14 +57,14 @@ definitions-listed given around before (Node name start end children rest) =
     let nested : Surroundings = inside given.options (is_loose children) name around in
     let within : Before = before_children name children before in
     let inner : Meant = meant given nested within children in
-    let at : At = node_at around before children start end (around.is_outermost && is_empty rest) inner.found in
-    let next : Before = before_next given at name (found_at given at name inner.pieces) in
-    let identifier = identifier_at given.bytes (first is_definition_label children) in
+    let at : At = node_at around before children start end (around.is_outermost && is_empty rest) inner in
+    let next : Before = before_next at name (node given at name inner) in
+    let identifier = identifier_of given.bytes children in
     let own : Defined = record { identifier = identifier; target = target_in at.found } in
-    in_a_row of inner.definitions (one_where (is_link_definition name) own)
+    in_a_row of inner.definitions (when (is Definition name) (own ∷ []))
     (meant given around next rest).definitions (defined_in given.bytes children)
-    (if is_link_definition name then identifier ∷ [] else []) (defined_in given.bytes rest)
-    (definitions-listed given nested within children) (own-one of (is_link_definition name) own)
+    (when (is Definition name) (identifier ∷ [])) (defined_in given.bytes rest)
+    (definitions-listed given nested within children) (own-one of (is Definition name) own)
     (definitions-listed given around next rest)
 
 pub footnotes-listed : (given : Given) (around : Surroundings) (before : Before) (forest : Forest) →
@@ -76,12 +76,12 @@ footnotes-listed given around before (Node name start end children rest) =
     let nested : Surroundings = inside given.options (is_loose children) name around in
     let within : Before = before_children name children before in
     let inner : Meant = meant given nested within children in
-    let at : At = node_at around before children start end (around.is_outermost && is_empty rest) inner.found in
-    let next : Before = before_next given at name (found_at given at name inner.pieces) in
-    let identifier = identifier_at given.bytes (footnote_label children) in
+    let at : At = node_at around before children start end (around.is_outermost && is_empty rest) inner in
+    let next : Before = before_next at name (node given at name inner) in
+    let identifier = identifier_of given.bytes children in
     let own : Footnote = record { identifier = identifier; text = layout given.ending inner.pieces } in
-    in_a_row of inner.footnotes (one_where (is_footnote_definition name) own)
+    in_a_row of inner.footnotes (when (is GfmFootnoteDefinition name) (own ∷ []))
     (meant given around next rest).footnotes (footnotes_defined_in given.bytes children)
-    (if is_footnote_definition name then identifier ∷ [] else []) (footnotes_defined_in given.bytes rest)
-    (footnotes-listed given nested within children) (own-one of (is_footnote_definition name) own)
+    (when (is GfmFootnoteDefinition name) (identifier ∷ [])) (footnotes_defined_in given.bytes rest)
+    (footnotes-listed given nested within children) (own-one of (is GfmFootnoteDefinition name) own)
     (footnotes-listed given around next rest)

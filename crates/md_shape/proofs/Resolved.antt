@@ -32,9 +32,10 @@ use Rattle.md_tree.specs.Texts.{has_reading, is_text, is_identifier}
 use Rattle.md_tree.specs.Mentions.{mention_of, mentions_of, defined, defined_by, footnoted, footnoted_by, IsResolved}
 use Rattle.md_tree.specs.Mentions.{identifier_at as label_identifier}
 use Rattle.md_tree.specs.Grammar.{IsGrammatical}
-use Rattle.md_base.specs.NameTests.{is_link_definition, is_footnote_definition, is_definition_label}
-use Rattle.md_meaning.specs.Places.{identifier_at}
-use Rattle.md_meaning.specs.Meaning.Finds.{first, label_in_node, referring_in, footnote_label}
+use Rattle.md_base.specs.Is.{is}
+use Rattle.md_meaning.specs.Meaning.Layout.{when}
+use Rattle.md_meaning.specs.Meaning.At.{identifier_of}
+use Rattle.md_shape.specs.Labels.{label_in_node, referring_in}
 use Rattle.md_shape.specs.Leads.{Everywhere, HasItsText, HasItsLabel, label_target, RefersAlike, defined_in, footnotes_defined_in, LeadsSomewhere}
 use Rattle.md_shape.proofs.Firsts.{IsFine, AreFine, fine, shaped}
 use Rattle.md_shape.proofs.Leading.{media-refers, call-refers, call-label, definition-label, footnote-label}
@@ -186,16 +187,11 @@ mention-everywhere P (Node name start end children rest) all =
 
 -- an identifier as the meaning has it
 abbrev known : Option (List ℕ) → List ℕ
-known identifier = unwrap_or identifier (normalized [])
+known identifier = unwrap_or identifier []
 
-known-identifier : (bytes : List ℕ) (there : Position) →
-    known (label_identifier bytes there) ≡ identifier_at bytes (Some there)
-known-identifier bytes there = by (label_between bytes there.start there.end)
-  where
-    by : (label : Option (List ℕ)) → unwrap_or (option_map normalized label) (normalized [])
-        ≡ normalized (unwrap_or label [])
-    by None = refl
-    by (Some text) = refl
+-- and by the target of what it identifies
+abbrev named : List ℕ → Target → List ℕ
+named bytes target = elim target [ Label there ↦ known (label_identifier bytes there) | _ ↦ [] ]
 
 defined_by-append : (bytes : List ℕ) (m : Mention) (xs ys : List (Option (List ℕ))) →
     defined_by bytes m (xs ++ ys) ≡ defined_by bytes m xs ++ ys
@@ -236,19 +232,18 @@ undefined-footnote bytes (Label label) ds = refl
 undefined-footnote bytes _ ds = refl
 
 abbrev adds : Bool → List ℕ → List (List ℕ)
-adds test identifier = if test then identifier ∷ [] else []
+adds test identifier = when test (identifier ∷ [])
 
 definition-adds : (bytes : List ℕ) (name : Name) (children : Forest) (around : Role) (before : Option Symbol)
     (start end : Point) → IsShapedNode around before name start end children →
     AreShaped children (inner_role (standing_of name) around before) (inner_before (standing_of name) before) →
     (ds : List (Option (List ℕ))) →
     map known (defined_by bytes (mention_of (reading_of (standing_of name)) (target_of children Missing)) ds)
-    ≡ adds (is_link_definition name) (identifier_at bytes (first is_definition_label children)) ++ map known ds
+    ≡ adds (is Definition name) (identifier_of bytes children) ++ map known ds
 definition-adds bytes Definition children around before start end is inner ds =
     let found = definition-label children inner is.1 in
     ap (λ target. map known (defined_by bytes (mention_of reading.Definition target) ds)) found.2
-    ∙ ap (λ identifier. identifier ∷ map known ds) (known-identifier bytes found.0
-    ∙ ap (identifier_at bytes) (sym found.1))
+    ∙ ap (λ target. named bytes target ∷ map known ds) (sym found.2)
 definition-adds bytes Link children around before start end is inner ds =
     ap (map known) (undefined-media bytes (target_of children Missing) ds)
 definition-adds bytes Image children around before start end is inner ds =
@@ -273,7 +268,7 @@ definitions-known bytes (Node name start end children rest) around before shaped
     (definitions-known bytes children _ _ shaped.1)
     ∙ ap (λ xs. defined_in bytes children ++ xs)
     (definition-adds bytes name children around before start end shaped.0 shaped.1 (defined bytes later)
-    ∙ ap (λ xs. adds (is_link_definition name) (identifier_at bytes (first is_definition_label children))
+    ∙ ap (λ xs. adds (is Definition name) (identifier_of bytes children)
     ++ xs) (definitions-known bytes rest _ _ shaped.2))
 
 -- the same of footnote definitions
@@ -297,12 +292,11 @@ footnote-adds : (bytes : List ℕ) (name : Name) (children : Forest) (around : R
     AreShaped children (inner_role (standing_of name) around before) (inner_before (standing_of name) before) →
     (ds : List (Option (List ℕ))) →
     map known (footnoted_by bytes (mention_of (reading_of (standing_of name)) (target_of children Missing)) ds)
-    ≡ adds (is_footnote_definition name) (identifier_at bytes (footnote_label children)) ++ map known ds
+    ≡ adds (is GfmFootnoteDefinition name) (identifier_of bytes children) ++ map known ds
 footnote-adds bytes GfmFootnoteDefinition children around before start end is inner ds =
     let found = footnote-label children inner is.1 in
     ap (λ target. map known (footnoted_by bytes (mention_of reading.FootnoteDefinition target) ds)) found.2
-    ∙ ap (λ identifier. identifier ∷ map known ds) (known-identifier bytes found.0
-    ∙ ap (identifier_at bytes) (sym found.1))
+    ∙ ap (λ target. named bytes target ∷ map known ds) (sym found.2)
 footnote-adds bytes Link children around before start end is inner ds =
     ap (map known) (unnoted-media bytes (target_of children Missing) ds)
 footnote-adds bytes Image children around before start end is inner ds =
@@ -327,7 +321,7 @@ footnotes-known bytes (Node name start end children rest) around before shaped =
     (footnotes-known bytes children _ _ shaped.1)
     ∙ ap (λ xs. footnotes_defined_in bytes children ++ xs)
     (footnote-adds bytes name children around before start end shaped.0 shaped.1 (footnoted bytes later)
-    ∙ ap (λ xs. adds (is_footnote_definition name) (identifier_at bytes (footnote_label children))
+    ∙ ap (λ xs. adds (is GfmFootnoteDefinition name) (identifier_of bytes children)
     ++ xs) (footnotes-known bytes rest _ _ shaped.2))
 
 contains-map : {A B : Type 0} (f : A → B) (xs : List A) (x : A) → Contains xs x → Contains (map f xs) (f x)
@@ -338,12 +332,12 @@ contains-map f xs x there = (
       ∙ ap f there.2,
 )
 
-contains-known : (bytes : List ℕ) (found : List (Option (List ℕ))) (identifiers : List (List ℕ)) (there : Position) →
-    map known found ≡ identifiers → Contains found (label_identifier bytes there) →
-    Contains identifiers (identifier_at bytes (Some there))
-contains-known bytes found identifiers there e contained =
-    subst (λ xs. Contains xs (identifier_at bytes (Some there))) e
-    (subst (λ identifier. Contains (map known found) identifier) (known-identifier bytes there)
+contains-known : (bytes : List ℕ) (found : List (Option (List ℕ))) (identifiers : List (List ℕ)) (target : Target)
+    (there : Position) → map known found ≡ identifiers → target ≡ Label there →
+    Contains found (label_identifier bytes there) → Contains identifiers (named bytes target)
+contains-known bytes found identifiers target there e is contained =
+    subst (λ t. Contains identifiers (named bytes t)) (sym is)
+    (subst (λ xs. Contains xs (known (label_identifier bytes there))) e
     (contains-map known found (label_identifier bytes there) contained))
 
 -- a link or an image
@@ -351,7 +345,7 @@ media-leads : (bytes : List ℕ) (mentions : List Mention) (identifiers : List (
     (referring : Option Position) → map known (defined bytes mentions) ≡ identifiers → broken_by_target target ≡ None →
     IsResolved bytes mentions (mention_of reading.Media target) →
     (target ≡ Resource) ⊎ (target ≡ label_target referring) →
-    (target ≡ Resource) ⊎ Contains identifiers (identifier_at bytes referring)
+    (target ≡ Resource) ⊎ Contains identifiers (named bytes target)
 media-leads bytes mentions identifiers target referring e rules resolved (inl resource) = inl resource
 media-leads bytes mentions identifiers target None e rules resolved (inr alike) =
     absurd (missing (ap broken_by_target (sym alike) ∙ rules))
@@ -359,17 +353,17 @@ media-leads bytes mentions identifiers target None e rules resolved (inr alike) 
     missing : Some rule.Target ≡ None → ⊥
     missing h = cc
 media-leads bytes mentions identifiers target (Some there) e rules resolved (inr alike) =
-    inr (contains-known bytes (defined bytes mentions) identifiers there e
+    inr (contains-known bytes (defined bytes mentions) identifiers target there e alike
     (subst (λ t. IsResolved bytes mentions (mention_of reading.Media t)) alike resolved))
 
 call-leads : (bytes : List ℕ) (mentions : List Mention) (identifiers : List (List ℕ)) (target : Target)
     (label : Option Position) (there : Position) → map known (footnoted bytes mentions) ≡ identifiers →
     target ≡ label_target label → label ≡ Some there →
-    IsResolved bytes mentions (mention_of reading.Call target) → Contains identifiers (identifier_at bytes label)
+    IsResolved bytes mentions (mention_of reading.Call target) → Contains identifiers (named bytes target)
 call-leads bytes mentions identifiers target label there e alike is resolved =
-    subst (λ l. Contains identifiers (identifier_at bytes l)) (sym is)
-    (contains-known bytes (footnoted bytes mentions) identifiers there e
-    (subst (λ t. IsResolved bytes mentions (mention_of reading.Call t)) (alike ∙ ap label_target is) resolved))
+    let led : target ≡ Label there = alike ∙ ap label_target is in
+    contains-known bytes (footnoted bytes mentions) identifiers target there e led
+    (subst (λ t. IsResolved bytes mentions (mention_of reading.Call t)) led resolved)
 
 -- what is known of a node by the shape and the rules
 node-leads : (bytes : List ℕ) (names : List (List ℕ × List ℕ)) (mentions : List Mention) (document : Forest) →

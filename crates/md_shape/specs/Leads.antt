@@ -1,5 +1,5 @@
 -- By what nodes of a document refer to one another, and that what the meaning reads of a document is there.
-use Rattle.std.specs.Prelude.{◌≡◌, ℕ, ◌⊎◌, if◌then◌else◌, List, [], ◌∷◌, ◌++◌, Option, Some, None, is_some, IsTrue, Contains}
+use Rattle.std.specs.Prelude.{◌≡◌, ℕ, ◌⊎◌, ◌-◌, List, [], ◌∷◌, ◌++◌, Option, Some, None, is_some, IsTrue, Contains, length, slice_get}
 use Rattle.md_base.specs.declared.event.Name.{Name}
 use Rattle.md_base.specs.declared.event.Name.TheVariants.{Link, Image, Definition, GfmFootnoteCall, GfmFootnoteDefinition, CharacterReferenceValue}
 use Rattle.md_base.specs.declared.event.Point.{Point}
@@ -8,16 +8,17 @@ use Rattle.md_base.specs.Place.{text_between, label_between, serialized_between}
 use Rattle.md_base.specs.Reference.{decoded}
 use Rattle.std.specs.Option.{option_map_or}
 use Rattle.md_meaning.specs.Given.{text_of}
-use Rattle.md_meaning.specs.Surroundings.{last_of, spine_inside, spine_after_node}
+use Rattle.md_meaning.specs.Surroundings.{spine_inside, spine_after_node}
 use Rattle.md_meaning.specs.Meaning.Spans.{marker}
 use Rattle.md_tree.specs.declared.mention.Target.{Target}
 use Rattle.md_tree.specs.declared.mention.Target.TheVariants.{Missing, Label, Resource}
+use Rattle.md_base.specs.Is.{is}
 use Rattle.md_base.specs.Tree.{Forest, Empty, Node}
 use Rattle.md_tree.specs.Rules.{target_of}
 use Rattle.md_tree.specs.Texts.{is_text_name, is_identifier_name}
-use Rattle.md_base.specs.NameTests.{is_link_definition, is_footnote_definition, is_definition_label}
-use Rattle.md_meaning.specs.Places.{identifier_at}
-use Rattle.md_meaning.specs.Meaning.Finds.{first, label_in_node, referring_in, footnote_label}
+use Rattle.md_meaning.specs.Meaning.Layout.{when}
+use Rattle.md_meaning.specs.Meaning.At.{identifier_of}
+use Rattle.md_shape.specs.Labels.{label_in_node, referring_in, defined_label, footnote_label}
 
 -- a claim holds of each node, at any depth
 abbrev pub Everywhere : (Name → Point → Point → Forest → Type 0) → Forest → Type 0
@@ -44,7 +45,8 @@ EverywhereAfter holds spine (Node name start end children rest) =
 abbrev pub Decodes : List ℕ → List (List ℕ × List ℕ) → List Name → Name → Point → Point →
     Forest → Type 0
 Decodes bytes names spine CharacterReferenceValue start end children =
-    IsTrue (is_some (decoded names (option_map_or marker (last_of spine) 38) (text_of bytes start end)))
+    IsTrue (is_some (decoded names (option_map_or marker (slice_get spine (length spine - 1)) 38)
+    (text_of bytes start end)))
 Decodes bytes names spine _ start end children = Unit {0}
 
 -- a node that identifies what it stands in has a text between its indices
@@ -64,13 +66,13 @@ HasResource children = target_of children Missing ≡ Resource
 abbrev pub IsLabelled : Option Position → Forest → Type 0
 IsLabelled label children = target_of children Missing ≡ label_target label
 
--- a link or an image refers by its resource, else by the label that the meaning reads; a call, a definition and a
+-- a link or an image refers by its resource, else by the label that the printer finds; a call, a definition and a
 -- footnote definition by theirs
 abbrev pub RefersAlike : Name → Point → Point → Forest → Type 0
 RefersAlike Link start end children = HasResource children ⊎ IsLabelled (referring_in children) children
 RefersAlike Image start end children = HasResource children ⊎ IsLabelled (referring_in children) children
 RefersAlike GfmFootnoteCall start end children = IsLabelled (label_in_node children) children
-RefersAlike Definition start end children = IsLabelled (first is_definition_label children) children
+RefersAlike Definition start end children = IsLabelled (defined_label children) children
 RefersAlike GfmFootnoteDefinition start end children = IsLabelled (footnote_label children) children
 RefersAlike _ start end children = Unit {0}
 
@@ -79,23 +81,21 @@ abbrev pub defined_in : List ℕ → Forest → List (List ℕ)
 defined_in bytes Empty = []
 defined_in bytes (Node name start end children rest) =
     defined_in bytes children
-    ++ ((if is_link_definition name then identifier_at bytes (first is_definition_label children) ∷ [] else [])
-    ++ defined_in bytes rest)
+    ++ (when (is Definition name) (identifier_of bytes children ∷ []) ++ defined_in bytes rest)
 
 -- those of the footnote definitions
 abbrev pub footnotes_defined_in : List ℕ → Forest → List (List ℕ)
 footnotes_defined_in bytes Empty = []
 footnotes_defined_in bytes (Node name start end children rest) =
     footnotes_defined_in bytes children
-    ++ ((if is_footnote_definition name then identifier_at bytes (footnote_label children) ∷ [] else [])
-    ++ footnotes_defined_in bytes rest)
+    ++ (when (is GfmFootnoteDefinition name) (identifier_of bytes children ∷ []) ++ footnotes_defined_in bytes rest)
 
 -- a link or an image without a resource refers to a definition of the document, a call to a footnote definition
 abbrev pub LeadsSomewhere : List ℕ → Forest → Name → Point → Point → Forest → Type 0
 LeadsSomewhere bytes document Link start end children =
-    HasResource children ⊎ Contains (defined_in bytes document) (identifier_at bytes (referring_in children))
+    HasResource children ⊎ Contains (defined_in bytes document) (identifier_of bytes children)
 LeadsSomewhere bytes document Image start end children =
-    HasResource children ⊎ Contains (defined_in bytes document) (identifier_at bytes (referring_in children))
+    HasResource children ⊎ Contains (defined_in bytes document) (identifier_of bytes children)
 LeadsSomewhere bytes document GfmFootnoteCall start end children =
-    Contains (footnotes_defined_in bytes document) (identifier_at bytes (label_in_node children))
+    Contains (footnotes_defined_in bytes document) (identifier_of bytes children)
 LeadsSomewhere bytes document _ start end children = Unit {0}

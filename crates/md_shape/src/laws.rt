@@ -34,8 +34,9 @@ pub fn texts_are_there()
         → IsGrammatical bytes names document → EverywhereAfter (Decodes bytes names) [] document }
 {}
 
-/// The label by which a node refers, or is referred to, is the same to the grammar and to the meaning.
-pub fn grammar_and_meaning_read_the_same_labels()
+/// The label by which a node refers, or is referred to, to the grammar and to the meaning, is the one that the printer
+/// finds ahead.
+pub fn printer_finds_the_labels()
     ensures { (bytes : List ℕ) (names : List (List ℕ × List ℕ)) (document : Forest)
         → IsGrammatical bytes names document → Everywhere RefersAlike document }
 {}

@@ -23,9 +23,8 @@ use Rattle.md_meaning.specs.Footnotes as old_notes
 use Rattle.md_meaning.specs.Tables as old_tables
 use Rattle.md_meaning.specs.declared.context.Container.{Container}
 use Rattle.md_meaning.specs.declared.context.Container.TheVariants.{Nothing}
-use Rattle.md_meaning.specs.Meaning.At.{is_tight, is_contained}
+use Rattle.md_meaning.specs.Meaning.Around.{is_tight}
 use Rattle.md_meaning.specs.Meaning.Tables.{align_attribute}
-use Rattle.md_meaning.specs.Places.{length_of}
 use Rattle.md_meaning.specs.Meaning.Spans.{marker, is_at, without_escapes, trimmed}
 use Rattle.md_meaning.specs.Meaning.Blocks.{heading_tag}
 use Rattle.md_meaning.specs.Meaning.Media.{src}
@@ -99,11 +98,6 @@ opening-same rank small = ap (λ d. codes "<h" ++ (d ++ codes ">")) (sym (digit_
 pub closing-same : (rank : ℕ) → rank ≤ 6 → old_blocks.heading_closing rank ≡ heading_tag (codes "</h") rank
 closing-same rank small = ap (λ d. codes "</h" ++ (d ++ codes ">")) (sym (digit_of rank small))
 
-pub rank-same : (bytes : List ℕ) (place : Option Position) →
-    old_blocks.rank_of bytes place ≡ option_map_or (λ p. length_of bytes p) place 0
-rank-same bytes None = refl
-rank-same bytes (Some place) = refl
-
 pub underline-small : (dash : Bool) → (if dash then 2 else 1) ≤ 6
 underline-small true = omega arith
 underline-small false = omega arith
@@ -174,13 +168,46 @@ unended-taken (byte ∷ bytes) =
       | false ↦ ap (λ ps. byte ∷ ps) (unended-taken bytes)
     ]
 
+-- ids
+pub footnote_id-same : (options : CompileOptions) (identifier : List ℕ) (number : ℕ) →
+    old_notes.footnote_id options identifier number ≡ notes.id_of options (codes "fn-") identifier number
+footnote_id-same options identifier number = by options.gfm_footnote_number_ids
+  where
+    by : (b : Bool) → (if b then old_notes.numbered_id_of options (codes "fn-") number
+        else old_notes.id_of options (codes "fn-") identifier)
+        ≡ old_notes.prefix_of options ++ (codes "fn-" ++ (if b then decimal number else sanitized identifier))
+    by true = refl
+    by false = refl
+
+pub call_id-same : (options : CompileOptions) (identifier : List ℕ) (number occurrence : ℕ) →
+    old_notes.call_id options identifier number occurrence ≡ notes.call_id options identifier number occurrence
+call_id-same options identifier number occurrence = by options.gfm_footnote_number_ids
+  where
+    by : (b : Bool) → (if b then old_notes.numbered_id_of options (codes "fnref-") number ++ 45 ∷ decimal occurrence
+        else old_notes.id_of options (codes "fnref-") identifier ++ old_notes.occurrence_suffix occurrence)
+        ≡ (old_notes.prefix_of options ++ (codes "fnref-" ++ (if b then decimal number else sanitized identifier)))
+        ++ (if not b && (occurrence == 1) then [] else codes "-" ++ decimal occurrence)
+    by true = refl
+    by false = refl
+
+back_reference-same : (options : CompileOptions) (identifier : List ℕ) (number occurrence : ℕ) →
+    old_notes.backreference options identifier number occurrence
+    ≡ notes.backreference options identifier number occurrence
+back_reference-same options identifier number occurrence =
+    ap (λ id. codes "<a href=\"#" ++ (id ++ (codes "\" data-footnote-backref=\"\" aria-label=\""
+    ++ (old_notes.back_label_of options ++ (codes "\" class=\"data-footnote-backref\">"
+    ++ (old_notes.arrow ++ (old_notes.occurrence_mark occurrence ++ codes "</a>")))))))
+    (call_id-same options identifier number occurrence)
+
 pub back-same : (options : CompileOptions) (identifier : List ℕ) (number count : ℕ) →
     old_notes.backreferences options identifier number count ≡ notes.backreferences options identifier number count
 back-same options identifier number zero = refl
 back-same options identifier number (suc count) =
     ap (λ back. back ++ ((if count == 0 then [] else 32 ∷ [])
-    ++ notes.backreference options identifier number (suc count)))
+    ++ old_notes.backreference options identifier number (suc count)))
     (back-same options identifier number count)
+    ∙ ap (λ way. notes.backreferences options identifier number count ++ ((if count == 0 then [] else 32 ∷ []) ++ way))
+    (back_reference-same options identifier number (suc count))
 
 pub align-same : (kind : AlignKind) → old_tables.align_attribute kind ≡ align_attribute kind
 align-same align.None = refl
@@ -192,6 +219,7 @@ pub tight-same : (container : Container) → old_blocks.is_tight container ≡ i
 tight-same Nothing = refl
 tight-same _ = refl
 
-pub contained-same : (container : Container) → old_blocks.is_contained container ≡ is_contained container
+pub contained-same : (container : Container) → old_blocks.is_contained container
+    ≡ elim container [ Nothing ↦ false | _ ↦ true ]
 contained-same Nothing = refl
 contained-same _ = refl

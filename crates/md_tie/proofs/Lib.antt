@@ -1,5 +1,7 @@
 -- The lemmas of the theorem that what is printed is what is meant: name by name, then for nodes, then for documents.
 pub mod Reading
+pub mod Alike
+pub mod Drops
 pub mod Leaves
 pub mod Sides
 pub mod Calls

@@ -10,10 +10,10 @@ use Rattle.md_meaning.specs.Footnotes.{Footnote}
 use Rattle.md_meaning.specs.Footnotes as old
 use Rattle.md_meaning.specs.Meaning.Layout.{Piece, Text, Needed, Forced, on_own_line, when}
 use Rattle.md_meaning.specs.Meaning.At.{Given}
-use Rattle.md_meaning.specs.Meaning.Footnotes.{unended_length, body, place_among, footnote_id, backreferences, item, section_start, section}
+use Rattle.md_meaning.specs.Meaning.Footnotes.{unended_length, body, place_among, id_of, backreferences, item, section_start, section}
 use Rattle.md_tie.proofs.Reading.{read}
 use Rattle.md_tie.proofs.Calls.{Numbered, distinct-numbered}
-use Rattle.md_tie.proofs.Leaves.{unended-same, unended-taken, back-same}
+use Rattle.md_tie.proofs.Leaves.{unended-same, unended-taken, footnote_id-same, back-same}
 
 -- a footnote's text and the ways back, before what follows
 body-read : (text back : List ℕ) (tail : List Printed) (pieces : List Piece) (notes : Notes) →
@@ -48,10 +48,14 @@ item-read given footnotes identifier tail pieces notes h =
     let text : List ℕ = old.footnote_text footnotes identifier in
     let number : ℕ = place_among (distinct given.calls) identifier in
     let begin : List Piece → List Piece = λ ps. Forced ∷ Text (codes "<li id=\"")
-    ∷ Text (footnote_id given.options identifier number) ∷ Text (codes "\">") ∷ Forced ∷ ps in
+    ∷ Text (id_of given.options (codes "fn-") identifier number) ∷ Text (codes "\">") ∷ Forced ∷ ps in
+    let begun : List ℕ → List Piece → List Piece = λ id ps. Forced ∷ Text (codes "<li id=\"")
+    ∷ Text id ∷ Text (codes "\">") ∷ Forced ∷ ps in
     let back : List ℕ = old.backreferences given.options identifier number (count_of given.calls identifier) in
     let ends : List Printed = Wanted ∷ Said (codes "</li>") ∷ [] in
-    ap (λ ps. begin (read notes ps)) (append_assoc (old.body_pieces text back) ends tail)
+    ap (λ id. begun id (read notes ((old.body_pieces text back ++ ends) ++ tail)))
+    (footnote_id-same given.options identifier number)
+    ∙ ap (λ ps. begin (read notes ps)) (append_assoc (old.body_pieces text back) ends tail)
     ∙ ap begin (body-read text back (ends ++ tail) (Needed ∷ Text (codes "</li>")
     ∷ pieces) notes (ap (λ ps. Needed ∷ Text (codes "</li>") ∷ ps) h))
     ∙ ap (λ b. begin (body text b ++ (Needed ∷ Text (codes "</li>") ∷ pieces)))

@@ -1,32 +1,38 @@
 -- What lists, headings and code mean.
-use Rattle.std.specs.Prelude.{ℕ, Bool, true, false, not, ◌&&◌, ◌||◌, ◌==◌, if◌then◌else◌, List, [], ◌∷◌, ◌++◌, codes, bytes_eq, count_by}
+use Rattle.std.specs.Prelude.{ℕ, Bool, true, false, not, ◌&&◌, ◌||◌, ◌==◌, nat_lt, if◌then◌else◌, List, [], ◌∷◌, ◌++◌, length, codes, bytes_eq, count_by, unwrap_or}
 use Rattle.std.specs.Option.{option_map_or}
 use Rattle.std.specs.List.{list_any}
 use Rattle.std.specs.Fmt.{decimal}
 use Rattle.md_text.specs.Encode.{encoded}
+use Rattle.md_base.specs.declared.event.Name.TheVariants.{HeadingAtxSequence, ListItemPrefix, Paragraph}
+use Rattle.md_base.specs.Is.{is}
 use Rattle.md_base.specs.Children.{spine_names, last_name, last_contributing}
-use Rattle.md_base.specs.NameTests.{is_heading_mark, is_fence, is_chunk, is_item_prefix, is_paragraph}
-use Rattle.md_meaning.specs.Given.{text_of, serialized_of}
-use Rattle.md_meaning.specs.Places.{without_zeros, length_of}
+use Rattle.md_base.specs.NameTests.{is_fence, is_chunk}
+use Rattle.md_base.specs.Place.{serialized_between}
+use Rattle.md_tree.specs.Rules.{columns}
+use Rattle.md_meaning.specs.declared.context.Container.TheVariants.{Nothing}
+use Rattle.md_meaning.specs.Meaning.Around.{is_tight}
 use Rattle.md_meaning.specs.Meaning.Layout.{Piece, Text, Needed, Forced, said, on_own_line, when}
 use Rattle.md_meaning.specs.Meaning.Finds.{first, number_in_list}
 use Rattle.md_meaning.specs.Meaning.Spans.{is_at}
-use Rattle.md_meaning.specs.Meaning.At.{Given, At, is_tight, is_contained}
+use Rattle.md_meaning.specs.Meaning.At.{Given, At, text_in}
 
--- ` start="` number `"`, but for the number 1
-abbrev pub start_attribute : List ℕ → List Piece
-start_attribute number =
-    when (not (bytes_eq number (codes "1"))) (Text (codes " start=\"") ∷ Text number ∷ Text (codes "\"") ∷ [])
+-- digits without the zeros before the number that they write
+abbrev pub without_zeros : List ℕ → List ℕ
+without_zeros [] = []
+without_zeros (digit ∷ digits) =
+    if digit == 48 && nat_lt 0 (length digits) then without_zeros digits else digit ∷ digits
 
--- the same for the number of a list's first item, without leading zeros
+-- ` start="` number `"` for the number of a list's first item, but for the number 1
 abbrev pub list_start : Given → At → List Piece
-list_start given at = option_map_or
-    (λ here. start_attribute (without_zeros (text_of given.bytes here.start here.end))) (number_in_list at.children) []
+list_start given at =
+    let number = without_zeros (option_map_or (text_in given.bytes) (number_in_list at.children) (codes "1")) in
+    when (not (bytes_eq number (codes "1"))) (Text (codes " start=\"") ∷ Text number ∷ Text (codes "\"") ∷ [])
 
 -- the last child that contributes is the item's prefix, or a paragraph in a tight list
 abbrev pub ends_in_line : At → Bool
-ends_in_line at = option_map_or is_item_prefix (last_contributing at.children) false
-    || option_map_or is_paragraph (last_contributing at.children) false && is_tight at.around.container
+ends_in_line at = option_map_or (is ListItemPrefix) (last_contributing at.children) false
+    || option_map_or (is Paragraph) (last_contributing at.children) false && is_tight at.around.container
 
 -- a heading's tag
 abbrev pub heading_tag : List ℕ → ℕ → List ℕ
@@ -36,16 +42,16 @@ abbrev pub heading : ℕ → List Piece → List Piece
 heading rank inner = on_own_line (heading_tag (codes "<h") rank) ++ (inner ++ said (heading_tag (codes "</h") rank))
 
 -- how long a heading's first mark is
-abbrev pub atx_rank : Given → At → ℕ
-atx_rank given at = option_map_or (λ place. length_of given.bytes place) (first is_heading_mark at.children) 0
+abbrev pub atx_rank : At → ℕ
+atx_rank at = option_map_or (λ place. columns place.start place.end) (first HeadingAtxSequence at.children) 0
 
 -- 2 where the underline begins with `-`, else 1
 abbrev pub underline_rank : Given → At → ℕ
-underline_rank given at = if is_at 45 given.bytes at.start.index then 2 else 1
+underline_rank given at = if is_at 45 given.bytes at.place.start.index then 2 else 1
 
 -- a line of code, with the spaces of tabs that are cut at its ends
 abbrev pub chunk : Given → At → List Piece
-chunk given at = said (encoded true (serialized_of given.bytes at.start at.end))
+chunk given at = said (encoded true (unwrap_or (serialized_between given.bytes at.place.start at.place.end) []))
 
 -- a needed line ending where there is a line of code, and the end of code
 abbrev pub code_end : At → List Piece
@@ -55,10 +61,10 @@ code_end at = when (list_any is_chunk (spine_names at.children)) (Needed ∷ [])
 abbrev pub is_unclosed : At → Bool
 is_unclosed at = count_by is_fence (spine_names at.children) == 1
 
--- code that isn't closed before its container ends, with more in it than its fence
+-- code that isn't closed before its container ends: its last child isn't its fence
 abbrev pub runs_out : At → Bool
-runs_out at =
-    is_unclosed at && is_contained at.around.container && not (option_map_or is_fence (last_name at.children) false)
+runs_out at = is_unclosed at && (elim at.around.container [ Nothing ↦ false | _ ↦ true ])
+    && not (option_map_or is_fence (last_name at.children) false)
 
 -- code or math between fences
 abbrev pub fenced : At → List ℕ → List Piece → List Piece

@@ -1,33 +1,28 @@
--- What is found in a node's children: places of marks, labels and numbers.
-use Rattle.std.specs.Prelude.{Bool, Option, None, unwrap_or, is_some, if◌then◌else◌}
+-- What is found in nodes: the places of a heading's first mark, of a list's number and of the first line ending.
+use Rattle.std.specs.Prelude.{Option, Some, None, unwrap_or, if◌then◌else◌}
 use Rattle.md_base.specs.declared.event.Name.{Name}
+use Rattle.md_base.specs.declared.event.Name.TheVariants.{ListItem, ListItemPrefix, ListItemValue}
 use Rattle.md_base.specs.declared.event.Position.{Position}
-use Rattle.md_base.specs.Tree.{Forest}
-use Rattle.md_base.specs.Children.{first_on_spine}
-use Rattle.md_base.specs.NameTests.{is_label, is_label_text, is_reference, is_footnote_prefix, is_footnote_label, is_item, is_item_prefix, is_item_value}
+use Rattle.md_base.specs.Is.{is}
+use Rattle.md_base.specs.Tree.{Forest, Empty, Node}
+use Rattle.md_base.specs.Children.{or_else, first_on_spine}
+use Rattle.md_base.specs.NameTests.{is_line_ending}
 use Rattle.md_tree.specs.Rules.{place}
 
--- the place of the first node on the spine whose name passes a test
-abbrev pub first : (Name → Bool) → Forest → Option Position
-first test children = first_on_spine test (λ start end inner. place start end) children
+-- the place of the first node of a name on the spine
+abbrev pub first : Name → Forest → Option Position
+first name children = first_on_spine (is name) (λ start end inner. place start end) children
 
 -- what is found in the first such node
-abbrev pub in_first : (Name → Bool) → (Forest → Option Position) → Forest → Option Position
-in_first test find children = unwrap_or (first_on_spine test (λ start end inner. find inner) children) None
+abbrev pub in_first : Name → (Forest → Option Position) → Forest → Option Position
+in_first name find children = unwrap_or (first_on_spine (is name) (λ start end inner. find inner) children) None
 
 -- the number of a list's first item, in its prefix
 abbrev pub number_in_list : Forest → Option Position
-number_in_list children = in_first is_item (in_first is_item_prefix (first is_item_value)) children
+number_in_list children = in_first ListItem (in_first ListItemPrefix (first ListItemValue)) children
 
--- the text of a node's label
-abbrev pub label_in_node : Forest → Option Position
-label_in_node children = in_first is_label (first is_label_text) children
-
--- what a link or an image refers by: its reference where it has one, else the text of its label
-abbrev pub referring_in : Forest → Option Position
-referring_in children =
-    if is_some (first is_reference children) then first is_reference children else label_in_node children
-
--- the label of a footnote definition, in its prefix
-abbrev pub footnote_label : Forest → Option Position
-footnote_label children = in_first is_footnote_prefix (first is_footnote_label) children
+-- the place of the line ending, blank or not, that exits first
+abbrev pub first_ending : Forest → Option Position
+first_ending Empty = None
+first_ending (Node name start end children rest) = or_else (first_ending children)
+    (or_else (if is_line_ending name then Some (place start end) else None) (first_ending rest))

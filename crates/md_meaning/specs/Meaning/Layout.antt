@@ -32,6 +32,6 @@ said text = Text text ∷ []
 abbrev pub on_own_line : List ℕ → List Piece
 on_own_line tag = Needed ∷ said tag
 
--- some pieces, where a test holds
-abbrev pub when : Bool → List Piece → List Piece
-when holds pieces = if holds then pieces else []
+-- some things, where a test holds
+abbrev pub when : {A : Type 0} → Bool → List A → List A
+when holds things = if holds then things else []

@@ -4,11 +4,8 @@ use Rattle.std.specs.Option.{option_map_or}
 use Rattle.md_text.specs.Encode.{encoded}
 use Rattle.md_text.specs.Url.{sanitized, sanitized_with, link_protocols, image_protocols}
 use Rattle.md_text.specs.declared.options.CompileOptions.{CompileOptions}
-use Rattle.md_meaning.specs.Piece.{Target}
-use Rattle.md_meaning.specs.Places.{identifier_at}
-use Rattle.md_meaning.specs.Meaning.Finds.{referring_in}
 use Rattle.md_meaning.specs.Meaning.Layout.{Piece, Text, said}
-use Rattle.md_meaning.specs.Meaning.At.{Given, At, text_at, nothing_found, target_in}
+use Rattle.md_meaning.specs.Meaning.At.{Target, Given, At, nothing_found, target_in, text_in, identifier_of}
 
 -- a URL as it is written, judged unless that is off
 abbrev pub url : Bool → List (List ℕ) → List ℕ → List ℕ
@@ -28,8 +25,7 @@ defined_by given identifier = option_map_or (λ defined. defined.target)
 
 -- where a link or an image leads: as its resource says, else as the definition to which it refers
 abbrev pub leads_to : Given → At → Target
-leads_to given at =
-    unwrap_or at.found.resource (defined_by given (identifier_at given.bytes (referring_in at.children)))
+leads_to given at = unwrap_or at.found.resource (defined_by given (identifier_of given.bytes at.children))
 
 -- ` title="` title `"`, where there is one
 abbrev pub title_attribute : Option (List ℕ) → List Piece
@@ -49,16 +45,16 @@ picture options target label =
     ∷ Text (codes "\" alt=\"") ∷ Text label ∷ Text (codes "\"")
     ∷ (title_attribute target.title ++ said (codes " />"))
 
-abbrev pub link : Given → At → List ℕ → List Piece
-link given at label = if at.around.in_image then said label else anchor given.options (leads_to given at) label
-
-abbrev pub image : Given → At → List ℕ → List Piece
-image given at label = if at.around.in_image then said label else picture given.options (leads_to given at) label
+-- a link or an image with a label, of which an image around it leaves the label
+abbrev pub medium : (CompileOptions → Target → List ℕ → List Piece) → Given → At → List ℕ → List Piece
+medium tag given at label = if at.around.in_image then said label else tag given.options (leads_to given at) label
 
 -- an autolink: its text, which leads to itself after a prefix unless it is plain
 abbrev pub autolink : Given → At → Bool → List ℕ → List Piece
-autolink given at plain prefix = if plain then said (encoded true (text_at given at)) else anchor given.options
-    (record { destination = prefix ++ text_at given at; title = None }) (encoded true (text_at given at))
+autolink given at plain prefix =
+    let text = text_in given.bytes at.place in
+    if plain then said (encoded true text)
+    else anchor given.options (record { destination = prefix ++ text; title = None }) (encoded true text)
 
 -- a literal one is plain in a link as well
 abbrev pub literal : Given → At → List ℕ → List Piece

@@ -1,83 +1,101 @@
 -- What some nodes mean, one after another.
-use Rattle.std.specs.Prelude.{List, [], ◌++◌, ◌&&◌, if◌then◌else◌, Some}
+use Rattle.std.specs.Prelude.{ℕ, Bool, false, List, [], ◌∷◌, ◌++◌, ◌&&◌, if◌then◌else◌, unwrap_or, Some}
 use Rattle.md_base.specs.declared.event.Name.{Name}
-use Rattle.md_base.specs.declared.event.Name.TheVariants.{HeadingSetextText, DefinitionDestinationString, DefinitionTitleString, Resource, ResourceDestinationString, ResourceTitleString}
+use Rattle.md_base.specs.declared.event.Name.TheVariants.{HeadingSetextText, Definition, DefinitionDestinationString, DefinitionTitleString, GfmFootnoteCall, GfmFootnoteDefinition, Resource, ResourceDestinationString, ResourceTitleString}
+use Rattle.md_base.specs.Is.{is}
 use Rattle.md_base.specs.Tree.{Forest, Empty, Node}
-use Rattle.md_base.specs.Children.{is_empty}
+use Rattle.md_base.specs.Children.{is_empty, or_else, spine_names}
 use Rattle.md_infer.specs.Looseness.{is_loose}
-use Rattle.md_base.specs.NameTests.{is_transparent, is_definition_label, is_link_definition, is_footnote_definition}
+use Rattle.md_base.specs.NameTests.{is_transparent}
 use Rattle.md_meaning.specs.declared.context.Surroundings.{Surroundings}
-use Rattle.md_meaning.specs.Surroundings.{inside}
-use Rattle.md_meaning.specs.Given.{Defined, Footnote}
-use Rattle.md_meaning.specs.Places.{identifier_at}
-use Rattle.md_meaning.specs.Meaning.Layout.{Piece, layout}
-use Rattle.md_meaning.specs.Meaning.Finds.{first, footnote_label}
-use Rattle.md_meaning.specs.Meaning.At.{Given, Found, nothing_found, found_after, target_in, Before, At}
-use Rattle.md_meaning.specs.Meaning.Before.{one_where, before_children, before_next}
+use Rattle.md_tree.specs.Rules.{place}
+use Rattle.md_meaning.specs.Meaning.Around.{inside}
+use Rattle.md_meaning.specs.Meaning.Layout.{Piece, layout, when}
+use Rattle.md_meaning.specs.Meaning.At.{Defined, Footnote, Given, Found, nothing_found, target_in, Before, At, identifier_of}
+use Rattle.md_meaning.specs.Meaning.Before.{before_children, slurps_after}
 use Rattle.md_meaning.specs.Meaning.Means.{means}
 
--- what nodes mean: their pieces, what is found on their spine, and the definitions and footnotes by their exits
+-- what nodes mean: their pieces, what is found on their spine, the calls, the definitions and the footnotes by their
+-- exits, and whether the next line ending is slurped after them
 pub record Meant : Type 0 where
   pub pieces : List Piece
   pub found : Found
+  pub calls : List (List ℕ)
   pub definitions : List Defined
   pub footnotes : List Footnote
+  pub slurps : Bool
 
+-- of each thing that is found the last counts
 abbrev pub both : Meant → Meant → Meant
 both first later = record {
   pieces = first.pieces ++ later.pieces;
-  found = found_after first.found later.found;
+  found = record {
+    heading = or_else later.found.heading first.found.heading;
+    destination = or_else later.found.destination first.found.destination;
+    title = or_else later.found.title first.found.title;
+    resource = or_else later.found.resource first.found.resource;
+  };
+  calls = first.calls ++ later.calls;
   definitions = first.definitions ++ later.definitions;
   footnotes = first.footnotes ++ later.footnotes;
+  slurps = later.slurps;
 }
 
 -- what is found where a node stands: what it is by itself, or where it is transparent what its children are
-abbrev pub found_at : Given → At → Name → List Piece → Found
-found_at given at HeadingSetextText inner = record nothing_found { heading = Some (layout given.ending inner) }
-found_at given at DefinitionDestinationString inner =
-    record nothing_found { destination = Some (layout given.ending inner) }
-found_at given at ResourceDestinationString inner =
-    record nothing_found { destination = Some (layout given.ending inner) }
-found_at given at DefinitionTitleString inner = record nothing_found { title = Some (layout given.ending inner) }
-found_at given at ResourceTitleString inner = record nothing_found { title = Some (layout given.ending inner) }
-found_at given at Resource inner = record nothing_found { resource = Some (target_in at.found) }
-found_at given at name inner = if is_transparent name then at.found else nothing_found
+abbrev pub found_at : At → Name → List ℕ → Found
+found_at at HeadingSetextText text = record nothing_found { heading = Some text }
+found_at at DefinitionDestinationString text = record nothing_found { destination = Some text }
+found_at at ResourceDestinationString text = record nothing_found { destination = Some text }
+found_at at DefinitionTitleString text = record nothing_found { title = Some text }
+found_at at ResourceTitleString text = record nothing_found { title = Some text }
+found_at at Resource text = record nothing_found { resource = Some (target_in at.found) }
+found_at at name text = if is_transparent name then at.found else nothing_found
 
--- what a node means, by what its children mean; a definition and a footnote are named by their labels
+-- what a node means, by what its children mean; a call, a definition and a footnote are named by their labels
 abbrev pub node : Given → At → Name → Meant → Meant
-node given at name inner = record {
-  pieces = means given at name inner.pieces;
-  found = found_at given at name inner.pieces;
-  definitions = inner.definitions ++ one_where (is_link_definition name) (record {
-    identifier = identifier_at given.bytes (first is_definition_label at.children);
-    target = target_in at.found;
-  });
-  footnotes = inner.footnotes ++ one_where (is_footnote_definition name) (record {
-    identifier = identifier_at given.bytes (footnote_label at.children);
-    text = layout given.ending inner.pieces;
-  });
+node given at name inner =
+    let text = layout given.ending inner.pieces in
+    let identifier = identifier_of given.bytes at.children in
+    record {
+      pieces = means given at name inner.pieces;
+      found = found_at at name text;
+      calls = inner.calls ++ when (is GfmFootnoteCall name) (identifier ∷ []);
+      definitions = inner.definitions
+          ++ when (is Definition name) (record { identifier = identifier; target = target_in at.found } ∷ []);
+      footnotes = inner.footnotes
+          ++ when (is GfmFootnoteDefinition name) (record { identifier = identifier; text = text } ∷ []);
+      slurps = if at.around.in_definition then inner.slurps else slurps_after at name inner.slurps;
+    }
+
+-- what stands before the next sibling of a node that means this
+abbrev pub before_next : At → Name → Meant → Before
+before_next at name here = record at.before {
+  calls = at.before.calls ++ here.calls;
+  slurps = here.slurps;
+  previous = Some name;
+  spine = at.before.spine ++ (if is_transparent name then spine_names at.children else name ∷ []);
+  heading = unwrap_or here.found.heading at.before.heading;
 }
 
--- a node, whose children mean this, and what later nodes mean after it
-abbrev pub followed : Given → At → Name → Meant → (Before → Meant) → Meant
-followed given at name inner later =
-    let here = record at { found = inner.found } in
-    both (node given here name inner) (later (before_next given here name (found_at given here name inner.pieces)))
+-- a node, and what later nodes mean after it
+abbrev pub followed : At → Name → Meant → (Before → Meant) → Meant
+followed at name here later = both here (later (before_next at name here))
 
 -- what some nodes mean, by what stands around them and before them
 abbrev pub meant : Given → Surroundings → Before → Forest → Meant
-meant given around before Empty = record { pieces = []; found = nothing_found; definitions = []; footnotes = [] }
+meant given around before Empty =
+    record { pieces = []; found = nothing_found; calls = []; definitions = []; footnotes = []; slurps = before.slurps }
 meant given around before (Node name start end children rest) =
-    followed given
-    (record {
+    let inner = meant given (inside given.options (is_loose children) name around)
+    (before_children name children before) children in
+    let at : At = record {
       around = around;
       before = before;
       children = children;
-      found = nothing_found;
-      start = start;
-      end = end;
+      found = inner.found;
+      calls = before.calls ++ inner.calls;
+      place = place start end;
       is_last = around.is_outermost && is_empty rest;
-    })
-    name
-    (meant given (inside given.options (is_loose children) name around) (before_children name children before) children)
-    (λ next. meant given around next rest)
+    }
+    in
+    followed at name (node given at name inner) (λ next. meant given around next rest)

@@ -8,9 +8,8 @@ use Rattle.md_base.specs.Reference.{decoded}
 use Rattle.md_text.specs.Encode.{encoded}
 use Rattle.md_text.specs.Filter.{tag_filtered}
 use Rattle.md_base.specs.NameTests.{is_definition}
-use Rattle.md_meaning.specs.Surroundings.{is_slurping, last_of}
 use Rattle.md_meaning.specs.Meaning.Layout.{Piece, Text, said, when}
-use Rattle.md_meaning.specs.Meaning.At.{Given, At, text_at}
+use Rattle.md_meaning.specs.Meaning.At.{Given, At, text_in}
 
 -- a text, escaped where the surroundings say so
 abbrev pub written : At → List ℕ → List Piece
@@ -24,26 +23,23 @@ marker name =
 -- what a reference stands for: the last mark before its value says how to read it
 abbrev pub reference : Given → At → List ℕ
 reference given at =
-    unwrap_or (decoded given.names (option_map_or marker (last_of at.before.spine) 38) (text_at given at)) []
+    let last = slice_get at.before.spine (length at.before.spine - 1) in
+    unwrap_or (decoded given.names (option_map_or marker last 38) (text_in given.bytes at.place)) []
 
--- a line ending is dropped where the last mark before it is a setting one, but in a definition, and after a definition
+-- a line ending is dropped where it is slurped, which none in a definition is, and after a definition
 abbrev pub is_dropped : At → Bool
 is_dropped at =
-    not at.around.in_definition && is_slurping at.before.marks || option_map_or is_definition at.before.previous false
+    not at.around.in_definition && at.before.slurps || option_map_or is_definition at.before.previous false
 
 -- a line ending: a space in code, else its own text unless it is dropped
 abbrev pub line_ending : Given → At → List Piece
 line_ending given at = if at.around.in_code then said (codes " ")
-    else (if is_dropped at then [] else said (text_at given at))
+    else (if is_dropped at then [] else said (text_in given.bytes at.place))
 
 -- HTML, which the tag filter disarms where it may stand
 abbrev pub html : Given → At → List ℕ
 html given at = if given.options.allow_dangerous_html && given.options.gfm_tagfilter
-    then tag_filtered (text_at given at) else text_at given at
-
--- outside images
-abbrev pub unless_in_image : At → List Piece → List Piece
-unless_in_image at pieces = when (not at.around.in_image) pieces
+    then tag_filtered (text_in given.bytes at.place) else text_in given.bytes at.place
 
 -- a span between its tags, which don't stand in an image
 abbrev pub span : At → List Piece → List Piece → List Piece → List Piece
@@ -69,11 +65,8 @@ abbrev pub trimmed : List ℕ → List ℕ
 trimmed text = if is_at 32 text 0 && is_at 32 text (length text - 1) && not (list_all (λ byte. byte == 32) text)
     then take (length text - 2) (drop 1 text) else text
 
--- the text of code where it stands
-abbrev pub code_text : At → List ℕ → List ℕ
-code_text at text = trimmed (if at.around.in_table then without_escapes text else text)
-
--- code in a text
+-- code in a text; in an image without its tags
 abbrev pub code : At → List ℕ → List ℕ → List Piece
-code at tag text = if at.around.in_image then said (code_text at text)
-    else Text tag ∷ Text (code_text at text) ∷ Text (codes "</code>") ∷ []
+code at tag text =
+    let shown = trimmed (if at.around.in_table then without_escapes text else text) in
+    if at.around.in_image then said shown else Text tag ∷ Text shown ∷ Text (codes "</code>") ∷ []

@@ -4,8 +4,9 @@ use Rattle.std.specs.Option.{option_map_or}
 use Rattle.std.specs.List.{flat_map}
 use Rattle.md_base.specs.declared.event.AlignKind.{AlignKind}
 use Rattle.md_base.specs.declared.event.AlignKind.TheVariants as align
+use Rattle.md_base.specs.declared.event.Name.TheVariants.{GfmTableCell}
+use Rattle.md_base.specs.Is.{is}
 use Rattle.md_base.specs.Children.{spine_names}
-use Rattle.md_base.specs.NameTests.{is_cell}
 use Rattle.md_meaning.specs.Meaning.Layout.{Piece, Text, on_own_line}
 use Rattle.md_meaning.specs.Meaning.At.{At}
 
@@ -26,9 +27,9 @@ cell_of in_head text kind =
 -- a cell, where the table has its column
 abbrev pub cell : At → List ℕ → List Piece
 cell at text = option_map_or (λ kind. cell_of at.around.in_head text kind)
-    (slice_get at.before.columns (count_by is_cell at.before.spine)) []
+    (slice_get at.before.columns (count_by (is GfmTableCell) at.before.spine)) []
 
 -- the end of a row, with empty cells for the columns that it has no cells for
 abbrev pub row_end : At → List Piece
 row_end at = flat_map (cell_of at.around.in_head [])
-    (drop (count_by is_cell (spine_names at.children)) at.before.columns) ++ on_own_line (codes "</tr>")
+    (drop (count_by (is GfmTableCell) (spine_names at.children)) at.before.columns) ++ on_own_line (codes "</tr>")

@@ -1,0 +1,9 @@
+-- One name alone.
+use Rattle.std.specs.Prelude.{Bool}
+use denote.Enum.Bare.{sameb}
+use Rattle.md_base.specs.contracts.event.Name.{the_type}
+use Rattle.md_base.specs.declared.event.Name.{Name}
+
+-- a name is this one; of `Other` any number
+abbrev pub is : Name → Name → Bool
+is one name = sameb the_type one name
