@@ -1,6 +1,7 @@
 -- Where HTML is escaped the tag filter changes no meaning.
 use Rattle.std.proofs.Common.{◌≡◌, ℕ, Bool, true, false, ◌&&◌, not, zero, suc, List, [], ◌∷◌, ◌++◌, length, refl, ap, ◌∙◌}
-use Rattle.std.specs.Prelude.{if◌then◌else◌, ◌==◌, codes}
+use Rattle.std.specs.Prelude.{if◌then◌else◌, ◌==◌, codes, find, bytes_eq}
+use Rattle.std.specs.Option.{option_map_or}
 use Rattle.std.specs.List.{flat_map}
 use Rattle.std.proofs.lemmas.Bool.{true≢false}
 use Rattle.md_base.specs.declared.event.Name.{Name}
@@ -12,19 +13,20 @@ use Rattle.md_base.specs.Children.{is_empty}
 use Rattle.md_infer.specs.Looseness.{is_loose}
 use Rattle.md_text.specs.declared.options.CompileOptions.{CompileOptions}
 use Rattle.md_meaning.specs.declared.context.Surroundings.{Surroundings}
-use Rattle.md_meaning.specs.Surroundings.{Mark, inside, outermost, spine_inside, spine_after_node}
+use Rattle.md_meaning.specs.Surroundings.{inside, outermost}
+use Rattle.md_tree.specs.Rules.{place}
 use Rattle.md_meaning.specs.Given.{Defined}
 use Rattle.md_meaning.specs.Footnotes.{Footnote}
 use Rattle.md_meaning.specs.Calls.{distinct, count_of}
 use Rattle.md_meaning.specs.Places.{first_ending}
 use Rattle.md_meaning.specs.Meaning.{meaning, ending_at}
 use Rattle.md_meaning.specs.Meaning.Layout.{Piece, Text, Forced, layout, when, on_own_line}
-use Rattle.md_meaning.specs.Meaning.At.{Given, At, Before, Found, text_at}
-use Rattle.md_meaning.specs.Meaning.Before.{own_marks, marks_of, calls_of, nothing_before, before_children, before_next}
+use Rattle.md_meaning.specs.Meaning.At.{Given, At, Before, text_in}
+use Rattle.md_meaning.specs.Meaning.Before.{nothing_before, before_children}
 use Rattle.md_meaning.specs.Meaning.Spans.{html}
 use Rattle.md_meaning.specs.Meaning.Means.{means}
-use Rattle.md_meaning.specs.Meaning.Nodes.{Meant, meant, node, both, found_at}
-use Rattle.md_meaning.specs.Meaning.Footnotes.{backreference, backreferences, body, text_with, place_among, footnote_id, item, section_start, section}
+use Rattle.md_meaning.specs.Meaning.Nodes.{Meant, meant, node, both, followed, before_next}
+use Rattle.md_meaning.specs.Meaning.Footnotes.{backreference, backreferences, body, place_among, id_of, item, section_start, section}
 
 -- the options with the tag filter on or off
 abbrev pub filtering : Bool → CompileOptions → CompileOptions
@@ -38,9 +40,10 @@ html-moot : (filter : Bool) (given : Given) (at : At) → given.options.allow_da
     html (under filter given) at ≡ html given at
 html-moot filter given at h = if_allowed given.options.allow_dangerous_html h
   where
-    if_allowed : (allow : Bool) → allow ≡ false → (if allow && filter then tag_filtered (text_at given at)
-        else text_at given at) ≡ (if allow && given.options.gfm_tagfilter then tag_filtered (text_at given at)
-        else text_at given at)
+    if_allowed : (allow : Bool) → allow ≡ false →
+        (if allow && filter then tag_filtered (text_in given.bytes at.place) else text_in given.bytes at.place)
+        ≡ (if allow && given.options.gfm_tagfilter then tag_filtered (text_in given.bytes at.place)
+        else text_in given.bytes at.place)
     if_allowed true e = absurd (true≢false e)
     if_allowed false e = refl
 
@@ -52,48 +55,16 @@ means-moot filter given at h HtmlTextData inner = ap (λ text. Text (encoded at.
     ∷ []) (html-moot filter given at h)
 means-moot filter given at h _ inner = refl
 
-found-moot : (filter : Bool) (given : Given) (at : At) (name : Name) (inner : List Piece) →
-    found_at (under filter given) at name inner ≡ found_at given at name inner
-found-moot filter given at BlockQuote inner = refl
-found-moot filter given at _ inner = refl
-
 inside-moot : (filter : Bool) (options : CompileOptions) (loose : Bool) (name : Name) (around : Surroundings) →
     inside (filtering filter options) loose name around ≡ inside options loose name around
 inside-moot filter options loose BlockQuote around = refl
 inside-moot filter options loose _ around = refl
-
-marks-moot : (filter : Bool) (options : CompileOptions) (around : Surroundings) (spine : List Name) (forest : Forest)
-    → marks_of (filtering filter options) around spine forest ≡ marks_of options around spine forest
-marks-moot filter options around spine Empty = refl
-marks-moot filter options around spine (Node name start end children rest) =
-    let before : List Mark → List Mark → List Mark = λ later inner. later ++ own_marks around spine name ++ inner in
-    let nested : Surroundings = inside options (is_loose children) name around in
-    ap (λ ms. before ms (marks_of (filtering filter options)
-    (inside (filtering filter options) (is_loose children) name around) (spine_inside name spine) children))
-    (marks-moot filter options around (spine_after_node name children spine) rest)
-    ∙ ap (λ ar. before (marks_of options around (spine_after_node name children spine) rest)
-    (marks_of (filtering filter options) ar (spine_inside name spine) children))
-    (inside-moot filter options (is_loose children) name around)
-    ∙ ap (λ ms. before (marks_of options around (spine_after_node name children spine) rest) ms)
-    (marks-moot filter options nested (spine_inside name spine) children)
-
-next-moot : (filter : Bool) (given : Given) (at : At) (name : Name) (found : Found) →
-    before_next (under filter given) at name found ≡ before_next given at name found
-next-moot filter given at name found =
-    let options : CompileOptions = given.options in
-    let next : List Mark → Before = λ ms. record (before_next given at name found)
-    { marks = own_marks at.around at.before.spine name ++ ms ++ at.before.marks } in
-    ap (λ ar. next (marks_of (filtering filter options) ar (spine_inside name at.before.spine) at.children))
-    (inside-moot filter options (is_loose at.children) name at.around)
-    ∙ ap next (marks-moot filter options (inside options (is_loose at.children) name at.around)
-    (spine_inside name at.before.spine) at.children)
 
 node-moot : (filter : Bool) (given : Given) (at : At) → given.options.allow_dangerous_html ≡ false →
     (name : Name) (inner : Meant) → node (under filter given) at name inner ≡ node given at name inner
 node-moot filter given at h name inner =
     ap (λ ps. record (node (under filter given) at name inner) { pieces = ps })
     (means-moot filter given at h name inner.pieces)
-    ∙ ap (λ f. record (node given at name inner) { found = f }) (found-moot filter given at name inner.pieces)
 
 meant-moot : (filter : Bool) (given : Given) → given.options.allow_dangerous_html ≡ false →
     (around : Surroundings) (before : Before) (forest : Forest) →
@@ -108,24 +79,21 @@ meant-moot filter given h around before (Node name start end children rest) =
       before = before;
       children = children;
       found = inner.found;
-      start = start;
-      end = end;
+      calls = before.calls ++ inner.calls;
+      place = place start end;
       is_last = around.is_outermost && is_empty rest;
     } in
-    let later : Meant → Meant = λ inner. meant other around
-    (before_next other (at inner) name (found_at other (at inner) name inner.pieces)) rest in
     let inner : Meant = meant given nested own children in
     let here : At = at inner in
-    ap (λ ar. both (node other (at (meant other ar own children)) name (meant other ar own children))
-    (later (meant other ar own children))) (inside-moot filter given.options (is_loose children) name around)
-    ∙ ap (λ m. both (node other (at m) name m) (later m)) (meant-moot filter given h nested own children)
-    ∙ ap (λ n. both n (later inner)) (node-moot filter given here h name inner)
-    ∙ ap (λ f. both (node given here name inner) (meant other around (before_next other here name f) rest))
-    (found-moot filter given here name inner.pieces)
-    ∙ ap (λ next. both (node given here name inner) (meant other around next rest))
-    (next-moot filter given here name (found_at given here name inner.pieces))
+    let by : Meant → (Before → Meant) → Meant = λ n later. followed here name n later in
+    ap (λ ar. followed (at (meant other ar own children)) name
+    (node other (at (meant other ar own children)) name (meant other ar own children))
+    (λ next. meant other around next rest)) (inside-moot filter given.options (is_loose children) name around)
+    ∙ ap (λ m. followed (at m) name (node other (at m) name m) (λ next. meant other around next rest))
+    (meant-moot filter given h nested own children)
+    ∙ ap (λ n. by n (λ next. meant other around next rest)) (node-moot filter given here h name inner)
     ∙ ap (λ m. both (node given here name inner) m) (meant-moot filter given h around
-    (before_next given here name (found_at given here name inner.pieces)) rest)
+    (before_next here name (node given here name inner)) rest)
 
 ways_back-moot : (filter : Bool) (options : CompileOptions) (identifier : List ℕ) (number count : ℕ) →
     backreferences (filtering filter options) identifier number count ≡ backreferences options identifier number count
@@ -140,9 +108,10 @@ items-moot : (filter : Bool) (given : Given) (footnotes : List Footnote) (identi
 items-moot filter given footnotes [] = refl
 items-moot filter given footnotes (identifier ∷ identifiers) =
     let number : ℕ = place_among (distinct given.calls) identifier in
-    ap (λ back. (Forced ∷ Text (codes "<li id=\"") ∷ Text (footnote_id given.options identifier number)
+    let footnote = find (λ (f : Footnote). bytes_eq f.identifier identifier) footnotes in
+    ap (λ back. (Forced ∷ Text (codes "<li id=\"") ∷ Text (id_of given.options (codes "fn-") identifier number)
     ∷ Text (codes "\">")
-    ∷ Forced ∷ (body (text_with footnotes identifier) back ++ on_own_line (codes "</li>")))
+    ∷ Forced ∷ (body (option_map_or (λ (f : Footnote). f.text) footnote []) back ++ on_own_line (codes "</li>")))
     ++ flat_map (item (under filter given) footnotes) identifiers)
     (ways_back-moot filter given.options identifier number (count_of given.calls identifier))
     ∙ ap (λ ps. item given footnotes identifier ++ ps) (items-moot filter given footnotes identifiers)
@@ -163,19 +132,24 @@ pub meaning-moot : (filter : Bool) (options : CompileOptions) (names : List (Lis
     meaning (filtering filter options) names bytes document ≡ meaning options names bytes document
 meaning-moot filter options names bytes document h =
     let ending : List ℕ = ending_at options bytes (first_ending document) in
-    let given : List Defined → Given = λ ds. record {
+    let given : List (List ℕ) → List Defined → Given = λ cs ds. record {
       bytes = bytes;
       names = names;
       options = options;
       ending = ending;
-      calls = calls_of bytes document;
+      calls = cs;
       definitions = ds;
     } in
-    let known : List Defined = (meant (given []) outermost nothing_before document).definitions in
-    let whole : Meant = meant (given known) outermost nothing_before document in
-    ap (λ (m : Meant). text_by (under filter (given m.definitions))
-    (meant (under filter (given m.definitions)) outermost nothing_before document))
-    (meant-moot filter (given []) h outermost nothing_before document)
-    ∙ ap (λ m. text_by (under filter (given known)) m) (meant-moot filter
-    (given known) h outermost nothing_before document)
-    ∙ ap (λ ps. layout ending (whole.pieces ++ ps)) (section-moot filter (given known) whole.footnotes)
+    let all : Given → Meant = λ g. meant g outermost nothing_before document in
+    let calls : List (List ℕ) = (all (given [] [])).calls in
+    let known : List Defined = (all (given calls [])).definitions in
+    let whole : Meant = all (given calls known) in
+    let other : List (List ℕ) → List Defined → List ℕ = λ cs ds. text_by (under filter (given cs ds))
+    (all (under filter (given cs ds))) in
+    ap (λ (m : Meant). other m.calls (all (under filter (given m.calls []))).definitions)
+    (meant-moot filter (given [] []) h outermost nothing_before document)
+    ∙ ap (λ (m : Meant). other calls m.definitions)
+    (meant-moot filter (given calls []) h outermost nothing_before document)
+    ∙ ap (λ m. text_by (under filter (given calls known)) m)
+    (meant-moot filter (given calls known) h outermost nothing_before document)
+    ∙ ap (λ ps. layout ending (whole.pieces ++ ps)) (section-moot filter (given calls known) whole.footnotes)
