@@ -9,3 +9,4 @@ pub mod Children
 pub mod EventNames
 pub mod NamesByLength
 pub mod Table
+pub mod Leaves
