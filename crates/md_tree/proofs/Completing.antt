@@ -1,8 +1,7 @@
 -- What has been read without an error begins a tree with the shape of the grammar: the innermost spine is completed
 -- by the least nodes that its pattern still needs, its node ends, and so outwards.
-use Rattle.std.proofs.Common.{◌≡◌, ◌≢◌, ◌⊎◌, inl, inr, ℕ, zero, suc, Bool, true, false, cond, ◌&&◌, Option, Some, None, MatchOption, List, [], ◌∷◌, ◌++◌, drop, refl, sym, ap, ◌∙◌, subst, append_assoc}
+use Rattle.std.proofs.Common.{◌≡◌, ◌≢◌, ◌⊎◌, inl, inr, ℕ, zero, suc, Bool, true, false, cond, Option, Some, None, MatchOption, List, [], ◌∷◌, ◌++◌, drop, refl, sym, ap, ◌∙◌, subst}
 use Rattle.std.specs.List.{list_all}
-use Rattle.std.specs.Prelude.{option_map}
 use Rattle.md_base.specs.declared.event.Point.{Point}
 use Rattle.md_base.specs.declared.event.Name.{Name}
 use Rattle.md_base.specs.declared.event.Name.TheVariants as name
@@ -19,7 +18,6 @@ use Rattle.md_pattern.specs.declared.kinds.Item.{Item}
 use Rattle.md_pattern.specs.declared.kinds.Item.TheVariants.{Once, Maybe, Many}
 use Rattle.md_pattern.specs.declared.kinds.Standing.{Standing}
 use Rattle.md_pattern.specs.declared.kinds.Standing.TheVariants.{Through, Space, Solid, Mdx}
-use Rattle.md_pattern.specs.declared.kinds.Reading.TheVariants.{Free}
 use Rattle.md_pattern.specs.declared.state.Stage.{Stage}
 use Rattle.md_pattern.specs.declared.state.Stage.TheVariants.{Whole, Marker, Numeric, Hexadecimal, Setext}
 use Rattle.md_pattern.specs.declared.state.State.{State}
@@ -31,13 +29,13 @@ use Rattle.md_pattern.specs.Shape.{EachNode, IsShapedNode, AreShaped, IsShaped, 
 use Rattle.md_pattern.specs.Steps.{items_of, advance, is_whole, is_optional, is_complete, start_of, may_hold}
 use Rattle.md_tree.specs.declared.mention.Target.{Target}
 use Rattle.md_tree.specs.declared.mention.Target.TheVariants.{Missing}
-use Rattle.md_tree.specs.Machine.{Reads, Outer, Open, Entry, Course, Runs, Steps, StepsBy, Enters, Exits, ExitsWhere, after_entry, after_exit, after_through, entered, entered_on, beginning}
+use Rattle.md_tree.specs.Machine.{Reads, Outer, Open, Entry, Course, Runs, StepsBy, Exits, ExitsWhere, after_entry, after_exit, after_through, entered_on, beginning}
 use Rattle.md_tree.specs.Walk.{Anything}
 use Rattle.md_tree.specs.Refusal.{BeginTree, opening}
 use Rattle.md_tree.proofs.Greedy.{and_left, and_right}
 use Rattle.md_tree.proofs.Groups.{Feeds, matches_feeds, whole_stage, advance_role, option_map-some}
 use Rattle.md_tree.proofs.Trees.{IsFine, Runs-append, Runs-nodes, after_nodes}
-use Rattle.md_tree.proofs.Paths.{Reached, joined, spine-joined, EachNode-joined, not_childless, some_entry, path_none, Stands}
+use Rattle.md_tree.proofs.Paths.{joined, spine-joined, EachNode-joined, not_childless, some_entry, path_none, Stands}
 use Rattle.md_tree.proofs.Verdicts.{Reached-runs, fine_shaped, shaped_anything, free_anything, anything_runs}
 
 -- ---- the least nodes
@@ -563,10 +561,10 @@ closing (open_node ∷ others) from opens settled waits =
       to = rest.to;
       runs = Runs-append Anything (flatten (completion from.state)) (exiting open_node.name somewhere ∷ rest.more)
           from last rest.to inside.runs (
-        left.to,
-        subst (λ os. Exits Anything os open_node.name somewhere last left.to) (sym opens) left.exits,
-        rest.runs,
-      );
+            left.to,
+            subst (λ os. Exits Anything os open_node.name somewhere last left.to) (sym opens) left.exits,
+            rest.runs,
+          );
       none_open = rest.none_open;
       complete = rest.complete;
     }

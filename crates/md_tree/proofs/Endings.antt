@@ -20,7 +20,7 @@ use Rattle.md_base.specs.Tree.{Forest, Empty, Node, flatten, entering, exiting}
 use Rattle.md_pattern.specs.Standing.{standing_of}
 use Rattle.md_pattern.specs.Spine.{spine}
 use Rattle.md_pattern.specs.Pattern.{pattern_of}
-use Rattle.md_pattern.specs.Shape.{EachNode, IsShaped, AreShaped, inner_role, inner_before}
+use Rattle.md_pattern.specs.Shape.{IsShaped, AreShaped, inner_role, inner_before}
 use Rattle.md_tree.specs.Rules.{broken_rule, reading_of, MeetRules, target_of}
 use Rattle.md_tree.specs.Grammar.{Handed, IsGrammatical, IsReadAs, IsChecked}
 use Rattle.md_tree.specs.Refusal.{Level, opening, role_in, before_in, symbol_after, Begins, IsLeftOpen, LeaveOpen, EndsBroken}
@@ -30,9 +30,9 @@ use Rattle.md_tree.specs.Walk.{Unbroken, Broken, BreaksWhere, BreaksAtExit}
 use Rattle.md_tree.specs.Mentions.{mentions_of}
 use Rattle.md_tree.proofs.Listing.{listed, mentions_over-listed}
 use Rattle.md_tree.proofs.Greedy.{and_both}
-use Rattle.md_tree.proofs.Groups.{Feeds, matches_feeds, EndsInGroup-feeds}
-use Rattle.md_tree.proofs.Trees.{IsFine, after_nodes, Feeds-context}
-use Rattle.md_tree.proofs.Completing.{IsDone, IsDone-runs, BeginTree-runs}
+use Rattle.md_tree.proofs.Groups.{Feeds, EndsInGroup-feeds}
+use Rattle.md_tree.proofs.Trees.{after_nodes, Feeds-context}
+use Rattle.md_tree.proofs.Completing.{IsDone-runs, BeginTree-runs}
 use Rattle.md_tree.proofs.Paths.{path_none, Stands, Stands-context, Reached, Left, Reached-left, Left-closed, Left-inner, Closed, entry_is}
 use Rattle.md_tree.proofs.Verdicts.{Runs-same, Runs-checked, Reached-runs, fine_shaped, fine_meets, fine_path_shaped}
 

@@ -10,7 +10,6 @@ use Rattle.md_tree.specs.declared.open_nodes.Open.{Open}
 use Rattle.md_tree.specs.Mentions.{mentions_among, IsResolved}
 use Rattle.md_tree.specs.Resolve.{IsUnresolved}
 use Rattle.md_tree.specs.Grammar.{handed}
-use Rattle.md_tree.specs.Refusal.{IsRefusal}
 use Rattle.md_tree.specs.Walk.{open_seen, opens_seen, course_of}
 use Rattle.md_tree.proofs.Endings.{IsWalked, IsWalked-done}
 use Rattle.md_tree.proofs.Checking.{IsRefusal-undone, IsRefusal-lost, IsChecked-walked}
