@@ -120,7 +120,8 @@ joined at from middle to o r later more a b = record {
 }
 
 nothing_where : (at : At) (w : Wanted) (f : Found) (n : ℕ) →
-    Searched at (record { wanted = w; found = f; read_at = n }) (record { wanted = w; found = f; read_at = n }) None None
+    Searched at (record { wanted = w; found = f; read_at = n })
+    (record { wanted = w; found = f; read_at = n }) None None
 nothing_where at w so_far.Nothing n = record { wanted = refl; found = refl; places = refl }
 nothing_where at w so_far.First n = record { wanted = refl; found = refl; places = refl }
 nothing_where at w so_far.Reference n = record { wanted = refl; found = refl; places = refl }
