@@ -10,3 +10,4 @@ pub mod Children
 pub mod EventNames
 pub mod NamesByLength
 pub mod Table
+pub mod Leaves

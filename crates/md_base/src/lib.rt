@@ -5,6 +5,7 @@
 mod event;
 mod event_names;
 mod identifier;
+pub mod laws;
 mod lists;
 mod name;
 pub mod name_tests;

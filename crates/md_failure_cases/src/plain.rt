@@ -136,10 +136,9 @@ fn link_answers(checked: &Checked) -> bool
     requires text { ExitsAt checked.now.events 5 name.Data }
     requires label { ExitsAt checked.now.events 6 name.LabelText }
 {
-    !checked.has_resource(1)
-        && checked
-            .reads(1)
-            .is_some_and(|place| place.to_indices() == (1, 2))
+    checked
+        .reads(1)
+        .is_some_and(|place| place.to_indices() == (1, 2))
         && checked.first_ending() == Some(11)
         && checked.definitions() == [14, 26].as_slice()
         && checked.text(5) == "a"

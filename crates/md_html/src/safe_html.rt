@@ -15,9 +15,9 @@ use md_base::Event;
 use md_text::CompileOptions;
 use md_tree::CompileError;
 use std::alloc::Global;
-use std::error::Error;
 use std::fmt;
 use std::marker::Model;
+use thiserror::Error;
 
 /// A text that has exactly one reading in the HTML grammar, in which each `href` and `src` has no protocol or a
 /// permitted one. Only [`compile_safe`] makes one.
@@ -68,7 +68,7 @@ impl SafeHtml {
 }
 
 /// Why there is no safe text.
-#[derive(Debug, PartialEq, Eq, Drop)]
+#[derive(Debug, PartialEq, Eq, Drop, Error)]
 pub enum SafeError {
     /// The options aren't safe.
     Options,
@@ -89,8 +89,6 @@ impl fmt::Display for SafeError {
         }
     }
 }
-
-impl Error for SafeError {}
 
 impl From<CompileError> for SafeError {
     ghost use Rattle.std.specs.Prelude.{◌≡◌};

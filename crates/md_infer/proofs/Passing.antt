@@ -1,5 +1,5 @@
 -- The pass from the first event to the last finds what is defined of a forest's nodes.
-use Rattle.std.proofs.Common.{◌≡◌, ℕ, suc, ◌+◌, ◌<◌, add-one, get_or, Bool, true, false, not, ◌&&◌, cond, List, [], ◌∷◌, ◌++◌, length, take, drop, refl, ap, sym, ◌∙◌, append_assoc, append-nil}
+use Rattle.std.proofs.Common.{◌≡◌, ℕ, suc, ◌+◌, ◌<◌, add-one, get_or, Bool, true, false, cond, List, [], ◌∷◌, ◌++◌, length, take, drop, refl, ap, sym, ◌∙◌, append_assoc, append-nil}
 use Rattle.std.specs.Prelude.{set}
 use Rattle.std.proofs.Math.Seq.{take-suc}
 use Rattle.std.proofs.lemmas.List.{take_at, drop_at, set_at}
@@ -150,7 +150,6 @@ fact_same name exit tables contributing index children sought told = by (is_tran
       partner = exit;
       read_at = cond (is_table name) tables (cond (is_item name) contributing (cond through 0 own.read_at));
       looseness = looseness told;
-      has_resource = not through && own.has_resource;
     }
 
     by : (through : Bool) → fact_where through (sought_over index children (cond through sought (search_of name)))

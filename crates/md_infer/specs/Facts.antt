@@ -1,6 +1,6 @@
 -- The pass over the events from the first to the last, which finds what is read or inferred of each node. Only
 -- contracts of private functions speak of it.
-use Rattle.std.specs.Prelude.{ℕ, suc, Bool, true, false, not, ◌&&◌, if◌then◌else◌, List, [], ◌∷◌, ◌++◌, length, reverse, set}
+use Rattle.std.specs.Prelude.{ℕ, suc, Bool, true, false, if◌then◌else◌, List, [], ◌∷◌, ◌++◌, length, reverse, set}
 use Rattle.md_base.specs.declared.event.AlignKind.{AlignKind}
 use Rattle.md_base.specs.declared.event.Name.{Name}
 use Rattle.md_base.specs.declared.event.Name.TheVariants.{Paragraph, Data, LineEnding, BlankLineEnding, BlockQuote, BlockQuotePrefix, ListItem, ListItemPrefix, GfmFootnoteDefinition, Definition, GfmTable, GfmTableDelimiterCellValue, GfmTableDelimiterMarker, SpaceOrTab, Other}
@@ -90,7 +90,6 @@ fact_of name exit table contributing sought told = record {
   partner = exit;
   read_at = read_at_of name table contributing sought;
   looseness = looseness told;
-  has_resource = not (is_transparent name) && sought.has_resource;
 }
 
 -- what is known of an exit, and of an entry before its exit
@@ -99,7 +98,6 @@ partner_alone partner = record {
   partner = partner;
   read_at = 0;
   looseness = record { without_items = false; with_items = false; of_item = false };
-  has_resource = false;
 }
 
 -- what is found at the events so far, the entries of the definitions that have ended, the innermost open node, and

@@ -1,6 +1,6 @@
 -- What a name reads of the nodes on its spine: where the one node stands that it seeks. Only contracts of private
 -- functions speak of it.
-use Rattle.std.specs.Prelude.{Bool, true, false, ℕ, if◌then◌else◌}
+use Rattle.std.specs.Prelude.{Bool, ℕ, if◌then◌else◌}
 use Rattle.md_base.specs.declared.event.Name.{Name}
 use Rattle.md_base.specs.declared.event.Name.TheVariants as named
 use Rattle.md_infer.specs.declared.seeking.Wanted.{Wanted}
@@ -29,13 +29,12 @@ wanted_by _ = want.Nothing
 
 -- a spine of a name, of which nothing has been searched
 abbrev pub search_of : Name → Sought
-search_of name = record { wanted = wanted_by name; found = so_far.Nothing; read_at = 0; has_resource = false }
+search_of name = record { wanted = wanted_by name; found = so_far.Nothing; read_at = 0 }
 
 -- what a node is on the spine of a link or an image
 abbrev pub sight_in_media : Name → Sight
 sight_in_media named.Label = looks.Holder
 sight_in_media named.ReferenceString = looks.Reference
-sight_in_media named.Resource = looks.Resource
 sight_in_media _ = looks.Other
 
 abbrev pub itself_if : Bool → Sight
@@ -80,7 +79,6 @@ seen_as looks.Other sought entry inner = sought
 seen_as looks.Itself sought entry inner = first sought entry
 seen_as looks.Holder sought entry inner = first sought inner
 seen_as looks.Reference sought entry inner = refer sought entry
-seen_as looks.Resource sought entry inner = record sought { has_resource = true }
 
 abbrev pub seen : Sought → Name → ℕ → ℕ → Sought
 seen sought name entry inner = seen_as (sight sought.wanted name) sought entry inner

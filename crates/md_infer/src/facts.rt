@@ -25,8 +25,6 @@ pub struct Fact {
     pub read_at: usize,
     /// Whether the node is loose, by its children, as a list or as an item.
     pub looseness: Looseness,
-    /// A resource stands on the spine of a link or an image.
-    pub has_resource: bool,
 }
 
 /// A node that is open.
@@ -136,26 +134,22 @@ fn search_after(sought: &mut Sought, name: Name, entry: usize, own: &Sought)
             read_at: own.read_at,
             wanted: own.wanted,
             found: own.found,
-            has_resource: own.has_resource,
         };
     } else if !is_idle(*sought) {
         *sought = seen(*sought, name, entry, own.read_at);
     }
 }
 
-/// Where what is read of a node is found: which table it is, the last contributing child, or what was sought; and
-/// whether a resource was found on the node's own spine.
+/// Where what is read of a node is found: which table it is, the last contributing child, or what was sought.
 #[inline(always)]
-fn read_at_of(name: Name, table: usize, own: &OpenNode) -> (usize, bool)
-    ensures read_at { result.0 ≡ spec.read_at_of name table own.now.contributing own.now.sought }
-    ensures resource { result.1 ≡ (not (is_transparent name) && own.now.sought.has_resource) }
+fn read_at_of(name: Name, table: usize, own: &OpenNode) -> usize
+    ensures { result ≡ spec.read_at_of name table own.now.contributing own.now.sought }
 {
-    let sought = own.sought;
     match name {
-        Name::GfmTable => (table, sought.has_resource),
-        Name::ListItem => (own.contributing, sought.has_resource),
-        Name::BlockQuotePrefix | Name::SpaceOrTab | Name::Other(_) => (0, false),
-        _ => (sought.read_at, sought.has_resource),
+        Name::GfmTable => table,
+        Name::ListItem => own.contributing,
+        Name::BlockQuotePrefix | Name::SpaceOrTab | Name::Other(_) => 0,
+        _ => own.sought.read_at,
     }
 }
 
@@ -164,12 +158,10 @@ fn read_at_of(name: Name, table: usize, own: &OpenNode) -> (usize, bool)
 fn fact_of(name: Name, exit: usize, table: usize, own: &OpenNode) -> Fact
     ensures { result ≡ spec.fact_of name exit table own.now.contributing own.now.sought own.now.told }
 {
-    let (read_at, has_resource) = read_at_of(name, table, own);
     Fact {
         partner: exit,
-        read_at,
+        read_at: read_at_of(name, table, own),
         looseness: told_looseness(own.told),
-        has_resource,
     }
 }
 
@@ -181,7 +173,6 @@ fn partner_alone(partner: usize) -> Fact
         partner,
         read_at: 0,
         looseness: NOT_LOOSE,
-        has_resource: false,
     }
 }
 

@@ -18,7 +18,7 @@ pub enum Wanted {
     Prefix,
     /// The first value in the prefix of an item.
     Value,
-    /// What a link or an image refers by, and whether it has a resource.
+    /// What a link or an image refers by.
     Media,
     /// The first label of a call, and in it the text.
     Label,
@@ -51,8 +51,6 @@ pub struct Sought {
     pub wanted: Wanted,
     /// What has been found on it so far.
     pub found: Found,
-    /// A resource stands on the spine of a link or an image.
-    pub has_resource: bool,
 }
 
 /// What a node is on a spine on which something is sought.
@@ -66,8 +64,6 @@ pub enum Sight {
     Holder,
     /// The reference of a link or an image.
     Reference,
-    /// The resource of a link or an image.
-    Resource,
 }
 
 /// What the spine of a name is searched for.
@@ -98,7 +94,6 @@ pub fn search_of(name: Name) -> Sought
         wanted: wanted_by(name),
         found: Found::Nothing,
         read_at: 0,
-        has_resource: false,
     }
 }
 
@@ -109,7 +104,6 @@ fn sight_in_media(name: Name) -> Sight
     match name {
         Name::Label => Sight::Holder,
         Name::ReferenceString => Sight::Reference,
-        Name::Resource => Sight::Resource,
         _ => Sight::Other,
     }
 }
@@ -196,9 +190,5 @@ pub fn seen(sought: Sought, name: Name, entry: usize, inner: usize) -> Sought
         Sight::Itself => first(sought, entry),
         Sight::Holder => first(sought, inner),
         Sight::Reference => refer(sought, entry),
-        Sight::Resource => Sought {
-            has_resource: true,
-            ..sought
-        },
     }
 }

@@ -3,11 +3,11 @@
 use md_html::SafeError;
 use md_tree::{CompileError, Rule};
 use std::alloc::AllocError;
-use std::error::Error;
 use std::fmt;
+use thiserror::Error;
 
 /// Why a script gives no text.
-#[derive(Debug, PartialEq, Eq, Drop)]
+#[derive(Debug, PartialEq, Eq, Drop, Error)]
 pub enum RunError {
     /// There is no more memory.
     Memory,
@@ -57,8 +57,6 @@ impl fmt::Display for RunError {
     }
 }
 
-impl Error for RunError {}
-
 impl From<AllocError> for RunError {
     ghost use Rattle.std.specs.Prelude.{◌≡◌};
     ghost use Rattle.md_script.specs.declared.error.RunError.TheVariants.{Memory};
@@ -85,7 +83,7 @@ impl From<CompileError> for RunError {
 }
 
 /// Why a script gives no safe text.
-#[derive(Debug, PartialEq, Eq, Drop)]
+#[derive(Debug, PartialEq, Eq, Drop, Error)]
 pub enum SafeRunError {
     /// Its options aren't safe.
     Options,
@@ -106,8 +104,6 @@ impl fmt::Display for SafeRunError {
         }
     }
 }
-
-impl Error for SafeRunError {}
 
 impl From<RunError> for SafeRunError {
     ghost use Rattle.std.specs.Prelude.{◌≡◌};

@@ -8,9 +8,9 @@ ghost use Rattle.md_script.specs.declared.serving.ServeError.TheVariants as erro
 use crate::error::RunError;
 use crate::running::run;
 use std::alloc::{AllocError, Global};
-use std::error::Error;
 use std::fmt;
 use std::io::{Read, Write};
+use thiserror::Error;
 
 /// How often a reader is read at most.
 const MOST_READS: u32 = 16_777_216;
@@ -19,7 +19,7 @@ const MOST_READS: u32 = 16_777_216;
 const READ_SIZE: usize = 65_536;
 
 /// Why a script was not served.
-#[derive(Debug, PartialEq, Eq, Drop)]
+#[derive(Debug, PartialEq, Eq, Drop, Error)]
 pub enum ServeError {
     /// It gives no text, or there is no more memory.
     Run(RunError),
@@ -64,8 +64,6 @@ impl fmt::Display for ServeError {
         }
     }
 }
-
-impl Error for ServeError {}
 
 impl From<RunError> for ServeError {
     ghost use Rattle.std.specs.Prelude.{◌≡◌};

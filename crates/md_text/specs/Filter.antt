@@ -1,11 +1,11 @@
 -- The tag filter of GitHub flavored Markdown.
-use Rattle.std.specs.Prelude.{ℕ, Bool, true, ◌&&◌, ◌||◌, ◌==◌, if◌then◌else◌, List, [], ◌∷◌, ◌++◌, map, length, drop, take_while, codes}
-use Rattle.md_base.specs.declared.lists.TheConstants.{GFM_HTML_TAGFILTER_NAMES}
+use Rattle.std.specs.Prelude.{ℕ, Bool, true, ◌&&◌, ◌||◌, ◌==◌, if◌then◌else◌, List, [], ◌∷◌, ◌++◌, length, drop, take_while, codes}
 use Rattle.md_text.specs.Bytes.{is_letter, lowered, is_one_of}
 
 -- the names of the tags that are disarmed
 abbrev pub disarmed_names : List (List ℕ)
-disarmed_names = map (λ name. name.now) GFM_HTML_TAGFILTER_NAMES
+disarmed_names = codes "iframe" ∷ codes "noembed" ∷ codes "noframes" ∷ codes "plaintext" ∷ codes "script"
+    ∷ codes "style" ∷ codes "textarea" ∷ codes "title" ∷ codes "xmp" ∷ []
 
 -- a text without one `/` that it begins with
 abbrev pub past_slash : List ℕ → List ℕ

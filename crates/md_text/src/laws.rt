@@ -1,6 +1,7 @@
 //! What holds of every text, as the contracts of functions that do nothing.
 
 pub mod cases;
+pub mod leaves;
 
 ghost use Rattle.std.specs.List.{list_all};
 ghost use Rattle.std.specs.Prelude.{◌≡◌, ◌≢◌, ◌⊎◌, ℕ, [], ◌∷◌, ◌++◌, List, Bool, true, false, codes};

@@ -20,19 +20,20 @@ use Rattle.md_base.specs.Tree.{Forest, Empty, Node, flatten, entering, exiting}
 use Rattle.md_pattern.specs.Standing.{standing_of}
 use Rattle.md_pattern.specs.Spine.{spine}
 use Rattle.md_pattern.specs.Pattern.{pattern_of}
-use Rattle.md_pattern.specs.Shape.{EachNode, IsShaped, AreShaped, inner_role, inner_before}
+use Rattle.md_pattern.specs.Shape.{IsShaped, AreShaped, inner_role, inner_before}
 use Rattle.md_tree.specs.Rules.{broken_rule, reading_of, MeetRules, target_of}
 use Rattle.md_tree.specs.Grammar.{Handed, IsGrammatical, IsReadAs, IsChecked}
-use Rattle.md_tree.specs.Refusal.{Level, opening, role_in, before_in, symbol_after, Begins, LeaveOpen, EndsBroken}
+use Rattle.md_tree.specs.Refusal.{Level, opening, role_in, before_in, symbol_after, Begins, IsLeftOpen, LeaveOpen, EndsBroken}
 use Rattle.md_pattern.specs.Steps.{is_complete, is_whole, is_optional, items_of, start_of}
 use Rattle.md_tree.specs.Machine.{Reads, Course, Runs, Exits, ExitsWhere, after_exit, entered_on, beginning}
 use Rattle.md_tree.specs.Walk.{Unbroken, Broken, BreaksWhere, BreaksAtExit}
 use Rattle.md_tree.specs.Mentions.{mentions_of}
 use Rattle.md_tree.proofs.Listing.{listed, mentions_over-listed}
 use Rattle.md_tree.proofs.Greedy.{and_both}
-use Rattle.md_tree.proofs.Groups.{Feeds, matches_feeds, EndsInGroup-feeds}
-use Rattle.md_tree.proofs.Trees.{IsFine, after_nodes, Feeds-context}
-use Rattle.md_tree.proofs.Paths.{Stands, Stands-context, Reached, Left, Reached-left, Left-closed, Left-inner, Closed, entry_is}
+use Rattle.md_tree.proofs.Groups.{Feeds, EndsInGroup-feeds}
+use Rattle.md_tree.proofs.Trees.{after_nodes, Feeds-context}
+use Rattle.md_tree.proofs.Completing.{IsDone-runs, BeginTree-runs}
+use Rattle.md_tree.proofs.Paths.{path_none, Stands, Stands-context, Reached, Left, Reached-left, Left-closed, Left-inner, Closed, entry_is}
 use Rattle.md_tree.proofs.Verdicts.{Runs-same, Runs-checked, Reached-runs, fine_shaped, fine_meets, fine_path_shaped}
 
 -- ---- a node that breaks a rule
@@ -162,11 +163,6 @@ path_some : (path : List Level) (open_node : Open) (others : List Open) (state :
 path_some [] open_node others state target stands = absurd stands
 path_some (level ∷ path) open_node others state target stands = λ e. cc
 
-path_none : (path : List Level) (state : State) (target : Target) → Stands path [] state target →
-    (path ≡ []) × (state ≡ start_of Flow)
-path_none [] state target stands = (refl, stands.0)
-path_none (level ∷ path) state target stands = absurd stands
-
 flow_optional : (k : ℕ) → list_all is_optional (drop k (pattern_of Flow)) ≡ true
 flow_optional zero = refl
 flow_optional (suc zero) = refl
@@ -184,7 +180,7 @@ not_whole state flow incomplete false e = refl
 
 -- something is open
 leaves_group : (holds : Reads) (events : List Event) (course : Course) → (reached : Reached holds events course) →
-    (reached.path ≡ []) → reached.base ≡ start_of Flow → is_complete course.state ≡ false → LeaveOpen events
+    (reached.path ≡ []) → reached.base ≡ start_of Flow → is_complete course.state ≡ false → IsLeftOpen events
 leaves_group holds events course reached none base incomplete =
     let feeds = subst (λ s. Feeds s (spine reached.nodes) course.state) base reached.feeds in
     let flow = (Feeds-context (start_of Flow) course.state (spine reached.nodes) feeds).0 in
@@ -197,7 +193,7 @@ leaves_group holds events course reached none base incomplete =
 
 leave_open : (holds : Reads) (events : List Event) (course : Course) (opens : List Open) → course.open_nodes ≡ opens →
     (reached : Reached holds events course) → (course.open_nodes ≡ [] → is_complete course.state ≡ false) →
-    LeaveOpen events
+    IsLeftOpen events
 leave_open holds events course [] e reached undone =
     let none = path_none reached.path reached.base reached.found
     (subst (λ os. Stands reached.path os reached.base reached.found) e reached.stands) in
@@ -212,8 +208,10 @@ leave_open holds events course (open_node ∷ others) e reached undone = (
 
 pub LeaveOpen-undone : (holds : Reads) (events : List Event) (course : Course) → Runs holds events beginning course →
     (course.open_nodes ≡ [] → is_complete course.state ≡ false) → LeaveOpen events
-LeaveOpen-undone holds events course runs undone =
-    leave_open holds events course course.open_nodes refl (Reached-runs holds events course runs) undone
+LeaveOpen-undone holds events course runs undone = (
+  BeginTree-runs holds events course runs,
+  leave_open holds events course course.open_nodes refl (Reached-runs holds events course runs) undone,
+)
 
 true_false : (b : Bool) → b ≡ true → b ≡ false → ⊥
 true_false b e f = cc
@@ -244,25 +242,15 @@ pub IsWalked-done : (given : Handed) (course : Course) →
     is_complete course.state ≡ true → IsWalked given course.mentions
 IsWalked-done given course runs none complete =
     let holds = Unbroken given.bytes given.names in
-    let reached = Reached-runs holds given.events course runs in
-    let path = path_none reached.path reached.base reached.found
-    (subst (λ os. Stands reached.path os reached.base reached.found) none reached.stands) in
-    let fine = subst (λ (s : State). EachNode (IsFine holds) reached.nodes s.role s.before) path.1 reached.nodes_fine in
-    let feeds = subst (λ s. Feeds s (spine reached.nodes) course.state) path.1 reached.feeds in
-    let flattened : flatten reached.nodes ≡ given.events =
-    sym (reached.events_are ∙ ap (λ p. opening p ++ flatten reached.nodes) path.0) in
-    let shape : IsShaped reached.nodes = (
-      fine_shaped holds reached.nodes Flow None fine,
-      matches_feeds Flow (spine reached.nodes) course.state feeds complete,
-    ) in
-    let rules = fine_meets given.bytes given.names reached.nodes Flow None fine in
-    let document = Runs-checked given reached.nodes flattened shape rules in
+    let done = IsDone-runs holds given.events course runs none complete in
+    let rules = fine_meets given.bytes given.names done.forest Flow None done.fine in
+    let document = Runs-checked given done.forest done.flattened done.shape rules in
     let same = Runs-same holds holds given.events beginning course
-    (after_nodes reached.nodes document.0 beginning) runs document.1 in
+    (after_nodes done.forest document.0 beginning) runs document.1 in
     record {
-      forest = reached.nodes;
-      flattened = flattened;
-      shape = shape;
+      forest = done.forest;
+      flattened = done.flattened;
+      shape = done.shape;
       rules = rules;
-      mentions_are = ap (λ (c : Course). c.mentions) same ∙ mentions_over-listed reached.nodes;
+      mentions_are = ap (λ (c : Course). c.mentions) same ∙ mentions_over-listed done.forest;
     }

@@ -343,7 +343,7 @@ goes_back items left stage [] g out =
 goes_back items left stage (symbol ∷ symbols) g out =
     on_any stage items g.0 g.1 symbol symbols g.2 (goes_back g.0 left g.1 symbols g.3 out)
 
-whole_stage : (stage : Stage) → is_whole stage ≡ true → stage ≡ Whole
+pub whole_stage : (stage : Stage) → is_whole stage ≡ true → stage ≡ Whole
 whole_stage Whole e = refl
 whole_stage Marker e = cc
 whole_stage Numeric e = cc

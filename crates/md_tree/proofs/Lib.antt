@@ -2,6 +2,7 @@
 -- its tree says: this way ends in `Kept`.
 pub mod Breaks
 pub mod Checking
+pub mod Completing
 pub mod Contributing
 pub mod Defining
 pub mod Endings

@@ -39,7 +39,7 @@ flatten-joined (Node name start end children rest) others =
     ∙ ap (λ es. entering name start ∷ es) (sym (append_assoc (flatten children) (exiting name end
     ∷ flatten rest) (flatten others)))
 
-spine-joined : (forest others : Forest) → spine (joined forest others) ≡ spine forest ++ spine others
+pub spine-joined : (forest others : Forest) → spine (joined forest others) ≡ spine forest ++ spine others
 spine-joined Empty others = refl
 spine-joined (Node name start end children rest) others =
     ap (λ s. shown (standing_of name) (spine children) ++ s) (spine-joined rest others)
@@ -56,7 +56,7 @@ last_symbol-append : (before : Option Symbol) (symbols others : List Symbol) →
 last_symbol-append before [] others = refl
 last_symbol-append before (symbol ∷ symbols) others = last_symbol-append (Some symbol) symbols others
 
-EachNode-joined : (P : Claim) (forest others : Forest) (around : Role) (before : Option Symbol) →
+pub EachNode-joined : (P : Claim) (forest others : Forest) (around : Role) (before : Option Symbol) →
     EachNode P forest around before → EachNode P others around (last_symbol before (spine forest)) →
     EachNode P (joined forest others) around before
 EachNode-joined P Empty others around before each more = more
@@ -118,7 +118,7 @@ may_hold_true : (b : Bool) (o : Option Entry) (entry : Entry) → cond b o None 
 may_hold_true true o entry e = (refl, e)
 may_hold_true false o entry e = cc
 
-some_entry : (a b : Entry) → Some a ≡ Some b → a ≡ b
+pub some_entry : (a b : Entry) → Some a ≡ Some b → a ≡ b
 some_entry a b e = cc
 
 -- the context of a node's children
@@ -181,6 +181,11 @@ Stands-context (level ∷ path) (open_node ∷ others) state target stands =
     level_context path level stands.0 stands.2 state (target_of level.before stands.1) target open_node.outer outer.0
     outer.1 stands.4 stands.7
 
+pub path_none : (path : List Level) (state : State) (target : Target) → Stands path [] state target →
+    (path ≡ []) × (state ≡ start_of Flow)
+path_none [] state target stands = (refl, stands.0)
+path_none (level ∷ path) state target stands = absurd stands
+
 -- a node is entered
 pub Reached-enter : (holds : Reads) (events : List Event) (from : Course) (name : Name) (start : Point)
     (entry : Entry) → Reached holds events from → entered (standing_of name) from.state from.target ≡ Some entry →
@@ -224,7 +229,7 @@ pub record Closed (holds : Reads) (standing : Standing) (name : Name) (start end
   pub feeds : Feeds here (shown standing (spine children)) after
   pub target_is : target ≡ target_after standing found (target_of children) (place start end)
 
-not_childless : (role : Role) → may_hold role ≡ true → role ≢ Childless
+pub not_childless : (role : Role) → may_hold role ≡ true → role ≢ Childless
 not_childless role may e = let h : true ≡ false = sym may ∙ ap may_hold e in cc
 
 nothing_inside : (holds : Reads) (children : Forest) (before : Option Symbol) →

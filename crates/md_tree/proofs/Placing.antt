@@ -1,5 +1,5 @@
 -- Each node of a document is where its entry and the entry's partner say. So a look-up by index finds the place that
--- the tree has: `reads` and `has_resource` of `Checked` go by it.
+-- the tree has: `reads` of `Checked` goes by it.
 use Rattle.std.proofs.Common.{◌≡◌, ℕ, suc, ◌+◌, Some, List, [], ◌∷◌, ◌++◌, length, get_or, refl, sym, ap, ◌∙◌, subst, append_assoc, append-nil, arith}
 use Rattle.std.specs.Prelude.{slice_get}
 use Rattle.std.specs.List.{All}

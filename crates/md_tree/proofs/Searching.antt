@@ -1,9 +1,8 @@
 -- The search over a spine finds the place that a name reads.
-use Rattle.std.proofs.Common.{◌≡◌, ℕ, suc, Bool, true, false, ◌||◌, cond, Option, Some, None, List, [], ◌∷◌, ◌++◌, refl, ap, sym, ◌∙◌, subst}
+use Rattle.std.proofs.Common.{◌≡◌, ℕ, suc, Bool, true, false, cond, Option, Some, None, refl, ap, sym, ◌∙◌, subst}
 use Rattle.std.specs.Prelude.{option_map, unwrap_or}
-use Rattle.std.specs.List.{list_any}
 use Rattle.md_base.specs.declared.event.Name.{Name}
-use Rattle.md_base.specs.declared.event.Name.TheVariants.{HeadingAtx, ListOrdered, ListItem, ListItemPrefix, Link, Image, Label, ReferenceString, Resource, GfmFootnoteCall, Definition, GfmFootnoteDefinition, GfmFootnoteDefinitionPrefix, BlockQuotePrefix, SpaceOrTab, Other}
+use Rattle.md_base.specs.declared.event.Name.TheVariants.{HeadingAtx, ListOrdered, ListItem, ListItemPrefix, Link, Image, Label, ReferenceString, GfmFootnoteCall, Definition, GfmFootnoteDefinition, GfmFootnoteDefinitionPrefix, BlockQuotePrefix, SpaceOrTab, Other}
 use Rattle.md_base.specs.declared.event.Point.{Point}
 use Rattle.md_base.specs.declared.event.Position.{Position}
 use Rattle.md_infer.specs.declared.seeking.Wanted.{Wanted}
@@ -13,13 +12,13 @@ use Rattle.md_infer.specs.declared.seeking.Found.TheVariants as so_far
 use Rattle.md_infer.specs.declared.seeking.Sight.TheVariants as looks
 use Rattle.md_infer.specs.declared.seeking.Sought.{Sought}
 use Rattle.md_base.specs.Tree.{Forest, Empty, Node}
-use Rattle.md_base.specs.NameTests.{is_transparent, is_heading_mark, is_item, is_item_prefix, is_item_value, is_label, is_label_text, is_reference, is_resource, is_definition_label, is_footnote_prefix, is_footnote_label}
-use Rattle.md_base.specs.Children.{or_else, first_on_spine, spine_names}
+use Rattle.md_base.specs.NameTests.{is_transparent, is_heading_mark, is_item, is_item_prefix, is_item_value, is_label, is_label_text, is_reference, is_definition_label, is_footnote_prefix, is_footnote_label}
+use Rattle.md_base.specs.Children.{or_else, first_on_spine}
 use Rattle.md_tree.specs.Rules.{place}
 use Rattle.md_infer.specs.Partners.{index_after}
 use Rattle.md_infer.specs.Seeking.{wanted_by, search_of, sight, first_where, refer_where, seen_as, seen}
 use Rattle.md_infer.specs.Facts.{sought_inside, sought_after, sought_over}
-use Rattle.md_tree.specs.Reads.{first_place, number_in, label_in, reads, is_reader, has_resource}
+use Rattle.md_tree.specs.Reads.{first_place, number_in, label_in, reads, is_reader}
 
 -- which node a search stops at, and what it finds there
 abbrev seeks : Wanted → Name → Bool
@@ -120,46 +119,42 @@ joined at from middle to o r later more a b = record {
       ∙ place_twice from.found (at from.read_at) o r later more;
 }
 
-nothing_where : (at : At) (w : Wanted) (f : Found) (n : ℕ) (has also : Bool) →
-    Searched at (record { wanted = w; found = f; read_at = n; has_resource = has }) (record {
-      wanted = w;
-      found = f;
-      read_at = n;
-      has_resource = also;
-    }) None None
-nothing_where at w so_far.Nothing n has also = record { wanted = refl; found = refl; places = refl }
-nothing_where at w so_far.First n has also = record { wanted = refl; found = refl; places = refl }
-nothing_where at w so_far.Reference n has also = record { wanted = refl; found = refl; places = refl }
+nothing_where : (at : At) (w : Wanted) (f : Found) (n : ℕ) →
+    Searched at (record { wanted = w; found = f; read_at = n })
+    (record { wanted = w; found = f; read_at = n }) None None
+nothing_where at w so_far.Nothing n = record { wanted = refl; found = refl; places = refl }
+nothing_where at w so_far.First n = record { wanted = refl; found = refl; places = refl }
+nothing_where at w so_far.Reference n = record { wanted = refl; found = refl; places = refl }
 
 nothing : (at : At) (s : Sought) → Searched at s s None None
-nothing at s = nothing_where at s.wanted s.found s.read_at s.has_resource s.has_resource
+nothing at s = nothing_where at s.wanted s.found s.read_at
 
-first_found : (at : At) (w : Wanted) (f : Found) (n : ℕ) (has : Bool) (m : ℕ) (o : Option Position) → at m ≡ o →
-    Searched at (record { wanted = w; found = f; read_at = n; has_resource = has })
-    (first_where f (record { wanted = w; found = f; read_at = n; has_resource = has }) m) (Some o) None
-first_found at w so_far.Nothing n has m o e = record { wanted = refl; found = refl; places = e }
-first_found at w so_far.First n has m o e = record { wanted = refl; found = refl; places = refl }
-first_found at w so_far.Reference n has m o e = record { wanted = refl; found = refl; places = refl }
+first_found : (at : At) (w : Wanted) (f : Found) (n m : ℕ) (o : Option Position) → at m ≡ o →
+    Searched at (record { wanted = w; found = f; read_at = n })
+    (first_where f (record { wanted = w; found = f; read_at = n }) m) (Some o) None
+first_found at w so_far.Nothing n m o e = record { wanted = refl; found = refl; places = e }
+first_found at w so_far.First n m o e = record { wanted = refl; found = refl; places = refl }
+first_found at w so_far.Reference n m o e = record { wanted = refl; found = refl; places = refl }
 
-reference_found : (at : At) (w : Wanted) (f : Found) (n : ℕ) (has : Bool) (m : ℕ) (o : Option Position) → at m ≡ o →
-    Searched at (record { wanted = w; found = f; read_at = n; has_resource = has })
-    (refer_where f (record { wanted = w; found = f; read_at = n; has_resource = has }) m) None (Some o)
-reference_found at w so_far.Nothing n has m o e = record { wanted = refl; found = refl; places = e }
-reference_found at w so_far.First n has m o e = record { wanted = refl; found = refl; places = e }
-reference_found at w so_far.Reference n has m o e = record { wanted = refl; found = refl; places = refl }
+reference_found : (at : At) (w : Wanted) (f : Found) (n m : ℕ) (o : Option Position) → at m ≡ o →
+    Searched at (record { wanted = w; found = f; read_at = n })
+    (refer_where f (record { wanted = w; found = f; read_at = n }) m) None (Some o)
+reference_found at w so_far.Nothing n m o e = record { wanted = refl; found = refl; places = e }
+reference_found at w so_far.First n m o e = record { wanted = refl; found = refl; places = e }
+reference_found at w so_far.Reference n m o e = record { wanted = refl; found = refl; places = refl }
 
 -- ---- one node
 
 -- a node that is, or holds, what is sought, by a test
 itself_step : (at : At) (s : Sought) (passes : Bool) (m inner : ℕ) (o : Option Position) → at m ≡ o →
     Searched at s (seen_as (cond passes looks.Itself looks.Other) s m inner) (cond passes (Some o) None) None
-itself_step at s true m inner o e = first_found at s.wanted s.found s.read_at s.has_resource m o e
+itself_step at s true m inner o e = first_found at s.wanted s.found s.read_at m o e
 itself_step at s false m inner o e = nothing at s
 
 holder_step : (at : At) (s : Sought) (passes : Bool) (m inner : ℕ) (o : Option Position) →
     (passes ≡ true → at inner ≡ o) → Searched at s (seen_as (cond passes looks.Holder looks.Other) s m inner)
     (cond passes (Some o) None) None
-holder_step at s true m inner o e = first_found at s.wanted s.found s.read_at s.has_resource inner o (e refl)
+holder_step at s true m inner o e = first_found at s.wanted s.found s.read_at inner o (e refl)
 holder_step at s false m inner o e = nothing at s
 
 media_step : (at : At) (s : Sought) (name : Name) (start end : Point) (children : Forest) (m inner : ℕ) →
@@ -168,11 +163,9 @@ media_step : (at : At) (s : Sought) (name : Name) (start end : Point) (children 
     (cond (is_label name) (Some (finds want.Media start end children)) None)
     (cond (is_reference name) (Some (Some (place start end))) None)
 media_step at s Label start end children m inner here held =
-    first_found at s.wanted s.found s.read_at s.has_resource inner (finds want.Media start end children) (held refl)
+    first_found at s.wanted s.found s.read_at inner (finds want.Media start end children) (held refl)
 media_step at s ReferenceString start end children m inner here held =
-    reference_found at s.wanted s.found s.read_at s.has_resource m (Some (place start end)) here
-media_step at s Resource start end children m inner here held =
-    nothing_where at s.wanted s.found s.read_at s.has_resource true
+    reference_found at s.wanted s.found s.read_at m (Some (place start end)) here
 media_step at s _ start end children m inner here held = nothing at s
 
 -- what a holder holds is found in it
@@ -447,75 +440,3 @@ reads-found at none name children index all h =
     Searched.places (searched at none children index all (search_of name))
     ∙ ap (λ p. unwrap_or (reference (wanted_by name) children) (unwrap_or (spot (wanted_by name) children) p)) none
     ∙ reader_finds name children h
-
--- ---- resources
-
-or-false : (b : Bool) → b ≡ (b || false)
-or-false true = refl
-or-false false = refl
-
-or-true : (b : Bool) → true ≡ (b || true)
-or-true true = refl
-or-true false = refl
-
-or-assoc : (a b c : Bool) → ((a || b) || c) ≡ (a || (b || c))
-or-assoc true b c = refl
-or-assoc false b c = refl
-
-any_append : (test : Name → Bool) (xs ys : List Name) → list_any test (xs ++ ys)
-    ≡ (list_any test xs || list_any test ys)
-any_append test [] ys = refl
-any_append test (x ∷ xs) ys =
-    ap (λ b. test x || b) (any_append test xs ys) ∙ sym (or-assoc (test x) (list_any test xs) (list_any test ys))
-
-first_resource : (f : Found) (s : Sought) (n : ℕ) → Sought.has_resource (first_where f s n) ≡ s.has_resource
-first_resource so_far.Nothing s n = refl
-first_resource so_far.First s n = refl
-first_resource so_far.Reference s n = refl
-
-refer_resource : (f : Found) (s : Sought) (n : ℕ) → Sought.has_resource (refer_where f s n) ≡ s.has_resource
-refer_resource so_far.Nothing s n = refl
-refer_resource so_far.First s n = refl
-refer_resource so_far.Reference s n = refl
-
-media_resource : (s : Sought) (name : Name) (m inner : ℕ) →
-    Sought.has_resource (seen_as (sight want.Media name) s m inner) ≡ (s.has_resource || is_resource name)
-media_resource s Label m inner = first_resource s.found s inner ∙ or-false s.has_resource
-media_resource s ReferenceString m inner = refer_resource s.found s m ∙ or-false s.has_resource
-media_resource s Resource m inner = or-true s.has_resource
-media_resource s _ m inner = or-false s.has_resource
-
-resources : (at : At) → at 0 ≡ None → (forest : Forest) (index : ℕ) → AllAt at index forest → (s : Sought) →
-    s.wanted ≡ want.Media → Sought.has_resource (sought_over index forest s)
-    ≡ (s.has_resource || list_any is_resource (spine_names forest))
-resources at none Empty index all s media = or-false s.has_resource
-resources at none (Node name start end children rest) index all s media =
-    let later = suc (index_after (suc index) children) in
-    let middle = sought_after name index (sought_over (suc index) children (sought_inside name s)) s in
-    let here = node_step at none index name start end children s all.0 (searched at none children (suc index) all.1)
-    (is_transparent name) refl in
-    resources at none rest later all.2 middle (Searched.wanted here ∙ media)
-    ∙ ap (λ b. b || list_any is_resource (spine_names rest))
-    (by (is_transparent name) (resources at none children (suc index) all.1 s media))
-    ∙ or-assoc s.has_resource (list_any is_resource (cond (is_transparent name) (spine_names children) (name ∷ [])))
-    (list_any is_resource (spine_names rest))
-    ∙ ap (λ b. s.has_resource || b) (sym (any_append is_resource
-    (cond (is_transparent name) (spine_names children) (name ∷ [])) (spine_names rest)))
-  where
-    by : (through : Bool) → Sought.has_resource (sought_over (suc index) children s)
-        ≡ (s.has_resource || list_any is_resource (spine_names children)) →
-        Sought.has_resource (cond through (sought_over (suc index) children (cond through s (search_of name)))
-        (seen s name index (Sought.read_at (sought_over (suc index) children (cond through s (search_of name))))))
-        ≡ (s.has_resource || list_any is_resource (cond through (spine_names children) (name ∷ [])))
-    by true inside = inside
-    by false inside =
-        ap (λ w. Sought.has_resource (seen_as (sight w name) s index
-        (Sought.read_at (sought_over (suc index) children (search_of name))))) media
-        ∙ media_resource s name index (Sought.read_at (sought_over (suc index) children (search_of name)))
-        ∙ ap (λ b. s.has_resource || b) (or-false (is_resource name))
-
--- whether a link or an image has a resource
-pub resource-found : (at : At) → at 0 ≡ None → (name : Name) (children : Forest) (index : ℕ) →
-    AllAt at index children → wanted_by name ≡ want.Media →
-    Sought.has_resource (sought_over index children (search_of name)) ≡ has_resource children
-resource-found at none name children index all media = resources at none children index all (search_of name) media

@@ -230,7 +230,7 @@ node_runs holds free (Solid symbol usual reading) name start end children from m
 node_runs holds free Mdx name start end children from middle ne stands read reads fine feeds = absurd stands
 
 -- nodes that are fine are read, from a spine that takes theirs
-Runs-nodes : (holds : Reads) → AllowsFree holds → (forest : Forest) (from : Course) (end : State) →
+pub Runs-nodes : (holds : Reads) → AllowsFree holds → (forest : Forest) (from : Course) (end : State) →
     EachNode (IsFine holds) forest from.state.role from.state.before → Feeds from.state (spine forest) end →
     Runs holds (flatten forest) from (after_nodes forest end from)
 Runs-nodes holds free Empty from end fine feeds =

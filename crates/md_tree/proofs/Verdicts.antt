@@ -74,7 +74,7 @@ reads_anything Space around before start end target = tt
 reads_anything (Solid symbol usual reading) around before start end target = tt
 reads_anything Mdx around before start end target = tt
 
-shaped_anything : (forest : Forest) (around : Role) (before : Option Symbol) →
+pub shaped_anything : (forest : Forest) (around : Role) (before : Option Symbol) →
     EachNode IsShapedNode forest around before → EachNode (IsFine Anything) forest around before
 shaped_anything forest around before each =
     EachNode-map IsShapedNode (IsFine Anything) (λ r b name start end children p. (
@@ -144,7 +144,7 @@ fine_path_shaped holds [] fine = tt
 fine_path_shaped holds (level ∷ path) fine =
     (fine_shaped holds level.before (role_in path) (before_in path) fine.0, fine_path_shaped holds path fine.1)
 
-free_anything : AllowsFree Anything
+pub free_anything : AllowsFree Anything
 free_anything around before start end target = tt
 
 free_unbroken : (bytes : List ℕ) (names : List (List ℕ × List ℕ)) → AllowsFree (Unbroken bytes names)
@@ -229,6 +229,20 @@ anything_exits : (holds : Reads) (opens : List Open) (name : Name) (point : Poin
 anything_exits holds [] name point from to e = e
 anything_exits holds (open_node ∷ others) name point from to e =
     (e.0, anything_exits_where holds open_node.outer open_node.start point others from to e.1)
+
+anything_steps : (holds : Reads) (kind : Kind) (name : Name) (point : Point) (from to : Course) →
+    StepsBy holds kind name point from to → StepsBy Anything kind name point from to
+anything_steps holds Enter name point from to step = step
+anything_steps holds Exit name point from to step = anything_exits holds from.open_nodes name point from to step
+
+pub anything_runs : (holds : Reads) (events : List Event) (from to : Course) → Runs holds events from to →
+    Runs Anything events from to
+anything_runs holds [] from to runs = runs
+anything_runs holds (event ∷ events) from to runs = (
+  runs.0,
+  anything_steps holds event.kind event.name event.point from runs.0 runs.1,
+  anything_runs holds events runs.0 to runs.2,
+)
 
 entry_stops : (bytes : List ℕ) (names : List (List ℕ × List ℕ)) (broken : Rule) (name : Name) (point : Point)
     (course next : Course) → StopsAtEntry broken name point course → Enters name point course next → ⊥

@@ -1,12 +1,11 @@
 -- What a name reads of the nodes on its spine: the place of one of them.
 use Rattle.std.specs.Prelude.{◌≡◌, ℕ, Bool, true, false, Option, None, unwrap_or, IsTrue}
-use Rattle.std.specs.List.{list_any}
 use Rattle.md_base.specs.declared.event.Name.{Name}
 use Rattle.md_base.specs.declared.event.Name.TheVariants.{HeadingAtx, ListOrdered, Link, Image, GfmFootnoteCall, Definition, GfmFootnoteDefinition}
 use Rattle.md_base.specs.declared.event.Position.{Position}
 use Rattle.md_base.specs.Tree.{Forest}
-use Rattle.md_base.specs.NameTests.{is_heading_mark, is_item, is_item_prefix, is_item_value, is_label, is_label_text, is_reference, is_resource, is_definition_label, is_footnote_prefix, is_footnote_label}
-use Rattle.md_base.specs.Children.{or_else, first_on_spine, spine_names}
+use Rattle.md_base.specs.NameTests.{is_heading_mark, is_item, is_item_prefix, is_item_value, is_label, is_label_text, is_reference, is_definition_label, is_footnote_prefix, is_footnote_label}
+use Rattle.md_base.specs.Children.{or_else, first_on_spine}
 use Rattle.md_tree.specs.Rules.{place}
 use Rattle.md_tree.specs.Grammar.{Handed}
 use Rattle.md_tree.specs.Texts.{EntersAt}
@@ -50,10 +49,6 @@ is_reader GfmFootnoteCall = true
 is_reader Definition = true
 is_reader GfmFootnoteDefinition = true
 is_reader _ = false
-
--- a resource stands on the spine of a link or an image
-abbrev pub has_resource : Forest → Bool
-has_resource children = list_any is_resource (spine_names children)
 
 -- the place that is read of the node that the event at an index enters, where its name reads one
 abbrev pub IsReadAt : Handed → ℕ → Option Position → Type 0

@@ -65,14 +65,22 @@ abbrev pub BeginNoTree : List Event → Type 0
 BeginNoTree events = (forest : Forest) (more : List Event) → IsShaped forest →
     flatten forest ≡ events ++ more → ⊥
 
+-- some tree with the shape of the grammar has a flattening that begins with these events
+abbrev pub BeginTree : List Event → Type 0
+BeginTree events = (forest : Forest) × (more : List Event) × IsShaped forest × (flatten forest ≡ events ++ more)
+
 -- a spine ends in a group that has begun and isn't complete
 abbrev pub EndsInGroup : List Symbol → Type 0
 EndsInGroup symbols = (before group : List Symbol) × (symbols ≡ before ++ group) × IsBegunGroup group
 
--- each node that has ended matches its pattern, and a node, or a group on the document's own spine, is open
-abbrev pub LeaveOpen : List Event → Type 0
-LeaveOpen events = (path : List Level) × (nodes : Forest) × Begins events path nodes
+-- a node is open, or a group on the document's own spine
+abbrev pub IsLeftOpen : List Event → Type 0
+IsLeftOpen events = (path : List Level) × (nodes : Forest) × Begins events path nodes
     × ((path ≢ []) ⊎ ((path ≡ []) × EndsInGroup (spine nodes)))
+
+-- the events begin a tree with the shape of the grammar, and leave something open
+abbrev pub LeaveOpen : List Event → Type 0
+LeaveOpen events = BeginTree events × IsLeftOpen events
 
 -- the node that ends with the last of these events breaks the rule, and each that has ended by then matches its pattern
 pub record EndsBroken (bytes : List ℕ) (names : List (List ℕ × List ℕ)) (events : List Event) (broken : Rule)

@@ -55,7 +55,7 @@ impl<'a> Checked<'a> {
     ghost use Rattle.std.specs.List.{All};
     ghost use Rattle.md_tree.specs.Entered.{IsEnteredAt, EntersNode};
     ghost use Rattle.md_tree.specs.Found.{EntersSome, IsFactAt};
-    ghost use Rattle.md_tree.specs.Reads.{IsReadAt, has_resource};
+    ghost use Rattle.md_tree.specs.Reads.{IsReadAt};
     ghost use Rattle.md_base.specs.declared.event.Name.TheVariants as name;
 
     /// What has passed a check, with what is found at its events.
@@ -266,22 +266,6 @@ impl<'a> Checked<'a> {
         ensures reads { IsReadAt self.now index result }
     {
         position_read(self.events, &self.facts, self.fact(index))
-    }
-
-    /// Whether the link or the image that the event at the index enters has a resource.
-    ///
-    /// # Examples
-    ///
-    /// ```
-    /// // Of `[a](b)`, where 0 enters the link:
-    /// assert!(checked.has_resource(0));
-    /// ```
-    pub fn has_resource(&self, index: usize) -> bool
-        requires { EntersAt self.now.events index name.Link ⊎ EntersAt self.now.events index name.Image }
-        ensures entered { EntersNode self.now index }
-        ensures resource { (children : Forest) → IsEnteredAt self.now index children → result ≡ has_resource children }
-    {
-        self.fact(index).has_resource
     }
 
     /// What is found of the node that the event at the index enters.

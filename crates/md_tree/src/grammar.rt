@@ -61,6 +61,25 @@ pub fn check<'a>(
     ensures of_node { IfErr result (IsOfNode (handed events.now bytes.now names.now)) }
     ensures lost { IfErr result (IsLost (handed events.now bytes.now names.now)) }
 {
+    let found = find(alloc, events, bytes, names)?;
+    Ok(Checked::new(events, bytes, names, found))
+}
+
+/// What is found at the events of a document of the grammar.
+fn find(
+    alloc: Global,
+    events: &[Event],
+    bytes: &[u8],
+    names: &[(&str, &str)],
+) -> Result<Facts, CompileError>
+    ensures grammatical { OnOk result (IsChecked (handed events.now bytes.now names.now)) }
+    ensures facts { IfOk result (λ found. found.facts.items ≡ facts_at events.now) }
+    ensures tables { IfOk result (λ found. map (λ t. t.items) found.tables.items ≡ tables_at events.now) }
+    ensures definitions { IfOk result (λ found. found.definitions.items ≡ definitions_at events.now) }
+    ensures first_ending { IfOk result (λ found. found.first_ending ≡ first_index events.now) }
+    ensures visits { IfOk result (λ found. found.visits ≡ length events.now) }
+    ensures refused { IfErr result (IsRefusal (handed events.now bytes.now names.now)) }
+{
     let read = read_document(alloc, events, bytes, names)?;
     if !is_done(&read.walk) {
         return Err(CompileError::Event {
@@ -70,7 +89,7 @@ pub fn check<'a>(
     }
     let Read { walk, found } = read;
     resolve(alloc, bytes, &walk.mentions)?;
-    Ok(Checked::new(events, bytes, names, found))
+    Ok(found)
 }
 
 /// What is known of events that have been read.

@@ -1,8 +1,8 @@
 //! The rules of the grammar, and why a check refuses.
 
 use std::alloc::{AllocError, AllocFailed};
-use std::error::Error;
 use std::fmt;
+use thiserror::Error;
 
 /// Why a list of events is refused.
 #[derive(Clone, Copy, Debug, PartialEq, Eq)]
@@ -52,7 +52,7 @@ impl fmt::Display for Rule {
 }
 
 /// Why `check` refuses.
-#[derive(Debug, PartialEq, Eq, Drop)]
+#[derive(Debug, PartialEq, Eq, Drop, Error)]
 pub enum CompileError {
     /// It is out of memory.
     Memory,
@@ -74,8 +74,6 @@ impl fmt::Display for CompileError {
         }
     }
 }
-
-impl Error for CompileError {}
 
 impl From<AllocError> for CompileError {
     ghost use Rattle.std.specs.Prelude.{◌≡◌};

@@ -3,9 +3,10 @@
 use md_script::{RunError, SafeRunError, ServeError};
 use std::alloc::AllocError;
 use std::{fmt, io};
+use thiserror::Error;
 
 /// Why nothing was written.
-#[derive(Debug, Drop)]
+#[derive(Debug, Drop, Error)]
 pub enum Failure {
     /// The script gives no text.
     Run(RunError),

@@ -70,7 +70,6 @@ fn answer_found(
         "list_loose" => flag(alloc, of_list(checked, index, false)),
         "list_loose_by_items" => flag(alloc, of_list(checked, index, true)),
         "list_item_loose" => flag(alloc, of_item(checked, index)),
-        "has_resource" => flag(alloc, of_link(checked, index)),
         "gfm_table_align" => columns(alloc, checked, index),
         "last_contributing" => contributing(alloc, checked, index),
         "link_reads" => link_reads(alloc, checked, index),
@@ -91,14 +90,6 @@ fn of_list(checked: &Checked<'_>, index: usize, include_items: bool) -> Option<b
 fn of_item(checked: &Checked<'_>, index: usize) -> Option<bool> {
     if checked.enters(index, Name::ListItem) {
         return Some(list_item_loose(checked, index));
-    }
-    None
-}
-
-/// Whether a link has a resource.
-fn of_link(checked: &Checked<'_>, index: usize) -> Option<bool> {
-    if checked.enters(index, Name::Link) {
-        return Some(checked.has_resource(index));
     }
     None
 }

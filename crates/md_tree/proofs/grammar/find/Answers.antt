@@ -1,4 +1,4 @@
--- What `check` says where the walk isn't done, where a mention leads nowhere, and where all is well. The search can't
+-- What `find` says where the walk isn't done, where a mention leads nowhere, and where all is well. The search can't
 -- go from how a walk ends to what holds of the events: `Checking` does.
 use Rattle.std.proofs.Common.{◌≡◌, [], ◌∷◌, refl, sym, ap, ◌∙◌, subst, length, List}
 use Rattle.std.specs.Prelude.{map, reverse}
@@ -10,11 +10,10 @@ use Rattle.md_tree.specs.declared.open_nodes.Open.{Open}
 use Rattle.md_tree.specs.Mentions.{mentions_among, IsResolved}
 use Rattle.md_tree.specs.Resolve.{IsUnresolved}
 use Rattle.md_tree.specs.Grammar.{handed}
-use Rattle.md_tree.specs.Refusal.{IsRefusal}
 use Rattle.md_tree.specs.Walk.{open_seen, opens_seen, course_of}
 use Rattle.md_tree.proofs.Endings.{IsWalked, IsWalked-done}
 use Rattle.md_tree.proofs.Checking.{IsRefusal-undone, IsRefusal-lost, IsChecked-walked}
-use Rattle.md_tree.proofs.grammar.check.Goals as goal
+use Rattle.md_tree.proofs.grammar.find.Goals as goal
 
 -- no node of a course is open, and so none of a walk
 none_mapped : (events : List Event) (opens : List Open) → map (λ open_node. open_seen events open_node) opens ≡ [] →
@@ -25,22 +24,15 @@ none_mapped events (open_node ∷ opens) e = cc
 none_open : (events : List Event) (opens : List Open) → opens_seen events opens ≡ [] → opens ≡ []
 none_open events opens e = none_mapped events opens (sym (reverse-reverse _) ∙ ap reverse e)
 
-pub returns-then-not-is_done-clause-outside : goal.returns-then-not-is_done-clause-outside
-returns-then-not-is_done-clause-outside c =
-    IsRefusal.outside (IsRefusal-undone (handed c.args.events.now c.args.bytes.now c.args.names.now)
+pub returns-then-not-is_done-clause-refused : goal.returns-then-not-is_done-clause-refused
+returns-then-not-is_done-clause-refused c =
+    IsRefusal-undone (handed c.args.events.now c.args.bytes.now c.args.names.now)
     (course_of c.args.events.now (length c.args.events.now) c.in_ok-read.read.walk) c.in_ok-read.ensures.walked
     (λ e. c.is_done.ensures.undone c.if-not-is_done.true
-    (none_open c.args.events.now c.in_ok-read.read.walk.open_nodes.items e)))
+    (none_open c.args.events.now c.in_ok-read.read.walk.open_nodes.items e))
 
-pub returns-then-not-is_done-clause-order : goal.returns-then-not-is_done-clause-order
-returns-then-not-is_done-clause-order c =
-    IsRefusal.order (IsRefusal-undone (handed c.args.events.now c.args.bytes.now c.args.names.now)
-    (course_of c.args.events.now (length c.args.events.now) c.in_ok-read.read.walk) c.in_ok-read.ensures.walked
-    (λ e. c.is_done.ensures.undone c.if-not-is_done.true
-    (none_open c.args.events.now c.in_ok-read.read.walk.open_nodes.items e)))
-
-pub returns-in_err-resolve-clause-outside : goal.returns-in_err-resolve-clause-outside
-returns-in_err-resolve-clause-outside c =
+pub returns-in_err-resolve-clause-refused : goal.returns-in_err-resolve-clause-refused
+returns-in_err-resolve-clause-refused c =
     let p = err_from_is_err_and c.from_residual-in_err-resolve.result c.from_residual-in_err-resolve.ensures.1 in
     let given = handed c.args.events.now c.args.bytes.now c.args.names.now in
     let mentions = c.in_ok-read.read.walk.mentions.items in
@@ -49,26 +41,12 @@ returns-in_err-resolve-clause-outside c =
     (course_of c.args.events.now (length c.args.events.now) c.in_ok-read.read.walk) c.in_ok-read.ensures.walked
     (ap (opens_seen c.args.events.now) done.0) done.1 in
     rw (p.1, p.2)
-    (IsRefusal.outside (IsRefusal-lost given mentions c.in_err-resolve.field-0.0 walked
+    (IsRefusal-lost given mentions c.in_err-resolve.field-0.0 walked
     (subst (λ ms. IsUnresolved c.args.bytes.now ms c.in_err-resolve.field-0.0) c.deref.ensures.value
-    c.in_err-resolve.ensures.refused)))
+    c.in_err-resolve.ensures.refused))
 
-pub returns-in_err-resolve-clause-lost : goal.returns-in_err-resolve-clause-lost
-returns-in_err-resolve-clause-lost c =
-    let p = err_from_is_err_and c.from_residual-in_err-resolve.result c.from_residual-in_err-resolve.ensures.1 in
-    let given = handed c.args.events.now c.args.bytes.now c.args.names.now in
-    let mentions = c.in_ok-read.read.walk.mentions.items in
-    let done = c.is_done.ensures.done c.if-not-is_done.false in
-    let walked : IsWalked given mentions = IsWalked-done given
-    (course_of c.args.events.now (length c.args.events.now) c.in_ok-read.read.walk) c.in_ok-read.ensures.walked
-    (ap (opens_seen c.args.events.now) done.0) done.1 in
-    rw (p.1, p.2)
-    (IsRefusal.lost (IsRefusal-lost given mentions c.in_err-resolve.field-0.0 walked
-    (subst (λ ms. IsUnresolved c.args.bytes.now ms c.in_err-resolve.field-0.0) c.deref.ensures.value
-    c.in_err-resolve.ensures.refused)))
-
-pub new-requires-clause-grammatical : goal.new-requires-clause-grammatical
-new-requires-clause-grammatical c =
+pub returns-clause-grammatical : goal.returns-clause-grammatical
+returns-clause-grammatical c =
     let given = handed c.args.events.now c.args.bytes.now c.args.names.now in
     let mentions = c.in_ok-read.read.walk.mentions.items in
     let done = c.is_done.ensures.done c.if-not-is_done.false in
