@@ -28,6 +28,31 @@ void *__wrap_realloc(void *old, size_t size) {
     return calls_left != SIZE_MAX && calls_left-- == 0 ? NULL : __real_realloc(old, size);
 }
 
+/* How often the library was asked for a text: the linker leads the calls of this file here too. */
+static _Atomic size_t turns = 0;
+
+bivdrazo_answer __real_bivdrazo_compile(const bivdrazo_event *events, size_t events_length, const uint8_t *bytes,
+                                        size_t bytes_length, const bivdrazo_options *options,
+                                        const bivdrazo_reference *names, size_t names_length, uint8_t *buffer,
+                                        size_t buffer_length);
+bivdrazo_answer __real_bivdrazo_run(const uint8_t *script, size_t script_length, uint8_t *buffer,
+                                    size_t buffer_length);
+
+bivdrazo_answer __wrap_bivdrazo_compile(const bivdrazo_event *events, size_t events_length, const uint8_t *bytes,
+                                        size_t bytes_length, const bivdrazo_options *options,
+                                        const bivdrazo_reference *names, size_t names_length, uint8_t *buffer,
+                                        size_t buffer_length) {
+    turns++;
+    return __real_bivdrazo_compile(events, events_length, bytes, bytes_length, options, names, names_length, buffer,
+                                   buffer_length);
+}
+
+bivdrazo_answer __wrap_bivdrazo_run(const uint8_t *script, size_t script_length, uint8_t *buffer,
+                                    size_t buffer_length) {
+    turns++;
+    return __real_bivdrazo_run(script, script_length, buffer, buffer_length);
+}
+
 /* Counts a check that fails, and prints where it stands. */
 #define CHECK(condition) check((condition), #condition, __LINE__)
 
@@ -117,6 +142,106 @@ static void test_refusals(void) {
     CHECK(answers(events, 4, &options, &none, 0, (bivdrazo_answer){BIVDRAZO_NO_EVENT, 0, 0, 0}));
 }
 
+/* Each field of the default options. */
+static void test_defaults(void) {
+    const bivdrazo_options options = bivdrazo_options_default();
+    const bivdrazo_text texts[] = {options.gfm_footnote_back_label, options.gfm_footnote_clobber_prefix,
+                                   options.gfm_footnote_label, options.gfm_footnote_label_attributes,
+                                   options.gfm_footnote_label_tag_name};
+    CHECK(options.allow_any_img_src == 0);
+    CHECK(options.allow_dangerous_html == 0);
+    CHECK(options.allow_dangerous_protocol == 0);
+    CHECK(options.gfm_task_list_item_checkable == 0);
+    CHECK(options.gfm_tagfilter == 0);
+    CHECK(options.default_line_ending == BIVDRAZO_LINE_FEED);
+    CHECK(options.gfm_footnote_number_ids == 0);
+    for (size_t at = 0; at < sizeof texts / sizeof *texts; at++)
+        CHECK(texts[at].is_set == 0 && texts[at].bytes != NULL && texts[at].length == 0);
+}
+
+/* What each status means. */
+static void test_status_texts(void) {
+    static const struct {
+        uint32_t status;
+        const char *text;
+    } texts[] = {{BIVDRAZO_OK, "there is a text"},
+                 {BIVDRAZO_TOO_SHORT, "the buffer is too short"},
+                 {BIVDRAZO_REFUSED, "an event is refused"},
+                 {BIVDRAZO_NO_EVENT, "an event has no such kind or name"},
+                 {BIVDRAZO_NO_NAME, "a character reference isn't UTF-8"},
+                 {BIVDRAZO_NO_OPTION, "an option has no such value"},
+                 {BIVDRAZO_NO_LINE, "a line of the script can't be read"},
+                 {BIVDRAZO_MEMORY, "out of memory"},
+                 {BIVDRAZO_MEMORY + 1, "an unknown status"},
+                 {UINT32_MAX, "an unknown status"}};
+    for (size_t at = 0; at < sizeof texts / sizeof *texts; at++)
+        CHECK(strcmp(bivdrazo_status_text(texts[at].status), texts[at].text) == 0);
+}
+
+/*
+ * The events of a link or an image with a resource: its label is the byte after `open`, and its destination reaches
+ * from the third byte after that to the last byte but one.
+ */
+static void medium(bivdrazo_event events[14], uint16_t name, size_t open, size_t length) {
+    events[0] = event(BIVDRAZO_ENTER, name, 0);
+    events[1] = event(BIVDRAZO_ENTER, BIVDRAZO_NAME_LABEL, 0);
+    events[2] = event(BIVDRAZO_ENTER, BIVDRAZO_NAME_LABEL_TEXT, open);
+    events[3] = event(BIVDRAZO_ENTER, BIVDRAZO_NAME_DATA, open);
+    events[4] = event(BIVDRAZO_EXIT, BIVDRAZO_NAME_DATA, open + 1);
+    events[5] = event(BIVDRAZO_EXIT, BIVDRAZO_NAME_LABEL_TEXT, open + 1);
+    events[6] = event(BIVDRAZO_EXIT, BIVDRAZO_NAME_LABEL, open + 2);
+    events[7] = event(BIVDRAZO_ENTER, BIVDRAZO_NAME_RESOURCE, open + 2);
+    events[8] = event(BIVDRAZO_ENTER, BIVDRAZO_NAME_RESOURCE_DESTINATION_STRING, open + 3);
+    events[9] = event(BIVDRAZO_ENTER, BIVDRAZO_NAME_DATA, open + 3);
+    events[10] = event(BIVDRAZO_EXIT, BIVDRAZO_NAME_DATA, length - 1);
+    events[11] = event(BIVDRAZO_EXIT, BIVDRAZO_NAME_RESOURCE_DESTINATION_STRING, length - 1);
+    events[12] = event(BIVDRAZO_EXIT, BIVDRAZO_NAME_RESOURCE, length);
+    events[13] = event(BIVDRAZO_EXIT, name, length);
+}
+
+/* Null options and the default ones give that text, and others another one. */
+static void gives_by_default(const bivdrazo_event *events, size_t length, const char *document, const char *text,
+                             const bivdrazo_options *others, const char *other_text) {
+    const bivdrazo_options options = bivdrazo_options_default();
+    CHECK(gives(events, length, document, NULL, text));
+    CHECK(gives(events, length, document, &options, text));
+    CHECK(gives(events, length, document, others, other_text));
+}
+
+/* What the default options leave out, and what it is where an option lets it in. */
+static void test_null_options(void) {
+    const bivdrazo_event breaks[4] = {event(BIVDRAZO_ENTER, BIVDRAZO_NAME_THEMATIC_BREAK, 0),
+                                      event(BIVDRAZO_EXIT, BIVDRAZO_NAME_THEMATIC_BREAK, 3),
+                                      event(BIVDRAZO_ENTER, BIVDRAZO_NAME_THEMATIC_BREAK, 3),
+                                      event(BIVDRAZO_EXIT, BIVDRAZO_NAME_THEMATIC_BREAK, 6)};
+    const bivdrazo_event html[4] = {
+        event(BIVDRAZO_ENTER, BIVDRAZO_NAME_HTML_FLOW, 0), event(BIVDRAZO_ENTER, BIVDRAZO_NAME_HTML_FLOW_DATA, 0),
+        event(BIVDRAZO_EXIT, BIVDRAZO_NAME_HTML_FLOW_DATA, 5), event(BIVDRAZO_EXIT, BIVDRAZO_NAME_HTML_FLOW, 5)};
+    bivdrazo_event events[14];
+    bivdrazo_options options = bivdrazo_options_default();
+    options.allow_dangerous_protocol = 1;
+    medium(events, BIVDRAZO_NAME_LINK, 1, 17);
+    gives_by_default(events, 14, "[a](javascript:b)", "<a href=\"\">a</a>", &options,
+                     "<a href=\"javascript:b\">a</a>");
+    medium(events, BIVDRAZO_NAME_LINK, 1, 13);
+    gives_by_default(events, 14, "[a](mailto:b)", "<a href=\"mailto:b\">a</a>", &options,
+                     "<a href=\"mailto:b\">a</a>");
+    options.allow_dangerous_protocol = 0;
+    options.allow_any_img_src = 1;
+    medium(events, BIVDRAZO_NAME_IMAGE, 2, 12);
+    gives_by_default(events, 14, "![a](data:b)", "<img src=\"\" alt=\"a\" />", &options,
+                     "<img src=\"data:b\" alt=\"a\" />");
+    options.allow_any_img_src = 0;
+    options.default_line_ending = BIVDRAZO_CARRIAGE_RETURN;
+    gives_by_default(breaks, 4, "******", "<hr />\n<hr />", &options, "<hr />\r<hr />");
+    options.default_line_ending = BIVDRAZO_CARRIAGE_RETURN_LINE_FEED;
+    gives_by_default(breaks, 4, "******", "<hr />\n<hr />", &options, "<hr />\r\n<hr />");
+    options.allow_dangerous_html = 1;
+    gives_by_default(html, 4, "<xmp>", "&lt;xmp&gt;", &options, "<xmp>");
+    options.gfm_tagfilter = 1;
+    gives_by_default(html, 4, "<xmp>", "&lt;xmp&gt;", &options, "&lt;xmp>");
+}
+
 static void test_options(void) {
     const bivdrazo_reference none = {(const uint8_t *)"", 0, (const uint8_t *)"", 0};
     const bivdrazo_event html[4] = {
@@ -162,14 +287,34 @@ static void test_scripts(void) {
           text == NULL);
 }
 
+/* A text that fits into the first size is made in one turn. */
+static void test_first_turn(void) {
+    bivdrazo_event events[4];
+    const char letters[] = "abcdefghijklmnopqrstuvwxyzabcdefghijklmnopqrstuvwxyzabcdefghijkl";
+    const char script[] = "+ThematicBreak 0\n-ThematicBreak 3\n--\n***";
+    uint8_t *text;
+    CHECK(bivdrazo_first_size(0, 0) == 64 && bivdrazo_first_size(0, 100) == 264 && bivdrazo_first_size(10, 0) == 144);
+    paragraph(events, 64);
+    turns = 0;
+    bivdrazo_answer answer = bivdrazo_compile_alloc(events, 4, (const uint8_t *)letters, 64, NULL, NULL, 0, &text);
+    CHECK(answer.status == BIVDRAZO_OK && answer.length == 71 && turns == 1);
+    free(text);
+    turns = 0;
+    answer = bivdrazo_run_alloc((const uint8_t *)script, strlen(script), &text);
+    CHECK(answer.status == BIVDRAZO_OK && answer.length == 6 && turns == 1);
+    free(text);
+}
+
 /* A text that needs more than the first size. */
 static void test_second_turn(void) {
     bivdrazo_event events[4];
     const char quotes[] = "\"\"\"\"\"\"\"\"\"\"\"\"\"\"\"\"\"\"\"\"\"\"\"\"\"\"\"\"\"\"\"\"\"\"\"\"\"\"\"\"";
     uint8_t *text;
     paragraph(events, 40);
+    turns = 0;
     bivdrazo_answer answer = bivdrazo_compile_alloc(events, 4, (const uint8_t *)quotes, 40, NULL, NULL, 0, &text);
     CHECK(answer.status == BIVDRAZO_OK && answer.length == 247 && answer.length > bivdrazo_first_size(4, 40));
+    CHECK(turns == 2);
     CHECK(text != NULL && strncmp((char *)text, "<p>&quot;", 9) == 0 &&
           strcmp((char *)text + 237, "&quot;</p>") == 0);
     free(text);
@@ -236,9 +381,13 @@ int main(void) {
     test_text();
     test_buffer();
     test_refusals();
+    test_defaults();
+    test_status_texts();
+    test_null_options();
     test_options();
     test_lengths();
     test_scripts();
+    test_first_turn();
     test_second_turn();
     test_memory();
     test_memory_of_wrappers();

@@ -51,6 +51,33 @@ class Texts(unittest.TestCase):
         self.assertEqual(compile(html, b"<script>", allow_dangerous_html=True), "<script>")
         self.assertEqual(compile(html, b"<script>", allow_dangerous_html=True, gfm_tagfilter=True), "&lt;script>")
 
+    def test_line_endings(self):
+        breaks = node(Name.THEMATIC_BREAK, end=3) + node(Name.THEMATIC_BREAK, start=3, end=6)
+        self.assertEqual(compile(breaks, b"******"), "<hr />\n<hr />")
+        endings = {
+            LineEnding.LINE_FEED: "\n",
+            LineEnding.CARRIAGE_RETURN: "\r",
+            LineEnding.CARRIAGE_RETURN_LINE_FEED: "\r\n",
+        }
+        self.assertEqual(set(endings), set(LineEnding))
+        for ending, text in endings.items():
+            self.assertEqual(compile(breaks, b"******", default_line_ending=ending), f"<hr />{text}<hr />")
+
+    def test_links_and_images(self):
+        def medium(name, length):
+            label = node(Name.LABEL, node(Name.LABEL_TEXT))
+            string = node(Name.RESOURCE_DESTINATION_STRING, node(Name.DATA, end=length))
+            return node(name, label, node(Name.RESOURCE, string))
+
+        link, image = medium(Name.LINK, 12), medium(Name.IMAGE, 6)
+        self.assertEqual(compile(link, b"javascript:b"), '<a href=""></a>')
+        self.assertEqual(compile(link, b"javascript:b", allow_any_img_src=True), '<a href=""></a>')
+        self.assertEqual(
+            compile(link, b"javascript:b", allow_dangerous_protocol=True), '<a href="javascript:b"></a>'
+        )
+        self.assertEqual(compile(image, b"data:b"), '<img src="" alt="" />')
+        self.assertEqual(compile(image, b"data:b", allow_any_img_src=True), '<img src="data:b" alt="" />')
+
     def test_texts_of_options(self):
         call = node(Name.GFM_FOOTNOTE_CALL, node(Name.LABEL, node(Name.LABEL_TEXT, end=1)))
         prefix = node(
@@ -135,8 +162,10 @@ class Errors(unittest.TestCase):
         self.assertEqual(str(error_of(4, 5, 0)), "name 5: no such value")
         self.assertEqual(str(error_of(5, 8, 0)), "option gfm_footnote_label: no such value")
         self.assertEqual(str(error_of(5, 11, 0)), "option gfm_footnote_number_ids: no such value")
-        self.assertIsInstance(error_of(7, 0, 0), MemoryError)
-        self.assertIsInstance(error_of(99, 0, 0), RuntimeError)
+        self.assertEqual(str(error_of(2, 6, 3)), "event 6: PLACE")
+        self.assertEqual(str(error_of(6, 7, 0)), "line 7: unreadable")
+        self.assertEqual(repr(error_of(7, 0, 0)), "MemoryError('out of memory')")
+        self.assertEqual(repr(error_of(99, 0, 0)), "RuntimeError('the library answered the status 99')")
 
 
 class Interface(unittest.TestCase):

@@ -135,7 +135,7 @@ pub(crate) fn version() -> u32 {
 }
 
 /// A first size of the buffer that most texts fit into.
-fn first_size(events: usize, bytes: usize) -> usize {
+pub(crate) fn first_size(events: usize, bytes: usize) -> usize {
     events
         .saturating_mul(8)
         .saturating_add(bytes.saturating_mul(2))

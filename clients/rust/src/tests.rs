@@ -1,6 +1,6 @@
 //! Each call, each error, and calls from many threads.
 
-use crate::ffi::{error_of, CAnswer};
+use crate::ffi::{error_of, first_size, CAnswer};
 use crate::numbers::NAMES;
 use crate::{compile, run, Error, Event, LineEnding, Name, Options, Rule};
 use std::thread;
@@ -46,6 +46,13 @@ fn texts() {
 }
 
 #[test]
+fn first_buffers() {
+    assert_eq!(first_size(0, 0), 64);
+    assert_eq!(first_size(10, 100), 344);
+    assert_eq!(first_size(usize::MAX, 1), usize::MAX);
+}
+
+#[test]
 fn texts_past_the_first_buffer() {
     let wanted = format!("<p>{}</p>", "&quot;".repeat(1000));
     assert_eq!(
@@ -71,6 +78,25 @@ fn options() {
         "&lt;script>"
     );
     assert_eq!(with_defaults(&html, b"<script>").unwrap(), "&lt;script&gt;");
+}
+
+#[test]
+fn line_endings() {
+    let mut breaks = node(Name::ThematicBreak, 0, 3, &[]);
+    breaks.extend(node(Name::ThematicBreak, 3, 6, &[]));
+    for (ending, text) in [
+        (LineEnding::default(), "\n"),
+        (LineEnding::LineFeed, "\n"),
+        (LineEnding::CarriageReturn, "\r"),
+        (LineEnding::CarriageReturnLineFeed, "\r\n"),
+    ] {
+        let options = Options {
+            default_line_ending: ending,
+            ..Options::default()
+        };
+        let wanted = format!("<hr />{text}<hr />");
+        assert_eq!(compile(&breaks, b"******", &options, &[]), Ok(wanted));
+    }
 }
 
 #[test]
@@ -158,6 +184,52 @@ fn statuses() {
     );
     assert_eq!(error(7, 0, 0), Error::Memory);
     assert_eq!(error(99, 0, 0), Error::Unknown);
+}
+
+#[test]
+fn texts_of_errors() {
+    let refused = |rule| Error::Refused { index: 3, rule };
+    let options = [
+        "allow_any_img_src",
+        "allow_dangerous_html",
+        "allow_dangerous_protocol",
+        "gfm_task_list_item_checkable",
+        "gfm_tagfilter",
+        "default_line_ending",
+        "gfm_footnote_back_label",
+        "gfm_footnote_clobber_prefix",
+        "gfm_footnote_label",
+        "gfm_footnote_label_attributes",
+        "gfm_footnote_label_tag_name",
+        "gfm_footnote_number_ids",
+        "unknown",
+    ];
+    for (number, name) in options.iter().enumerate() {
+        let wanted = format!("option {name}: no such value");
+        assert_eq!(Error::Option(number).to_string(), wanted);
+    }
+    for (error, text) in [
+        (refused(Rule::Order), "event 3: Order"),
+        (refused(Rule::Mdx), "event 3: Mdx"),
+        (refused(Rule::Place), "event 3: Place"),
+        (refused(Rule::LineEnding), "event 3: LineEnding"),
+        (refused(Rule::HeadingMark), "event 3: HeadingMark"),
+        (refused(Rule::ListNumber), "event 3: ListNumber"),
+        (
+            refused(Rule::CharacterReference),
+            "event 3: CharacterReference",
+        ),
+        (refused(Rule::Definition), "event 3: Definition"),
+        (refused(Rule::Footnote), "event 3: Footnote"),
+        (refused(Rule::Target), "event 3: Target"),
+        (Error::Event(4), "event 4: no such kind or name"),
+        (Error::Name(5), "character reference 5: not UTF-8"),
+        (Error::Line(6), "line 6: unreadable"),
+        (Error::Memory, "out of memory"),
+        (Error::Unknown, "a library of another version"),
+    ] {
+        assert_eq!(error.to_string(), text);
+    }
 }
 
 #[test]

@@ -10,6 +10,9 @@ use std::io::{self, ErrorKind, Read, Write};
 /// How many bytes are read or written at once.
 const STEP: usize = 3;
 
+/// How many bytes a script has that is read byte by byte.
+const MEGABYTE: usize = 1_048_576;
+
 /// Some bytes, of which one read fails; 0 for none.
 #[derive(Drop)]
 struct FailingReader<'a> {
@@ -54,6 +57,25 @@ impl Write for FailingWriter {
 
     fn flush(&mut self) -> io::Result<()> {
         Ok(())
+    }
+}
+
+/// A script, with more after its end until there is a megabyte; a byte at each read.
+#[derive(Drop)]
+struct SlowReader<'a> {
+    script: &'a [u8],
+    reads: usize,
+}
+
+impl Read for SlowReader<'_> {
+    fn read(&mut self, buffer: &mut [u8]) -> io::Result<usize> {
+        let at = self.reads;
+        self.reads = self.reads.saturating_add(1);
+        if buffer.is_empty() || at >= MEGABYTE {
+            return Ok(0);
+        }
+        buffer[0] = self.script.get(at).copied().unwrap_or(b'*');
+        Ok(1)
     }
 }
 
@@ -113,6 +135,7 @@ pub fn ask_each<R: Print + AllocGlobal>(rt: &R, log: &Log) -> io::Result<()> {
 fn ask_of_scripts<R: Print + AllocGlobal>(rt: &R, log: &Log) -> io::Result<()> {
     let alloc = rt.alloc();
     log.tell(rt, is_written(alloc), "serve", "a break")?;
+    log.tell(rt, slow_is_read(alloc), "serve", "a slow reader")?;
     log.tell(rt, is_appended(alloc) == Ok(true), "append_text", "a break")?;
     log.tell(rt, refusals_are_told(alloc), "serve", "refused scripts")?;
     log.tell(rt, have_messages(alloc) == Ok(true), "to_string", "errors")
@@ -236,6 +259,21 @@ fn refusal_is_told(alloc: Global, script: &[u8], cause: RunError) -> bool {
     let reads = script.len().div_ceil(STEP).saturating_add(1);
     let told = Err(ServeError::Run(cause));
     reads_of(alloc, script) == reads && answers(alloc, script, (0, 0), &told, b"")
+}
+
+/// Whether a megabyte is read to its end, a byte at a time, and its text is written.
+fn slow_is_read(alloc: Global) -> bool {
+    let mut writer = FailingWriter {
+        written: Vec::new(alloc),
+        writes: 0,
+        fails_at: 0,
+    };
+    let mut reader = SlowReader {
+        script: BREAK,
+        reads: 0,
+    };
+    let answer = serve(alloc, &mut reader, &mut writer);
+    answer == Ok(()) && reader.reads > MEGABYTE && writer.written.as_slice() == BREAK_TEXT
 }
 
 /// Whether a reader that never ends is given up, with nothing written.

@@ -1,8 +1,7 @@
 -- A page can be read in one way: its title ends where the first `<` stands, and its body has one reading.
-use Rattle.md_base.specs.Identifier.{is_nonempty}
-use Rattle.std.proofs.Common.{◌≡◌, ℕ, true, false, ◌&&◌, List, ◌++◌, refl, sym, ap, ◌∙◌, codes}
+use Rattle.std.proofs.Common.{◌≡◌, ℕ, true, false, List, ◌++◌, refl, sym, ap, ◌∙◌, codes}
 use Rattle.std.specs.List.{list_all}
-use Rattle.std.proofs.lemmas.Bool.{and_parts, and_from}
+use Rattle.std.proofs.lemmas.Bool.{and_parts}
 use Rattle.std.proofs.lemmas.List.{append_assoc, append-nil, append_cancel_left, append_cancel_right}
 use Rattle.md_text.specs.Html.{Forest, Empty, Text, Void, Element, is_forest, written}
 use Rattle.md_text.specs.References.{is_escaped}
@@ -41,7 +40,7 @@ title_tidy : (title : Forest) → is_title title ≡ true → list_all no_angle 
 title_tidy Empty e = refl
 title_tidy (Text bytes Empty) e =
     ap (λ t. list_all no_angle t) (append-nil bytes) ∙ escaped-angle bytes
-    (and_parts (is_nonempty bytes) (is_escaped bytes) e).1
+    (and_parts _ (is_escaped bytes) (and_parts _ true (and_parts _ true e).0).0).1
 title_tidy (Text bytes (Text more rest)) e = absurd (lie e)
   where
     lie : false ≡ true → ⊥
@@ -65,10 +64,7 @@ title_tidy (Element name attributes children rest) e = absurd (lie e)
 
 title_forest : (title : Forest) → is_title title ≡ true → is_forest title ≡ true
 title_forest Empty e = refl
-title_forest (Text bytes Empty) e =
-    let parts = and_parts (is_nonempty bytes) (is_escaped bytes) e in
-    and_from (is_nonempty bytes && is_escaped bytes && true) true
-    (and_from (is_nonempty bytes && is_escaped bytes) true e refl) refl
+title_forest (Text bytes Empty) e = e
 title_forest (Text bytes (Text more rest)) e = absurd (lie e)
   where
     lie : false ≡ true → ⊥

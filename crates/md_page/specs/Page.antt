@@ -1,8 +1,7 @@
 -- A page: a doctype, a head with a title, and a body of the HTML grammar.
-use Rattle.md_base.specs.Identifier.{is_nonempty}
-use Rattle.std.specs.Prelude.{◌≡◌, ℕ, Bool, true, false, IsTrue, ◌&&◌, List, [], ◌∷◌, ◌++◌, codes}
+use Rattle.std.specs.Prelude.{◌≡◌, ℕ, Bool, true, false, IsTrue, List, [], ◌∷◌, ◌++◌, codes}
 use Rattle.md_text.specs.Encode.{encoded}
-use Rattle.md_text.specs.References.{is_escaped, read_back}
+use Rattle.md_text.specs.References.{read_back}
 use Rattle.md_text.specs.Html.{Attribute, Forest, Empty, Text, Void, Element, IsReading, is_forest, all_attributes, written}
 use Rattle.md_text.specs.Safe.{is_safe_link, is_safe_image}
 
@@ -21,7 +20,7 @@ page_tree title body =
 -- at most one text of the HTML grammar, and no tag
 abbrev pub is_title : Forest → Bool
 is_title Empty = true
-is_title (Text bytes Empty) = is_nonempty bytes && is_escaped bytes
+is_title (Text bytes Empty) = is_forest (Text bytes Empty)
 is_title _ = false
 
 -- the text is the page with this title and this body: `<!doctype html>`, a line feed, the element, a line feed

@@ -1,7 +1,7 @@
 //! Shapes at a great size.
 
-use super::shapes::Part::{self, Each, Once, Shuffled};
-use super::shapes::Step::{Enter, Exit, Number, Place, Text};
+use super::shapes::Part::{self, Each, Once, Others, Shuffled};
+use super::shapes::Step::{Enter, Exit, Next, Number, Place, Text};
 use super::shapes::{Shape, compiles};
 use md_html::Name;
 use std::process::Abort;
@@ -304,4 +304,76 @@ static CALLS: Shape = Shape {
 #[test]
 fn calls_of_footnotes(rt: HostRuntime) -> Result<(), Fail> {
     compiles(&rt, &CALLS, SIZE)
+}
+
+/// Calls of one footnote: each after the first has its occurrence, in its id and in its way back.
+static CALLS_OF_ONE: Shape = Shape {
+    document: &[
+        PARAGRAPH,
+        Each(&[
+            Enter(Name::GfmFootnoteCall),
+            Enter(Name::Label),
+            Text("[^"),
+            Enter(Name::LabelText),
+            Text("a"),
+            Exit(Name::LabelText),
+            Text("]"),
+            Exit(Name::Label),
+            Exit(Name::GfmFootnoteCall),
+        ]),
+        PARAGRAPH_END,
+        Once(&[
+            Enter(Name::LineEnding),
+            Text("\n"),
+            Exit(Name::LineEnding),
+            Enter(Name::GfmFootnoteDefinition),
+            Enter(Name::GfmFootnoteDefinitionPrefix),
+            Text("[^"),
+            Enter(Name::GfmFootnoteDefinitionLabelString),
+            Text("a"),
+            Exit(Name::GfmFootnoteDefinitionLabelString),
+            Text("]: "),
+            Exit(Name::GfmFootnoteDefinitionPrefix),
+            Enter(Name::Paragraph),
+            Enter(Name::Data),
+            Text("t"),
+            Exit(Name::Data),
+            Exit(Name::Paragraph),
+            Exit(Name::GfmFootnoteDefinition),
+        ]),
+    ],
+    text: &[
+        Once(&[Text(
+            "<p><sup><a href=\"#user-content-fn-a\" id=\"user-content-fnref-a\" data-footnote-ref=\"\" aria-describedby=\"footnote-label\">1</a></sup>",
+        )]),
+        Others(&[
+            Text("<sup><a href=\"#user-content-fn-a\" id=\"user-content-fnref-a-"),
+            Next,
+            Text("\" data-footnote-ref=\"\" aria-describedby=\"footnote-label\">1</a></sup>"),
+        ]),
+        Once(&[
+            Text(
+                "</p>\n<section data-footnotes=\"\" class=\"footnotes\"><h2 id=\"footnote-label\" class=\"sr-only\">Footnotes</h2>\n<ol>\n",
+            ),
+            Text("<li id=\"user-content-fn-a\">\n<p>t <a href=\"#user-content-fnref-a\""),
+            Text(
+                " data-footnote-backref=\"\" aria-label=\"Back to content\" class=\"data-footnote-backref\">↩</a>",
+            ),
+        ]),
+        Others(&[
+            Text(" <a href=\"#user-content-fnref-a-"),
+            Next,
+            Text(
+                "\" data-footnote-backref=\"\" aria-label=\"Back to content\" class=\"data-footnote-backref\">↩<sup>",
+            ),
+            Next,
+            Text("</sup></a>"),
+        ]),
+        Once(&[Text("</p>\n</li>\n</ol>\n</section>\n")]),
+    ],
+};
+
+#[test]
+fn calls_of_one_footnote(rt: HostRuntime) -> Result<(), Fail> {
+    compiles(&rt, &CALLS_OF_ONE, SIZE)
 }

@@ -4,7 +4,7 @@
 
 use super::{Given, compiled_as_script, is_text, script_names};
 use Part::{Each, Once, Others, Shuffled};
-use Step::{Enter, Exit, Number, Place, Text};
+use Step::{Enter, Exit, Next, Number, Place, Text};
 use md_html::{CompileOptions, Event, Kind, Name, compile};
 use std::alloc::{AllocError, Global};
 use std::fmt::Write;
@@ -28,6 +28,8 @@ pub(super) enum Step {
     Number,
     /// The place of the item stands there, from 1.
     Place,
+    /// The place of the item after it stands there, from 2.
+    Next,
 }
 
 /// A part of a document, or of the text that it should give.
@@ -80,6 +82,7 @@ impl Document {
             Text(text) => self.text.push_str(text),
             Number => write!(self.text, "{number}"),
             Place => write!(self.text, "{place}"),
+            Next => write!(self.text, "{}", place.saturating_add(1)),
         }
     }
 
