@@ -2,6 +2,7 @@
 use Rattle.std.specs.Prelude.{Bool, true, false, not, ◌||◌}
 use Rattle.md_base.specs.declared.event.Name.{Name}
 use Rattle.md_base.specs.declared.event.Name.TheVariants.{LineEnding, BlankLineEnding, BlockQuote, BlockQuotePrefix, ListItem, ListItemPrefix, ListItemValue, GfmFootnoteDefinition, GfmFootnoteDefinitionPrefix, GfmFootnoteDefinitionLabelString, GfmFootnoteCall, Definition, DefinitionLabelString, CodeFencedFence, MathFlowFence, CodeFlowChunk, MathFlowChunk, HeadingAtxSequence, GfmTable, GfmTableCell, GfmTableDelimiterMarker, GfmTableDelimiterCellValue, GfmTableDelimiterRow, GfmTableHead, ReferenceString, Label, LabelText, SpaceOrTab, Other, Paragraph, Resource}
+use Rattle.md_base.specs.Is.{is}
 
 -- a node that its parent's pattern looks through
 abbrev pub is_transparent : Name → Bool
@@ -42,7 +43,7 @@ is_definition name = elim name [ Definition ↦ true | GfmFootnoteDefinition ↦
 
 -- a child that an item's end looks at
 abbrev pub contributes : Name → Bool
-contributes name = not (is_line_ending name || is_definition name || is_space name || is_block_quote_prefix name)
+contributes name = not (is_line_ending name || is_definition name || is SpaceOrTab name || is BlockQuotePrefix name)
 
 abbrev pub is_fence : Name → Bool
 is_fence name = elim name [ CodeFencedFence ↦ true | MathFlowFence ↦ true | _ ↦ false ]

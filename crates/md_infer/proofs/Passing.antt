@@ -14,7 +14,8 @@ use Rattle.md_infer.specs.declared.seeking.Sought.{Sought}
 use Rattle.md_infer.specs.declared.facts.Fact.{Fact}
 use Rattle.md_infer.specs.declared.facts.OpenNode.{OpenNode}
 use Rattle.md_base.specs.Tree.{Forest, Empty, Node, flatten, exiting}
-use Rattle.md_base.specs.NameTests.{is_transparent, is_item, is_table, is_link_definition, is_delimiter_value, leads_to_values}
+use Rattle.md_base.specs.NameTests.{is_transparent, is_item, is_table, is_link_definition, leads_to_values}
+use Rattle.md_base.specs.Is.{is}
 use Rattle.md_infer.specs.Alignments.{alignment_of, alignments}
 use Rattle.md_infer.specs.Partners.{index_after, definition_entries}
 use Rattle.md_infer.specs.Told.{nothing_told, told_over, alignment, looseness}
@@ -39,7 +40,7 @@ is_leads_part _ = false
 
 record Parted (name : Name) : Type 0 where
   table : is_table_part (part_of name) ≡ is_table name
-  value : is_value_part (part_of name) ≡ is_delimiter_value name
+  value : is_value_part (part_of name) ≡ is GfmTableDelimiterCellValue name
   leads : is_leads_part (part_of name) ≡ leads_to_values name
 
 parted : (name : Name) → Parted name
@@ -102,14 +103,14 @@ columns_part part.Apart children collects columns =
 columns_node : (name : Name) (children : Forest) (collects : Bool) (columns : Collected) →
     columns_exited name (told_over children nothing_told) collects
     (columns_after children (collects_in name collects) (columns_entered name columns))
-    ≡ columns_next (is_table name) (is_delimiter_value name) (leads_to_values name) children collects columns
+    ≡ columns_next (is_table name) (is GfmTableDelimiterCellValue name) (leads_to_values name) children collects columns
 columns_node name children collects columns =
     let parts = parted name in
     columns_part (part_of name) children collects columns
     ∙ ap (λ b. columns_next b (is_value_part (part_of name)) (is_leads_part (part_of name)) children collects columns)
     parts.table
     ∙ ap (λ b. columns_next (is_table name) b (is_leads_part (part_of name)) children collects columns) parts.value
-    ∙ ap (λ b. columns_next (is_table name) (is_delimiter_value name) b children collects columns) parts.leads
+    ∙ ap (λ b. columns_next (is_table name) (is GfmTableDelimiterCellValue name) b children collects columns) parts.leads
 
 columns_rest : (name : Name) (children rest : Forest) (tables : List (List AlignKind)) (own : List AlignKind)
     (collects : Bool) (columns : Collected) → columns_after rest collects
@@ -237,7 +238,7 @@ abbrev after_node : ℕ → ℕ → Name → Forest → PassState → PassState
 after_node index tables name children pass = record {
   facts = ((pass.facts ++ fact_at index tables name children ∷ []) ++ facts_of (suc index) tables children)
       ++ partner_alone index ∷ [];
-  columns = columns_next (is_table name) (is_delimiter_value name)
+  columns = columns_next (is_table name) (is GfmTableDelimiterCellValue name)
       (leads_to_values name) children pass.here.collects pass.columns;
   definitions = (pass.definitions ++ definition_entries (suc index) children)
       ++ cond (is_link_definition name) (index ∷ []) [];
@@ -329,7 +330,7 @@ passed_over-flatten (Node name start end children rest) index tables pass e t =
     (regrouped pass.facts inner (facts_of (suc exit) more rest) fact (partner_alone index))
     ∙ ap (λ columns. state pass.outer all_here all_defined (pass.facts
     ++ facts_of index tables (Node name start end children rest)) columns)
-    (columns_rest name children rest own (added (is_delimiter_value name) (leads_to_values name) children)
+    (columns_rest name children rest own (added (is GfmTableDelimiterCellValue name) (leads_to_values name) children)
     pass.here.collects pass.columns)
 
 -- one more event

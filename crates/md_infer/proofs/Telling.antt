@@ -9,9 +9,12 @@ use Rattle.md_infer.specs.declared.told.Last.{Last}
 use Rattle.md_infer.specs.declared.told.Last.TheVariants as final
 use Rattle.md_infer.specs.declared.told.Told.{Told}
 use Rattle.md_base.specs.Tree.{Forest, Empty, Node}
-use Rattle.md_base.specs.NameTests.{is_blank_line_ending, is_space, is_item, is_item_prefix, is_block_quote, is_block_quote_prefix, is_delimiter_marker}
+use Rattle.md_base.specs.Is.{is}
 use Rattle.md_base.specs.Children.{is_empty, last_name}
-use Rattle.md_infer.specs.Looseness.{begins_blank, begins_space_blank, is_end, is_bare, ends_bare, has_parting_blank, is_loose_without_items, has_inner_blank, is_loose_item, has_loose_item, is_loose}
+use Rattle.md_infer.specs.Looseness.{is_bare}
+use Rattle.md_infer.specs.Looseness as written
+use Rattle.md_infer.specs.Blanks.{begins_blank, begins_space_blank, is_end, ends_bare, has_parting_blank, is_loose_without_items, has_inner_blank, is_loose_item, has_loose_item, is_loose}
+use Rattle.md_infer.proofs.Loosened.{item-same, without-same, items-same}
 use Rattle.md_infer.specs.Alignments.{begins_with_marker, ends_with_marker, alignment_of}
 use Rattle.md_infer.specs.Told.{spaced, is_bare_last, quote_as, parts, loosens, is_nothing, is_marker_last, told_with, nothing_told, told_over, alignment}
 
@@ -49,7 +52,7 @@ quote_quote final.QuotePrefix = refl
 quote_quote _ = refl
 
 quote_with : (name : Name) (own told : Told) → is_quote_last (Told.last (told_with name own told))
-    ≡ is_block_quote_prefix name
+    ≡ is BlockQuotePrefix name
 quote_with BlankLineEnding own told = refl
 quote_with ListItem own told = quote_item (is_bare_last own.last)
 quote_with GfmTableDelimiterMarker own told = refl
@@ -73,7 +76,7 @@ marker_quote final.QuotePrefix = refl
 marker_quote _ = refl
 
 marker_with : (name : Name) (own told : Told) → is_marker_last (Told.last (told_with name own told))
-    ≡ is_delimiter_marker name
+    ≡ is GfmTableDelimiterMarker name
 marker_with BlankLineEnding own told = refl
 marker_with ListItem own told = marker_item (is_bare_last own.last)
 marker_with GfmTableDelimiterMarker own told = refl
@@ -107,7 +110,7 @@ nothing_with BlockQuote own told = nothing_quote own.last
 nothing_with _ own told = refl
 
 begins_with : (name : Name) (own told : Told) → Told.begins_with_marker (told_with name own told)
-    ≡ (told.begins_with_marker || (is_delimiter_marker name && is_nothing told.last))
+    ≡ (told.begins_with_marker || (is GfmTableDelimiterMarker name && is_nothing told.last))
 begins_with BlankLineEnding own told = or-false told.begins_with_marker
 begins_with ListItem own told = or-false told.begins_with_marker
 begins_with GfmTableDelimiterMarker own told = refl
@@ -118,7 +121,7 @@ begins_with BlockQuote own told = or-false told.begins_with_marker
 begins_with _ own told = or-false told.begins_with_marker
 
 without_with : (name : Name) (own told : Told) → Told.without_items (told_with name own told)
-    ≡ (told.without_items || (is_blank_line_ending name && parts told.last))
+    ≡ (told.without_items || (is BlankLineEnding name && parts told.last))
 without_with BlankLineEnding own told = refl
 without_with ListItem own told = or-false told.without_items
 without_with GfmTableDelimiterMarker own told = or-false told.without_items
@@ -129,7 +132,7 @@ without_with BlockQuote own told = or-false told.without_items
 without_with _ own told = or-false told.without_items
 
 item_with : (name : Name) (own told : Told) → Told.of_item (told_with name own told)
-    ≡ (told.of_item || (is_blank_line_ending name && loosens told.last))
+    ≡ (told.of_item || (is BlankLineEnding name && loosens told.last))
 item_with BlankLineEnding own told = refl
 item_with ListItem own told = or-false told.of_item
 item_with GfmTableDelimiterMarker own told = or-false told.of_item
@@ -140,7 +143,7 @@ item_with BlockQuote own told = or-false told.of_item
 item_with _ own told = or-false told.of_item
 
 loose_item_with : (name : Name) (own told : Told) → Told.has_loose_item (told_with name own told)
-    ≡ (told.has_loose_item || (is_item name && own.of_item))
+    ≡ (told.has_loose_item || (is ListItem name && own.of_item))
 loose_item_with BlankLineEnding own told = or-false told.has_loose_item
 loose_item_with ListItem own told = refl
 loose_item_with GfmTableDelimiterMarker own told = or-false told.has_loose_item
@@ -164,7 +167,7 @@ parts_quote final.QuotePrefix = refl
 parts_quote _ = refl
 
 parts_with : (name : Name) (own told : Told) → parts (Told.last (told_with name own told))
-    ≡ not (is_item name && is_bare_last own.last)
+    ≡ not (is ListItem name && is_bare_last own.last)
 parts_with BlankLineEnding own told = refl
 parts_with ListItem own told = parts_item (is_bare_last own.last)
 parts_with GfmTableDelimiterMarker own told = refl
@@ -188,7 +191,7 @@ loosens_quote final.QuotePrefix = refl
 loosens_quote _ = refl
 
 loosens_with : (name : Name) (own told : Told) → loosens (Told.last (told_with name own told))
-    ≡ cond (is_space name) (not_prefix told.last) (not (is_item_prefix name))
+    ≡ cond (is SpaceOrTab name) (not_prefix told.last) (not (is ListItemPrefix name))
 loosens_with BlankLineEnding own told = refl
 loosens_with ListItem own told = loosens_item (is_bare_last own.last)
 loosens_with GfmTableDelimiterMarker own told = refl
@@ -212,7 +215,7 @@ prefix_quote final.QuotePrefix = refl
 prefix_quote _ = refl
 
 prefix_with : (name : Name) (own told : Told) → not_prefix (Told.last (told_with name own told))
-    ≡ not (is_item_prefix name)
+    ≡ not (is ListItemPrefix name)
 prefix_with BlankLineEnding own told = refl
 prefix_with ListItem own told = prefix_item (is_bare_last own.last)
 prefix_with GfmTableDelimiterMarker own told = refl
@@ -224,7 +227,7 @@ prefix_with _ own told = refl
 
 -- nothing stands after a marker in a node of this name, by its own last child
 abbrev bare_by : Name → Last → Bool
-bare_by name own = is_item_prefix name || (is_block_quote name && is_quote_last own)
+bare_by name own = is ListItemPrefix name || (is BlockQuote name && is_quote_last own)
 
 bare_item : (b : Bool) → is_bare_last (cond b final.BareItem final.Plain) ≡ false
 bare_item true = refl
@@ -235,7 +238,7 @@ bare_quote final.QuotePrefix = refl
 bare_quote _ = refl
 
 bare_with : (name : Name) (own told : Told) → is_bare_last (Told.last (told_with name own told))
-    ≡ cond (is_space name) (is_bare_last (spaced told.last)) (bare_by name own.last)
+    ≡ cond (is SpaceOrTab name) (is_bare_last (spaced told.last)) (bare_by name own.last)
 bare_with BlankLineEnding own told = refl
 bare_with ListItem own told = bare_item (is_bare_last own.last)
 bare_with GfmTableDelimiterMarker own told = refl
@@ -277,22 +280,22 @@ last_step test None name = refl
 last_step test (Some other) name = refl
 
 quote_over : (forest : Forest) (told : Told) → is_quote_last (Told.last (told_over forest told))
-    ≡ option_map_or is_block_quote_prefix (last_name forest) (is_quote_last told.last)
+    ≡ option_map_or (is BlockQuotePrefix) (last_name forest) (is_quote_last told.last)
 quote_over Empty told = refl
 quote_over (Node name start end children rest) told =
     let own = told_over children nothing_told in
     quote_over rest (told_with name own told)
-    ∙ ap (λ b. option_map_or is_block_quote_prefix (last_name rest) b) (quote_with name own told)
-    ∙ last_step is_block_quote_prefix (last_name rest) name
+    ∙ ap (λ b. option_map_or (is BlockQuotePrefix) (last_name rest) b) (quote_with name own told)
+    ∙ last_step (is BlockQuotePrefix) (last_name rest) name
 
 marker_over : (forest : Forest) (told : Told) → is_marker_last (Told.last (told_over forest told))
-    ≡ option_map_or is_delimiter_marker (last_name forest) (is_marker_last told.last)
+    ≡ option_map_or (is GfmTableDelimiterMarker) (last_name forest) (is_marker_last told.last)
 marker_over Empty told = refl
 marker_over (Node name start end children rest) told =
     let own = told_over children nothing_told in
     marker_over rest (told_with name own told)
-    ∙ ap (λ b. option_map_or is_delimiter_marker (last_name rest) b) (marker_with name own told)
-    ∙ last_step is_delimiter_marker (last_name rest) name
+    ∙ ap (λ b. option_map_or (is GfmTableDelimiterMarker) (last_name rest) b) (marker_with name own told)
+    ∙ last_step (is GfmTableDelimiterMarker) (last_name rest) name
 
 begins_over : (forest : Forest) (told : Told) → Told.begins_with_marker (told_over forest told)
     ≡ (told.begins_with_marker || (begins_with_marker forest && is_nothing told.last))
@@ -315,28 +318,28 @@ bare_after l forest = cond (is_end forest) (cond (is_empty forest) (is_bare_last
     (ends_bare forest)
 
 bare_step : (rest : Forest) (name : Name) (children : Forest) (own told : Told) →
-    is_quote_last own.last ≡ option_map_or is_block_quote_prefix (last_name children) false →
+    is_quote_last own.last ≡ option_map_or (is BlockQuotePrefix) (last_name children) false →
     bare_after (Told.last (told_with name own told)) rest
-    ≡ cond (is_space name && is_empty rest) (is_bare_last (spaced told.last))
+    ≡ cond (is SpaceOrTab name && is_empty rest) (is_bare_last (spaced told.last))
     (cond (is_end rest) (is_bare name children) (ends_bare rest))
 bare_step Empty name children own told quote =
     bare_with name own told
-    ∙ ap (λ b. cond (is_space name) (is_bare_last (spaced told.last)) (is_item_prefix name
-    || (is_block_quote name && b))) quote
-    ∙ by (is_space name)
+    ∙ ap (λ b. cond (is SpaceOrTab name) (is_bare_last (spaced told.last)) (is ListItemPrefix name
+    || (is BlockQuote name && b))) quote
+    ∙ by (is SpaceOrTab name)
   where
     by : (s : Bool) → cond s (is_bare_last (spaced told.last)) (is_bare name children)
         ≡ cond (s && true) (is_bare_last (spaced told.last)) (is_bare name children)
     by true = refl
     by false = refl
 bare_step (Node next start end inner rest) name children own told quote =
-    ap (λ b. cond (is_space next && is_empty rest) b (ends_bare (Node next start end inner rest)))
-    (bare_spaced_with name own told ∙ ap (λ b. is_item_prefix name || (is_block_quote name && b)) quote)
-    ∙ by (is_space name)
+    ap (λ b. cond (is SpaceOrTab next && is_empty rest) b (ends_bare (Node next start end inner rest)))
+    (bare_spaced_with name own told ∙ ap (λ b. is ListItemPrefix name || (is BlockQuote name && b)) quote)
+    ∙ by (is SpaceOrTab name)
   where
-    by : (s : Bool) → cond (is_space next && is_empty rest) (is_bare name children)
+    by : (s : Bool) → cond (is SpaceOrTab next && is_empty rest) (is_bare name children)
         (ends_bare (Node next start end inner rest)) ≡ cond (s
-        && false) (is_bare_last (spaced told.last)) (cond (is_space next
+        && false) (is_bare_last (spaced told.last)) (cond (is SpaceOrTab next
         && is_empty rest) (is_bare name children) (ends_bare (Node next start end inner rest)))
     by true = refl
     by false = refl
@@ -352,10 +355,10 @@ ends_bare-end : (forest : Forest) → bare_after final.Nothing forest ≡ ends_b
 ends_bare-end Empty = refl
 ends_bare-end (Node name start end children Empty) = by name
   where
-    by : (name : Name) → cond (is_space name && true) false (is_bare name children) ≡ is_bare name children
+    by : (name : Name) → cond (is SpaceOrTab name && true) false (is_bare name children) ≡ is_bare name children
     by SpaceOrTab = refl
     by _ = refl
-ends_bare-end (Node name start end children (Node next begin stop inner rest)) = by (is_space name)
+ends_bare-end (Node name start end children (Node next begin stop inner rest)) = by (is SpaceOrTab name)
   where
     by : (s : Bool) → cond (s && false) false (ends_bare
         (Node name start end children (Node next begin stop inner rest)))
@@ -371,12 +374,12 @@ without_over (Node name start end children rest) told =
     without_over rest (told_with name own told)
     ∙ ap (λ b. (b || (begins_blank rest && parts (Told.last (told_with name own told))))
     || has_parting_blank rest) (without_with name own told)
-    ∙ ap (λ b. ((told.without_items || (is_blank_line_ending name && parts told.last)) || (begins_blank rest && b))
+    ∙ ap (λ b. ((told.without_items || (is BlankLineEnding name && parts told.last)) || (begins_blank rest && b))
     || has_parting_blank rest)
-    (parts_with name own told ∙ ap (λ b. not (is_item name && b)) (bare_over children nothing_told
+    (parts_with name own told ∙ ap (λ b. not (is ListItem name && b)) (bare_over children nothing_told
     ∙ ends_bare-end children))
-    ∙ or-assoc (told.without_items || (is_blank_line_ending name && parts told.last)) (begins_blank rest
-    && not (is_item name && ends_bare children)) (has_parting_blank rest)
+    ∙ or-assoc (told.without_items || (is BlankLineEnding name && parts told.last)) (begins_blank rest
+    && not (is ListItem name && ends_bare children)) (has_parting_blank rest)
 
 -- the tests of an item, rearranged
 rearranged : (s p q r n i : Bool) → ((q && cond s n (not p)) || ((r && not p) || i))
@@ -408,17 +411,17 @@ item_over (Node name start end children rest) told =
     ∙ ap (λ b. b || ((begins_blank rest && loosens (Told.last (told_with name own told)))
     || ((begins_space_blank rest && not_prefix (Told.last (told_with name own told))) || has_inner_blank rest)))
     (item_with name own told)
-    ∙ ap (λ b. (told.of_item || (is_blank_line_ending name && loosens told.last))
+    ∙ ap (λ b. (told.of_item || (is BlankLineEnding name && loosens told.last))
     || ((begins_blank rest && b) || ((begins_space_blank rest && not_prefix (Told.last (told_with name own told)))
     || has_inner_blank rest))) (loosens_with name own told)
-    ∙ ap (λ b. (told.of_item || (is_blank_line_ending name && loosens told.last))
-    || ((begins_blank rest && cond (is_space name) (not_prefix told.last) (not (is_item_prefix name)))
+    ∙ ap (λ b. (told.of_item || (is BlankLineEnding name && loosens told.last))
+    || ((begins_blank rest && cond (is SpaceOrTab name) (not_prefix told.last) (not (is ListItemPrefix name)))
     || ((begins_space_blank rest && b) || has_inner_blank rest))) (prefix_with name own told)
-    ∙ ap (λ b. (told.of_item || (is_blank_line_ending name && loosens told.last))
-    || b) (rearranged (is_space name) (is_item_prefix name) (begins_blank rest) (begins_space_blank rest)
+    ∙ ap (λ b. (told.of_item || (is BlankLineEnding name && loosens told.last))
+    || b) (rearranged (is SpaceOrTab name) (is ListItemPrefix name) (begins_blank rest) (begins_space_blank rest)
     (not_prefix told.last) (has_inner_blank rest))
-    ∙ or-assoc told.of_item (is_blank_line_ending name && loosens told.last)
-    (((is_space name && begins_blank rest) && not_prefix told.last)
+    ∙ or-assoc told.of_item (is BlankLineEnding name && loosens told.last)
+    (((is SpaceOrTab name && begins_blank rest) && not_prefix told.last)
     || has_inner_blank (Node name start end children rest))
 
 and-true : (b : Bool) → (b && true) ≡ b
@@ -426,8 +429,8 @@ and-true true = refl
 and-true false = refl
 
 -- an item's children
-pub of_item-told : (children : Forest) → Told.of_item (told_over children nothing_told) ≡ is_loose_item children
-of_item-told children =
+of_item_told : (children : Forest) → Told.of_item (told_over children nothing_told) ≡ is_loose_item children
+of_item_told children =
     item_over children nothing_told
     ∙ ap (λ b. b || ((begins_space_blank children && true) || has_inner_blank children))
     (and-true (begins_blank children))
@@ -441,20 +444,26 @@ loose_items_over (Node name start end children rest) told =
     let own = told_over children nothing_told in
     loose_items_over rest (told_with name own told)
     ∙ ap (λ b. b || has_loose_item rest) (loose_item_with name own told
-    ∙ ap (λ b. told.has_loose_item || (is_item name && b)) (of_item-told children))
-    ∙ or-assoc told.has_loose_item (is_item name && is_loose_item children) (has_loose_item rest)
+    ∙ ap (λ b. told.has_loose_item || (is ListItem name && b)) (of_item_told children))
+    ∙ or-assoc told.has_loose_item (is ListItem name && is_loose_item children) (has_loose_item rest)
 
 -- a list's children, its items not looked at, and looked at
 pub without_items-told : (children : Forest) → Told.without_items (told_over children nothing_told)
-    ≡ is_loose_without_items children
+    ≡ written.is_loose_without_items children
 without_items-told children =
     without_over children nothing_told ∙ ap (λ b. b || has_parting_blank children) (and-true (begins_blank children))
+    ∙ without-same children
 
 pub with_items-told : (children : Forest) → (Told.without_items (told_over children nothing_told)
-    || Told.has_loose_item (told_over children nothing_told)) ≡ is_loose children
+    || Told.has_loose_item (told_over children nothing_told)) ≡ written.is_loose children
 with_items-told children =
     ap (λ b. b || Told.has_loose_item (told_over children nothing_told)) (without_items-told children)
-    ∙ ap (λ b. is_loose_without_items children || b) (loose_items_over children nothing_told)
+    ∙ ap (λ b. written.is_loose_without_items children || b)
+    (loose_items_over children nothing_told ∙ items-same children)
+
+pub of_item-told : (children : Forest) → Told.of_item (told_over children nothing_told)
+    ≡ written.is_loose_item children
+of_item-told children = of_item_told children ∙ item-same children
 
 -- a value's children
 pub alignment-told : (children : Forest) → alignment (told_over children nothing_told) ≡ alignment_of children

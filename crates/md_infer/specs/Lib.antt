@@ -1,6 +1,7 @@
 -- What is inferred of a node. `Looseness`, `Alignments`, `Partners` and `Ending` are as the rules say it; `Told`,
 -- `Columns`, `Seeking` and `Facts` event by event, as the pass finds it.
 pub mod Looseness
+pub mod Blanks
 pub mod Alignments
 pub mod Told
 pub mod Columns

@@ -23,7 +23,7 @@ use Rattle.md_pattern.specs.Pattern.{pattern_of}
 use Rattle.md_pattern.specs.Shape.{IsShaped, AreShaped, inner_role, inner_before}
 use Rattle.md_tree.specs.Rules.{broken_rule, reading_of, MeetRules, target_of}
 use Rattle.md_tree.specs.Grammar.{Handed, IsGrammatical, IsReadAs, IsChecked}
-use Rattle.md_tree.specs.Refusal.{Level, opening, role_in, before_in, symbol_after, Begins, IsLeftOpen, LeaveOpen, EndsBroken}
+use Rattle.md_tree.specs.Refusal.{Level, opening, role_in, before_in, symbol_after, Begins, EndsInGroup, LeaveOpen, EndsBroken}
 use Rattle.md_pattern.specs.Steps.{is_complete, is_whole, is_optional, items_of, start_of}
 use Rattle.md_tree.specs.Machine.{Reads, Course, Runs, Exits, ExitsWhere, after_exit, entered_on, beginning}
 use Rattle.md_tree.specs.Walk.{Unbroken, Broken, BreaksWhere, BreaksAtExit}
@@ -178,7 +178,11 @@ not_whole state flow incomplete true e =
     let clash : true ≡ false = sym complete ∙ incomplete in clash
 not_whole state flow incomplete false e = refl
 
--- something is open
+-- something is open: a node, or a group on the document's own spine
+abbrev IsLeftOpen : List Event → Type 0
+IsLeftOpen events = (path : List Level) × (nodes : Forest) × Begins events path nodes
+    × ((path ≢ []) ⊎ ((path ≡ []) × EndsInGroup (spine nodes)))
+
 leaves_group : (holds : Reads) (events : List Event) (course : Course) → (reached : Reached holds events course) →
     (reached.path ≡ []) → reached.base ≡ start_of Flow → is_complete course.state ≡ false → IsLeftOpen events
 leaves_group holds events course reached none base incomplete =

@@ -73,14 +73,10 @@ BeginTree events = (forest : Forest) × (more : List Event) × IsShaped forest �
 abbrev pub EndsInGroup : List Symbol → Type 0
 EndsInGroup symbols = (before group : List Symbol) × (symbols ≡ before ++ group) × IsBegunGroup group
 
--- a node is open, or a group on the document's own spine
-abbrev pub IsLeftOpen : List Event → Type 0
-IsLeftOpen events = (path : List Level) × (nodes : Forest) × Begins events path nodes
-    × ((path ≢ []) ⊎ ((path ≡ []) × EndsInGroup (spine nodes)))
-
--- the events begin a tree with the shape of the grammar, and leave something open
+-- the events begin a tree with the shape of the grammar, and leave a node open, or a group on the document's own spine
 abbrev pub LeaveOpen : List Event → Type 0
-LeaveOpen events = BeginTree events × IsLeftOpen events
+LeaveOpen events = BeginTree events × ((path : List Level) × (nodes : Forest) × Begins events path nodes
+    × ((path ≢ []) ⊎ ((path ≡ []) × EndsInGroup (spine nodes))))
 
 -- the node that ends with the last of these events breaks the rule, and each that has ended by then matches its pattern
 pub record EndsBroken (bytes : List ℕ) (names : List (List ℕ × List ℕ)) (events : List Event) (broken : Rule)

@@ -3,7 +3,9 @@ use Rattle.std.specs.Prelude.{Bool, None, if◌then◌else◌, List, [], ◌∷�
 use Rattle.md_base.specs.declared.event.Name.{Name}
 use Rattle.md_pattern.specs.declared.kinds.Role.TheVariants as role
 use Rattle.md_base.specs.Tree.{Forest, Empty, Node}
-use Rattle.md_base.specs.NameTests.{is_transparent, is_table_head, is_delimiter_row, is_delimiter_value}
+use Rattle.md_base.specs.NameTests.{is_transparent, is_table_head, is_delimiter_row}
+use Rattle.md_base.specs.Is.{is}
+use Rattle.md_base.specs.declared.event.Name.TheVariants.{GfmTableDelimiterCellValue}
 use Rattle.md_pattern.specs.Spine.{spine, Matches}
 use Rattle.md_pattern.specs.Shape.{AreShaped}
 
@@ -16,7 +18,7 @@ in_each test found (Node name start end children rest) =
 
 -- the children of each cell value on the spine of a delimiter row with these children, in order
 abbrev pub values_of_row : Forest → List Forest
-values_of_row children = in_each is_delimiter_value (λ value. value ∷ []) children
+values_of_row children = in_each (is GfmTableDelimiterCellValue) (λ value. value ∷ []) children
 
 -- those of the delimiter row on a head's spine
 abbrev pub values_of_head : Forest → List Forest
