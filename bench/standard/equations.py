@@ -105,7 +105,7 @@ def checked(equations):
 
 
 def main():
-    count, urls, seed = (int(given) for given in [*sys.argv[1:], *["10000", "10000", "1"][len(sys.argv) - 1 :]])
+    count, urls, seed = (int(given) for given in [*sys.argv[1:], *["10000", "10300", "1"][len(sys.argv) - 1 :]])
     made_by = random.Random(seed)
     made = [*(of_text(made_by) for _ in range(count)), *of_urls(urls, made_by)]
     for (kind, told), number in sorted(collections.Counter(kind for kind, _ in made).items()):
