@@ -8,6 +8,8 @@ use Rattle.md_safe.specs.Options.{KeepsGrammar, KeepsLinks, KeepsImages, KeepsId
 use Rattle.md_text.specs.Html.{any_attribute, HasOneReadingWith}
 use Rattle.md_text.specs.Safe.{is_safe_link, is_safe_image}
 use Rattle.md_text.specs.Ids.{HasDistinctIds}
+use Rattle.md_standard.specs.SafeTokens.{has_safe_links, has_safe_images}
+use Rattle.md_standard.specs.Tokenized.{HasTokensWith, IsTokenizedAsRead}
 
 -- it is the meaning of the document that the events flatten, and safe where the options are
 pub record IsCompiled (given : Handed) (options : CompileOptions) (text : List ℕ) : Type 0 where
@@ -17,4 +19,7 @@ pub record IsCompiled (given : Handed) (options : CompileOptions) (text : List �
   pub one_reading : KeepsGrammar options → HasOneReadingWith any_attribute text
   pub safe_links : KeepsLinks options → HasOneReadingWith is_safe_link text
   pub safe_images : KeepsImages options → HasOneReadingWith is_safe_image text
+  pub tokenized : KeepsGrammar options → IsTokenizedAsRead text
+  pub safe_link_tokens : KeepsLinks options → HasTokensWith has_safe_links text
+  pub safe_image_tokens : KeepsImages options → HasTokensWith has_safe_images text
   pub distinct_ids : KeepsIds options → HasDistinctIds text

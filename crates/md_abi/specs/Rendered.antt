@@ -11,6 +11,8 @@ use Rattle.md_meaning.specs.Meaning.{meaning}
 use Rattle.md_text.specs.Html.{any_attribute, HasOneReadingWith}
 use Rattle.md_text.specs.Safe.{is_safe_link, is_safe_image}
 use Rattle.md_text.specs.Ids.{HasDistinctIds}
+use Rattle.md_standard.specs.SafeTokens.{has_safe_links, has_safe_images}
+use Rattle.md_standard.specs.Tokenized.{HasTokensWith, IsTokenizedAsRead}
 use Rattle.md_script.specs.Run.{IsRefusedAt}
 use Rattle.md_abi.specs.Numbers.{rule_number}
 use Rattle.md_abi.specs.Standing.{StandFor}
@@ -22,8 +24,9 @@ use Rattle.md_abi.specs.declared.reference.CReference.{CReference}
 use Rattle.md_abi.specs.declared.option.COptions.{COptions}
 
 -- the text is the meaning of a document of the grammar whose events, options and names are those that were handed
--- in; where the options are safe, it has one reading, with links and images of permitted protocols alone, and where
--- ids go by number no two ids are equal
+-- in; where the options are safe, it has one reading, with links and images of permitted protocols alone, and the HTML
+-- Standard's tokenizer emits that, with links and images of permitted schemes alone; where ids go by number no two ids
+-- are equal
 pub record IsRendered (events : List CEvent) (bytes : List ℕ) (options : COptions) (names : List CReference)
     (text : List ℕ)
     : Type 0 where
@@ -38,6 +41,9 @@ pub record IsRendered (events : List CEvent) (bytes : List ℕ) (options : COpti
   pub one_reading : KeepsGrammar options → HasOneReadingWith any_attribute text
   pub safe_links : KeepsLinks options → HasOneReadingWith is_safe_link text
   pub safe_images : KeepsImages options → HasOneReadingWith is_safe_image text
+  pub tokenized : KeepsGrammar options → IsTokenizedAsRead text
+  pub safe_link_tokens : KeepsLinks options → HasTokensWith has_safe_links text
+  pub safe_image_tokens : KeepsImages options → HasTokensWith has_safe_images text
   pub distinct_ids : KeepsIds options → HasDistinctIds text
 
 -- what was handed in stands for events that are refused at this index by this rule

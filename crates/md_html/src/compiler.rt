@@ -17,6 +17,8 @@ ghost use Rattle.md_meaning.specs.Meaning.{meaning, ending_at};
 ghost use Rattle.md_text.specs.Html.{any_attribute, HasOneReadingWith};
 ghost use Rattle.md_text.specs.Safe.{is_safe_link, is_safe_image};
 ghost use Rattle.md_text.specs.Ids.{HasDistinctIds};
+ghost use Rattle.md_standard.specs.SafeTokens.{has_safe_links, has_safe_images};
+ghost use Rattle.md_standard.specs.Tokenized.{HasTokensWith, IsTokenizedAsRead};
 ghost use Rattle.md_safe.specs.Options.{KeepsGrammar, KeepsLinks, KeepsImages, KeepsIds};
 ghost use Rattle.md_printer.specs.Given.{given_of};
 ghost use Rattle.md_meaning.specs.Places.{first_ending as first_place};
@@ -57,7 +59,9 @@ pub struct Counted {
 /// HTML isn't allowed and the heading of the footnotes is the usual one, the text has exactly one reading in the HTML
 /// grammar. Where dangerous protocols aren't allowed either, each link in it has no protocol or a permitted one;
 /// where any image source isn't allowed either, so has each image. The default options are such. Where footnote ids
-/// go by number and the text has one reading, no two ids in it are equal, with any prefix and any protocols.
+/// go by number and the text has one reading, no two ids in it are equal, with any prefix and any protocols. The same
+/// holds in the web's own words: a text with one reading is what the HTML Standard's tokenizer emits of it, and by the
+/// URL Standard a link, or an image, has no scheme of its own or a permitted one.
 ///
 /// # Errors
 ///
@@ -93,6 +97,11 @@ pub fn compile(
         → HasOneReadingWith is_safe_link (string_bytes text)) }
     ensures safe_images { IfOk result (λ text. KeepsImages options.now
         → HasOneReadingWith is_safe_image (string_bytes text)) }
+    ensures tokenized { IfOk result (λ text. KeepsGrammar options.now → IsTokenizedAsRead (string_bytes text)) }
+    ensures safe_link_tokens { IfOk result (λ text. KeepsLinks options.now
+        → HasTokensWith has_safe_links (string_bytes text)) }
+    ensures safe_image_tokens { IfOk result (λ text. KeepsImages options.now
+        → HasTokensWith has_safe_images (string_bytes text)) }
     ensures distinct_ids { IfOk result (λ text. KeepsIds options.now → HasDistinctIds (string_bytes text)) }
 
     ensures outside { IfErr result (IsOutside (handed events.now bytes.now names.now)) }
@@ -134,6 +143,11 @@ pub fn compile_counted(
         → HasOneReadingWith is_safe_link (string_bytes counted.text)) }
     ensures safe_images { IfOk result (λ counted. KeepsImages options.now
         → HasOneReadingWith is_safe_image (string_bytes counted.text)) }
+    ensures tokenized { IfOk result (λ counted. KeepsGrammar options.now → IsTokenizedAsRead (string_bytes counted.text)) }
+    ensures safe_link_tokens { IfOk result (λ counted. KeepsLinks options.now
+        → HasTokensWith has_safe_links (string_bytes counted.text)) }
+    ensures safe_image_tokens { IfOk result (λ counted. KeepsImages options.now
+        → HasTokensWith has_safe_images (string_bytes counted.text)) }
     ensures distinct_ids { IfOk result (λ counted. KeepsIds options.now → HasDistinctIds (string_bytes counted.text)) }
     ensures least { IfOk result (λ counted. 2 * length events.now ≤ counted.visits) }
     ensures most { IfOk result (λ counted. counted.visits ≤ 3 * length events.now) }
@@ -174,6 +188,11 @@ pub fn compile_checked(
         → HasOneReadingWith is_safe_link (string_bytes text)) }
     ensures safe_images { IfOk result (λ text. KeepsImages options.now
         → HasOneReadingWith is_safe_image (string_bytes text)) }
+    ensures tokenized { IfOk result (λ text. KeepsGrammar options.now → IsTokenizedAsRead (string_bytes text)) }
+    ensures safe_link_tokens { IfOk result (λ text. KeepsLinks options.now
+        → HasTokensWith has_safe_links (string_bytes text)) }
+    ensures safe_image_tokens { IfOk result (λ text. KeepsImages options.now
+        → HasTokensWith has_safe_images (string_bytes text)) }
     ensures distinct_ids { IfOk result (λ text. KeepsIds options.now → HasDistinctIds (string_bytes text)) }
 {
     let counted = count_checked(alloc, checked, options)?;
@@ -194,6 +213,11 @@ fn count_checked(
         → HasOneReadingWith is_safe_link (string_bytes counted.text)) }
     ensures safe_images { IfOk result (λ counted. KeepsImages options.now
         → HasOneReadingWith is_safe_image (string_bytes counted.text)) }
+    ensures tokenized { IfOk result (λ counted. KeepsGrammar options.now → IsTokenizedAsRead (string_bytes counted.text)) }
+    ensures safe_link_tokens { IfOk result (λ counted. KeepsLinks options.now
+        → HasTokensWith has_safe_links (string_bytes counted.text)) }
+    ensures safe_image_tokens { IfOk result (λ counted. KeepsImages options.now
+        → HasTokensWith has_safe_images (string_bytes counted.text)) }
     ensures distinct_ids { IfOk result (λ counted. KeepsIds options.now → HasDistinctIds (string_bytes counted.text)) }
     ensures least { IfOk result (λ counted. 2 * length checked.now.events ≤ counted.visits) }
     ensures most { IfOk result (λ counted. counted.visits ≤ 3 * length checked.now.events) }

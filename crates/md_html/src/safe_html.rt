@@ -8,6 +8,7 @@ ghost use Rattle.md_tree.specs.Refusal.{IsOutside, IsOrder, IsMdx, IsOfNode, IsL
 ghost use Rattle.md_meaning.specs.Meaning.{meaning};
 ghost use Rattle.md_safe.specs.Options.{KeepsImages};
 ghost use Rattle.md_text.specs.Ids.{HasDistinctIds};
+ghost use Rattle.md_standard.specs.Tokenized.{IsSafelyTokenized};
 ghost use Rattle.md_html.specs.Safe.{IsRefusedFor, OfCompile};
 
 use crate::compiler::compile;
@@ -40,6 +41,7 @@ impl Model for SafeHtml {
 
 impl SafeHtml {
     ghost use Rattle.md_html.specs.Safe.{IsSafe};
+    ghost use Rattle.md_standard.specs.Tokenized.{IsSafelyTokenized};
     ghost use Rattle.std.specs.Prelude.{◌≡◌, string_bytes};
 
     /// A text that is safe.
@@ -62,6 +64,7 @@ impl SafeHtml {
     pub fn as_str(&self) -> &str
         ensures text { result.now ≡ self.now }
         ensures safe { IsSafe self.now }
+        ensures tokens { IsSafelyTokenized self.now }
     {
         self.text.as_str()
     }
@@ -129,6 +132,7 @@ pub fn compile_safe(
     ensures grammatical { OnOk result (IsChecked (handed events.now bytes.now names.now)) }
     ensures meaning { IfOk result (λ html. (document : Forest) → flatten document ≡ events.now →
         html ≡ meaning options.now (name_table names.now) bytes.now document) }
+    ensures tokens { IfOk result (λ html. IsSafelyTokenized html) }
     ensures distinct_ids { IfOk result (λ html. options.now.gfm_footnote_number_ids ≡ true → HasDistinctIds html) }
 
     ensures outside { IfErr result (OfCompile (IsOutside (handed events.now bytes.now names.now))) }

@@ -1,5 +1,5 @@
 -- The page around a title and a safe text.
-use Rattle.std.proofs.Common.{◌≡◌, ℕ, true, ◌&&◌, List, [], ◌∷◌, ◌++◌, refl, sym, ap, ◌∙◌, subst}
+use Rattle.std.proofs.Common.{◌≡◌, ℕ, true, false, ◌&&◌, List, [], ◌∷◌, ◌++◌, refl, sym, ap, ◌∙◌, subst}
 use Rattle.std.proofs.lemmas.Bool.{and_from}
 use Rattle.std.proofs.lemmas.List.{append-nil}
 use Rattle.md_text.specs.Encode.{encoded}
@@ -7,6 +7,11 @@ use Rattle.md_text.specs.References.{is_escaped, read_back}
 use Rattle.md_text.specs.Html.{Forest, Empty, Text, written, all_attributes}
 use Rattle.md_text.specs.Safe.{is_safe_image}
 use Rattle.md_text.proofs.EncodeLaws.{is_escaped-encoded, read_back-encoded}
+use Rattle.md_standard.specs.Input.{with_line_feeds}
+use Rattle.md_standard.specs.Tokens.{seen}
+use Rattle.md_standard.specs.PageTokens.{IsTokenizedPage}
+use Rattle.md_standard.proofs.PageRuns.{page-tokenized}
+use Rattle.md_standard.proofs.Schemes.{seen-is}
 use Rattle.md_html.specs.Safe.{IsSafe}
 use Rattle.md_page.specs.Page.{is_title, IsPage, IsPageOf, page_text}
 use Rattle.md_page.proofs.Pages.{before_title, before_body, after_body, page_written, one_page}
@@ -53,3 +58,14 @@ page_given title body text e safe =
           subst (λ f. all_attributes is_safe_image f ≡ true)
           (sym (safe.safe_images.only inside safe.safe_links.reading)) safe.safe_images.passes;
     }
+
+-- the same in the Standard's words
+pub page_emitted : (title body text : List ℕ) → text ≡ page_text title body → IsSafe body →
+    IsTokenizedPage (with_line_feeds (encoded false title)) body text
+page_emitted title body text e safe =
+    let escaped = encoded true title in
+    let characters : seen escaped ≡ with_line_feeds (encoded false title) =
+    seen-is escaped (is_escaped-encoded title) ∙ ap with_line_feeds (read_back-encoded title) in
+    subst (λ t. IsTokenizedPage (with_line_feeds (encoded false title)) body t) (sym e)
+    (subst (λ c. IsTokenizedPage c body (page_text title body)) characters
+    (page-tokenized escaped body (is_escaped-encoded title) safe.safe_links safe.safe_images))

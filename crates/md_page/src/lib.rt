@@ -1,7 +1,10 @@
 //! A whole page around a text of the HTML grammar that is safe.
 #![tactic(auto)]
 
-ghost use Rattle.std.specs.Prelude.{◌≡◌, IfOk, string_bytes};
+ghost use Rattle.std.specs.Prelude.{◌≡◌, false, IfOk, string_bytes};
+ghost use Rattle.md_text.specs.Encode.{encoded};
+ghost use Rattle.md_standard.specs.Input.{with_line_feeds};
+ghost use Rattle.md_standard.specs.PageTokens.{IsTokenizedPage};
 ghost use Rattle.md_page.specs.Page.{IsPageOf, page_text};
 
 use md_html::SafeHtml;
@@ -11,7 +14,9 @@ use std::alloc::{AllocError, Global};
 /// A whole page: `title`, escaped, in its head, and `body` as it is.
 ///
 /// The page can be read in exactly one way. Its title, the references read back, is `title` with U+FFFD for each NUL;
-/// its body is the one reading of `body`, so each `href` and `src` in the page has no protocol or a permitted one.
+/// its body is the one reading of `body`, so each `href` and `src` in the page has no protocol or a permitted one. The
+/// HTML Standard's tokenizer emits exactly that of it: the doctype, the head with the title's characters, each line
+/// ending in them a line feed, and the tokens of the body.
 ///
 /// # Errors
 ///
@@ -30,6 +35,8 @@ use std::alloc::{AllocError, Global};
 pub fn page(alloc: Global, title: &str, body: &SafeHtml) -> Result<String, AllocError>
     ensures text { IfOk result (λ text. string_bytes text ≡ page_text title.now body.now) }
     ensures page { IfOk result (λ text. IsPageOf title.now body.now (string_bytes text)) }
+    ensures tokenized { IfOk result (λ text. IsTokenizedPage (with_line_feeds (encoded false title.now)) body.now
+        (string_bytes text)) }
 {
     let escaped = encode(alloc, title, true)?;
     let mut text = String::new(alloc);

@@ -12,6 +12,8 @@ use Rattle.md_safe.specs.Options.{KeepsGrammar, KeepsLinks, KeepsImages, KeepsId
 use Rattle.md_text.specs.Html.{any_attribute, HasOneReadingWith}
 use Rattle.md_text.specs.Safe.{is_safe_link, is_safe_image}
 use Rattle.md_text.specs.Ids.{HasDistinctIds}
+use Rattle.md_standard.specs.SafeTokens.{has_safe_links, has_safe_images}
+use Rattle.md_standard.specs.Tokenized.{HasTokensWith, IsTokenizedAsRead}
 use Rattle.md_script.specs.Script.{IsReadable, IsFirstUnreadable, StandsFor}
 use Rattle.md_script.specs.declared.error.RunError.{RunError}
 use Rattle.md_script.specs.declared.error.RunError.TheVariants as error
@@ -29,8 +31,8 @@ abbrev pub document_of : List Event → List ℕ → Handed
 document_of events bytes = record { events = events; bytes = bytes; names = reference_names }
 
 -- the events are of the grammar over the bytes, and the text is the meaning of their document; where the options
--- are safe, it has one reading, with links and images of permitted protocols alone, and where ids go by number no two
--- ids are equal
+-- are safe, it has one reading, with links and images of permitted protocols alone, and the HTML Standard's tokenizer
+-- emits that, with links and images of permitted schemes alone; where ids go by number no two ids are equal
 pub record IsCompiled (events : List Event) (bytes : List ℕ) (options : CompileOptions) (text : List ℕ)
     : Type 0 where
   pub grammatical : IsChecked (document_of events bytes)
@@ -39,6 +41,9 @@ pub record IsCompiled (events : List Event) (bytes : List ℕ) (options : Compil
   pub one_reading : KeepsGrammar options → HasOneReadingWith any_attribute text
   pub safe_links : KeepsLinks options → HasOneReadingWith is_safe_link text
   pub safe_images : KeepsImages options → HasOneReadingWith is_safe_image text
+  pub tokenized : KeepsGrammar options → IsTokenizedAsRead text
+  pub safe_link_tokens : KeepsLinks options → HasTokensWith has_safe_links text
+  pub safe_image_tokens : KeepsImages options → HasTokensWith has_safe_images text
   pub distinct_ids : KeepsIds options → HasDistinctIds text
 
 -- why events give no text

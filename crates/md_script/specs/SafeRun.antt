@@ -9,6 +9,7 @@ use Rattle.md_tree.specs.Refusal.{IsRefusal}
 use Rattle.md_meaning.specs.Meaning.{meaning}
 use Rattle.md_text.specs.declared.options.CompileOptions.{CompileOptions}
 use Rattle.md_text.specs.Ids.{HasDistinctIds}
+use Rattle.md_standard.specs.Tokenized.{IsSafelyTokenized}
 use Rattle.md_safe.specs.Options.{KeepsImages}
 use Rattle.md_html.specs.declared.safe_html.SafeError.{SafeError}
 use Rattle.md_html.specs.declared.safe_html.SafeError.TheVariants as safe
@@ -25,13 +26,15 @@ safe_message_of Options = codes "unsafe options"
 safe_message_of (Run error) = message_of error
 
 -- the options are safe, the events are of the grammar over the bytes, and the text is the meaning of their document;
--- where ids go by number no two ids are equal
+-- the HTML Standard's tokenizer emits its reading, with links and images of permitted schemes alone; where ids go by
+-- number no two ids are equal
 pub record IsSafelyCompiled (events : List Event) (bytes : List ℕ) (options : CompileOptions)
     (text : List ℕ) : Type 0 where
   pub safe : KeepsImages options
   pub grammatical : IsChecked (document_of events bytes)
   pub means : (document : Forest) → flatten document ≡ events →
       text ≡ meaning options reference_names bytes document
+  pub tokens : IsSafelyTokenized text
   pub distinct_ids : options.gfm_footnote_number_ids ≡ true → HasDistinctIds text
 
 -- why events give no safe text: their options aren't safe, or they are and the events give no text

@@ -3,7 +3,7 @@ use Rattle.std.proofs.Common.{◌≡◌, ℕ, true, List, ◌++◌, ap, ◌∙�
 use Rattle.std.proofs.lemmas.List.{append_assoc}
 use Rattle.md_text.specs.Encode.{encoded}
 use Rattle.md_page.proofs.Pages.{before_title, before_body, after_body}
-use Rattle.md_page.proofs.Given.{page_given}
+use Rattle.md_page.proofs.Given.{page_given, page_emitted}
 use Rattle.md_page.proofs.page.Goals as goal
 
 joined : (title body : List ℕ) → ((before_title ++ title) ++ before_body) ++ body ++ after_body ≡ before_title
@@ -33,3 +33,7 @@ returns-clause-text c =
 pub returns-clause-page : goal.returns-clause-page
 returns-clause-page c =
     page_given c.args.title.now c.args.body.now _ (returns-clause-text c) c.as_str-2.ensures.safe
+
+pub returns-clause-tokenized : goal.returns-clause-tokenized
+returns-clause-tokenized c =
+    page_emitted c.args.title.now c.args.body.now _ (returns-clause-text c) c.as_str-2.ensures.safe

@@ -7,7 +7,9 @@ use Rattle.md_shape.proofs.Grammatical.{grammatical-built}
 use Rattle.md_shape.specs.Underlined.{IsUnderlined}
 use Rattle.md_shape.proofs.Underlines.{grammatical-underlined}
 use Rattle.md_text.specs.Ids.{HasDistinctIds}
+use Rattle.md_safe.specs.Options.{KeepsGrammar, KeepsLinks, KeepsImages}
 use Rattle.md_safe.proofs.Whole.{one-reading, safe-links, safe-images, distinct-ids}
+use Rattle.md_standard.proofs.Tokenized.{read-tokenized, link-tokens, image-tokens}
 use Rattle.md_base.specs.Reference.{name_table}
 use Rattle.md_base.specs.Tree.{Forest, flatten}
 use Rattle.md_meaning.specs.Given.{Given, Defined}
@@ -64,6 +66,17 @@ returns c =
     in
     let own = c.in_ok-own.ensures.visits read.0 (shaped read.0 read.1.flattened) read.1.flattened
     (c.definitions.ensures.definitions read.0 read.1.flattened) in
+    let text = string_bytes c.in_ok-printed.printed.text in
+    let same = sym (printed read.0 read.1.flattened) in
+    let one : KeepsGrammar options → HasOneReadingWith any_attribute text = λ keeps.
+    subst (λ t. HasOneReadingWith any_attribute t) same
+    (one-reading checked.bytes checked.names options read.0 built keeps) in
+    let links : KeepsLinks options → HasOneReadingWith is_safe_link text = λ keeps.
+    subst (λ t. HasOneReadingWith is_safe_link t) same
+    (safe-links checked.bytes checked.names options read.0 built keeps) in
+    let images : KeepsImages options → HasOneReadingWith is_safe_image text = λ keeps.
+    subst (λ t. HasOneReadingWith is_safe_image t) same
+    (safe-images checked.bytes checked.names options read.0 built keeps) in
     record {
       meaning = λ document flat.
           printed document flat
@@ -71,13 +84,13 @@ returns c =
           (subst (λ forest. IsGrammatical checked.bytes checked.names forest)
           (flatten_one GfmTable (record { line = 0; column = 0; index = 0; vs = 0 }) read.0 document
           (read.1.flattened ∙ sym flat)) read.1.grammatical);
-      one_reading = λ keeps. subst (λ t. HasOneReadingWith any_attribute t) (sym (printed read.0 read.1.flattened))
-          (one-reading checked.bytes checked.names options read.0 built keeps);
-      safe_links = λ keeps. subst (λ t. HasOneReadingWith is_safe_link t) (sym (printed read.0 read.1.flattened))
-          (safe-links checked.bytes checked.names options read.0 built keeps);
-      safe_images = λ keeps. subst (λ t. HasOneReadingWith is_safe_image t) (sym (printed read.0 read.1.flattened))
-          (safe-images checked.bytes checked.names options read.0 built keeps);
-      distinct_ids = λ keeps. subst HasDistinctIds (sym (printed read.0 read.1.flattened))
+      one_reading = one;
+      safe_links = links;
+      safe_images = images;
+      tokenized = λ keeps. read-tokenized any_attribute text (one keeps);
+      safe_link_tokens = λ keeps. link-tokens text (links keeps);
+      safe_image_tokens = λ keeps. image-tokens text (images keeps);
+      distinct_ids = λ keeps. subst HasDistinctIds same
           (distinct-ids checked.bytes checked.names options read.0 built underlined keeps few);
       least = omega (
         arith,

@@ -1,0 +1,117 @@
+#!/usr/bin/env python3
+"""Has a real browser, Debian's chromium, take what `mdevents` makes of the attacks in bench/attacks.json.
+
+    /usr/bin/python3 bench/standard/browser.py PROGRAM [CHROMIUM]
+
+PROGRAM is the built `mdevents`. Each text is written into a document of its own, by the browser's parser as it reads a
+page, and set into a `div` of another. In both documents that come of it there may be no script element, no attribute
+whose name begins with `on`, and, but where an option lets them, no `href` and no `src` with a scheme that isn't
+permitted, by the browser's own `URL`; and nothing may run: no call of `alert`, `confirm`, `prompt` or `eval`. It fails,
+with status 1, on each of these, and where it doesn't find them in texts that have them.
+"""
+
+import itertools
+import json
+import pathlib
+import subprocess
+import sys
+import tempfile
+
+sys.path.insert(0, str(pathlib.Path(__file__).parents[1]))
+from html5 import ATTACKS, LETS_ANY, attacks, script  # noqa: E402
+
+# Texts with what is looked for, each with a word of the fault that is to be found.
+BAD = [
+    ("<p><script>alert(1)</script></p>", "script"),
+    ("<p><script>alert(1)</script></p>", "ran"),
+    ("<p onclick='alert(1)'>x</p>", "onclick"),
+    ("<img src='data:,' onerror='alert(1)'>", "ran"),
+    ("<svg onload='alert(1)'></svg>", "ran"),
+    ("<a href=' java\nscript:alert(1)'>x</a>", "javascript"),
+    ("<img src='irc:x'>", "irc"),
+]
+
+PAGE = """<!doctype html><meta charset="utf-8"><body><script>
+const PERMITTED = {href: ['http', 'https', 'irc', 'ircs', 'mailto', 'xmpp'], src: ['http', 'https']};
+const told = (url, base) => { try { return new URL(url, base).protocol.slice(0, -1) } catch { return null } };
+// A URL's own scheme: the one that it has on two bases with different schemes.
+const schemeOf = (url) => { const one = told(url, 'http://h/'); return one === told(url, 'ftp://h/') ? one : null };
+const faultsOf = (root, isAny) => {
+  const faults = [];
+  for (const element of root.querySelectorAll('*')) {
+    if (element.localName === 'script') faults.push('a script element');
+    for (const {name, value} of element.attributes) {
+      if (name.startsWith('on')) faults.push('the attribute ' + name);
+      const scheme = name in PERMITTED && schemeOf(value);
+      if (scheme && !isAny && !PERMITTED[name].includes(scheme)) faults.push(name + ' with the scheme ' + scheme);
+    }
+  }
+  return faults;
+};
+const opened = (ran) => {
+  const frame = document.body.appendChild(document.createElement('iframe'));
+  for (const name of ['alert', 'confirm', 'prompt', 'eval']) frame.contentWindow[name] = () => { ran.push('ran ' + name) };
+  return frame;
+};
+const wait = (time) => new Promise((done) => setTimeout(done, time));
+const judged = async (texts) => {
+  const open = texts.map(([text, isAny]) => {
+    const ran = [], page = opened(ran), part = opened(ran), document = page.contentDocument;
+    document.open(); document.write('<!doctype html><meta charset="utf-8"><body>' + text); document.close();
+    const div = part.contentDocument.body.appendChild(part.contentDocument.createElement('div'));
+    div.innerHTML = text;
+    return {ran, page, part, document, div, isAny};
+  });
+  await wait(200);
+  return open.map(({ran, page, part, document, div, isAny}) => {
+    const faults = [...faultsOf(document, isAny), ...faultsOf(div, isAny), ...ran];
+    page.remove(); part.remove();
+    return faults;
+  });
+};
+(async () => {
+  const answers = [];
+  for (let at = 0; at < TEXTS.length; at += 50) answers.push(...await judged(TEXTS.slice(at, at + 50)));
+  document.body.textContent = JSON.stringify(answers);
+})();
+</script></body>"""
+
+
+def faults_of(texts, chromium):
+    """What the browser finds in each text; a text comes with whether its option lets any protocol."""
+    with tempfile.TemporaryDirectory() as folder:
+        page = pathlib.Path(folder) / "page.html"
+        given = json.dumps(texts).replace("<", "\\u003c")
+        page.write_text(PAGE.replace("<script>", f"<script>\nconst TEXTS = {given};", 1), encoding="utf-8")
+        options = ["--headless", "--no-sandbox", "--disable-gpu", f"--user-data-dir={folder}/profile"]
+        command = [chromium, *options, "--virtual-time-budget=600000", "--dump-dom", page.as_uri()]
+        ran = subprocess.run(command, capture_output=True, text=True, check=True, timeout=600)
+    inside = ran.stdout.split("<body>", 1)[1].split("</body>", 1)[0]
+    return json.loads(inside.replace("&amp;", "&").replace("&lt;", "<").replace("&gt;", ">"))
+
+
+def main():
+    program, chromium = sys.argv[1], (sys.argv[2:] or ["chromium"])[0]
+    texts, sources = [], []
+    for lines, (text, nodes) in itertools.product(ATTACKS["ways"], attacks()):
+        source = script(lines, text, nodes)
+        if source is None:
+            continue
+        ran = subprocess.run([program], input=source, capture_output=True, check=True)
+        texts.append([ran.stdout.decode(), LETS_ANY in lines])
+        sources.append(source)
+    found = faults_of([[text, False] for text, _ in BAD] + texts, chromium)
+    assert len(found) == len(BAD) + len(texts)
+    for (text, word), faults in zip(BAD, found, strict=False):
+        assert any(word in fault for fault in faults), (text, faults)
+    failures = 0
+    for source, (text, _), faults in zip(sources, texts, found[len(BAD) :], strict=True):
+        failures += bool(faults)
+        if faults:
+            print(f"{faults}\n  in {text[:300]!r}\n  of {source[:300]!r}")
+    print(f"{len(texts)} texts, each as a page and inside a div: {failures} with faults")
+    sys.exit(1 if failures or not texts else 0)
+
+
+if __name__ == "__main__":
+    main()

@@ -1,0 +1,107 @@
+"""Texts and URLs to compare: of the HTML grammar, pages, put together of pieces, and changed ones."""
+
+import json
+import pathlib
+
+ATTACKS = json.loads((pathlib.Path(__file__).parents[1] / "attacks.json").read_text(encoding="utf-8"))
+
+ELEMENTS = {
+    name: [] for name in "blockquote pre p ul em strong del sup table thead tbody tr h1 h3 h4 h5 h6".split()
+} | {
+    "code": ["class"],
+    "ol": ["start"],
+    "li": ["id"],
+    "h2": ["id", "class"],
+    "th": ["align"],
+    "td": ["align"],
+    "section": ["data-footnotes", "class"],
+    "a": "href title id class data-footnote-ref data-footnote-backref aria-describedby aria-label".split(),
+}
+VOID = {"br": [], "hr": [], "img": ["src", "alt", "title"], "input": ["type", "disabled", "checked"]}
+# Escaped pieces of texts and values.
+ESCAPED = [
+    *["&amp;", "&lt;", "&gt;", "&quot;", "&amp;amp;", "&amp;#60;", "\r", "\n", "\r\n", "\t", "\f", " ", "'", "=", "/", ";"],
+    *["#", "a", "Z", "0", "javascript:", "http://x", "é", "☃", "\U0001f600", "\x0b", "\x7f", "\x01", "`", "-"],
+]
+# Pieces of texts that need not be of the grammar.
+BROKEN = [
+    *["<", ">", "/", "=", '"', "'", "&", "&amp;", "&lt;", "&quot", "a", "B", "href", " ", "\n", "\r", "\f", ";", "<a", "</a"],
+    *["<IMG ", 'x="', '" ', "é", " x=", "!", "-", "0", "\0", "<svg>", "<Title>", "</tiTle>", "</title", "<!docType"],
+    *["<!DOCTYPE html>", "<title>", "<img", "/>", "</", "=\"", "<p>", "<br />", "<style>", "<select>"],
+]
+# Pieces of URLs.
+URL = [
+    *[":", "/", "?", "#", "http", "https", "javascript", "MAILTO", "data", "x", "Z", "+", "-", ".", "1", " ", "\t", "\n"],
+    *["\r", "\x00", "\x1f", "\x0b", "é", "☃", "%", "&", ";", "\\", "@", "a", "b:c", "irc:", "\x7f", "\xa0", "zz", "//"],
+]
+URLS = [
+    *["http://example.org/a?b#c", "https:x", "mailto:a@b", "irc:x", "xmpp:a@b", "javascript:alert(1)", "data:text/html,x"],
+    *["/a:b", "a/b:c", "?x:y", "#x:y", "vbscript:x", "//h/p", "\x01 javascript:x", "java\tscript:x", "file:///x", "1a:b"],
+]
+
+
+def pieces(random, of, least, most):
+    """Some pieces after one another."""
+    return "".join(random.choice(of) for _ in range(random.randint(least, most)))
+
+
+def attributes(random, listed):
+    """Some of the listed attributes, each once."""
+    names = random.sample(listed, random.randint(0, len(listed)))
+    return "".join(f' {name}="{pieces(random, ESCAPED, 0, 8)}"' for name in names)
+
+
+def forest(random, depth):
+    """A text of the HTML grammar."""
+    out, is_after_text = "", False
+    for _ in range(random.randint(0, 4)):
+        kind = random.randint(0, 3)
+        if kind == 0 and not is_after_text:
+            out, is_after_text = out + pieces(random, ESCAPED, 1, 8), True
+            continue
+        is_after_text = False
+        if kind == 1 or depth == 0:
+            name = random.choice(list(VOID))
+            out += f"<{name}{attributes(random, VOID[name])} />"
+        else:
+            name = random.choice(list(ELEMENTS))
+            out += f"<{name}{attributes(random, ELEMENTS[name])}>{forest(random, depth - 1)}</{name}>"
+    return out
+
+
+def page(random, depth):
+    """A page as `md_page` writes it."""
+    title, body = pieces(random, ESCAPED, 0, 8), forest(random, depth)
+    head = f'<head><meta charset="utf-8" /><title>{title}</title></head>'
+    return f"<!doctype html>\n<html>{head}<body>{body}</body></html>\n"
+
+
+def changed(random, text, of):
+    """A text with a few characters left out, doubled, put in or exchanged."""
+    for _ in range(random.randint(1, 3)):
+        at = random.randint(0, len(text))
+        until = min(len(text), at + random.randint(0, 3))
+        put = random.choice(["", random.choice(of), text[at:until] * 2, random.choice(of).swapcase()])
+        text = text[:at] + put + text[until:]
+    return text
+
+
+def text(random, depth):
+    """One text and its kind."""
+    kind = random.choice(["grammar", "page", "pieces", "pieces", "changed grammar", "changed page", "attack"])
+    if kind == "pieces":
+        return kind, pieces(random, BROKEN, 0, 14)
+    if kind == "attack":
+        return kind, changed(random, random.choice(ATTACKS["attacks"])[0], BROKEN)
+    made = page(random, depth) if kind.endswith("page") else forest(random, depth)
+    return kind, changed(random, made, BROKEN) if kind.startswith("changed") else made
+
+
+def url(random):
+    """One URL and its kind."""
+    kind = random.choice(["pieces", "changed", "attack"])
+    if kind == "pieces":
+        return kind, pieces(random, URL, 0, 7)
+    if kind == "attack":
+        return kind, changed(random, random.choice(ATTACKS["attacks"])[0][:60], URL)
+    return kind, changed(random, random.choice(URLS), URL)
