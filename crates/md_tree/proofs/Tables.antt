@@ -19,7 +19,7 @@ use Rattle.md_pattern.specs.declared.kinds.Standing.{Standing}
 use Rattle.md_pattern.specs.declared.kinds.Standing.TheVariants.{Through, Space, Solid, Mdx}
 use Rattle.md_base.specs.Tree.{Forest, Empty, Node}
 use Rattle.md_base.specs.NameTests.{is_transparent, is_table_head, is_delimiter_row, leads_to_values}
-use Rattle.md_base.specs.Is.{is}
+use Rattle.md_base.specs.Is.{is as is_named}
 use Rattle.md_pattern.specs.Standing.{standing_of}
 use Rattle.md_pattern.specs.Pattern.{members, class_of, takes, pattern_of, Fits}
 use Rattle.md_pattern.specs.Spine.{spine, shown, IsTail, IsGrouped, Matches}
@@ -108,7 +108,7 @@ has_symbol one _ = false
 
 record Named (name : Name) : Type 0 where
   transparent : is_transparent name ≡ is_through (standing_of name)
-  value : is GfmTableDelimiterCellValue name ≡ has_symbol symbol.TableDelimiterValue (standing_of name)
+  value : is_named GfmTableDelimiterCellValue name ≡ has_symbol symbol.TableDelimiterValue (standing_of name)
   leads : leads_to_values name ≡ (is_through (standing_of name) || (is_table_head name || is_delimiter_row name))
   head : is_table_head name ≡ has_symbol symbol.TableHead (standing_of name)
   row : is_delimiter_row name ≡ has_symbol symbol.TableDelimiterRow (standing_of name)
@@ -122,7 +122,7 @@ named _ = record { transparent = refl; value = refl; leads = refl; head = refl; 
 -- the alignments of a node
 abbrev at_node : Name → Forest → List AlignKind
 at_node name children =
-    cond (is GfmTableDelimiterCellValue name) (alignment_of children ∷ []) (cond (leads_to_values name) (alignments children) [])
+    cond (is_named GfmTableDelimiterCellValue name) (alignment_of children ∷ []) (cond (leads_to_values name) (alignments children) [])
 
 node_through : (value leads transparent : Bool) (own inner found : List AlignKind) → value ≡ false → leads ≡ true →
     transparent ≡ true → inner ≡ found → cond value own (cond leads inner []) ≡ cond transparent found []
@@ -156,13 +156,13 @@ module _ (test : Name → Bool) (only : Name) (one : Symbol) (p : Symbol → Boo
       (inner_before standing before) → list_all p (shown standing (spine children)) ≡ true →
       at_node name children ≡ cond (is_transparent name) (in_each test found children) []
   other_node name children around before names again Through is none stands shaped all =
-      node_through (is GfmTableDelimiterCellValue name) (leads_to_values name) (is_transparent name) (alignment_of children
+      node_through (is_named GfmTableDelimiterCellValue name) (leads_to_values name) (is_transparent name) (alignment_of children
       ∷ []) (alignments children) (in_each test found children) (names.value
       ∙ ap (has_symbol symbol.TableDelimiterValue) is) (names.leads
       ∙ ap (λ s. is_through s || (is_table_head name || is_delimiter_row name)) is) (names.transparent
       ∙ ap is_through is) (again around before shaped all)
   other_node name children around before names again Space is none stands shaped all =
-      node_through (is GfmTableDelimiterCellValue name) (leads_to_values name) (is_transparent name) (alignment_of children
+      node_through (is_named GfmTableDelimiterCellValue name) (leads_to_values name) (is_transparent name) (alignment_of children
       ∷ []) (alignments children) (in_each test found children) (names.value
       ∙ ap (has_symbol symbol.TableDelimiterValue) is) (names.leads
       ∙ ap (λ s. is_through s || (is_table_head name || is_delimiter_row name)) is) (names.transparent
@@ -173,7 +173,7 @@ module _ (test : Name → Bool) (only : Name) (one : Symbol) (p : Symbol → Boo
       ∙ ap (λ b. b || is_delimiter_row name) (names.head ∙ ap (has_symbol symbol.TableHead) is)
       ∙ ap (λ b. sameb the_type symbol.TableHead seen || b) (names.row
       ∙ ap (has_symbol symbol.TableDelimiterRow) is) ∙ apart.1 in
-      node_apart (is GfmTableDelimiterCellValue name) (leads_to_values name) (is_transparent name) (alignment_of children
+      node_apart (is_named GfmTableDelimiterCellValue name) (leads_to_values name) (is_transparent name) (alignment_of children
       ∷ []) (alignments children) (in_each test found children) (names.value
       ∙ ap (has_symbol symbol.TableDelimiterValue) is ∙ apart.0) leads (names.transparent ∙ ap is_through is)
   other_node name children around before names again Mdx is none stands shaped all = absurd stands
@@ -208,8 +208,8 @@ module _ (test : Name → Bool) (only : Name) (one : Symbol) (p : Symbol → Boo
 
 -- ---- the three levels
 
-value_is : (name : Name) → is GfmTableDelimiterCellValue name ≡ true → name ≡ GfmTableDelimiterCellValue
-value_is GfmTableDelimiterCellValue e = refl
+value_is : (name : Name) → is_named GfmTableDelimiterCellValue name ≡ true → name ≡ GfmTableDelimiterCellValue
+value_is_named GfmTableDelimiterCellValue e = refl
 value_is _ e = cc
 
 row_is : (name : Name) → is_delimiter_row name ≡ true → name ≡ GfmTableDelimiterRow
@@ -244,7 +244,7 @@ abbrev of_value : Forest → List AlignKind
 of_value children = alignment_of children ∷ []
 
 abbrev of_row : Forest → List AlignKind
-of_row children = in_each (is GfmTableDelimiterCellValue) of_value children
+of_row children = in_each (is_named GfmTableDelimiterCellValue) of_value children
 
 abbrev of_head : Forest → List AlignKind
 of_head children = in_each is_delimiter_row of_row children
@@ -253,7 +253,7 @@ row_level : (children : Forest) → AreShaped children role.TableDelimiterRow No
     Matches role.TableDelimiterRow (spine children) → alignments children ≡ of_row children
 row_level children shaped matches =
     let p = neither symbol.TableHead symbol.TableDelimiterRow in
-    level (is GfmTableDelimiterCellValue) GfmTableDelimiterCellValue symbol.TableDelimiterValue p of_value value_is
+    level (is_named GfmTableDelimiterCellValue) GfmTableDelimiterCellValue symbol.TableDelimiterValue p of_value value_is
     (λ name. (named name).value) (λ around before inner stands each. refl)
     (λ seen e none. (
       none,
@@ -316,7 +316,7 @@ map_in_each f test found other same (Node name start end children rest) =
 pub alignments-values_of_table : (children : Forest) → IsTable children →
     alignments children ≡ map alignment_of (values_of_table children)
 alignments-values_of_table children table =
-    let values = map_in_each alignment_of (is GfmTableDelimiterCellValue) (λ (value : Forest). value
+    let values = map_in_each alignment_of (is_named GfmTableDelimiterCellValue) (λ (value : Forest). value
     ∷ []) of_value (λ value. refl) in
     let rows = map_in_each alignment_of is_delimiter_row values_of_row of_row values in
     table_level children table ∙ sym (map_in_each alignment_of is_table_head values_of_head of_head rows children)
