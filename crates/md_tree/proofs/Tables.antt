@@ -209,7 +209,7 @@ module _ (test : Name → Bool) (only : Name) (one : Symbol) (p : Symbol → Boo
 -- ---- the three levels
 
 value_is : (name : Name) → is_named GfmTableDelimiterCellValue name ≡ true → name ≡ GfmTableDelimiterCellValue
-value_is_named GfmTableDelimiterCellValue e = refl
+value_is GfmTableDelimiterCellValue e = refl
 value_is _ e = cc
 
 row_is : (name : Name) → is_delimiter_row name ≡ true → name ≡ GfmTableDelimiterRow
