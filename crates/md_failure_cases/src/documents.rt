@@ -7,7 +7,8 @@ use md_html::{
     AlignKind, Checked, CompileError, CompileOptions, Counted, Name, SafeError, SafeHtml, check,
     compile, compile_checked, compile_counted, compile_safe, gfm_table_align,
 };
-use md_script::{RunError, run};
+use md_page::page;
+use md_script::{RunError, SafeRunError, run, run_safe};
 use std::alloc::{AllocError, Global};
 use std::io;
 
@@ -16,7 +17,9 @@ pub fn ask_each<R: Print + AllocGlobal>(rt: &R, log: &mut Log) -> io::Result<()>
     for rows in documents() {
         ask_rows(rt, log, rows)?;
     }
-    ask(rt, log, named(), &NAMES)
+    ask(rt, log, named(), &NAMES)?;
+    let is_right = tells_unsafe_options(rt.alloc(), log);
+    log.tell(rt, is_right, "run_safe", "unsafe options")
 }
 
 /// Makes each call over each of these documents.
@@ -24,14 +27,28 @@ fn ask_rows<R: Print + AllocGlobal>(rt: &R, log: &mut Log, rows: &[Row]) -> io::
     for row in rows {
         ask_script(rt, log, row)?;
         ask(rt, log, row, &[])?;
+        ask_page(rt, log, row)?;
     }
     Ok(())
 }
 
-/// Makes the call over a script.
+/// Makes the calls over a script.
 fn ask_script<R: Print + AllocGlobal>(rt: &R, log: &mut Log, row: &Row) -> io::Result<()> {
     let is_right = runs(rt.alloc(), log, row);
-    log.tell(rt, is_right, "run", row.name)
+    log.tell(rt, is_right, "run", row.name)?;
+    let is_right = runs_safely(rt.alloc(), log, row);
+    log.tell(rt, is_right, "run_safe", row.name)
+}
+
+/// Makes the call that puts a safe text into a page.
+fn ask_page<R: Print + AllocGlobal>(rt: &R, log: &mut Log, row: &Row) -> io::Result<()> {
+    match &safe_of(rt.alloc(), log, row) {
+        Ok(html) => {
+            let is_right = is_in_page(rt.alloc(), log, html, &row.wanted);
+            log.tell(rt, is_right, "page", row.name)
+        }
+        Err(_) => Ok(()),
+    }
 }
 
 /// Makes the calls over events.
@@ -182,6 +199,34 @@ fn runs(alloc: Global, log: &mut Log, row: &Row) -> bool {
     }
 }
 
+/// The answer of `run_safe`; where it is out of memory, that of the same call made again.
+fn ran_safely(alloc: Global, log: &mut Log, script: &[u8]) -> Result<SafeHtml, SafeRunError> {
+    again!(
+        log,
+        Err(SafeRunError::Run(RunError::Memory)),
+        run_safe(alloc, script)
+    )
+}
+
+/// Whether `run_safe` answers what is wanted.
+fn runs_safely(alloc: Global, log: &mut Log, row: &Row) -> bool {
+    match ran_safely(alloc, log, row.script.as_bytes()) {
+        Ok(html) => is_text(html.as_str(), &row.wanted),
+        Err(SafeRunError::Run(RunError::Event { index, rule })) => {
+            is_refusal(&CompileError::Event { index, rule }, &row.wanted)
+        }
+        Err(_) => false,
+    }
+}
+
+/// Whether `run_safe` tells that a script's options aren't safe.
+fn tells_unsafe_options(alloc: Global, log: &mut Log) -> bool {
+    matches!(
+        ran_safely(alloc, log, b"!allow_dangerous_html\n--\n"),
+        Err(SafeRunError::Options)
+    )
+}
+
 /// Whether `compile` answers what is wanted.
 fn compiles(alloc: Global, log: &mut Log, row: &Row, names: &[(&str, &str)]) -> bool {
     match again!(log, Err(CompileError::Memory), compiled(alloc, row, names)) {
@@ -231,6 +276,32 @@ fn aligns(alloc: Global, log: &mut Log, checked: &Checked) -> bool {
     match again!(log, Err(AllocError), gfm_table_align(alloc, checked, 0)) {
         Ok(columns) => columns.as_slice() == [AlignKind::None].as_slice(),
         Err(AllocError) => false,
+    }
+}
+
+/// What stands before the text of a page that has the title `<`.
+const BEFORE: &str =
+    "<!doctype html>\n<html><head><meta charset=\"utf-8\" /><title>&lt;</title></head><body>";
+
+/// What stands after it.
+const AFTER: &str = "</body></html>\n";
+
+/// Whether `page` puts the text that is wanted into a page.
+fn is_in_page(alloc: Global, log: &mut Log, html: &SafeHtml, wanted: &Wanted) -> bool {
+    match again!(log, Err(AllocError), page(alloc, "<", html)) {
+        Ok(page) => is_between(page.as_str(), wanted),
+        Err(AllocError) => false,
+    }
+}
+
+/// Whether the text that is wanted stands between the two.
+fn is_between(page: &str, wanted: &Wanted) -> bool {
+    let inside = page
+        .strip_prefix(BEFORE)
+        .and_then(|rest| rest.strip_suffix(AFTER));
+    match inside {
+        Some(text) => is_text(text, wanted),
+        None => false,
     }
 }
 
