@@ -24,8 +24,8 @@ use Rattle.md_meaning.specs.Meaning.Layout.{Piece, Text, Forced, layout, when, o
 use Rattle.md_meaning.specs.Meaning.At.{Given, At, Before, text_in}
 use Rattle.md_meaning.specs.Meaning.Before.{nothing_before, before_children}
 use Rattle.md_meaning.specs.Meaning.Spans.{html}
-use Rattle.md_meaning.specs.Meaning.Means.{means}
-use Rattle.md_meaning.specs.Meaning.Nodes.{Meant, meant, node, both, followed, before_next}
+use Rattle.md_meaning.specs.Meaning.Means.{prints}
+use Rattle.md_meaning.specs.Meaning.Nodes.{Outcome, outcome, node, both, followed, before_next}
 use Rattle.md_meaning.specs.Meaning.Footnotes.{backreference, backreferences, body, place_among, id_of, item, section_start, section}
 
 -- the options with the tag filter on or off
@@ -48,7 +48,7 @@ html-moot filter given at h = if_allowed given.options.allow_dangerous_html h
     if_allowed false e = refl
 
 means-moot : (filter : Bool) (given : Given) (at : At) → given.options.allow_dangerous_html ≡ false →
-    (name : Name) (inner : List Piece) → means (under filter given) at name inner ≡ means given at name inner
+    (name : Name) (inner : List Piece) → prints (under filter given) at name inner ≡ prints given at name inner
 means-moot filter given at h HtmlFlowData inner = ap (λ text. Text (encoded at.around.is_escaping text)
     ∷ []) (html-moot filter given at h)
 means-moot filter given at h HtmlTextData inner = ap (λ text. Text (encoded at.around.is_escaping text)
@@ -61,20 +61,20 @@ inside-moot filter options loose BlockQuote around = refl
 inside-moot filter options loose _ around = refl
 
 node-moot : (filter : Bool) (given : Given) (at : At) → given.options.allow_dangerous_html ≡ false →
-    (name : Name) (inner : Meant) → node (under filter given) at name inner ≡ node given at name inner
+    (name : Name) (inner : Outcome) → node (under filter given) at name inner ≡ node given at name inner
 node-moot filter given at h name inner =
     ap (λ ps. record (node (under filter given) at name inner) { pieces = ps })
     (means-moot filter given at h name inner.pieces)
 
 meant-moot : (filter : Bool) (given : Given) → given.options.allow_dangerous_html ≡ false →
     (around : Surroundings) (before : Before) (forest : Forest) →
-    meant (under filter given) around before forest ≡ meant given around before forest
+    outcome (under filter given) around before forest ≡ outcome given around before forest
 meant-moot filter given h around before Empty = refl
 meant-moot filter given h around before (Node name start end children rest) =
     let other : Given = under filter given in
     let own : Before = before_children name children before in
     let nested : Surroundings = inside given.options (is_loose children) name around in
-    let at : Meant → At = λ inner. record {
+    let at : Outcome → At = λ inner. record {
       around = around;
       before = before;
       children = children;
@@ -83,15 +83,15 @@ meant-moot filter given h around before (Node name start end children rest) =
       place = place start end;
       is_last = around.is_outermost && is_empty rest;
     } in
-    let inner : Meant = meant given nested own children in
+    let inner : Outcome = outcome given nested own children in
     let here : At = at inner in
-    let by : Meant → (Before → Meant) → Meant = λ n later. followed here name n later in
-    ap (λ ar. followed (at (meant other ar own children)) name
-    (node other (at (meant other ar own children)) name (meant other ar own children))
-    (λ next. meant other around next rest)) (inside-moot filter given.options (is_loose children) name around)
-    ∙ ap (λ m. followed (at m) name (node other (at m) name m) (λ next. meant other around next rest))
+    let by : Outcome → (Before → Outcome) → Outcome = λ n later. followed here name n later in
+    ap (λ ar. followed (at (outcome other ar own children)) name
+    (node other (at (outcome other ar own children)) name (outcome other ar own children))
+    (λ next. outcome other around next rest)) (inside-moot filter given.options (is_loose children) name around)
+    ∙ ap (λ m. followed (at m) name (node other (at m) name m) (λ next. outcome other around next rest))
     (meant-moot filter given h nested own children)
-    ∙ ap (λ n. by n (λ next. meant other around next rest)) (node-moot filter given here h name inner)
+    ∙ ap (λ n. by n (λ next. outcome other around next rest)) (node-moot filter given here h name inner)
     ∙ ap (λ m. both (node given here name inner) m) (meant-moot filter given h around
     (before_next here name (node given here name inner)) rest)
 
@@ -124,7 +124,7 @@ section-moot filter given footnotes =
     (items-moot filter given footnotes (distinct given.calls))
 
 -- the text of what a document means
-abbrev text_by : Given → Meant → List ℕ
+abbrev text_by : Given → Outcome → List ℕ
 text_by given document = layout given.ending (document.pieces ++ section given document.footnotes)
 
 pub meaning-moot : (filter : Bool) (options : CompileOptions) (names : List (List ℕ × List ℕ)) (bytes : List ℕ)
@@ -140,15 +140,15 @@ meaning-moot filter options names bytes document h =
       calls = cs;
       definitions = ds;
     } in
-    let all : Given → Meant = λ g. meant g outermost nothing_before document in
+    let all : Given → Outcome = λ g. outcome g outermost nothing_before document in
     let calls : List (List ℕ) = (all (given [] [])).calls in
     let known : List Defined = (all (given calls [])).definitions in
-    let whole : Meant = all (given calls known) in
+    let whole : Outcome = all (given calls known) in
     let other : List (List ℕ) → List Defined → List ℕ = λ cs ds. text_by (under filter (given cs ds))
     (all (under filter (given cs ds))) in
-    ap (λ (m : Meant). other m.calls (all (under filter (given m.calls []))).definitions)
+    ap (λ (m : Outcome). other m.calls (all (under filter (given m.calls []))).definitions)
     (meant-moot filter (given [] []) h outermost nothing_before document)
-    ∙ ap (λ (m : Meant). other calls m.definitions)
+    ∙ ap (λ (m : Outcome). other calls m.definitions)
     (meant-moot filter (given calls []) h outermost nothing_before document)
     ∙ ap (λ m. text_by (under filter (given calls known)) m)
     (meant-moot filter (given calls known) h outermost nothing_before document)

@@ -22,7 +22,7 @@ use Rattle.md_meaning.specs.Meaning.Around.{outermost}
 use Rattle.md_meaning.specs.Meaning.At.{Given, text_in}
 use Rattle.md_meaning.specs.Meaning.Finds.{first_ending}
 use Rattle.md_meaning.specs.Meaning.Before.{nothing_before}
-use Rattle.md_meaning.specs.Meaning.Nodes.{Meant, meant}
+use Rattle.md_meaning.specs.Meaning.Nodes.{Outcome, outcome}
 use Rattle.md_meaning.specs.Meaning.Footnotes.{section}
 
 -- the line ending that is used: the text of the document's first, else that of the options
@@ -36,7 +36,7 @@ meaning options names bytes document =
     let ending = ending_at options bytes (first_ending document) in
     let alone : Given =
     record { bytes = bytes; names = names; options = options; ending = ending; calls = []; definitions = [] } in
-    let called : Given = record alone { calls = (meant alone outermost nothing_before document).calls } in
-    let given : Given = record called { definitions = (meant called outermost nothing_before document).definitions } in
-    let all : Meant = meant given outermost nothing_before document in
+    let called : Given = record alone { calls = (outcome alone outermost nothing_before document).calls } in
+    let given = record called { definitions = (outcome called outermost nothing_before document).definitions } in
+    let all : Outcome = outcome given outermost nothing_before document in
     layout ending (all.pieces ++ section given all.footnotes)

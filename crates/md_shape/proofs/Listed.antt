@@ -16,12 +16,12 @@ use Rattle.md_meaning.specs.Footnotes.{Footnote}
 use Rattle.md_meaning.specs.Meaning.Layout.{layout, when}
 use Rattle.md_meaning.specs.Meaning.At.{Given, At, Before, target_in, Found, identifier_of}
 use Rattle.md_meaning.specs.Meaning.Before.{before_children}
-use Rattle.md_meaning.specs.Meaning.Nodes.{Meant, meant, node, before_next}
+use Rattle.md_meaning.specs.Meaning.Nodes.{Outcome, outcome, node, before_next}
 use Rattle.md_shape.specs.Leads.{defined_in, footnotes_defined_in}
 use Rattle.md_base.specs.declared.event.Point.{Point}
 
 -- a node with what is before, in and around it
-abbrev pub node_at : Surroundings → Before → Forest → Point → Point → Bool → Meant → At
+abbrev pub node_at : Surroundings → Before → Forest → Point → Point → Bool → Outcome → At
 node_at around before children start end last inner = record {
   around = around;
   before = before;
@@ -50,38 +50,38 @@ own-one of true own = refl
 own-one of false own = refl
 
 pub definitions-listed : (given : Given) (around : Surroundings) (before : Before) (forest : Forest) →
-    map (λ defined. defined.identifier) (meant given around before forest).definitions ≡ defined_in given.bytes forest
+    map (λ defined. defined.identifier) (outcome given around before forest).definitions ≡ defined_in given.bytes forest
 definitions-listed given around before Empty = refl
 definitions-listed given around before (Node name start end children rest) =
     let of : Defined → List ℕ = λ defined. defined.identifier in
     let nested : Surroundings = inside given.options (is_loose children) name around in
     let within : Before = before_children name children before in
-    let inner : Meant = meant given nested within children in
+    let inner : Outcome = outcome given nested within children in
     let at : At = node_at around before children start end (around.is_outermost && is_empty rest) inner in
     let next : Before = before_next at name (node given at name inner) in
     let identifier = identifier_of given.bytes children in
     let own : Defined = record { identifier = identifier; target = target_in at.found } in
     in_a_row of inner.definitions (when (is Definition name) (own ∷ []))
-    (meant given around next rest).definitions (defined_in given.bytes children)
+    (outcome given around next rest).definitions (defined_in given.bytes children)
     (when (is Definition name) (identifier ∷ [])) (defined_in given.bytes rest)
     (definitions-listed given nested within children) (own-one of (is Definition name) own)
     (definitions-listed given around next rest)
 
 pub footnotes-listed : (given : Given) (around : Surroundings) (before : Before) (forest : Forest) →
-    map (λ footnote. footnote.identifier) (meant given around before forest).footnotes
+    map (λ footnote. footnote.identifier) (outcome given around before forest).footnotes
     ≡ footnotes_defined_in given.bytes forest
 footnotes-listed given around before Empty = refl
 footnotes-listed given around before (Node name start end children rest) =
     let of : Footnote → List ℕ = λ footnote. footnote.identifier in
     let nested : Surroundings = inside given.options (is_loose children) name around in
     let within : Before = before_children name children before in
-    let inner : Meant = meant given nested within children in
+    let inner : Outcome = outcome given nested within children in
     let at : At = node_at around before children start end (around.is_outermost && is_empty rest) inner in
     let next : Before = before_next at name (node given at name inner) in
     let identifier = identifier_of given.bytes children in
     let own : Footnote = record { identifier = identifier; text = layout given.ending inner.pieces } in
     in_a_row of inner.footnotes (when (is GfmFootnoteDefinition name) (own ∷ []))
-    (meant given around next rest).footnotes (footnotes_defined_in given.bytes children)
+    (outcome given around next rest).footnotes (footnotes_defined_in given.bytes children)
     (when (is GfmFootnoteDefinition name) (identifier ∷ [])) (footnotes_defined_in given.bytes rest)
     (footnotes-listed given nested within children) (own-one of (is GfmFootnoteDefinition name) own)
     (footnotes-listed given around next rest)

@@ -5,7 +5,7 @@ ghost use Rattle.md_base.specs.Tree.{Forest};
 ghost use Rattle.md_tree.specs.Grammar.{IsGrammatical};
 ghost use Rattle.md_meaning.specs.declared.context.Surroundings.{Surroundings};
 ghost use Rattle.md_meaning.specs.Meaning.At.{Given, Before};
-ghost use Rattle.md_meaning.specs.Meaning.Nodes.{meant};
+ghost use Rattle.md_meaning.specs.Meaning.Nodes.{outcome};
 ghost use Rattle.md_shape.specs.Built.{Blocks, IsBuilt};
 ghost use Rattle.md_shape.specs.Underlined.{IsUnderlined};
 ghost use Rattle.md_shape.specs.Leads.{Everywhere, EverywhereAfter, HasItsText, HasItsLabel, Decodes, RefersAlike, LeadsSomewhere, defined_in, footnotes_defined_in};
@@ -47,9 +47,9 @@ pub fn references_lead_somewhere()
     ensures found { (bytes : List ℕ) (names : List (List ℕ × List ℕ)) (document : Forest)
         → IsGrammatical bytes names document → Everywhere (LeadsSomewhere bytes document) document }
     ensures definitions { (given : Given) (around : Surroundings) (before : Before) (document : Forest)
-        → map (λ defined. defined.identifier) (meant given around before document).definitions
+        → map (λ defined. defined.identifier) (outcome given around before document).definitions
         ≡ defined_in given.bytes document }
     ensures footnotes { (given : Given) (around : Surroundings) (before : Before) (document : Forest)
-        → map (λ footnote. footnote.identifier) (meant given around before document).footnotes
+        → map (λ footnote. footnote.identifier) (outcome given around before document).footnotes
         ≡ footnotes_defined_in given.bytes document }
 {}

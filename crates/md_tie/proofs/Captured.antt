@@ -37,7 +37,7 @@ use Rattle.md_meaning.specs.Meaning.Spans.{without_escapes, trimmed}
 use Rattle.md_meaning.specs.Meaning.Media.{href, defined_by, leads_to, title_attribute, anchor, picture}
 use Rattle.md_meaning.specs.Meaning.Tables.{cell_of}
 use Rattle.md_meaning.specs.Meaning.Footnotes.{place_among, id_of, call_id}
-use Rattle.md_meaning.specs.Meaning.Means.{means}
+use Rattle.md_meaning.specs.Meaning.Means.{prints}
 use Rattle.md_meaning.specs.Meaning.Nodes.{found_at}
 use Rattle.md_tie.proofs.Reading.{read, noted_after}
 use Rattle.md_tie.proofs.Leaves.{code-same, src-same, align-same, footnote_id-same, call_id-same}
@@ -72,7 +72,7 @@ After before notes found =
 pub record Captured (given : Given) (at : Here) (name : Name) (inner : List Piece) (sheet : Sheet) : Type 0 where
   pub opens : opening_at given at name ≡ []
   pub pieces : is_string name ≡ false → (notes : Notes) →
-      read notes (closing_at given at sheet name) ≡ means given (at_of at) name inner
+      read notes (closing_at given at sheet name) ≡ prints given (at_of at) name inner
   pub after : (notes : Notes) → After notes (noted_after notes (closing_at given at sheet name))
       (found_at (at_of at) name (layout given.ending inner))
 
@@ -85,8 +85,9 @@ quiet before notes e = (
   ap (λ (n : Notes). n.heading) e,
 )
 
-quietly : (given : Given) (at : Here) (name : Name) (inner : List Piece) (sheet : Sheet) → opening_at given at name ≡ [] →
-    ((notes : Notes) → Says notes (closing_at given at sheet name) (means given (at_of at) name inner)) →
+quietly : (given : Given) (at : Here) (name : Name) (inner : List Piece) (sheet : Sheet) →
+    opening_at given at name ≡ [] →
+    ((notes : Notes) → Says notes (closing_at given at sheet name) (prints given (at_of at) name inner)) →
     found_at (at_of at) name (layout given.ending inner) ≡ nothing_found → Captured given at name inner sheet
 quietly given at name inner sheet opens says nothing = record {
   opens = opens;
@@ -179,7 +180,7 @@ numbered : (given : Given) (at : Here) (later : List (List ℕ)) →
     at.calls ≡ at.stood.calls ++ calls_in given.bytes at.children →
     given.calls ≡ (at.stood.calls ++ calls_in given.bytes at.children)
     ++ identifier_at given.bytes (label_in_node at.children) ∷ later → (notes : Notes) (sheet : Sheet) →
-    Says notes (closing_at given at sheet GfmFootnoteCall) (means given (at_of at) GfmFootnoteCall [])
+    Says notes (closing_at given at sheet GfmFootnoteCall) (prints given (at_of at) GfmFootnoteCall [])
 numbered given at later alike own calls notes sheet =
     let identifier : List ℕ = identifier_at given.bytes (label_in_node at.children) in
     let so_far : List (List ℕ) = at.stood.calls ++ calls_in given.bytes at.children in

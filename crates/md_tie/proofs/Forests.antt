@@ -43,8 +43,8 @@ use Rattle.md_shape.specs.Leads.{IsLabelled, label_target}
 use Rattle.md_shape.proofs.Leading.{media-spine, call-refers, definition-label, footnote-label}
 use Rattle.md_meaning.specs.Meaning.At.{Given, At, Before, Found, nothing_found, target_in, identifier_of}
 use Rattle.md_meaning.specs.Meaning.Before.{before_children}
-use Rattle.md_meaning.specs.Meaning.Means.{means}
-use Rattle.md_meaning.specs.Meaning.Nodes.{Meant, meant, node, both, found_at}
+use Rattle.md_meaning.specs.Meaning.Means.{prints}
+use Rattle.md_meaning.specs.Meaning.Nodes.{Outcome, outcome, node, both, found_at}
 use Rattle.md_tie.proofs.Sides.{machine_given_of, before_of, Here, at_of, is_leaf, sides}
 use Rattle.md_tie.proofs.Captured.{captured, label-known, KnownAlike}
 use Rattle.md_tie.proofs.Alike.{definition-is, footnote-is}
@@ -69,7 +69,7 @@ pub record Ready (given : Given) (forest : Forest) (stood : Stood) (heading : Li
 
 -- what is printed for them is this meaning
 pub record TiedTo (given : Given) (around : Surroundings) (stood : Stood) (heading : List ℕ) (notes : Notes)
-    (waits counts : Bool) (forest : Forest) (meaning : Meant) : Type 0 where
+    (waits counts : Bool) (forest : Forest) (meaning : Outcome) : Type 0 where
   pub agree : Agree heading notes (waits_after_symbols waits (spine forest)) counts
       (printed (machine_given_of given) around stood forest) meaning.pieces meaning.found
   pub definitions : definitions_of (machine_given_of given) around stood forest ≡ meaning.definitions
@@ -78,18 +78,18 @@ pub record TiedTo (given : Given) (around : Surroundings) (stood : Stood) (headi
 -- their own
 abbrev pub Tied : Given → Surroundings → Stood → List ℕ → Notes → Bool → Bool → Forest → Type 0
 Tied given around stood heading notes waits counts forest =
-    TiedTo given around stood heading notes waits counts forest (meant given around (before_of stood heading) forest)
+    TiedTo given around stood heading notes waits counts forest (outcome given around (before_of stood heading) forest)
 
 -- what a node's children mean
-abbrev inside_meant : Given → Surroundings → Stood → List ℕ → Forest → Meant
-inside_meant given nested stood heading children = meant given nested (before_of stood heading) children
+abbrev inside_meant : Given → Surroundings → Stood → List ℕ → Forest → Outcome
+inside_meant given nested stood heading children = outcome given nested (before_of stood heading) children
 
 -- one node
 record NodeTied (given : Given) (nested : Surroundings) (own : Stood) (own_heading : List ℕ) (at : Here) (name : Name)
     (children : Forest) (notes : Notes) (waits counts : Bool) : Type 0 where
   agree : Agree at.heading notes (waits_after_symbols waits (shown (standing_of name) (spine children))) counts
       (node_printed given at name (printed (machine_given_of given) nested own children) (is_captured name))
-      (means given (at_of at) name (inside_meant given nested own own_heading children).pieces)
+      (prints given (at_of at) name (inside_meant given nested own own_heading children).pieces)
       (found_at (at_of at) name
       (layout given.ending (inside_meant given nested own own_heading children).pieces))
   definitions : definitions_of (machine_given_of given) nested own children
@@ -127,7 +127,7 @@ through_tied : (given : Given) (nested : Surroundings) (own : Stood) (own_headin
     NodeTied given nested own own_heading at name children notes waits counts
 through_tied given nested own own_heading at name children r b content later notes waits counts transparent shaped
     underlines plainly headed built calls same found own_headed all =
-    let inner : Meant = inside_meant given nested own own_heading children in
+    let inner : Outcome = inside_meant given nested own own_heading children in
     let inner_printed : List Printed = printed (machine_given_of given) nested own children in
     let passed : own_heading ≡ at.heading = own_headed ∙ ap (λ t. if t then at.heading else []) transparent in
     let tied = all r b content later notes waits counts (record {
@@ -163,8 +163,9 @@ prefix-labels GfmFootnoteDefinitionPrefix children r b h is =
     label_tails first tail h is = subst (λ t. list_all only_label t ≡ true) (sym is) refl
 prefix-labels _ children r b h is = lie h
 
-by_medium : (given : Given) (nested : Surroundings) (own : Before) (at : Here) → Matches role.Media (spine at.children) →
-    AreShaped at.children role.Media None → at.found ≡ (meant given nested own at.children).found →
+by_medium : (given : Given) (nested : Surroundings) (own : Before) (at : Here) →
+    Matches role.Media (spine at.children) →
+    AreShaped at.children role.Media None → at.found ≡ (outcome given nested own at.children).found →
     (is_some at.found.resource ≡ true) ⊎ IsLabelled (referring_in at.children) at.children
 by_medium given nested own at is shaped found = elim (media-spine at.children shaped is) [
   | inl are ↦ inl (ap (λ (f : Found). is_some f.resource) found
@@ -176,7 +177,7 @@ by_medium given nested own at is shaped found = elim (media-spine at.children sh
 known-alike : (given : Given) (nested : Surroundings) (own : Before) (at : Here) (name : Name) (r : Role)
     (b : Option Symbol) → IsStanding (standing_of name) r b at.children →
     AreShaped at.children (inner_role (standing_of name) r b) (inner_before (standing_of name) b) →
-    at.found ≡ (meant given nested own at.children).found → KnownAlike at name
+    at.found ≡ (outcome given nested own at.children).found → KnownAlike at name
 known-alike given nested own at Link r b is shaped found = by_medium given nested own at is shaped found
 known-alike given nested own at Image r b is shaped found = by_medium given nested own at is shaped found
 known-alike given nested own at GfmFootnoteCall r b is shaped found = call-refers at.children shaped is
@@ -234,7 +235,7 @@ node_tied given nested own own_heading at name children r b content later after 
 node_tied given nested own own_heading at name children r b content later after notes waits counts
     (Solid s usual reading) e told is shaped quiet plains labels underlines plainly headed fit built calls call
     own_calls alike found own_headed all =
-    let inner : Meant = inside_meant given nested own own_heading children in
+    let inner : Outcome = inside_meant given nested own own_heading children in
     let inner_printed : List Printed = printed (machine_given_of given) nested own children in
     let ready : (n : Notes) → Ready given children own own_heading _ _ content later n false (not (drops name)) =
     λ n. record {
@@ -253,7 +254,7 @@ node_tied given nested own own_heading at name children r b content later after 
     (ap is_leaf e ∙ leaf) is in
     let Wanted : Bool → Type 0 = λ c. Agree at.heading notes
     (waits_after_symbols waits (shown (standing_of name) (spine children))) counts
-    (node_printed given at name inner_printed c) (means given (at_of at) name inner.pieces)
+    (node_printed given at name inner_printed c) (prints given (at_of at) name inner.pieces)
     (found_at (at_of at) name (layout given.ending inner.pieces)) in
     let streamed : is_captured name ≡ false → is_prefix name ≡ false → Wanted false = λ h p.
     let untargeted : Untargeted inner.found = quiet-found given children nested (before_of own own_heading) _ _ shaped
@@ -365,7 +366,7 @@ tied given (Node name start end children rest) around stood heading r b content 
     let nested : Surroundings = inside given.options (is_loose children) name around in
     let own : Stood = children_stood name children stood in
     let own_heading : List ℕ = if is_transparent name then heading else [] in
-    let inner : Meant = inside_meant given nested own own_heading children in
+    let inner : Outcome = inside_meant given nested own own_heading children in
     let last : Bool = around.is_outermost && is_empty rest in
     let at : Here = record {
       around = around;
@@ -380,7 +381,7 @@ tied given (Node name start end children rest) around stood heading r b content 
     } in
     let text : List ℕ = layout given.ending inner.pieces in
     let found : Found = found_at (at_of at) name text in
-    let here : Meant = node given (at_of at) name inner in
+    let here : Outcome = node given (at_of at) name inner in
     let inner_printed : List Printed = printed (machine_given_of given) nested own children in
     let node_pieces : List Printed = node_printed given at name inner_printed (is_captured name) in
     let in_calls : List (List ℕ) = calls_of given.bytes children in
@@ -421,7 +422,7 @@ tied given (Node name start end children rest) around stood heading r b content 
       calls = ready.calls ∙ calls_after stood.calls in_calls own_calls rest_calls later;
     })
     in
-    let rest_meant : Meant = meant given around (before_of machine_next next_heading) rest in
+    let rest_meant : Outcome = outcome given around (before_of machine_next next_heading) rest in
     let rest_printed : List Printed = printed (machine_given_of given) around machine_next rest in
     let whole : Agree heading notes (waits_after_symbols later_waits (spine rest)) counts (node_pieces ++ rest_printed)
     (here.pieces ++ rest_meant.pieces) (found_after found rest_meant.found) =
@@ -459,10 +460,10 @@ tied given (Node name start end children rest) around stood heading r b content 
           ∙ sym (append_assoc inner.footnotes own_noted rest_meant.footnotes);
     }
     in
-    let To : Meant → Type 0 =
+    let To : Outcome → Type 0 =
     λ m. TiedTo given around stood heading notes waits counts (Node name start end children rest) m in
     let known : To (meant_by given around (before_of stood heading) name start end children rest inner) =
-    subst (λ n. To (both here (meant given around n rest)))
+    subst (λ n. To (both here (outcome given around n rest)))
     (sym (next-same given around stood heading name start end children last inner r b ready.shaped.0 ready.shaped.1
     called
     (slurps-same given children nested (before_of own own_heading))))
@@ -470,4 +471,4 @@ tied given (Node name start end children rest) around stood heading r b content 
     in
     subst To (sym (meant-by given around (before_of stood heading) name start end children rest))
     (subst (λ o. To (meant_by given around (before_of stood heading) name start end children rest
-    (meant given nested o children))) (sym (own-same name children stood heading)) known)
+    (outcome given nested o children))) (sym (own-same name children stood heading)) known)

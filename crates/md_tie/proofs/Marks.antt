@@ -27,7 +27,7 @@ use Rattle.md_meaning.specs.Meaning.Around.{is_tight}
 use Rattle.md_meaning.specs.Meaning.Layout.{when, layout}
 use Rattle.md_meaning.specs.Meaning.At.{Given, At, Before, Found, identifier_of}
 use Rattle.md_meaning.specs.Meaning.Before.{before_children, slurps_after}
-use Rattle.md_meaning.specs.Meaning.Nodes.{Meant, meant, node, found_at, followed, before_next}
+use Rattle.md_meaning.specs.Meaning.Nodes.{Outcome, outcome, node, found_at, followed, before_next}
 use Rattle.md_shape.specs.Labels.{label_in_node}
 use Rattle.md_shape.proofs.Leading.{call-refers}
 use Rattle.md_shape.proofs.Listed.{node_at}
@@ -45,7 +45,8 @@ slurping-append [] earlier = refl
 slurping-append (Sets ∷ marks) earlier = refl
 slurping-append (Clears ∷ marks) earlier = refl
 
-fenced : (earlier before : Bool) → not earlier || false || false || false || before && true ≡ slurping_after before (fence_marks earlier)
+fenced : (earlier before : Bool) → not earlier || false || false || false || before && true
+    ≡ slurping_after before (fence_marks earlier)
 fenced true true = refl
 fenced true false = refl
 fenced false before = refl
@@ -106,39 +107,40 @@ slurping-both before [] ys = refl
 slurping-both before (Sets ∷ xs) ys = refl
 slurping-both before (Clears ∷ xs) ys = refl
 
-later-slurps : (at : At) (name : Name) (here : Meant) (later : Before → Meant) →
+later-slurps : (at : At) (name : Name) (here : Outcome) (later : Before → Outcome) →
     (followed at name here later).slurps ≡ (later (before_next at name here)).slurps
 later-slurps at name here later = refl
 
 -- what a node and those after it mean, by what its children mean
-abbrev pub meant_by : Given → Surroundings → Before → Name → Point → Point → Forest → Forest → Meant → Meant
+abbrev pub meant_by : Given → Surroundings → Before → Name → Point → Point → Forest → Forest → Outcome → Outcome
 meant_by given around before name start end children rest inner =
     let at : At = node_at around before children start end (around.is_outermost && is_empty rest) inner in
-    followed at name (node given at name inner) (λ next. meant given around next rest)
+    followed at name (node given at name inner) (λ next. outcome given around next rest)
 
 pub meant-by : (given : Given) (around : Surroundings) (before : Before) (name : Name) (start end : Point)
     (children rest : Forest) →
-    meant given around before (Node name start end children rest)
+    outcome given around before (Node name start end children rest)
     ≡ meant_by given around before name start end children rest
-    (meant given (inside given.options (is_loose children) name around) (before_children name children before) children)
+    (outcome given (inside given.options (is_loose children) name around) (before_children name children before)
+    children)
 meant-by given around before name start end children rest = refl
 
 -- whether the next line ending is slurped after some nodes
 pub slurps-same : (given : Given) (forest : Forest) (around : Surroundings) (before : Before) →
-    (meant given around before forest).slurps
+    (outcome given around before forest).slurps
     ≡ slurping_after before.slurps (marks_of given.options around before.spine forest)
 slurps-same given Empty around before = refl
 slurps-same given (Node name start end children rest) around before =
     let nested : Surroundings = inside given.options (is_loose children) name around in
     let within : Before = before_children name children before in
-    let inner : Meant = meant given nested within children in
+    let inner : Outcome = outcome given nested within children in
     let at : At = node_at around before children start end (around.is_outermost && is_empty rest) inner in
     let next : Before = before_next at name (node given at name inner) in
     let own : List Mark = own_marks around (told_by before.spine) name in
     let inner_marks : List Mark = marks_of given.options nested (spine_inside name before.spine) children in
     let later : List Mark = marks_of given.options around (spine_after_node name children before.spine) rest in
-    ap (λ (m : Meant). m.slurps) (meant-by given around before name start end children rest)
-    ∙ later-slurps at name (node given at name inner) (λ after. meant given around after rest)
+    ap (λ (m : Outcome). m.slurps) (meant-by given around before name start end children rest)
+    ∙ later-slurps at name (node given at name inner) (λ after. outcome given around after rest)
     ∙ slurps-same given rest around next
     ∙ ap (λ b. slurping_after b later) (own-slurps at name inner.slurps
     ∙ ap (λ b. slurping_after b own) (slurps-same given children nested within))
@@ -156,12 +158,13 @@ own-call bytes GfmFootnoteCall start end children r b shaped inner =
 own-call bytes _ start end children r b shaped inner = refl
 
 pub calls-same : (given : Given) (forest : Forest) (around : Surroundings) (before : Before) (r : Role)
-    (b : Option Symbol) → AreShaped forest r b → (meant given around before forest).calls ≡ calls_of given.bytes forest
+    (b : Option Symbol) → AreShaped forest r b →
+    (outcome given around before forest).calls ≡ calls_of given.bytes forest
 calls-same given Empty around before r b shaped = refl
 calls-same given (Node name start end children rest) around before r b shaped =
     let nested : Surroundings = inside given.options (is_loose children) name around in
     let within : Before = before_children name children before in
-    let inner : Meant = meant given nested within children in
+    let inner : Outcome = outcome given nested within children in
     let at : At = node_at around before children start end (around.is_outermost && is_empty rest) inner in
     let next : Before = before_next at name (node given at name inner) in
     let own : List (List ℕ) = when (is GfmFootnoteCall name) (identifier_of given.bytes children ∷ []) in
@@ -181,7 +184,7 @@ own-same name children stood heading =
 
 -- and before the next sibling
 pub next-same : (given : Given) (around : Surroundings) (stood : Stood) (heading : List ℕ) (name : Name)
-    (start end : Point) (children : Forest) (last : Bool) (inner : Meant) (r : Role) (b : Option Symbol) →
+    (start end : Point) (children : Forest) (last : Bool) (inner : Outcome) (r : Role) (b : Option Symbol) →
     IsShapedNode r b name start end children →
     AreShaped children (inner_role (standing_of name) r b) (inner_before (standing_of name) b) →
     inner.calls ≡ calls_of given.bytes children →
@@ -200,7 +203,8 @@ next-same given around stood heading name start end children last inner r b shap
     let own : List Mark = own_marks around (told_by stood.spine) name in
     let inner_marks : List Mark = marks_of given.options nested (spine_inside name stood.spine) children in
     let own_call : List (List ℕ) = when (is GfmFootnoteCall name) (identifier_of given.bytes children ∷ []) in
-    let called : List (List ℕ) = if is_call name then identifier_at given.bytes (ahead_of children).label ∷ [] else [] in
+    let called : List (List ℕ) =
+    if is_call name then identifier_at given.bytes (ahead_of children).label ∷ [] else [] in
     let Made : List (List ℕ) → Bool → Before = λ cs b. record next { calls = stood.calls ++ cs; slurps = b } in
     ap (λ cs. Made (cs ++ own_call) next.slurps) calls
     ∙ ap (λ cs. Made (calls_of given.bytes children ++ cs) next.slurps)

@@ -17,7 +17,7 @@ use Rattle.md_meaning.specs.Piece.{Sheet, Notes, Target, blank, no_notes, lay}
 use Rattle.md_meaning.specs.Piece.{Piece as Printed}
 use Rattle.md_meaning.specs.Meaning.Layout.{Piece, layout}
 use Rattle.md_meaning.specs.Meaning.At.{Given, At, Found, nothing_found, target_in}
-use Rattle.md_meaning.specs.Meaning.Means.{means}
+use Rattle.md_meaning.specs.Meaning.Means.{prints}
 use Rattle.md_meaning.specs.Meaning.Nodes.{found_at}
 use Rattle.md_tie.proofs.Reading.{read, noted_after, read-append, noted-append, laid-notes, captured-text}
 use Rattle.md_tie.proofs.Sides.{Here, at_of, opening_at, closing_at, is_leaf, is_underline, Sides}
@@ -137,7 +137,7 @@ pub captured_node : (given : Given) (at : Here) (name : Name) (notes : Notes) (w
     (counts ≡ true → is_string name ≡ false) →
     Captured given at name pieces (lay given.ending blank inner) →
     Agree at.heading notes (waits_after_symbols waits (shown (standing_of name) symbols)) counts
-    (node_printed given at name inner true) (means given (at_of at) name pieces)
+    (node_printed given at name inner true) (prints given (at_of at) name pieces)
     (found_at (at_of at) name (layout given.ending pieces))
 captured_node given at name notes waits counts symbols inner pieces solid known plain c =
     let sheet : Sheet = lay given.ending blank inner in
@@ -153,7 +153,8 @@ captured_node given at name notes waits counts symbols inner pieces solid known 
       resource = after.2;
       headed = λ h.
           after.3
-          ∙ kept found.heading (λ none. waiting (at_of at) name (layout given.ending pieces) waits symbols solid h none);
+          ∙ kept found.heading
+          (λ none. waiting (at_of at) name (layout given.ending pieces) waits symbols solid h none);
     }
   where
     kept : (o : Option (List ℕ)) → (o ≡ None → waits ≡ true) → unwrap_or o notes.heading ≡ unwrap_or o at.heading
@@ -172,7 +173,7 @@ pub streamed_node : (given : Given) (at : Here) (name : Name) (notes : Notes) (w
     (is_leaf (standing_of name) ≡ true → inner ≡ []) → (is_leaf (standing_of name) ≡ true → pieces ≡ []) →
     Sides given at name →
     Agree at.heading notes (waits_after_symbols waits (shown (standing_of name) symbols)) counts
-    (node_printed given at name inner false) (means given (at_of at) name pieces)
+    (node_printed given at name inner false) (prints given (at_of at) name pieces)
     (found_at (at_of at) name (layout given.ending pieces))
 streamed_node given at name notes waits counts symbols inner pieces streamed solid standing known here pieces_are
     destination title resource none nothing s =
@@ -218,7 +219,7 @@ streamed_node given at name notes waits counts symbols inner pieces streamed sol
 pub mute_node : (given : Given) (at : Here) (name : Name) (notes : Notes) (waits counts : Bool)
     (symbols : List Symbol) (inner : List Printed) (pieces : List Piece) → is_prefix name ≡ true → inner ≡ [] →
     Agree at.heading notes (waits_after_symbols waits (shown (standing_of name) symbols)) counts
-    (node_printed given at name inner false) (means given (at_of at) name pieces)
+    (node_printed given at name inner false) (prints given (at_of at) name pieces)
     (found_at (at_of at) name (layout given.ending pieces))
 mute_node given at GfmFootnoteDefinitionPrefix notes waits counts symbols inner pieces is none =
     let same : node_printed given at GfmFootnoteDefinitionPrefix inner false ≡ [] = ap (λ ps. ps ++ []) none in
@@ -237,7 +238,7 @@ pub through_node : (given : Given) (at : Here) (name : Name) (heading : List ℕ
     is_transparent name ≡ true → heading ≡ at.heading → waits' ≡ waits →
     Agree heading notes waits counts inner pieces at.found →
     Agree at.heading notes waits' counts (node_printed given at name inner (is_captured name))
-    (means given (at_of at) name pieces) (found_at (at_of at) name (layout given.ending pieces))
+    (prints given (at_of at) name pieces) (found_at (at_of at) name (layout given.ending pieces))
 through_node given at name heading notes waits waits' counts inner pieces transparent headings same agree =
     let passes : Passes given at name = through given at name transparent in
     let c : Bool = is_captured name in

@@ -47,7 +47,7 @@ use Rattle.md_meaning.specs.Meaning.Finds.{number_in_list}
 use Rattle.md_meaning.specs.Meaning.Blocks.{without_zeros, list_start, heading, heading_tag, atx_rank, underline_rank, chunk, code_end, is_unclosed, runs_out}
 use Rattle.md_meaning.specs.Meaning.Media.{autolink, literal}
 use Rattle.md_meaning.specs.Meaning.Tables.{align_attribute, cell_of, row_end}
-use Rattle.md_meaning.specs.Meaning.Means.{means}
+use Rattle.md_meaning.specs.Meaning.Means.{prints}
 use Rattle.md_tie.proofs.Reading.{read, noted_after}
 use Rattle.md_tie.proofs.Leaves.{marker-same, opening-same, closing-same, underline-small, one-alone, align-same, tight-same, contained-same}
 use Rattle.md_tie.proofs.Alike.{cells-same, prefix-same, paragraph-same, number-same, rank-same, zeros-same}
@@ -99,6 +99,9 @@ at_of here = record {
   is_last = here.is_last;
 }
 
+abbrev text_at : Given → Here → List ℕ
+text_at given at = text_in given.bytes (place at.start at.end)
+
 -- what the machine prints before a node's children, and after them
 abbrev pub opening_at : Given → Here → Name → List Printed
 opening_at given at name = opening (machine_given_of given) at.around (ahead_of at.children) name
@@ -135,7 +138,7 @@ pub record Sides (given : Given) (at : Here) (name : Name) : Type 0 where
   pub opens : (notes : Notes) → Says notes (opening_at given at name) front
   pub closes : (notes : Notes) → Recalls at name notes → Says notes (closing_at given at blank name) back
   pub whole : (inner : List Piece) → (is_leaf (standing_of name) ≡ true → inner ≡ []) →
-      front ++ (inner ++ back) ≡ means given (at_of at) name inner
+      front ++ (inner ++ back) ≡ prints given (at_of at) name inner
 
 -- choices
 either : (b : Bool) (notes : Notes) (xs ys : List Printed) (us vs : List Piece) → Says notes (xs ++ []) us →
@@ -158,14 +161,14 @@ choice false notes xs ys us vs first second = second
 leaf : (given : Given) (at : Here) (name : Name) (back : List Piece) → is_leaf (standing_of name) ≡ true →
     opening_at given at name ≡ [] →
     ((notes : Notes) → Recalls at name notes → Says notes (closing_at given at blank name) back) →
-    means given (at_of at) name [] ≡ back → Sides given at name
+    prints given (at_of at) name [] ≡ back → Sides given at name
 leaf given at name back is_a_leaf opens closes is = record {
   front = [];
   back = back;
   opens = λ notes. (ap (λ ps. read notes ps) opens, ap (λ ps. noted_after notes ps) opens);
   closes = closes;
   whole = λ inner none. ap (λ ps. ps ++ back) (none is_a_leaf) ∙ sym is
-      ∙ ap (λ ps. means given (at_of at) name ps) (sym (none is_a_leaf));
+      ∙ ap (λ ps. prints given (at_of at) name ps) (sym (none is_a_leaf));
 }
 
 html-same : (filter allow : Bool) (escaping : Bool) (text : List ℕ) (notes : Notes) →
@@ -206,7 +209,9 @@ list-says : (bytes : List ℕ) (place : Option Position) (notes : Notes) →
 list-says bytes None notes = (refl, refl)
 list-says bytes (Some place) notes =
     let says = start-says (machine.without_zeros (text_of bytes place.start place.end)) notes in (
-      says.0 ∙ ap (λ digits. started_with digits ++ said (codes ">")) (zeros-same (text_of bytes place.start place.end)),
+      says.0
+          ∙ ap (λ digits. started_with digits ++ said (codes ">"))
+          (zeros-same (text_of bytes place.start place.end)),
       says.1,
     )
 
@@ -303,7 +308,7 @@ spanned : (given : Given) (at : Here) (name : Name) (start end : List Piece) →
     ((notes : Notes) → Says notes (opening_at given at name) (if at.around.in_image then [] else start)) →
     ((notes : Notes) → Says notes (closing_at given at blank name) (if at.around.in_image then [] else end)) →
     ((inner : List Piece) → (if at.around.in_image then inner else start ++ (inner ++ end))
-    ≡ means given (at_of at) name inner) → Sides given at name
+    ≡ prints given (at_of at) name inner) → Sides given at name
 spanned given at name start end opens closes is = record {
   front = if at.around.in_image then [] else start;
   back = if at.around.in_image then [] else end;
@@ -316,7 +321,7 @@ spanned given at name start end opens closes is = record {
 tagged : (given : Given) (at : Here) (name : Name) (front back : List Piece) →
     ((notes : Notes) → Says notes (opening_at given at name) front) →
     ((notes : Notes) → Says notes (closing_at given at blank name) back) →
-    ((inner : List Piece) → front ++ (inner ++ back) ≡ means given (at_of at) name inner) → Sides given at name
+    ((inner : List Piece) → front ++ (inner ++ back) ≡ prints given (at_of at) name inner) → Sides given at name
 tagged given at name front back opens closes is = record {
   front = front;
   back = back;
@@ -342,26 +347,29 @@ paragraph_end-says false notes = (refl, refl)
 
 pub sides : (given : Given) (at : Here) (name : Name) → IsFit given.bytes name at.start at.end at.children →
     is_captured name ≡ false → drops name ≡ false → Sides given at name
-sides given at Data fit h d = leaf given at Data (written (at_of at) (text_in given.bytes (place at.start at.end))) refl refl (λ n r. (refl, refl)) refl
-sides given at CharacterEscapeValue fit h d = leaf given at CharacterEscapeValue
-    (written (at_of at) (text_in given.bytes (place at.start at.end))) refl refl (λ n r. (refl, refl)) refl
-sides given at CodeTextData fit h d = leaf given at CodeTextData (written (at_of at) (text_in given.bytes (place at.start at.end))) refl refl
+sides given at Data fit h d = leaf given at Data (written (at_of at) (text_at given at)) refl refl
     (λ n r. (refl, refl)) refl
-sides given at MathTextData fit h d = leaf given at MathTextData (written (at_of at) (text_in given.bytes (place at.start at.end))) refl refl
+sides given at CharacterEscapeValue fit h d = leaf given at CharacterEscapeValue
+    (written (at_of at) (text_at given at)) refl refl (λ n r. (refl, refl)) refl
+sides given at CodeTextData fit h d =
+    leaf given at CodeTextData (written (at_of at) (text_at given at)) refl refl
+    (λ n r. (refl, refl)) refl
+sides given at MathTextData fit h d =
+    leaf given at MathTextData (written (at_of at) (text_at given at)) refl refl
     (λ n r. (refl, refl)) refl
 sides given at CharacterReferenceValue fit h d =
     leaf given at CharacterReferenceValue (written (at_of at) (reference given (at_of at))) refl refl
     (λ n r. (
       ap (λ k. Text (encoded at.around.is_escaping
-          (unwrap_or (decoded given.names k (text_in given.bytes (place at.start at.end))) [])) ∷ [])
+          (unwrap_or (decoded given.names k (text_at given at)) [])) ∷ [])
           (marker-same (last_of at.stood.spine) ∙ ap (λ last. option_map_or marker last 38) (last-got at.stood.spine)),
       refl,
     )) refl
 sides given at LineEnding fit h d =
     leaf given at LineEnding (line_ending given (at_of at)) refl refl
-    (λ n r. either at.around.in_code n (Said (codes " ") ∷ []) (if is_dropped (at_of at) then [] else Said (text_in given.bytes (place at.start at.end))
-    ∷ []) (Text (codes " ") ∷ []) (if is_dropped (at_of at) then [] else Text (text_in given.bytes (place at.start at.end)) ∷ []) (refl, refl)
-    (either (is_dropped (at_of at)) n [] (Said (text_in given.bytes (place at.start at.end)) ∷ []) [] (Text (text_in given.bytes (place at.start at.end)) ∷ []) (refl, refl) (
+    (λ n r. either at.around.in_code n (Said (codes " ") ∷ []) (if is_dropped (at_of at) then [] else Said (text_at given at)
+    ∷ []) (Text (codes " ") ∷ []) (if is_dropped (at_of at) then [] else Text (text_at given at) ∷ []) (refl, refl)
+    (either (is_dropped (at_of at)) n [] (Said (text_at given at) ∷ []) [] (Text (text_at given at) ∷ []) (refl, refl) (
       refl,
       refl,
     ))) refl
@@ -371,13 +379,15 @@ sides given at BlankLineEnding fit h d =
 sides given at HtmlFlowData fit h d =
     leaf given at HtmlFlowData (written (at_of at) (html given (at_of at))) refl refl
     (λ n r. html-same given.options.gfm_tagfilter given.options.allow_dangerous_html at.around.is_escaping
-    (text_in given.bytes (place at.start at.end)) n) refl
+    (text_at given at) n) refl
 sides given at HtmlTextData fit h d =
     leaf given at HtmlTextData (written (at_of at) (html given (at_of at))) refl refl
     (λ n r. html-same given.options.gfm_tagfilter given.options.allow_dangerous_html at.around.is_escaping
-    (text_in given.bytes (place at.start at.end)) n) refl
-sides given at CodeFlowChunk fit h d = leaf given at CodeFlowChunk (chunk given (at_of at)) refl refl (λ n r. (refl, refl)) refl
-sides given at MathFlowChunk fit h d = leaf given at MathFlowChunk (chunk given (at_of at)) refl refl (λ n r. (refl, refl)) refl
+    (text_at given at) n) refl
+sides given at CodeFlowChunk fit h d = leaf given at CodeFlowChunk (chunk given (at_of at)) refl refl
+    (λ n r. (refl, refl)) refl
+sides given at MathFlowChunk fit h d = leaf given at MathFlowChunk (chunk given (at_of at)) refl refl
+    (λ n r. (refl, refl)) refl
 sides given at HeadingSetextUnderlineSequence fit h d =
     let rank : ℕ = underline_rank given (at_of at) in
     let small : rank ≤ 6 = underline-small (option_map_or (λ byte. byte == 45)
@@ -406,7 +416,8 @@ sides given at AutolinkEmail fit h d =
     leaf given at AutolinkEmail (autolink given (at_of at) at.around.in_image (codes "mailto:")) refl refl
     (λ n r. plain_link given at at.around.in_image (codes "mailto:") n) refl
 sides given at AutolinkProtocol fit h d = leaf given at AutolinkProtocol
-    (autolink given (at_of at) at.around.in_image []) refl refl (λ n r. plain_link given at at.around.in_image [] n) refl
+    (autolink given (at_of at) at.around.in_image []) refl refl
+    (λ n r. plain_link given at at.around.in_image [] n) refl
 sides given at GfmAutolinkLiteralEmail fit h d =
     leaf given at GfmAutolinkLiteralEmail (literal given (at_of at) (codes "mailto:")) refl refl
     (λ n r. plain_link given at (at.around.in_image || at.around.in_link) (codes "mailto:") n) refl
@@ -442,7 +453,8 @@ sides given at ListItem fit h d =
     let ends : Bool → Bool → Bool → List Piece = λ prefix paragraph tight. (if prefix || paragraph && tight then []
     else Needed ∷ []) ++ said (codes "</li>") in
     let tight : Bool = is_tight at.around.container in
-    tagged given at ListItem (on_own_line (codes "<li>")) (ends (option_map_or (is ListItemPrefix) last false) (option_map_or (is Paragraph) last false) tight)
+    tagged given at ListItem (on_own_line (codes "<li>"))
+    (ends (option_map_or (is ListItemPrefix) last false) (option_map_or (is Paragraph) last false) tight)
     (λ n. (refl, refl))
     (λ n. let says = item-says (option_map_or is_item_prefix last false) (option_map_or is_paragraph last false)
     (old.is_tight at.around.container) n in (
@@ -481,7 +493,8 @@ sides given at CodeFenced fit h d =
     (list_any is_chunk (spine_names at.children)) n) (λ inner. refl)
 sides given at MathFlow fit h d =
     tagged given at MathFlow (on_own_line (codes "<pre><code class=\"language-math math-display\""))
-    (when (runs_out (at_of at)) (Forced ∷ []) ++ (code_end (at_of at) ++ when (is_unclosed (at_of at)) (Needed ∷ []))) (λ n. (refl, refl))
+    (when (runs_out (at_of at)) (Forced ∷ []) ++ (code_end (at_of at) ++ when (is_unclosed (at_of at)) (Needed ∷ [])))
+    (λ n. (refl, refl))
     (λ n. fenced-says at.around.container (spine_names at.children) (last_name at.children)
     (list_any is_chunk (spine_names at.children)) n) (λ inner. refl)
 sides given at CodeFencedFence fit h d =

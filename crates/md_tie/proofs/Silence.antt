@@ -31,8 +31,8 @@ use Rattle.md_meaning.specs.Piece.{Piece as Printed}
 use Rattle.md_meaning.specs.Meaning.Layout.{Piece, layout}
 use Rattle.md_meaning.specs.Meaning.At.{Given, At, Before, Found, nothing_found}
 use Rattle.md_meaning.specs.Meaning.Before.{before_children}
-use Rattle.md_meaning.specs.Meaning.Means.{means}
-use Rattle.md_meaning.specs.Meaning.Nodes.{Meant, meant, node, found_at, before_next}
+use Rattle.md_meaning.specs.Meaning.Means.{prints}
+use Rattle.md_meaning.specs.Meaning.Nodes.{Outcome, outcome, node, found_at, before_next}
 use Rattle.md_tie.proofs.Sides.{machine_given_of, Here, at_of, opening_at, closing_at, is_leaf}
 use Rattle.md_tie.proofs.Shapes.{silent, leaf-silent, quiet}
 use Rattle.md_shape.proofs.Listed.{node_at}
@@ -46,7 +46,7 @@ all-parts test xs ys h = and_parts (list_all test xs) (list_all test ys) (sym (l
 pub record Passes (given : Given) (at : Here) (name : Name) : Type 0 where
   pub opens : opening_at given at name ≡ []
   pub closes : (sheet : Sheet) → closing_at given at sheet name ≡ []
-  pub is : (inner : List Piece) → means given (at_of at) name inner ≡ inner
+  pub is : (inner : List Piece) → prints given (at_of at) name inner ≡ inner
   pub caught : is_captured name ≡ false
 
 pub through : (given : Given) (at : Here) (name : Name) → is_transparent name ≡ true → Passes given at name
@@ -66,7 +66,8 @@ abbrev silent_standing : Standing → Bool
 silent_standing (Solid s usual reading) = silent s
 silent_standing _ = false
 
-silent_name : (given : Given) (at : Here) (name : Name) → silent_standing (standing_of name) ≡ true → Passes given at name
+silent_name : (given : Given) (at : Here) (name : Name) → silent_standing (standing_of name) ≡ true →
+    Passes given at name
 silent_name given at ListItemValue h =
     record { opens = refl; closes = λ sheet. refl; is = λ inner. refl; caught = refl }
 silent_name given at ListItemMarker h = record {
@@ -131,14 +132,14 @@ alone around stood children start end last = record {
 }
 
 means_through : (given : Given) (at : At) (name : Name) (inner : List Piece) → is_transparent name ≡ true →
-    means given at name inner ≡ inner
+    prints given at name inner ≡ inner
 means_through given at BlockQuotePrefix inner h = refl
 means_through given at SpaceOrTab inner h = refl
 means_through given at (Other number) inner h = refl
 means_through given at _ inner h = lie h
 
 means_silent : (given : Given) (at : At) (name : Name) (inner : List Piece) →
-    silent_standing (standing_of name) ≡ true → means given at name inner ≡ inner
+    silent_standing (standing_of name) ≡ true → prints given at name inner ≡ inner
 means_silent given at ListItemValue inner h = refl
 means_silent given at ListItemMarker inner h = refl
 means_silent given at _ inner h = lie h
@@ -146,7 +147,7 @@ means_silent given at _ inner h = lie h
 means_by : (given : Given) (at : At) (name : Name) (children : Forest) (around : Role) (before : Option Symbol) →
     IsStanding (standing_of name) around before children →
     list_all silent (shown (standing_of name) (spine children)) ≡ true → (inner : List Piece) →
-    means given at name inner ≡ inner
+    prints given at name inner ≡ inner
 means_by given at name children around before is h inner = elim
     (silent_or_through (standing_of name) name children around before (told name) is h) [
       | inl e ↦ means_through given at name inner e
@@ -192,21 +193,21 @@ silent-printed given (Node name start end children rest) around before r b shape
 -- and means nothing
 pub silent-meant : (given : Given) (forest : Forest) (around : Surroundings) (before : Before) (r : Role)
     (b : Option Symbol) → AreShaped forest r b → list_all silent (spine forest) ≡ true →
-    (meant given around before forest).pieces ≡ []
+    (outcome given around before forest).pieces ≡ []
 silent-meant given Empty around before r b shaped h = refl
 silent-meant given (Node name start end children rest) around before r b shaped h =
     let parts = all-parts silent (shown (standing_of name) (spine children)) (spine rest) h in
     let nested : Surroundings = inside given.options (is_loose children) name around in
-    let inner : Meant = meant given nested (before_children name children before) children in
+    let inner : Outcome = outcome given nested (before_children name children before) children in
     let at : At = node_at around before children start end (around.is_outermost && is_empty rest) inner in
-    let same : means given at name inner.pieces ≡ inner.pieces = means_by given at name children r b shaped.0.1 parts.0
+    let same : prints given at name inner.pieces ≡ inner.pieces = means_by given at name children r b shaped.0.1 parts.0
     inner.pieces in
-    let none : inner.pieces ≡ [] = inside_silent (λ f. (meant given nested
+    let none : inner.pieces ≡ [] = inside_silent (λ f. (outcome given nested
     (before_children name children before) f).pieces ≡ []) (standing_of name) children r b
     (λ r' b' shaped' h'. silent-meant given children nested (before_children name children before) r' b' shaped' h')
     refl shaped.0.1 shaped.1 parts.0 (silent-leaf name) in
     let next : Before = before_next at name (node given at name inner) in
-    ap (λ ps. ps ++ (meant given around next rest).pieces) (same ∙ none)
+    ap (λ ps. ps ++ (outcome given around next rest).pieces) (same ∙ none)
     ∙ silent-meant given rest around next _ _ shaped.2 parts.1
 
 -- no target is found
@@ -246,8 +247,8 @@ quiet_here at (Solid s usual reading) name children text around before told is h
 quiet_here at Mdx name children text around before told is h shaped all none own = absurd is
 
 empty_found : (given : Given) (around : Surroundings) (before : Before) (children : Forest) → children ≡ Empty →
-    Untargeted (meant given around before children).found
-empty_found given around before children e = subst (λ f. Untargeted (meant given around before f).found) (sym e)
+    Untargeted (outcome given around before children).found
+empty_found given around before children e = subst (λ f. Untargeted (outcome given around before f).found) (sym e)
     (refl, refl, refl)
 
 -- what is found after other things
@@ -268,17 +269,17 @@ both_untargeted first later f l = (
 
 pub quiet-found : (given : Given) (forest : Forest) (around : Surroundings) (before : Before) (r : Role)
     (b : Option Symbol) → AreShaped forest r b → list_all quiet (spine forest) ≡ true →
-    Untargeted (meant given around before forest).found
+    Untargeted (outcome given around before forest).found
 quiet-found given Empty around before r b shaped h = (refl, refl, refl)
 quiet-found given (Node name start end children rest) around before r b shaped h =
     let parts = all-parts quiet (shown (standing_of name) (spine children)) (spine rest) h in
     let nested : Surroundings = inside given.options (is_loose children) name around in
-    let inner : Meant = meant given nested (before_children name children before) children in
+    let inner : Outcome = outcome given nested (before_children name children before) children in
     let at : At = node_at around before children start end (around.is_outermost && is_empty rest) inner in
     let text : List ℕ = layout given.ending inner.pieces in
     let found : Found = found_at at name text in
     let next : Before = before_next at name (node given at name inner) in
-    both_untargeted found (meant given around next rest).found
+    both_untargeted found (outcome given around next rest).found
     (quiet_here at (standing_of name) name children text r b (told name) shaped.0.1 parts.0 shaped.1
     (λ r' b' shaped' h'. quiet-found given children nested (before_children name children before) r' b' shaped' h')
     (empty_found given nested (before_children name children before) children)
@@ -328,26 +329,26 @@ some_before (Some x) first h = refl
 
 pub resource-found : (given : Given) (forest : Forest) (around : Surroundings) (before : Before) (r : Role)
     (b : Option Symbol) → AreShaped forest r b → list_any is_resource (spine forest) ≡ true →
-    is_some (meant given around before forest).found.resource ≡ true
+    is_some (outcome given around before forest).found.resource ≡ true
 resource-found given Empty around before r b shaped h = lie h
 resource-found given (Node name start end children rest) around before r b shaped h =
     let nested : Surroundings = inside given.options (is_loose children) name around in
-    let inner : Meant = meant given nested (before_children name children before) children in
+    let inner : Outcome = outcome given nested (before_children name children before) children in
     let at : At = node_at around before children start end (around.is_outermost && is_empty rest) inner in
     let text : List ℕ = layout given.ending inner.pieces in
     let found : Found = found_at at name text in
     let next : Before = before_next at name (node given at name inner) in
     let shown_here : List Symbol = shown (standing_of name) (spine children) in
     elim (list_any is_resource shown_here) as (λ t. list_any is_resource shown_here ≡ t →
-    is_some (or_else (meant given around next rest).found.resource found.resource) ≡ true) [
+    is_some (or_else (outcome given around next rest).found.resource found.resource) ≡ true) [
       | true ↦ λ e.
-          some_before (meant given around next rest).found.resource found.resource
+          some_before (outcome given around next rest).found.resource found.resource
           (resource_here at (standing_of name) name children text r b (told name) shaped.0.1 e shaped.1
           (λ r' b' shaped' h'. resource-found given children nested (before_children name children before) r' b' shaped'
           h')
           (resource_own at name text))
       | false ↦ λ e.
-          some_after (meant given around next rest).found.resource found.resource
+          some_after (outcome given around next rest).found.resource found.resource
           (resource-found given rest around next _ _ shaped.2 (ap (λ t. t || list_any is_resource (spine rest)) (sym e)
           ∙ sym (list_any-append is_resource shown_here (spine rest)) ∙ h))
     ] refl

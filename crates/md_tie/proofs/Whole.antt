@@ -21,7 +21,7 @@ use Rattle.md_meaning.specs.Meaning.{meaning, ending_at}
 use Rattle.md_meaning.specs.Whole.{printed_meaning}
 use Rattle.md_meaning.specs.Meaning.At.{Given}
 use Rattle.md_meaning.specs.Meaning.Before.{nothing_before}
-use Rattle.md_meaning.specs.Meaning.Nodes.{Meant, meant}
+use Rattle.md_meaning.specs.Meaning.Nodes.{Outcome, outcome}
 use Rattle.md_meaning.specs.Meaning.Footnotes.{section}
 use Rattle.md_tie.proofs.Reading.{read, noted_after, read-append, captured-text}
 use Rattle.md_tie.proofs.Sides.{machine_given_of}
@@ -47,7 +47,7 @@ printed-is-meant options names bytes document grammatical =
       calls = cs;
       definitions = ds;
     } in
-    let calls : List (List ℕ) = (meant (given [] []) outermost nothing_before document).calls in
+    let calls : List (List ℕ) = (outcome (given [] []) outermost nothing_before document).calls in
     let called : calls ≡ calls_of bytes document =
     calls-same (given [] []) document outermost nothing_before _ _ grammatical.shape.0 in
     let match = grammatical.shape.1 in
@@ -68,8 +68,8 @@ printed-is-meant options names bytes document grammatical =
     λ ds. printed (machine_given_of (given calls ds)) outermost nothing_stood document in
     let footnotes : List Defined → List Footnote = λ ds. footnotes_of
     (machine_given_of (given calls ds)) outermost nothing_stood document in
-    let known : List Defined = (meant (given calls []) outermost nothing_before document).definitions in
-    let whole : Meant = meant (given calls known) outermost nothing_before document in
+    let known : List Defined = (outcome (given calls []) outermost nothing_before document).definitions in
+    let whole : Outcome = outcome (given calls known) outermost nothing_before document in
     let section_of : List Footnote → List Printed = λ fs. section_pieces options fs (tally calls) in
     ap (λ ds. laid ending (pieces ds ++ section_pieces options (footnotes ds) (tally (calls_of bytes document))))
     (is_tied []).definitions

@@ -13,11 +13,11 @@ use Rattle.md_meaning.specs.Meaning.Around.{inside}
 use Rattle.md_meaning.specs.Meaning.Layout.{Piece, layout, when}
 use Rattle.md_meaning.specs.Meaning.At.{Defined, Footnote, Given, Found, nothing_found, target_in, Before, At, identifier_of}
 use Rattle.md_meaning.specs.Meaning.Before.{before_children, slurps_after}
-use Rattle.md_meaning.specs.Meaning.Means.{means}
+use Rattle.md_meaning.specs.Meaning.Means.{prints}
 
 -- what nodes mean: their pieces, what is found on their spine, the calls, the definitions and the footnotes by their
 -- exits, and whether the next line ending is slurped after them
-pub record Meant : Type 0 where
+pub record Outcome : Type 0 where
   pub pieces : List Piece
   pub found : Found
   pub calls : List (List ℕ)
@@ -26,7 +26,7 @@ pub record Meant : Type 0 where
   pub slurps : Bool
 
 -- of each thing that is found the last counts
-abbrev pub both : Meant → Meant → Meant
+abbrev pub both : Outcome → Outcome → Outcome
 both first later = record {
   pieces = first.pieces ++ later.pieces;
   found = record {
@@ -52,12 +52,12 @@ found_at at Resource text = record nothing_found { resource = Some (target_in at
 found_at at name text = if is_transparent name then at.found else nothing_found
 
 -- what a node means, by what its children mean; a call, a definition and a footnote are named by their labels
-abbrev pub node : Given → At → Name → Meant → Meant
+abbrev pub node : Given → At → Name → Outcome → Outcome
 node given at name inner =
     let text = layout given.ending inner.pieces in
     let identifier = identifier_of given.bytes at.children in
     record {
-      pieces = means given at name inner.pieces;
+      pieces = prints given at name inner.pieces;
       found = found_at at name text;
       calls = inner.calls ++ when (is GfmFootnoteCall name) (identifier ∷ []);
       definitions = inner.definitions
@@ -68,7 +68,7 @@ node given at name inner =
     }
 
 -- what stands before the next sibling of a node that means this
-abbrev pub before_next : At → Name → Meant → Before
+abbrev pub before_next : At → Name → Outcome → Before
 before_next at name here = record at.before {
   calls = at.before.calls ++ here.calls;
   slurps = here.slurps;
@@ -78,15 +78,15 @@ before_next at name here = record at.before {
 }
 
 -- a node, and what later nodes mean after it
-abbrev pub followed : At → Name → Meant → (Before → Meant) → Meant
+abbrev pub followed : At → Name → Outcome → (Before → Outcome) → Outcome
 followed at name here later = both here (later (before_next at name here))
 
 -- what some nodes mean, by what stands around them and before them
-abbrev pub meant : Given → Surroundings → Before → Forest → Meant
-meant given around before Empty =
+abbrev pub outcome : Given → Surroundings → Before → Forest → Outcome
+outcome given around before Empty =
     record { pieces = []; found = nothing_found; calls = []; definitions = []; footnotes = []; slurps = before.slurps }
-meant given around before (Node name start end children rest) =
-    let inner = meant given (inside given.options (is_loose children) name around)
+outcome given around before (Node name start end children rest) =
+    let inner = outcome given (inside given.options (is_loose children) name around)
     (before_children name children before) children in
     let at : At = record {
       around = around;
@@ -98,4 +98,4 @@ meant given around before (Node name start end children rest) =
       is_last = around.is_outermost && is_empty rest;
     }
     in
-    followed at name (node given at name inner) (λ next. meant given around next rest)
+    followed at name (node given at name inner) (λ next. outcome given around next rest)

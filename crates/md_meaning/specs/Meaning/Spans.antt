@@ -28,8 +28,7 @@ reference given at =
 
 -- a line ending is dropped where it is slurped, which none in a definition is, and after a definition
 abbrev pub is_dropped : At → Bool
-is_dropped at =
-    not at.around.in_definition && at.before.slurps || option_map_or is_definition at.before.previous false
+is_dropped at = not at.around.in_definition && at.before.slurps || option_map_or is_definition at.before.previous false
 
 -- a line ending: a space in code, else its own text unless it is dropped
 abbrev pub line_ending : Given → At → List Piece
