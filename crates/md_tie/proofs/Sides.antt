@@ -367,7 +367,8 @@ sides given at CharacterReferenceValue fit h d =
     )) refl
 sides given at LineEnding fit h d =
     leaf given at LineEnding (line_ending given (at_of at)) refl refl
-    (λ n r. either at.around.in_code n (Said (codes " ") ∷ []) (if is_dropped (at_of at) then [] else Said (text_at given at)
+    (λ n r. either at.around.in_code n (Said (codes " ") ∷ [])
+    (if is_dropped (at_of at) then [] else Said (text_at given at)
     ∷ []) (Text (codes " ") ∷ []) (if is_dropped (at_of at) then [] else Text (text_at given at) ∷ []) (refl, refl)
     (either (is_dropped (at_of at)) n [] (Said (text_at given at) ∷ []) [] (Text (text_at given at) ∷ []) (refl, refl) (
       refl,
