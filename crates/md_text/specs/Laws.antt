@@ -1,7 +1,7 @@
 -- The words of the laws.
-use Rattle.std.specs.Prelude.{◌≡◌, ℕ, ◌⊎◌, ◌<◌, ◌||◌, ◌==◌, Bool, true, not, ◌&&◌, List, [], ◌∷◌, ◌++◌, All, codes, filter}
-use Rattle.std.specs.List.{range_with_len}
+use Rattle.std.specs.Prelude.{◌≡◌, ℕ, ◌⊎◌, ◌<◌, ◌||◌, ◌==◌, Bool, true, not, ◌&&◌, List, [], ◌∷◌, ◌++◌, All, codes}
 use Rattle.std.specs.Str.{bytes_eq}
+use Rattle.md_base.specs.Leaves.{bytes_where}
 use Rattle.md_text.specs.Url.{completes_triple}
 
 -- the second text is the first with some of its `<` changed into `&lt;`
@@ -28,10 +28,6 @@ is_line_ends (b ∷ rest) = ((b == 13) || (b == 10)) && is_line_ends rest
 abbrev pub percents_begin_triples : List ℕ → Bool
 percents_begin_triples [] = true
 percents_begin_triples (b ∷ rest) = (not (b == 37) || completes_triple rest) && percents_begin_triples rest
-
--- of all bytes those that pass a test
-abbrev pub bytes_where : (ℕ → Bool) → List ℕ
-bytes_where test = filter test (range_with_len 0 256)
 
 -- the bytes that stay as they are between these texts
 abbrev pub kept_between : (List ℕ → List ℕ) → List ℕ → List ℕ → List ℕ

@@ -5,10 +5,11 @@ ghost use Rattle.std.specs.Prelude.{◌≡◌, ◌∷◌, [], ◌++◌, true, fa
 ghost use Rattle.std.specs.List.{range_with_len};
 ghost use Rattle.std.specs.Option.{is_none};
 ghost use Rattle.std.specs.Str.{bytes_eq};
+ghost use Rattle.md_base.specs.Leaves.{bytes_where};
 ghost use Rattle.md_text.specs.Bytes.{is_letter, lowered};
 ghost use Rattle.md_text.specs.Encode.{encoded, encoded_character};
 ghost use Rattle.md_text.specs.Filter.{tag_filtered};
-ghost use Rattle.md_text.specs.Laws.{bytes_where, kept_between, changed};
+ghost use Rattle.md_text.specs.Laws.{kept_between, changed};
 ghost use Rattle.md_text.specs.LineEnding.{ending_text};
 ghost use Rattle.md_text.specs.Url.{normalized_url, protocol_of, sanitized};
 ghost use Rattle.md_text.specs.declared.line_ending.LineEnding.TheVariants as ending;
