@@ -4,9 +4,9 @@ use Rattle.std.specs.Prelude.{slice_get, slice_range, nat_le}
 use Rattle.std.specs.Fmt.{decimal, digits, digits_onto, digit_glyph}
 use Rattle.std.specs.List.{list_all}
 use Rattle.std.proofs.lemmas.Bool.{and_parts, or_cases, cond_both, agree_below_at, leb-true}
-use Rattle.md_text.specs.References.{is_escaped, completes_reference}
+use Rattle.md_text.specs.References.{is_escaped}
 use Rattle.md_text.specs.Laws.{is_line_ends}
-use Rattle.md_text.proofs.EscapedLemmas.{escaped-tail, escaped-without}
+use Rattle.md_text.proofs.EscapedLemmas.{completes_reference, escaped-tail, escaped-without}
 use Rattle.md_meaning.specs.Texts.{is_space, is_padded, is_blank, trimmed, unescaped_pipes, escapes_pipe, begins_with_pipe}
 use Rattle.md_meaning.specs.Places.{without_zeros, has_leading_zero}
 use Rattle.md_shape.specs.Built.{is_digit}

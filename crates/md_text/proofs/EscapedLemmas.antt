@@ -1,9 +1,10 @@
 -- Escaped texts: joined, cut and with a byte taken out. So a text that is printed in parts is a text of the HTML
 -- grammar.
-use Rattle.std.proofs.Common.{◌≡◌, ℕ, ◌==◌, Bool, true, false, not, ◌||◌, cond, eqb, List, [], ◌∷◌, ◌++◌, refl, inl, inr, codes}
+use Rattle.std.proofs.Common.{◌≡◌, ℕ, ◌==◌, Bool, true, false, not, ◌||◌, cond, eqb, List, [], ◌∷◌, ◌++◌, refl, sym, ◌∙◌, inl, inr, codes, Option, Some, None}
+use Rattle.std.specs.Prelude.{if◌then◌else◌, is_some}
 use Rattle.std.specs.List.{list_all}
 use Rattle.std.proofs.lemmas.Bool.{and_parts, and_from, or_cases, or_left, or_right, cond_both, not-true, both_ways}
-use Rattle.md_text.specs.References.{is_escaped, is_escaped_byte, completes_reference, begins_with, outside_references}
+use Rattle.md_text.specs.References.{is_escaped, is_escaped_byte, reference_before, begins_with, outside_references}
 use Rattle.md_text.specs.Url.{sanitized, sanitized_with, normalized_url, has_permitted_protocol}
 use Rattle.md_text.proofs.EncodeLaws.{is_escaped-encoded}
 
@@ -15,14 +16,36 @@ begins-append (s ∷ start) (b ∷ text) more h =
     let parts = and_parts (eqb s b) (begins_with start text) h in
     and_from (eqb s b) (begins_with start (text ++ more)) parts.0 (begins-append start text more parts.1)
 
+-- a `&` begins a reference before these bytes
+abbrev pub completes_reference : List ℕ → Bool
+completes_reference rest = is_some (reference_before rest)
+
+-- it is one of the four
+pub completes-any : (rest : List ℕ) → completes_reference rest
+    ≡ (begins_with (codes "amp;") rest || begins_with (codes "quot;") rest
+    || begins_with (codes "lt;") rest || begins_with (codes "gt;") rest)
+completes-any rest =
+    by (begins_with (codes "amp;") rest) (begins_with (codes "quot;") rest) (begins_with (codes "lt;") rest)
+    (begins_with (codes "gt;") rest)
+  where
+    by : (amp quot lt gt : Bool) → is_some {T = List ℕ × ℕ} (if amp then Some (codes "amp;", 38)
+        else (if quot then Some (codes "quot;", 34) else (if lt then Some (codes "lt;", 60)
+        else (if gt then Some (codes "gt;", 62) else None)))) ≡ (amp || quot || lt || gt)
+    by true quot lt gt = refl
+    by false true lt gt = refl
+    by false false true gt = refl
+    by false false false true = refl
+    by false false false false = refl
+
 or_keeps : (a b c d : Bool) → (a ≡ true → c ≡ true) → (b ≡ true → d ≡ true) → (a || b) ≡ true → (c || d) ≡ true
 or_keeps a b c d f g h = elim (or_cases a b h) [ inl x ↦ or_left c d (f x) | inr y ↦ or_right c d (g y) ]
 
 completes-append : (rest more : List ℕ) → completes_reference rest ≡ true → completes_reference (rest ++ more) ≡ true
 completes-append rest more h =
     let on = λ (start : List ℕ). begins-append start rest more in
-    or_keeps _ _ _ _ (or_keeps _ _ _ _ (or_keeps _ _ _ _ (on (codes "amp;")) (on (codes "quot;"))) (on (codes "lt;")))
-    (on (codes "gt;")) h
+    completes-any (rest ++ more)
+    ∙ or_keeps _ _ _ _ (or_keeps _ _ _ _ (or_keeps _ _ _ _ (on (codes "amp;")) (on (codes "quot;"))) (on (codes "lt;")))
+    (on (codes "gt;")) (sym (completes-any rest) ∙ h)
 
 escaped_byte-append : (b : ℕ) (rest more : List ℕ) → is_escaped_byte b rest ≡ true →
     is_escaped_byte b (rest ++ more) ≡ true
@@ -73,9 +96,11 @@ completes-without b text more out h =
     let amp = all_front b (codes "amp;") (codes "quot;lt;gt;") all in
     let quot = all_front b (codes "quot;") (codes "lt;gt;") amp.1 in
     let lt = all_front b (codes "lt;") (codes "gt;") quot.1 in
-    or_keeps _ _ _ _ (or_keeps _ _ _ _ (or_keeps _ _ _ _
+    completes-any (text ++ more)
+    ∙ or_keeps _ _ _ _ (or_keeps _ _ _ _ (or_keeps _ _ _ _
     (begins-without b (codes "amp;") text more amp.0) (begins-without b (codes "quot;") text more quot.0))
-    (begins-without b (codes "lt;") text more lt.0)) (begins-without b (codes "gt;") text more lt.1) h
+    (begins-without b (codes "lt;") text more lt.0)) (begins-without b (codes "gt;") text more lt.1)
+    (sym (completes-any (text ++ (b ∷ more))) ∙ h)
 
 escaped_byte-without : (b c : ℕ) (text more : List ℕ) → outside_references b ≡ true →
     is_escaped_byte c (text ++ (b ∷ more)) ≡ true → is_escaped_byte c (text ++ more) ≡ true

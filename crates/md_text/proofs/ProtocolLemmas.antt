@@ -49,18 +49,22 @@ front_from s v g e = subst (λ x. list_all goes_on x ≡ true) ((bytes_decides s
 -- the rest of a reference has no byte that matters to a protocol, and neither has what it stands for
 reference-goes_on : (rest : List ℕ) → front_goes_on (reference_tail rest) rest ≡ true
 reference-goes_on rest =
-    let P : ℕ → Type 0 = λ n. front_goes_on n rest ≡ true in
-    cond_both (begins_with (codes "amp;") rest) 4 _ P (front_from (codes "amp;") rest refl) (λ _.
-    cond_both (begins_with (codes "quot;") rest) 5 _ P (front_from (codes "quot;") rest refl) (λ _.
-    cond_both (begins_with (codes "lt;") rest) 3 _ P (front_from (codes "lt;") rest refl) (λ _.
-    cond_both (begins_with (codes "gt;") rest) 3 0 P (front_from (codes "gt;") rest refl) (λ _. refl))))
+    let P : Option (List ℕ × ℕ) → Type 0 =
+    λ found. front_goes_on (option_map_or (λ reference. length reference.0) found 0) rest ≡ true in
+    cond_both (begins_with (codes "amp;") rest) (Some (codes "amp;", 38)) _ P (front_from (codes "amp;") rest refl) (λ _.
+    cond_both (begins_with (codes "quot;") rest) (Some (codes "quot;", 34)) _ P (front_from (codes "quot;") rest refl)
+    (λ _. cond_both (begins_with (codes "lt;") rest) (Some (codes "lt;", 60)) _ P (front_from (codes "lt;") rest refl)
+    (λ _. cond_both (begins_with (codes "gt;") rest) (Some (codes "gt;", 62)) None P
+    (front_from (codes "gt;") rest refl) (λ _. refl))))
 
 referenced-goes_on : (rest : List ℕ) → goes_on (referenced rest) ≡ true
 referenced-goes_on rest =
-    let P : ℕ → Type 0 = λ b. goes_on b ≡ true in
-    cond_both (begins_with (codes "quot;") rest) 34 _ P (λ _. refl) (λ _.
-    cond_both (begins_with (codes "lt;") rest) 60 _ P (λ _. refl) (λ _.
-    cond_both (begins_with (codes "gt;") rest) 62 38 P (λ _. refl) (λ _. refl)))
+    let P : Option (List ℕ × ℕ) → Type 0 =
+    λ found. goes_on (option_map_or (λ reference. reference.1) found 38) ≡ true in
+    cond_both (begins_with (codes "amp;") rest) (Some (codes "amp;", 38)) _ P (λ _. refl) (λ _.
+    cond_both (begins_with (codes "quot;") rest) (Some (codes "quot;", 34)) _ P (λ _. refl) (λ _.
+    cond_both (begins_with (codes "lt;") rest) (Some (codes "lt;", 60)) _ P (λ _. refl) (λ _.
+    cond_both (begins_with (codes "gt;") rest) (Some (codes "gt;", 62)) None P (λ _. refl) (λ _. refl))))
 
 some_none : (q : List ℕ) → Some q ≡ None → ⊥
 some_none q e = cc
