@@ -12,8 +12,8 @@ use Rattle.md_base.specs.NameTests.{is_table}
 use Rattle.md_meaning.specs.declared.context.Ahead.{Ahead}
 use Rattle.md_meaning.specs.declared.context.Passed.{Passed}
 use Rattle.md_meaning.specs.declared.context.Surroundings.{Surroundings}
-use Rattle.md_meaning.specs.Piece.{Piece, blank}
-use Rattle.md_meaning.specs.Given.{Given}
+use Rattle.md_meaning.specs.Piece.{Stroke, blank}
+use Rattle.md_meaning.specs.Given.{Supply}
 use Rattle.md_meaning.specs.Places.{Left}
 use Rattle.md_meaning.specs.Printed.{opening, closing, is_captured}
 use Rattle.md_print.specs.declared.groups.Group.{Group}
@@ -28,7 +28,7 @@ use Rattle.md_html.proofs.Walks.{drop-first, drop-later, told-at}
 use Rattle.md_html.proofs.Groups.{unseen}
 
 -- it prints nothing before its children
-opens-nothing : (given : Given) (around : Surroundings) (ahead : Ahead) (name : Name) →
+opens-nothing : (given : Supply) (around : Surroundings) (ahead : Ahead) (name : Name) →
     is_light (group_of name) ≡ true → opening given around ahead name ≡ []
 opens-nothing given around ahead BlockQuote light = absurd (false≢true light)
 opens-nothing given around ahead ListOrdered light = absurd (false≢true light)
@@ -65,7 +65,7 @@ pub streamed : (name : Name) → is_light (group_of name) ≡ true → is_captur
 streamed name light = captured-group name ∙ streamed-group (group_of name) light
 
 -- what it prints doesn't depend on its children
-texts-alone : (group : Group) (texts blocks other_blocks media other_media tables other_tables : List Piece) →
+texts-alone : (group : Group) (texts blocks other_blocks media other_media tables other_tables : List Stroke) →
     is_light group ≡ true →
     in_group group texts blocks media tables ≡ in_group group texts other_blocks other_media other_tables
 texts-alone Silent texts blocks other_blocks media other_media tables other_tables light = refl
@@ -76,7 +76,7 @@ texts-alone Autolink texts blocks other_blocks media other_media tables other_ta
 texts-alone Table texts blocks other_blocks media other_media tables other_tables light = absurd (false≢true light)
 texts-alone Captured texts blocks other_blocks media other_media tables other_tables light = absurd (false≢true light)
 
-closing-alone : (given : Given) (around : Surroundings) (left : Left) (ahead other_ahead : Ahead)
+closing-alone : (given : Supply) (around : Surroundings) (left : Left) (ahead other_ahead : Ahead)
     (passed other_passed : Passed) (last : Bool) (start end : Point) (name : Name) → is_light (group_of name) ≡ true →
     closing given around left ahead passed last start end blank name
     ≡ closing given around left other_ahead other_passed last start end blank name
@@ -100,7 +100,7 @@ closing-alone given around left ahead other_ahead passed other_passed last start
     ∙ sym (closing-group other name)
 
 -- its entry and its exit, in one step
-pub leaf-steps : (given : Given) (ahead other_ahead : Ahead) (passed : Passed) (loose : Bool)
+pub leaf-steps : (given : Supply) (ahead other_ahead : Ahead) (passed : Passed) (loose : Bool)
     (columns : List AlignKind) (last : Bool) (name : Name) (start end : Point) (state : Printer) →
     is_light (group_of name) ≡ true →
     passing_leaf name (printing given.ending
@@ -122,12 +122,12 @@ leaf-steps given ahead other_ahead passed loose columns last name start end stat
       spine = state.frame.passed.spine;
       columns = first_or [] state.tables;
     } in
-    let inside : Bool → List Piece → Printer = λ b pieces. entering_table b columns
+    let inside : Bool → List Stroke → Printer = λ b pieces. entering_table b columns
     (opening_frame given.options ahead loose name start (printing given.ending pieces state)) in
-    let whole : Bool → List Piece → Printer = λ b pieces.
+    let whole : Bool → List Stroke → Printer = λ b pieces.
     leaving name (printing given.ending (closing_in given last name end blank (leaving_table b (inside b pieces)))
     (logging given.bytes ahead name blank (leaving_table b (inside b pieces)))) in
-    let opened : List Piece = opening given state.frame.around ahead name in
+    let opened : List Stroke = opening given state.frame.around ahead name in
     ap (λ pieces. leaving name (printing given.ending pieces (inside false [])))
     (closing-alone given state.frame.around left other_ahead ahead passed
     (inside false []).frame.passed last start end name light)
@@ -137,7 +137,7 @@ leaf-steps given ahead other_ahead passed loose columns last name start end stat
     ∙ ap (λ b. whole b opened) (sym (no-table name light))
 
 -- the two events of such a node, in one step
-pub run-leaf : (given : Given) (document : Forest) (events : List Event) (index : ℕ) (entry exit : Event)
+pub run-leaf : (given : Supply) (document : Forest) (events : List Event) (index : ℕ) (entry exit : Event)
     (beyond : List Event) (state after : Printer) →
     flatten document ≡ events → entry ∷ exit ∷ beyond ≡ drop index events → IsLightLeaf entry exit →
     ((ahead : Ahead) (loose : Bool) (columns : List AlignKind) →

@@ -26,11 +26,11 @@ use Rattle.md_text.specs.declared.options.CompileOptions.{CompileOptions}
 use Rattle.md_meaning.specs.declared.context.Surroundings.{Surroundings}
 use Rattle.md_meaning.specs.declared.context.Ahead.{Ahead}
 use Rattle.md_meaning.specs.declared.context.Passed.{Passed}
-use Rattle.md_meaning.specs.Piece.{Piece, Target, blank, lay}
+use Rattle.md_meaning.specs.Piece.{Stroke, Target, blank, lay}
 use Rattle.md_meaning.specs.Surroundings.{inside, outermost, spine_inside}
-use Rattle.md_meaning.specs.Given.{Given, Defined}
-use Rattle.md_meaning.specs.Places.{Before, nothing_before, before_children, before_next, left_of, ahead_of, passed_over, identifier_at}
-use Rattle.md_meaning.specs.Texts.{said, is_slurped}
+use Rattle.md_meaning.specs.Given.{Supply, Defined}
+use Rattle.md_meaning.specs.Places.{Stood, nothing_stood, stood_inside, stood_after, left_of, ahead_of, passed_over, identifier_at}
+use Rattle.md_meaning.specs.Texts.{saying, is_slurped}
 use Rattle.md_meaning.specs.Given.{text_of}
 use Rattle.md_meaning.specs.Printed.{printed_node, printed, definitions_of}
 use Rattle.md_printer.specs.Machine.{Printer, run, beginning}
@@ -51,7 +51,7 @@ bare around = record outermost {
   in_code = around.in_code;
 }
 
-abbrev barely : Before → Before
+abbrev barely : Stood → Stood
 barely before = record { calls = []; marks = []; previous = before.previous; spine = before.spine; columns = [] }
 
 -- what may stand in a definition
@@ -98,19 +98,19 @@ inner-passes test (Solid s usual reading) children r b is all h = spine-all test
 inner-passes test Mdx children r b is all h = absurd is
 
 -- it prints the same, whatever else is around it and before it
-line-bare : (given : Given) (around : Surroundings) (before : Before) (children : Forest) (ahead : Ahead)
-    (passed : Passed) (last last' : Bool) (start end : Point) (inner : List Piece) →
+line-bare : (given : Supply) (around : Surroundings) (before : Stood) (children : Forest) (ahead : Ahead)
+    (passed : Passed) (last last' : Bool) (start end : Point) (inner : List Stroke) →
     around.in_definition ≡ true →
     printed_node given around (left_of given.bytes before children) ahead passed last start end LineEnding inner
     ≡ printed_node given (bare around) (left_of given.bytes (barely before) children) ahead passed last' start end
     LineEnding inner
 line-bare given around before children ahead passed last last' start end inner h =
-    ap (λ d. inner ++ ((if around.in_code then said (32 ∷ [])
+    ap (λ d. inner ++ ((if around.in_code then saying (32 ∷ [])
     else (if is_slurped (record around { in_definition = d }) (left_of given.bytes before children)
-    || option_map_or is_definition before.previous false then [] else said (text_of given.bytes start end))) ++ [])) h
+    || option_map_or is_definition before.previous false then [] else saying (text_of given.bytes start end))) ++ [])) h
 
-node-bare : (given : Given) (around : Surroundings) (before : Before) (children : Forest) (ahead : Ahead)
-    (passed : Passed) (last last' : Bool) (start end : Point) (name : Name) (inner : List Piece) →
+node-bare : (given : Supply) (around : Surroundings) (before : Stood) (children : Forest) (ahead : Ahead)
+    (passed : Passed) (last last' : Bool) (start end : Point) (name : Name) (inner : List Stroke) →
     around.in_definition ≡ true → passes in_target (standing_of name) ≡ true →
     printed_node given around (left_of given.bytes before children) ahead passed last start end name inner
     ≡ printed_node given (bare around) (left_of given.bytes (barely before) children) ahead passed last' start end
@@ -165,7 +165,7 @@ target_letters (Other number) h = tt
 target_letters _ h = lie h
 
 -- a definition's nodes print the same, whatever else is around them and before them
-printed-bare : (given : Given) (forest : Forest) (around : Surroundings) (before : Before) (r : Role)
+printed-bare : (given : Supply) (forest : Forest) (around : Surroundings) (before : Stood) (r : Role)
     (b : Option Symbol) →
     AreShaped forest r b → list_all in_target (spine forest) ≡ true → around.in_definition ≡ true →
     printed given around before forest ≡ printed given (bare around) (barely before) forest
@@ -180,12 +180,12 @@ printed-bare given (Node name start end children rest) around before r b shaped 
     let loose : Bool = is_loose children in
     let nested : Surroundings = inside given.options loose name around in
     let nested' : Surroundings = inside given.options loose name (bare around) in
-    let inner : Before = before_children name children before in
-    let inner' : Before = before_children name children (barely before) in
-    let next : Before = before_next given around name start end children before in
-    let next' : Before = before_next given (bare around) name start end children (barely before) in
+    let inner : Stood = stood_inside name children before in
+    let inner' : Stood = stood_inside name children (barely before) in
+    let next : Stood = stood_after given around name start end children before in
+    let next' : Stood = stood_after given (bare around) name start end children (barely before) in
     let passed : Passed = passed_over (spine_inside name before.spine) children in
-    let node : List Piece → List Piece = λ ps. printed_node given (bare around)
+    let node : List Stroke → List Stroke = λ ps. printed_node given (bare around)
     (left_of given.bytes (barely before) children) (ahead_of children) passed ((bare around).is_outermost
     && is_empty rest) start end name ps in
     let same : printed given nested inner children ≡ printed given nested' inner' children =
@@ -297,14 +297,14 @@ hosting-inside options loose name around children r b is host =
     ] refl
 
 -- a definition's children print the same as in a definition by itself
-definition-bare : (given : Given) (around : Surroundings) (before : Before) (children : Forest) → IsPlain around →
+definition-bare : (given : Supply) (around : Surroundings) (before : Stood) (children : Forest) → IsPlain around →
     AreShaped children role.Definition None → Matches role.Definition (spine children) →
     printed given (inside given.options (is_loose children) Definition around)
-    (before_children Definition children before) children
+    (stood_inside Definition children before) children
     ≡ printed given (inside given.options (is_loose children) Definition outermost)
-    (before_children Definition children nothing_before) children
+    (stood_inside Definition children nothing_stood) children
 definition-bare given around before children plain shaped match =
-    let own : Before = barely (before_children Definition children nothing_before) in
+    let own : Stood = barely (stood_inside Definition children nothing_stood) in
     let all : list_all in_target (spine children) ≡ true =
     spine-all in_target role.Definition role.Flow None (spine children) (record {
       after = refl;
@@ -312,14 +312,14 @@ definition-bare given around before children plain shaped match =
       first = refl;
     }) match in
     printed-bare given children (inside given.options (is_loose children) Definition around)
-    (before_children Definition children before) role.Definition None shaped all refl
+    (stood_inside Definition children before) role.Definition None shaped all refl
     ∙ ap (λ e. printed given (record (bare outermost) { is_escaping = e; in_code = around.in_code }) own children)
     plain.0
     ∙ ap (λ c. printed given (record (bare outermost) { is_escaping = true; in_code = c }) own children) plain.1
     ∙ sym (printed-bare given children (inside given.options (is_loose children) Definition outermost)
-    (before_children Definition children nothing_before) role.Definition None shaped all refl)
+    (stood_inside Definition children nothing_stood) role.Definition None shaped all refl)
 
-definition-node : (given : Given) (around : Surroundings) (before : Before) (name : Name) (children : Forest)
+definition-node : (given : Supply) (around : Surroundings) (before : Stood) (name : Name) (children : Forest)
     (r : Role) (b : Option Symbol) →
     IsStanding (standing_of name) r b children → AreShaped children (inner_role (standing_of name) r b)
     (inner_before (standing_of name) b) → Hosting around (shown (standing_of name) (spine children)) →
@@ -327,7 +327,7 @@ definition-node : (given : Given) (around : Surroundings) (before : Before) (nam
     then record {
       identifier = identifier_at given.bytes (ahead_of children).defined;
       target = (lay given.ending blank (printed given (inside given.options (is_loose children) name around)
-          (before_children name children before) children)).notes.target;
+          (stood_inside name children before) children)).notes.target;
     } ∷ []
     else []) ≡ (if is_link_definition name then defined_alone given children ∷ [] else [])
 definition-node given around before Definition children r b is shaped host = elim host [
@@ -342,7 +342,7 @@ definition-node given around before Definition children r b is shaped host = eli
 definition-node given around before _ children r b is shaped host = refl
 
 -- what nodes define is what each definition among them defines by itself
-definitions-own : (given : Given) (forest : Forest) (around : Surroundings) (before : Before) (r : Role)
+definitions-own : (given : Supply) (forest : Forest) (around : Surroundings) (before : Stood) (r : Role)
     (b : Option Symbol) →
     AreShaped forest r b → Hosting around (spine forest) →
     definitions_of given around before forest ≡ own_definitions given forest
@@ -355,8 +355,8 @@ definitions-own given (Node name start end children rest) around before r b shap
     let here : Hosting around symbols = elim host [ inl plain ↦ inl plain | inr all ↦ inr (split all).0 ] in
     let later : Hosting around (spine rest) = elim host [ inl plain ↦ inl plain | inr all ↦ inr (split all).1 ] in
     let nested : Surroundings = inside given.options (is_loose children) name around in
-    let own : Before = before_children name children before in
-    let next : Before = before_next given around name start end children before in
+    let own : Stood = stood_inside name children before in
+    let next : Stood = stood_after given around name start end children before in
     let target : Target = (lay given.ending blank (printed given nested own children)).notes.target in
     let node : List Defined = if is_link_definition name
     then record { identifier = identifier_at given.bytes (ahead_of children).defined; target = target } ∷ []
@@ -370,9 +370,9 @@ definitions-own given (Node name start end children rest) around before r b shap
     ∙ ap (λ ds. own_definitions given children ++ (alone ++ ds))
     (definitions-own given rest around next _ _ shaped.2 later)
 
-pub document-definitions : (given : Given) (document : Forest) → IsShaped document →
-    definitions_of given outermost nothing_before document ≡ own_definitions given document
-document-definitions given document shaped = definitions-own given document outermost nothing_before role.Flow None
+pub document-definitions : (given : Supply) (document : Forest) → IsShaped document →
+    definitions_of given outermost nothing_stood document ≡ own_definitions given document
+document-definitions given document shaped = definitions-own given document outermost nothing_stood role.Flow None
     shaped.0 (inl (refl, refl))
 
 -- no definition stands in a definition
@@ -380,7 +380,7 @@ undefined : (name : Name) → passes hostless (standing_of name) ≡ true → is
 undefined Definition h = lie h
 undefined _ h = refl
 
-none-defined : (given : Given) (forest : Forest) (r : Role) (b : Option Symbol) → AreShaped forest r b →
+none-defined : (given : Supply) (forest : Forest) (r : Role) (b : Option Symbol) → AreShaped forest r b →
     list_all hostless (spine forest) ≡ true → own_definitions given forest ≡ []
 none-defined given Empty r b shaped all = refl
 none-defined given (Node name start end children rest) r b shaped all =
@@ -401,7 +401,7 @@ none-defined given (Node name start end children rest) r b shaped all =
     ∙ none-defined given rest _ _ shaped.2 parts.1
 
 -- the machine over a definition's own events logs it, and nothing else
-pub definition-run : (given : Given) (start end : Point) (children : Forest) (more : List (Option Forest)) →
+pub definition-run : (given : Supply) (start end : Point) (children : Forest) (more : List (Option Forest)) →
     AreShaped children role.Definition None → Matches role.Definition (spine children) →
     (run given (flatten (Node Definition start end children Empty))
     (children_of (Node Definition start end children Empty) ++ more) beginning).log.definitions
@@ -409,8 +409,8 @@ pub definition-run : (given : Given) (start end : Point) (children : Forest) (mo
 definition-run given start end children more shaped match =
     let node : Forest = Node Definition start end children Empty in
     let nested : Surroundings = inside given.options (is_loose children) Definition outermost in
-    let own : Before = before_children Definition children nothing_before in
-    let begins : Knows beginning nothing_before = record {
+    let own : Stood = stood_inside Definition children nothing_stood in
+    let begins : Knows beginning nothing_stood = record {
       calls = refl;
       slurping = refl;
       previous = refl;
@@ -424,13 +424,13 @@ definition-run given start end children more shaped match =
       first = refl;
     }) match in
     ap (λ es. (run given es (children_of node ++ more) beginning).log.definitions) (sym (append-nil (flatten node)))
-    ∙ ap (λ (s : Printer). s.log.definitions) (run-flatten given node nothing_before [] more beginning begins refl)
+    ∙ ap (λ (s : Printer). s.log.definitions) (run-flatten given node nothing_stood [] more beginning begins refl)
     ∙ ap (λ ds. ds ++ defined_alone given children ∷ [])
     (definitions-own given children nested own role.Definition None shaped (inr free)
     ∙ none-defined given children role.Definition None shaped free)
 
 -- no definition stands in a definition
-pub none-inside : (given : Given) (children : Forest) → AreShaped children role.Definition None →
+pub none-inside : (given : Supply) (children : Forest) → AreShaped children role.Definition None →
     Matches role.Definition (spine children) → own_definitions given children ≡ []
 none-inside given children shaped match =
     none-defined given children role.Definition None shaped

@@ -20,7 +20,7 @@ use Rattle.md_tree.specs.Grammar.{Handed}
 use Rattle.md_tree.proofs.Indexed.{flatten_one}
 use Rattle.md_tree.specs.Entered.{children_of}
 use Rattle.md_base.specs.NameTests.{is_link_definition}
-use Rattle.md_meaning.specs.Given.{Given, Defined}
+use Rattle.md_meaning.specs.Given.{Supply, Defined}
 use Rattle.md_printer.specs.Machine.{run, beginning}
 use Rattle.md_html.specs.OwnDefinitions.{defined_alone, own_definitions, events_at}
 use Rattle.md_infer.specs.Partners.{definition_entries as entries_of}
@@ -78,7 +78,7 @@ nodes-entries (Node name start end children rest) index =
     ∙ ap (λ xs. entries_of (suc index) children ++ ((if is_link_definition name then index ∷ [] else []) ++ xs))
     (nodes-entries rest (suc (index_after (suc index) children)))
 
-pub nodes-defined : (given : Given) (forest : Forest) (index : ℕ) →
+pub nodes-defined : (given : Supply) (forest : Forest) (index : ℕ) →
     map (λ n. defined_alone given n.children) (own_nodes index forest) ≡ own_definitions given forest
 nodes-defined given Empty index = refl
 nodes-defined given (Node name start end children rest) index =
@@ -270,7 +270,7 @@ alone-length n =
     count : (i p a c : ℕ) → p ≡ suc i + a → c ≡ a + 1 → suc p - i ≡ suc c
     count i p a c h e = omega (arith, h, e)
 
-stands-run : (given : Given) (document : Forest) (n : OwnNode) →
+stands-run : (given : Supply) (document : Forest) (n : OwnNode) →
     Stands (flatten document) (children_of document) (partners_of 0 document) n →
     (run given (events_at (flatten document) n.index (slice_get (partners_of 0 document) n.index))
     (drop n.index (children_of document)) beginning).log.definitions ≡ defined_alone given n.children ∷ []
@@ -287,7 +287,7 @@ stands-run given document n stands =
     ∙ definition-run given n.start n.end n.children stands.more stands.shaped stands.match
 
 -- the machine over the events of one of a document's definitions logs only that definition
-pub own-run : (given : Given) (document : Forest) (place entry : ℕ) → IsShaped document →
+pub own-run : (given : Supply) (document : Forest) (place entry : ℕ) → IsShaped document →
     slice_get (entries_of 0 document) place ≡ Some entry →
     (defined : Defined) × (slice_get (own_definitions given document) place ≡ Some defined)
     × ((run given (events_at (flatten document) entry (slice_get (partners_of 0 document) entry))
@@ -315,7 +315,7 @@ pub map-length : {B : Type 0} (f : OwnNode → B) (xs : List OwnNode) → length
 map-length f [] = refl
 map-length f (x ∷ xs) = ap (λ n. suc n) (map-length f xs)
 
-own-length : (given : Given) (document : Forest) → length (entries_of 0 document)
+own-length : (given : Supply) (document : Forest) → length (entries_of 0 document)
     ≡ length (own_definitions given document)
 own-length given document =
     ap (λ xs. length xs) (sym (nodes-entries document 0))
@@ -352,7 +352,7 @@ take-whole (x ∷ xs) (suc i) h = ap (λ ys. x ∷ ys) (take-whole xs i (lower (
     lower : (a b : ℕ) → suc a ≤ suc b → a ≤ b
     lower a b l = omega (arith, l)
 
-pub take-own-all : (given : Given) (document : Forest) (entries : List ℕ) (i : ℕ) → entries ≡ entries_of 0 document →
+pub take-own-all : (given : Supply) (document : Forest) (entries : List ℕ) (i : ℕ) → entries ≡ entries_of 0 document →
     length entries ≤ i → take i (own_definitions given document) ≡ own_definitions given document
 take-own-all given document entries i are h =
     take-whole (own_definitions given document) i (within (length entries) (length (own_definitions given document))

@@ -15,7 +15,7 @@ use Rattle.md_base.specs.Tree.{Forest, Empty, Node, flatten, exiting}
 use Rattle.md_infer.specs.Partners.{index_after, partners_of, definition_entries as entries_of}
 use Rattle.md_tree.specs.Entered.{children_of}
 use Rattle.md_base.specs.NameTests.{is_link_definition}
-use Rattle.md_meaning.specs.Given.{Given}
+use Rattle.md_meaning.specs.Given.{Supply}
 use Rattle.md_html.specs.OwnDefinitions.{defined_alone, events_at}
 use Rattle.md_html.proofs.OwnEvents.{none-inside}
 use Rattle.md_html.proofs.OwnNodes.{OwnNode, alone, node_where, own_nodes, map-append, nodes-entries, nodes-defined, take-own, alone-length, Stands, all_stand, each-get, map-got, take-next}
@@ -57,7 +57,7 @@ none_left f [] e = refl
 none_left f (n ∷ ns) e = cc
 
 -- a definition's events, and those of the definitions in it
-here-fits : (given : Given) (name : Name) (start end : Point) (children : Forest) (i : ℕ) (r : Role)
+here-fits : (given : Supply) (name : Name) (start end : Point) (children : Forest) (i : ℕ) (r : Role)
     (b : Option Symbol) → AreShaped (Node name start end children Empty) r b →
     total (map (λ n. size n) (own_nodes (suc i) children)) ≤ length (flatten children) →
     total (map (λ n. size n) (own_nodes (suc i) children))
@@ -84,7 +84,7 @@ here-fits given name start end children i r b shaped inner =
     fits : (t a c : ℕ) → t ≤ a → c ≡ a + 1 → t + 0 ≤ suc c
     fits t a c l e = omega (arith, l, e)
 
-sizes-fit : (given : Given) (forest : Forest) (i : ℕ) (r : Role) (b : Option Symbol) → AreShaped forest r b →
+sizes-fit : (given : Supply) (forest : Forest) (i : ℕ) (r : Role) (b : Option Symbol) → AreShaped forest r b →
     total (map (λ n. size n) (own_nodes i forest)) ≤ length (flatten forest)
 sizes-fit given Empty i r b shaped = omega arith
 sizes-fit given (Node name start end children rest) i r b shaped =
@@ -116,7 +116,7 @@ sizes-fit given (Node name start end children rest) i r b shaped =
         t ≤ suc w
     sum t a h l m c s k w e f g o p q = omega (arith, e, f, g, o, p, q)
 
-pub sizes-within : (given : Given) (document : Forest) → IsShaped document →
+pub sizes-within : (given : Supply) (document : Forest) → IsShaped document →
     total (own_sizes document) ≤ length (flatten document)
 sizes-within given document shaped = sizes-fit given document 0 role.Flow None shaped.0
 
@@ -167,7 +167,7 @@ total-next ns i n visits next got so_far step =
     in
     omega (arith, more, so_far, step)
 
-pub within-document : (given : Given) (document : Forest) (events : List Event) (i visits : ℕ) → IsShaped document →
+pub within-document : (given : Supply) (document : Forest) (events : List Event) (i visits : ℕ) → IsShaped document →
     flatten document ≡ events → visits ≤ total (take i (own_sizes document)) → visits ≤ length events
 within-document given document events i visits shaped flat so_far =
     let most = total-take (own_sizes document) i in

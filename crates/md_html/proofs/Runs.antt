@@ -21,10 +21,10 @@ use Rattle.md_meaning.specs.declared.context.Surroundings.{Surroundings}
 use Rattle.md_meaning.specs.declared.context.Spine.{Spine}
 use Rattle.md_meaning.specs.declared.context.Ahead.{Ahead}
 use Rattle.md_meaning.specs.declared.context.Passed.{Passed}
-use Rattle.md_meaning.specs.Piece.{Piece, Sheet, blank, lay}
+use Rattle.md_meaning.specs.Piece.{Stroke, Sheet, blank, lay}
 use Rattle.md_meaning.specs.Surroundings.{Mark, Sets, Clears, is_slurping, own_marks, marks_of, inside, two_pass, last_of, told_by, spine_inside, spine_after_node}
-use Rattle.md_meaning.specs.Given.{Given, Defined}
-use Rattle.md_meaning.specs.Places.{Before, Left, calls_of, identifier_at, before_children, before_next, left_of, ahead_of, passed_over}
+use Rattle.md_meaning.specs.Given.{Supply, Defined}
+use Rattle.md_meaning.specs.Places.{Stood, Left, calls_of, identifier_at, stood_inside, stood_after, left_of, ahead_of, passed_over}
 use Rattle.md_meaning.specs.Printed.{opening, closing, is_captured, printed, printed_node, definitions_of, footnotes_of}
 use Rattle.md_sheet.specs.Seen.{counted, noted}
 use Rattle.md_sheet.proofs.Lists.{lay-append}
@@ -145,7 +145,7 @@ last-event (Node name start end children rest) [] = refl
 last-event (Node name start end children rest) (e ∷ es) = refl
 
 -- the state after some nodes
-abbrev pub printer_after : Given → Before → Forest → Printer → Printer
+abbrev pub printer_after : Supply → Stood → Forest → Printer → Printer
 printer_after given before forest state = record state {
   log = record {
     called = fold counted state.log.called (calls_of given.bytes forest);
@@ -164,14 +164,14 @@ printer_after given before forest state = record state {
 }
 
 -- the state knows what stands before
-pub record Knows (state : Printer) (before : Before) : Type 0 where
+pub record Knows (state : Printer) (before : Stood) : Type 0 where
   pub calls : state.log.called ≡ tally before.calls
   pub slurping : state.is_slurping ≡ is_slurping before.marks
   pub previous : state.frame.passed.last ≡ before.previous
   pub spine : state.frame.passed.spine ≡ told_by before.spine
   pub columns : first_or [] state.tables ≡ before.columns
 
-after-nothing : (given : Given) (before : Before) (state : Printer) → Knows state before →
+after-nothing : (given : Supply) (before : Stood) (state : Printer) → Knows state before →
     printer_after given before Empty state ≡ state
 after-nothing given before state knows =
     ap (λ ds. record (printer_after given before Empty state) { log = record state.log { definitions = ds } })
@@ -191,10 +191,10 @@ inside-told options ListUnordered children around = refl
 inside-told options _ children around = refl
 
 -- the children's state, from the node's
-children_know : (given : Given) (ahead : Ahead) (before : Before) (name : Name) (start : Point) (children : Forest)
+children_know : (given : Supply) (ahead : Ahead) (before : Stood) (name : Name) (start : Point) (children : Forest)
     (captured : Bool) (state : Printer) → Knows state before →
     Knows (entered given ahead (is_loose children) (columns_told name (Some children)) captured name start state)
-    (before_children name children before)
+    (stood_inside name children before)
 children_know given ahead before name start children captured state knows = record {
   calls = knows.calls;
   slurping = knows.slurping;
@@ -227,13 +227,13 @@ tables-restored name children tables =
     ]
 
 -- the sheet that a node's children print by themselves
-abbrev inner_sheet : Given → Surroundings → Before → Bool → Name → Forest → Sheet
+abbrev inner_sheet : Supply → Surroundings → Stood → Bool → Name → Forest → Sheet
 inner_sheet given around before captured name children =
     if captured then lay given.ending blank (printed given (inside given.options (is_loose children) name around)
-    (before_children name children before) children) else blank
+    (stood_inside name children before) children) else blank
 
 -- what stands before a node's next sibling, as the state knows it when the node is left
-abbrev pub after_node : Given → Ahead → Before → Bool → Bool → Name → Point → Point → Forest → Printer → Printer
+abbrev pub after_node : Supply → Ahead → Stood → Bool → Bool → Name → Point → Point → Forest → Printer → Printer
 after_node given ahead before last captured name start end children state = record state {
   log = record {
     called =
@@ -244,36 +244,36 @@ after_node given ahead before last captured name start end children state = reco
         if is_link_definition name
         then (state.log.definitions ++ definitions_of given
         (inside given.options (is_loose children) name state.frame.around)
-        (before_children name children before) children)
+        (stood_inside name children before) children)
         ++ record {
           identifier = identifier_at given.bytes ahead.defined;
           target = (inner_sheet given state.frame.around before captured name children).notes.target;
         } ∷ []
         else state.log.definitions ++ definitions_of given
         (inside given.options (is_loose children) name state.frame.around)
-        (before_children name children before) children;
+        (stood_inside name children before) children;
     footnotes =
         if is_footnote_definition name
         then noted (fold noted state.log.footnotes (footnotes_of given
         (inside given.options (is_loose children) name state.frame.around)
-        (before_children name children before) children))
+        (stood_inside name children before) children))
         (record {
           identifier = identifier_at given.bytes ahead.footnote;
           text = (inner_sheet given state.frame.around before captured name children).text;
         })
         else fold noted state.log.footnotes (footnotes_of given
         (inside given.options (is_loose children) name state.frame.around)
-        (before_children name children before) children);
+        (stood_inside name children before) children);
   };
   sheet = lay given.ending state.sheet
       (opening given state.frame.around ahead name
       ++ ((if captured then [] else printed given (inside given.options (is_loose children) name state.frame.around)
-      (before_children name children before) children)
+      (stood_inside name children before) children)
       ++ closing given state.frame.around (left_of given.bytes before children) ahead
       (passed_over (spine_inside name before.spine) children) last start end
       (if captured then lay given.ending blank (printed given
       (inside given.options (is_loose children) name state.frame.around)
-      (before_children name children before) children) else blank) name));
+      (stood_inside name children before) children) else blank) name));
   is_slurping = slurps_after (own_marks state.frame.around (told_by before.spine) name)
       (slurps_after (marks_of given.options (inside given.options (is_loose children) name state.frame.around)
       (spine_inside name before.spine) children) state.is_slurping);
@@ -284,17 +284,17 @@ after_node given ahead before last captured name start end children state = reco
 }
 
 -- a sheet, laid on in parts
-lay_parts : (ending : List ℕ) (sheet : Sheet) (xs ys zs : List Piece) →
+lay_parts : (ending : List ℕ) (sheet : Sheet) (xs ys zs : List Stroke) →
     lay ending (lay ending (lay ending sheet xs) ys) zs ≡ lay ending sheet (xs ++ (ys ++ zs))
 lay_parts ending sheet xs ys zs = sym (lay-append ending sheet xs (ys ++ zs)
     ∙ lay-append ending (lay ending sheet xs) ys zs)
 
-lay_two : (ending : List ℕ) (sheet : Sheet) (xs zs : List Piece) →
+lay_two : (ending : List ℕ) (sheet : Sheet) (xs zs : List Stroke) →
     lay ending (lay ending sheet xs) zs ≡ lay ending sheet (xs ++ zs)
 lay_two ending sheet xs zs = sym (lay-append ending sheet xs zs)
 
 -- what is known of the node when it is left
-left-known : (given : Given) (before : Before) (name : Name) (start : Point) (children : Forest) (captured : Bool)
+left-known : (given : Supply) (before : Stood) (name : Name) (start : Point) (children : Forest) (captured : Bool)
     (state : Printer) → Knows state before →
     (record {
       called = fold counted state.log.called (calls_of given.bytes children);
@@ -318,20 +318,20 @@ left-known given before name start children captured state knows =
     ∙ ap (λ k. L (tally calls) (is_slurping before.marks) before.previous (told_by before.spine) k) knows.columns
 
 -- a node is left after its children, whose text is not captured
-node_step-streamed : (given : Given) (ahead : Ahead) (before : Before) (last : Bool) (name : Name) (start end : Point)
+node_step-streamed : (given : Supply) (ahead : Ahead) (before : Stood) (last : Bool) (name : Name) (start end : Point)
     (children : Forest) (state : Printer) → Knows state before →
-    exited given last false name end (printer_after given (before_children name children before) children
+    exited given last false name end (printer_after given (stood_inside name children before) children
     (entered given ahead (is_loose children) (columns_told name (Some children)) false name start state))
     ≡ after_node given ahead before last false name start end children state
 node_step-streamed given ahead before last name start end children state knows =
     let around = state.frame.around in
-    let opened : List Piece = opening given around ahead name in
-    let inner : List Piece = printed given (inside given.options (is_loose children) name around)
-    (before_children name children before) children in
+    let opened : List Stroke = opening given around ahead name in
+    let inner : List Stroke = printed given (inside given.options (is_loose children) name around)
+    (stood_inside name children before) children in
     let spine : Spine = told_by (spine_inside name before.spine ++ spine_names children) in
     let marks : List Mark = marks_of given.options (inside given.options (is_loose children) name around)
     (spine_inside name before.spine) children in
-    let close : Left → Option Name → Option Name → List Piece =
+    let close : Left → Option Name → Option Name → List Stroke =
     λ left o p. closing given around left ahead (record {
       last = o;
       contributing = p;
@@ -370,20 +370,20 @@ node_step-streamed given ahead before last name start end children state knows =
     (last_name children) (last_contributing children)))
 
 -- a node is left after its children, whose text is captured
-node_step-captured : (given : Given) (ahead : Ahead) (before : Before) (last : Bool) (name : Name) (start end : Point)
+node_step-captured : (given : Supply) (ahead : Ahead) (before : Stood) (last : Bool) (name : Name) (start end : Point)
     (children : Forest) (state : Printer) → Knows state before →
-    exited given last true name end (printer_after given (before_children name children before) children
+    exited given last true name end (printer_after given (stood_inside name children before) children
     (entered given ahead (is_loose children) (columns_told name (Some children)) true name start state))
     ≡ after_node given ahead before last true name start end children state
 node_step-captured given ahead before last name start end children state knows =
     let around = state.frame.around in
-    let opened : List Piece = opening given around ahead name in
-    let inner : List Piece = printed given (inside given.options (is_loose children) name around)
-    (before_children name children before) children in
+    let opened : List Stroke = opening given around ahead name in
+    let inner : List Stroke = printed given (inside given.options (is_loose children) name around)
+    (stood_inside name children before) children in
     let spine : Spine = told_by (spine_inside name before.spine ++ spine_names children) in
     let marks : List Mark = marks_of given.options (inside given.options (is_loose children) name around)
     (spine_inside name before.spine) children in
-    let close : Left → Option Name → Option Name → List Piece =
+    let close : Left → Option Name → Option Name → List Stroke =
     λ left o p. closing given around left ahead (record {
       last = o;
       contributing = p;
@@ -422,7 +422,7 @@ node_step-captured given ahead before last name start end children state knows =
     (last_contributing children)))
 
 -- what a node's children tell ahead decides only by what its name reads
-opening-told : (given : Given) (around : Surroundings) (name : Name) (children : Forest) →
+opening-told : (given : Supply) (around : Surroundings) (name : Name) (children : Forest) →
     opening given around (ahead_told name (Some children)) name ≡ opening given around (ahead_of children) name
 opening-told given around HeadingAtx children = refl
 opening-told given around _ children = refl
@@ -437,21 +437,21 @@ told_ahead mark number label reference defined footnote = record {
   footnote = footnote;
 }
 
-link-told : (given : Given) (around : Surroundings) (left : Left) (passed : Passed) (last : Bool) (start end : Point)
+link-told : (given : Supply) (around : Surroundings) (left : Left) (passed : Passed) (last : Bool) (start end : Point)
     (inner : Sheet) (m n l r d f : Option Position) →
     closing given around left (ahead_by (or_else r l)) passed last start end inner Link
     ≡ closing given around left (told_ahead m n l r d f) passed last start end inner Link
 link-told given around left passed last start end inner m n l None d f = refl
 link-told given around left passed last start end inner m n l (Some r) d f = refl
 
-image-told : (given : Given) (around : Surroundings) (left : Left) (passed : Passed) (last : Bool) (start end : Point)
+image-told : (given : Supply) (around : Surroundings) (left : Left) (passed : Passed) (last : Bool) (start end : Point)
     (inner : Sheet) (m n l r d f : Option Position) →
     closing given around left (ahead_by (or_else r l)) passed last start end inner Image
     ≡ closing given around left (told_ahead m n l r d f) passed last start end inner Image
 image-told given around left passed last start end inner m n l None d f = refl
 image-told given around left passed last start end inner m n l (Some r) d f = refl
 
-closing-told : (given : Given) (around : Surroundings) (left : Left) (passed : Passed) (last : Bool)
+closing-told : (given : Supply) (around : Surroundings) (left : Left) (passed : Passed) (last : Bool)
     (start end : Point) (inner : Sheet) (name : Name) (children : Forest) →
     closing given around left (ahead_told name (Some children)) passed last start end inner name
     ≡ closing given around left (ahead_of children) passed last start end inner name
@@ -488,7 +488,7 @@ noted-told : (bytes : List ℕ) (footnotes : List Footnote) (sheet : Sheet) (nam
 noted-told bytes footnotes sheet GfmFootnoteDefinition children = refl
 noted-told bytes footnotes sheet _ children = refl
 
-after_node-told : (given : Given) (before : Before) (last captured : Bool) (name : Name) (start end : Point)
+after_node-told : (given : Supply) (before : Stood) (last captured : Bool) (name : Name) (start end : Point)
     (children : Forest) (state : Printer) →
     after_node given (ahead_told name (Some children)) before last captured name start end children state
     ≡ after_node given (ahead_of children) before last captured name start end children state
@@ -496,14 +496,14 @@ after_node-told given before last captured name start end children state =
     let around = state.frame.around in
     let told : Ahead = ahead_told name (Some children) in
     let whole : Printer = after_node given told before last captured name start end children state in
-    let inner : List Piece = if captured then [] else printed given
-    (inside given.options (is_loose children) name around) (before_children name children before) children in
+    let inner : List Stroke = if captured then [] else printed given
+    (inside given.options (is_loose children) name around) (stood_inside name children before) children in
     let sheet : Sheet = inner_sheet given around before captured name children in
-    let close : Ahead → List Piece = λ ahead. closing given around (left_of given.bytes before children) ahead
+    let close : Ahead → List Stroke = λ ahead. closing given around (left_of given.bytes before children) ahead
     (passed_over (spine_inside name before.spine) children) last start end
     (if captured then lay given.ending blank (printed given (inside given.options (is_loose children) name around)
-    (before_children name children before) children) else blank) name in
-    let made : List Piece → List Piece → List Called → List Defined → List Footnote →
+    (stood_inside name children before) children) else blank) name in
+    let made : List Stroke → List Stroke → List Called → List Defined → List Footnote →
     Printer = λ opened closed called definitions footnotes. record whole {
       sheet = lay given.ending state.sheet (opened ++ (inner ++ closed));
       log = record { called = called; definitions = definitions; footnotes = footnotes };
@@ -511,10 +511,10 @@ after_node-told given before last captured name start end children state =
     let calls : List Called = fold counted state.log.called (calls_of given.bytes children) in
     let definitions : List Defined = state.log.definitions
     ++ definitions_of given (inside given.options (is_loose children) name around)
-    (before_children name children before) children in
+    (stood_inside name children before) children in
     let footnotes : List Footnote = fold noted state.log.footnotes
     (footnotes_of given (inside given.options (is_loose children) name around)
-    (before_children name children before) children) in
+    (stood_inside name children before) children) in
     let plain = after_node given (ahead_of children) before last captured name start end children state in
     ap (λ o. made o (close told) whole.log.called whole.log.definitions whole.log.footnotes)
     (opening-told given around name children)
@@ -531,9 +531,9 @@ after_node-told given before last captured name start end children state =
     (close (ahead_of children)) plain.log.called plain.log.definitions fs)
     (noted-told given.bytes footnotes sheet name children)
 
-node_step : (given : Given) (before : Before) (last captured : Bool) (name : Name) (start end : Point)
+node_step : (given : Supply) (before : Stood) (last captured : Bool) (name : Name) (start end : Point)
     (children : Forest) (state : Printer) → Knows state before →
-    exited given last captured name end (printer_after given (before_children name children before) children
+    exited given last captured name end (printer_after given (stood_inside name children before) children
     (entered given (ahead_told name (Some children)) (is_loose children)
     (columns_told name (Some children)) captured name start state))
     ≡ after_node given (ahead_of children) before last captured name start end children state
@@ -579,10 +579,10 @@ fold-step f true seen xs ys x = sym (fold-append f seen xs (x ∷ ys))
 fold-step f false seen xs ys x = sym (fold-append f seen xs ys)
 
 -- the next sibling's state knows what stands before it
-next_knows : (given : Given) (before : Before) (last captured : Bool) (name : Name) (start end : Point)
+next_knows : (given : Supply) (before : Stood) (last captured : Bool) (name : Name) (start end : Point)
     (children : Forest) (state : Printer) → Knows state before →
     Knows (after_node given (ahead_of children) before last captured name start end children state)
-    (before_next given state.frame.around name start end children before)
+    (stood_after given state.frame.around name start end children before)
 next_knows given before last captured name start end children state knows =
     let own : List Mark = own_marks state.frame.around (told_by before.spine) name in
     let marks : List Mark = marks_of given.options (inside given.options (is_loose children) name state.frame.around)
@@ -608,33 +608,33 @@ next_knows given before last captured name start end children state knows =
     }
 
 -- a node and then its siblings
-after-node : (given : Given) (before : Before) (name : Name) (start end : Point) (children rest : Forest)
+after-node : (given : Supply) (before : Stood) (name : Name) (start end : Point) (children rest : Forest)
     (state : Printer) →
-    printer_after given (before_next given state.frame.around name start end children before) rest
+    printer_after given (stood_after given state.frame.around name start end children before) rest
     (after_node given (ahead_of children) before (state.frame.around.is_outermost
     && is_empty rest) (is_captured name) name start end children state)
     ≡ printer_after given before (Node name start end children rest) state
 after-node given before name start end children rest state =
     let around = state.frame.around in
-    let next : Before = before_next given around name start end children before in
-    let node : List Piece = printed_node given around (left_of given.bytes before children) (ahead_of children)
+    let next : Stood = stood_after given around name start end children before in
+    let node : List Stroke = printed_node given around (left_of given.bytes before children) (ahead_of children)
     (passed_over (spine_inside name before.spine) children) (around.is_outermost
     && is_empty rest) start end name (printed given (inside given.options (is_loose children) name around)
-    (before_children name children before) children) in
+    (stood_inside name children before) children) in
     let own : List Mark = own_marks around (told_by before.spine) name in
     let marks : List Mark = marks_of given.options (inside given.options (is_loose children) name around)
     (spine_inside name before.spine) children in
     let later : List Mark = marks_of given.options around (spine_after_node name children before.spine) rest in
     let inner : Sheet = lay given.ending blank (printed given (inside given.options (is_loose children) name around)
-    (before_children name children before) children) in
+    (stood_inside name children before) children) in
     let identifier : List ℕ = identifier_at given.bytes (ahead_of children).defined in
     let defined : Sheet → Defined = λ sheet. record { identifier = identifier; target = sheet.notes.target } in
     let inner_definitions : List Defined = definitions_of given (inside given.options (is_loose children) name around)
-    (before_children name children before) children in
+    (stood_inside name children before) children in
     let later_definitions : List Defined = definitions_of given around next rest in
     let label : List ℕ = identifier_at given.bytes (ahead_of children).label in
     let inner_footnotes : List Footnote = footnotes_of given (inside given.options (is_loose children) name around)
-    (before_children name children before) children in
+    (stood_inside name children before) children in
     let later_footnotes : List Footnote = footnotes_of given around next rest in
     let footnote : Footnote = record {
       identifier = identifier_at given.bytes (ahead_of children).footnote;
@@ -695,7 +695,7 @@ after-node given before name start end children rest state =
     (calls_of given.bytes rest) label)
 
 -- running the events of some nodes, and what follows them
-pub run-flatten : (given : Given) (forest : Forest) (before : Before) (tail : List Event)
+pub run-flatten : (given : Supply) (forest : Forest) (before : Stood) (tail : List Event)
     (nodes : List (Option Forest)) (state : Printer) →
     Knows state before → state.frame.around.is_outermost ≡ is_nil tail →
     run given (flatten forest ++ tail) (children_of forest ++ nodes) state
@@ -709,7 +709,7 @@ run-flatten given (Node name start end children rest) before tail nodes state kn
     (columns_told name (Some children)) captured name start state in
     let last : Bool = state.frame.around.is_outermost && is_empty rest in
     let left : Printer = after_node given (ahead_of children) before last captured name start end children state in
-    let next : Before = before_next given state.frame.around name start end children before in
+    let next : Stood = stood_after given state.frame.around name start end children before in
     let entered_in : Surroundings → Printer =
     λ around. record inner { frame = record inner.frame { around = around } } in
     ap (λ around. run given ((flatten children ++ exiting name end ∷ flatten rest)
@@ -719,13 +719,13 @@ run-flatten given (Node name start end children rest) before tail nodes state kn
     (append_assoc (flatten children) (exiting name end ∷ flatten rest) tail)
     ∙ ap (λ cs. run given (flatten children ++ exiting name end ∷ (flatten rest ++ tail)) cs inner)
     (append_assoc (children_of children) (None ∷ children_of rest) nodes)
-    ∙ run-flatten given children (before_children name children before) (exiting name end
+    ∙ run-flatten given children (stood_inside name children before) (exiting name end
     ∷ (flatten rest ++ tail)) (None ∷ (children_of rest ++ nodes)) inner
     (children_know given told before name start children captured state knows)
     (inside_outermost given.options (is_loose children) name state.frame.around)
     ∙ ap (λ l. run given (flatten rest ++ tail) (children_of rest
     ++ nodes) (exited given l captured name end
-    (printer_after given (before_children name children before) children inner)))
+    (printer_after given (stood_inside name children before) children inner)))
     (last-event rest tail ∙ ap (λ o. o && is_empty rest) (sym outer))
     ∙ ap (λ s. run given (flatten rest ++ tail) (children_of rest ++ nodes) s)
     (node_step given before last captured name start end children state knows)

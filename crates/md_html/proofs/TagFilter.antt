@@ -25,7 +25,7 @@ use Rattle.md_meaning.specs.Meaning.At.{Given, At, Before, text_in}
 use Rattle.md_meaning.specs.Meaning.Before.{nothing_before, before_children}
 use Rattle.md_meaning.specs.Meaning.Spans.{html}
 use Rattle.md_meaning.specs.Meaning.Means.{prints}
-use Rattle.md_meaning.specs.Meaning.Nodes.{Outcome, outcome, node, both, followed, before_next}
+use Rattle.md_meaning.specs.Meaning.Nodes.{Outcome, outcome, node, both, continued, before_next}
 use Rattle.md_meaning.specs.Meaning.Footnotes.{backreference, backreferences, body, place_among, id_of, item, section_start, section}
 
 -- the options with the tag filter on or off
@@ -85,11 +85,11 @@ meant-moot filter given h around before (Node name start end children rest) =
     } in
     let inner : Outcome = outcome given nested own children in
     let here : At = at inner in
-    let by : Outcome → (Before → Outcome) → Outcome = λ n later. followed here name n later in
-    ap (λ ar. followed (at (outcome other ar own children)) name
+    let by : Outcome → (Before → Outcome) → Outcome = λ n later. continued here name n later in
+    ap (λ ar. continued (at (outcome other ar own children)) name
     (node other (at (outcome other ar own children)) name (outcome other ar own children))
     (λ next. outcome other around next rest)) (inside-moot filter given.options (is_loose children) name around)
-    ∙ ap (λ m. followed (at m) name (node other (at m) name m) (λ next. outcome other around next rest))
+    ∙ ap (λ m. continued (at m) name (node other (at m) name m) (λ next. outcome other around next rest))
     (meant-moot filter given h nested own children)
     ∙ ap (λ n. by n (λ next. outcome other around next rest)) (node-moot filter given here h name inner)
     ∙ ap (λ m. both (node given here name inner) m) (meant-moot filter given h around

@@ -7,13 +7,13 @@ use Rattle.std.proofs.lemmas.Slice.Eq.{bytes_eq-Decides}
 use Rattle.md_base.specs.declared.event.Event.{Event}
 use Rattle.md_base.specs.Tree.{Forest, flatten}
 use Rattle.md_text.specs.declared.options.CompileOptions.{CompileOptions}
-use Rattle.md_meaning.specs.Given.{Given, Defined}
-use Rattle.md_meaning.specs.Places.{nothing_before, calls_of, first_ending}
+use Rattle.md_meaning.specs.Given.{Supply, Defined}
+use Rattle.md_meaning.specs.Places.{nothing_stood, calls_of, first_ending}
 use Rattle.md_meaning.specs.Meaning.{ending_at}
 use Rattle.md_meaning.specs.Whole.{printed_meaning as meaning}
 use Rattle.md_printer.specs.Machine.{run, beginning, finished}
 use Rattle.md_tree.specs.Entered.{children_of}
-use Rattle.md_meaning.specs.Piece.{Piece, Sheet, blank, lay, layout}
+use Rattle.md_meaning.specs.Piece.{Stroke, Sheet, blank, lay, laid_out}
 use Rattle.md_meaning.specs.Surroundings.{outermost}
 use Rattle.md_meaning.specs.Calls.{Called, tally}
 use Rattle.md_meaning.specs.Footnotes.{Footnote, footnote_text, item_pieces, items_pieces, section_opening, section_closing, section_pieces}
@@ -25,7 +25,7 @@ use Rattle.md_html.proofs.Runs.{run-flatten, Knows, printer_after}
 use Rattle.md_html.proofs.LookUps.{FindAlike, printed-alike, footnotes-alike}
 
 -- what the nodes are given, where lines end so
-abbrev pub given_with : CompileOptions → List (List ℕ × List ℕ) → List ℕ → List ℕ → List Defined → Given
+abbrev pub given_with : CompileOptions → List (List ℕ × List ℕ) → List ℕ → List ℕ → List Defined → Supply
 given_with options names bytes ending definitions = record {
   bytes = bytes;
   names = names;
@@ -35,19 +35,19 @@ given_with options names bytes ending definitions = record {
 }
 
 -- nothing stands before the first event
-begins : Knows beginning nothing_before
+begins : Knows beginning nothing_stood
 begins = record { calls = refl; slurping = refl; previous = refl; spine = refl; columns = refl }
 
-run-document : (given : Given) (document : Forest) → run given (flatten document) (children_of document) beginning
-    ≡ printer_after given nothing_before document beginning
+run-document : (given : Supply) (document : Forest) → run given (flatten document) (children_of document) beginning
+    ≡ printer_after given nothing_stood document beginning
 run-document given document =
     ap (λ es. run given es (children_of document) beginning) (sym (append-nil (flatten document)))
     ∙ ap (λ cs. run given (flatten document ++ []) cs beginning) (sym (append-nil (children_of document)))
-    ∙ run-flatten given document nothing_before [] [] beginning begins refl
+    ∙ run-flatten given document nothing_stood [] [] beginning begins refl
 
 -- one run over the events of a document
-run-events : (given : Given) (events : List Event) (document : Forest) → flatten document ≡ events →
-    run given events (children_of document) beginning ≡ printer_after given nothing_before document beginning
+run-events : (given : Supply) (events : List Event) (document : Forest) → flatten document ≡ events →
+    run given events (children_of document) beginning ≡ printer_after given nothing_stood document beginning
 run-events given events document flat = ap (λ es. run given es (children_of document) beginning) (sym flat)
     ∙ run-document given document
 
@@ -128,14 +128,14 @@ section-noted options kept footnotes (called ∷ others) same =
         ++ items) (items-noted (suc number) calls)
 
 -- the last sheet, with the section, is the document's
-finished-document : (given : Given) (document : Forest) →
-    (finished given (printer_after given nothing_before document beginning)).text
-    ≡ layout given.ending (printed given outermost nothing_before document
-    ++ section_pieces given.options (footnotes_of given outermost nothing_before document)
+finished-document : (given : Supply) (document : Forest) →
+    (finished given (printer_after given nothing_stood document beginning)).text
+    ≡ laid_out given.ending (printed given outermost nothing_stood document
+    ++ section_pieces given.options (footnotes_of given outermost nothing_stood document)
     (tally (calls_of given.bytes document)))
 finished-document given document =
-    let pieces : List Piece = printed given outermost nothing_before document in
-    let footnotes : List Footnote = footnotes_of given outermost nothing_before document in
+    let pieces : List Stroke = printed given outermost nothing_stood document in
+    let footnotes : List Footnote = footnotes_of given outermost nothing_stood document in
     let sheet : Sheet = lay given.ending blank pieces in
     ap (λ called. (lay given.ending sheet (section_pieces given.options (fold noted [] footnotes) called)).text)
     (fold-tally [] (calls_of given.bytes document))
@@ -149,24 +149,24 @@ finished-document given document =
 pub text-run : (options : CompileOptions) (names : List (List ℕ × List ℕ)) (bytes : List ℕ) (events : List Event)
     (ending : List ℕ) (known : List Defined) (document : Forest) →
     flatten document ≡ events → ending ≡ ending_at options bytes (first_ending document) →
-    FindAlike known (definitions_of (given_with options names bytes ending []) outermost nothing_before document) →
+    FindAlike known (definitions_of (given_with options names bytes ending []) outermost nothing_stood document) →
     (finished (given_with options names bytes ending known)
     (run (given_with options names bytes ending known) events (children_of document) beginning)).text
     ≡ meaning options names bytes document
 text-run options names bytes events ending known document flat ends alike =
-    let given : List ℕ → List Defined → Given = λ e ds. given_with options names bytes e ds in
-    let seen_first : List ℕ → List Defined = λ e. definitions_of (given e []) outermost nothing_before document in
-    let section : List Footnote → List Piece = λ fs. section_pieces options fs (tally (calls_of bytes document)) in
+    let given : List ℕ → List Defined → Supply = λ e ds. given_with options names bytes e ds in
+    let seen_first : List ℕ → List Defined = λ e. definitions_of (given e []) outermost nothing_stood document in
+    let section : List Footnote → List Stroke = λ fs. section_pieces options fs (tally (calls_of bytes document)) in
     let whole : List ℕ → List ℕ = λ e.
-    layout e (printed (given e (seen_first e)) outermost nothing_before document
-    ++ section (footnotes_of (given e (seen_first e)) outermost nothing_before document))
+    laid_out e (printed (given e (seen_first e)) outermost nothing_stood document
+    ++ section (footnotes_of (given e (seen_first e)) outermost nothing_stood document))
     in
     let same : FindAlike known (seen_first ending) = alike in
     ap (λ s. (finished (given ending known) s).text) (run-events (given ending known) events document flat)
     ∙ finished-document (given ending known) document
-    ∙ ap (λ ps. layout ending (ps ++ section (footnotes_of (given ending known) outermost nothing_before document)))
-    (printed-alike known (given ending (seen_first ending)) same outermost nothing_before document)
-    ∙ ap (λ fs. layout ending (printed (given ending (seen_first ending)) outermost nothing_before document
+    ∙ ap (λ ps. laid_out ending (ps ++ section (footnotes_of (given ending known) outermost nothing_stood document)))
+    (printed-alike known (given ending (seen_first ending)) same outermost nothing_stood document)
+    ∙ ap (λ fs. laid_out ending (printed (given ending (seen_first ending)) outermost nothing_stood document
     ++ section fs))
-    (footnotes-alike known (given ending (seen_first ending)) same outermost nothing_before document)
+    (footnotes-alike known (given ending (seen_first ending)) same outermost nothing_stood document)
     ∙ ap whole ends

@@ -8,20 +8,20 @@ use Rattle.md_base.specs.NameTests.{is_link_definition}
 use Rattle.md_infer.specs.Looseness.{is_loose}
 use Rattle.md_meaning.specs.Piece.{blank, lay}
 use Rattle.md_meaning.specs.Surroundings.{inside, outermost}
-use Rattle.md_meaning.specs.Given.{Given, Defined}
-use Rattle.md_meaning.specs.Places.{nothing_before, before_children, ahead_of, identifier_at}
+use Rattle.md_meaning.specs.Given.{Supply, Defined}
+use Rattle.md_meaning.specs.Places.{nothing_stood, stood_inside, ahead_of, identifier_at}
 use Rattle.md_meaning.specs.Printed.{printed}
 
 -- the definition that a node with these children is by itself
-abbrev pub defined_alone : Given → Forest → Defined
+abbrev pub defined_alone : Supply → Forest → Defined
 defined_alone given children = record {
   identifier = identifier_at given.bytes (ahead_of children).defined;
   target = (lay given.ending blank (printed given (inside given.options (is_loose children) Definition outermost)
-      (before_children Definition children nothing_before) children)).notes.target;
+      (stood_inside Definition children nothing_stood) children)).notes.target;
 }
 
 -- the definitions among some nodes, in the order of their exits, each by itself
-abbrev pub own_definitions : Given → Forest → List Defined
+abbrev pub own_definitions : Supply → Forest → List Defined
 own_definitions given Empty = []
 own_definitions given (Node name start end children rest) =
     own_definitions given children ++ ((if is_link_definition name then defined_alone given children ∷ [] else [])

@@ -6,7 +6,7 @@ use Rattle.md_base.specs.Place.{text_between, serialized_between, label_between}
 use Rattle.md_text.specs.declared.options.CompileOptions.{CompileOptions}
 
 -- the document's bytes, the names of references, the options, the line ending that is used, the definitions
-pub record Given : Type 0 where
+pub record Supply : Type 0 where
   pub bytes : List ℕ
   pub names : List (List ℕ × List ℕ)
   pub options : CompileOptions

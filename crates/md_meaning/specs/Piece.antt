@@ -11,12 +11,12 @@ pub data Note : Type 0 where
 
 -- a part of what a node prints: a text, a line ending where it is needed, a line ending, a note, or the
 -- text of a heading that was noted
-pub data Piece : Type 0 where
-  Text : (text : List ℕ) → Piece
-  Needed : Piece
-  Forced : Piece
-  Noted : (note : Note) → Piece
-  Recalled : Piece
+pub data Stroke : Type 0 where
+  Text : (text : List ℕ) → Stroke
+  Needed : Stroke
+  Forced : Stroke
+  Noted : (note : Note) → Stroke
+  Recalled : Stroke
 
 -- what was noted last: a heading's text, a destination and a title, a resource
 pub record Notes : Type 0 where
@@ -64,7 +64,7 @@ is_line_start text = ends_line (slice_get text (length text - 1))
 
 -- one piece after what is laid out, where lines end in `ending`: a text stands as it is, a needed line
 -- ending comes where no line starts, a forced one always, and the text of a heading where it is recalled
-abbrev pub lay_piece : List ℕ → Sheet → Piece → Sheet
+abbrev pub lay_piece : List ℕ → Sheet → Stroke → Sheet
 lay_piece ending sheet (Text text) = record sheet { text = sheet.text ++ text }
 lay_piece ending sheet Needed =
     record sheet { text = if is_line_start sheet.text then sheet.text else sheet.text ++ ending }
@@ -73,10 +73,10 @@ lay_piece ending sheet (Noted note) = record sheet { notes = with_note note shee
 lay_piece ending sheet Recalled = record sheet { text = sheet.text ++ sheet.notes.heading }
 
 -- the pieces after what is laid out, one after another
-abbrev pub lay : List ℕ → Sheet → List Piece → Sheet
+abbrev pub lay : List ℕ → Sheet → List Stroke → Sheet
 lay ending sheet [] = sheet
 lay ending sheet (piece ∷ pieces) = lay ending (lay_piece ending sheet piece) pieces
 
 -- the text of some pieces by themselves
-abbrev pub layout : List ℕ → List Piece → List ℕ
-layout ending pieces = (lay ending blank pieces).text
+abbrev pub laid_out : List ℕ → List Stroke → List ℕ
+laid_out ending pieces = (lay ending blank pieces).text

@@ -18,7 +18,7 @@ use Rattle.md_meaning.specs.declared.context.Surroundings.{Surroundings}
 use Rattle.md_meaning.specs.declared.context.Spine.{Spine}
 use Rattle.md_meaning.specs.declared.context.Ahead.{Ahead}
 use Rattle.md_meaning.specs.declared.context.Passed.{Passed}
-use Rattle.md_meaning.specs.Given.{Given, label_of}
+use Rattle.md_meaning.specs.Given.{Supply, label_of}
 use Rattle.md_meaning.specs.Calls.{Called, tally}
 
 -- the place of a node
@@ -34,10 +34,10 @@ abbrev pub has_leading_zero : List ℕ → Bool
 has_leading_zero digits = nat_lt 1 (length digits) && (slice_index digits 0 == 48)
 
 -- digits without the zeros before the number that they write
-abbrev pub without_zeros : List ℕ → List ℕ
-without_zeros [] = []
-without_zeros (digit ∷ digits) =
-    if has_leading_zero (digit ∷ digits) then without_zeros digits else digit ∷ digits
+abbrev pub unpadded : List ℕ → List ℕ
+unpadded [] = []
+unpadded (digit ∷ digits) =
+    if has_leading_zero (digit ∷ digits) then unpadded digits else digit ∷ digits
 
 -- the place of the number in an item's prefix; in the first prefix of an item
 abbrev pub number_in_prefix : Forest → Option Position
@@ -81,7 +81,7 @@ calls_of bytes (Node name start end children rest) =
 
 -- what stands before a node and around it: the footnote calls; the marks, the latest first; its previous sibling;
 -- the names on its spine; the alignments of the table around it
-pub record Before : Type 0 where
+pub record Stood : Type 0 where
   pub calls : List (List ℕ)
   pub marks : List Mark
   pub previous : Option Name
@@ -89,16 +89,16 @@ pub record Before : Type 0 where
   pub columns : List AlignKind
 
 -- nothing stands before
-abbrev pub nothing_before : Before
-nothing_before = record { calls = []; marks = []; previous = None; spine = []; columns = [] }
+abbrev pub nothing_stood : Stood
+nothing_stood = record { calls = []; marks = []; previous = None; spine = []; columns = [] }
 
 -- the alignments of the table around a node's children
 abbrev pub columns_inside : Name → Forest → List AlignKind → List AlignKind
 columns_inside name children columns = if is_table name then alignments children else columns
 
 -- what stands before a node's first child
-abbrev pub before_children : Name → Forest → Before → Before
-before_children name children before = record {
+abbrev pub stood_inside : Name → Forest → Stood → Stood
+stood_inside name children before = record {
   calls = before.calls;
   marks = before.marks;
   previous = None;
@@ -107,8 +107,8 @@ before_children name children before = record {
 }
 
 -- what stands before the next sibling of a node
-abbrev pub before_next : Given → Surroundings → Name → Point → Point → Forest → Before → Before
-before_next given around name start end children before = record {
+abbrev pub stood_after : Supply → Surroundings → Name → Point → Point → Forest → Stood → Stood
+stood_after given around name start end children before = record {
   calls = before.calls ++ calls_of given.bytes (Node name start end children Empty);
   marks =
       own_marks around (told_by before.spine) name
@@ -138,7 +138,7 @@ pub record Left : Type 0 where
   pub spine : Spine
   pub columns : List AlignKind
 
-abbrev pub left_of : List ℕ → Before → Forest → Left
+abbrev pub left_of : List ℕ → Stood → Forest → Left
 left_of bytes before children =
     record {
       called = tally (before.calls ++ calls_of bytes children);

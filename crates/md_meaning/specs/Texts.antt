@@ -9,27 +9,27 @@ use Rattle.md_base.specs.Reference.{decoded}
 use Rattle.md_text.specs.Encode.{encoded}
 use Rattle.md_text.specs.Filter.{tag_filtered}
 use Rattle.md_base.specs.NameTests.{is_definition}
-use Rattle.md_meaning.specs.Piece.{Piece, Text, Needed}
+use Rattle.md_meaning.specs.Piece.{Stroke, Text, Needed}
 use Rattle.md_meaning.specs.declared.context.Surroundings.{Surroundings}
-use Rattle.md_meaning.specs.Given.{Given, text_of}
+use Rattle.md_meaning.specs.Given.{Supply, text_of}
 use Rattle.md_meaning.specs.Places.{Left}
 
 -- a text as it is written, one piece
-abbrev pub said : List ℕ → List Piece
-said text = Text text ∷ []
+abbrev pub saying : List ℕ → List Stroke
+saying text = Text text ∷ []
 
 -- nothing in an image
-abbrev pub outside_images : Surroundings → List Piece → List Piece
+abbrev pub outside_images : Surroundings → List Stroke → List Stroke
 outside_images around pieces = if around.in_image then [] else pieces
 
 -- the node's text, escaped where the surroundings say so
-abbrev pub data_pieces : Given → Surroundings → Point → Point → List Piece
-data_pieces given around start end = said (encoded around.is_escaping (text_of given.bytes start end))
+abbrev pub data_pieces : Supply → Surroundings → Point → Point → List Stroke
+data_pieces given around start end = saying (encoded around.is_escaping (text_of given.bytes start end))
 
 -- HTML: the same, and disarmed by the tag filter where HTML may stand
-abbrev pub html_pieces : Given → Surroundings → Point → Point → List Piece
+abbrev pub html_pieces : Supply → Surroundings → Point → Point → List Stroke
 html_pieces given around start end =
-    said (encoded around.is_escaping
+    saying (encoded around.is_escaping
     (if given.options.gfm_tagfilter && given.options.allow_dangerous_html
     then tag_filtered (text_of given.bytes start end)
     else text_of given.bytes start end))
@@ -41,9 +41,9 @@ marker_of (Some CharacterReferenceMarkerNumeric) = 35
 marker_of _ = 38
 
 -- what a reference stands for, escaped where the surroundings say so
-abbrev pub reference_pieces : Given → Surroundings → Left → Point → Point → List Piece
+abbrev pub reference_pieces : Supply → Surroundings → Left → Point → Point → List Stroke
 reference_pieces given around left start end =
-    said (encoded around.is_escaping
+    saying (encoded around.is_escaping
     (unwrap_or (decoded given.names (marker_of left.spine.last) (text_of given.bytes start end)) []))
 
 -- a line ending that the last mark slurps; none in a definition is
@@ -51,17 +51,17 @@ abbrev pub is_slurped : Surroundings → Left → Bool
 is_slurped around left = not around.in_definition && left.is_slurping
 
 -- a line ending that isn't printed: it is slurped, or stands after a definition
-abbrev pub is_dropped : Surroundings → Left → Bool
-is_dropped around left = is_slurped around left || option_map_or is_definition left.previous false
+abbrev pub drops_ending : Surroundings → Left → Bool
+drops_ending around left = is_slurped around left || option_map_or is_definition left.previous false
 
 -- a line ending: a space in code, else its own text unless it is dropped
-abbrev pub line_ending_pieces : Given → Surroundings → Left → Point → Point → List Piece
+abbrev pub line_ending_pieces : Supply → Surroundings → Left → Point → Point → List Stroke
 line_ending_pieces given around left start end =
-    if around.in_code then said (32 ∷ [])
-    else (if is_dropped around left then [] else said (text_of given.bytes start end))
+    if around.in_code then saying (32 ∷ [])
+    else (if drops_ending around left then [] else saying (text_of given.bytes start end))
 
 -- a blank line ending at the document's end needs a line ending
-abbrev pub blank_line_pieces : Bool → List Piece
+abbrev pub blank_line_pieces : Bool → List Stroke
 blank_line_pieces last = if last then Needed ∷ [] else []
 
 -- a pipe comes first
@@ -93,22 +93,22 @@ abbrev pub is_padded : List ℕ → Bool
 is_padded text = is_space (slice_get text 0) && is_space (slice_get text (length text - 1)) && not (is_blank text)
 
 -- the text of code: one space goes at each end of a padded one
-abbrev pub trimmed : List ℕ → List ℕ
-trimmed text = if is_padded text then slice_range text 1 (length text - 1) else text
+abbrev pub without_padding : List ℕ → List ℕ
+without_padding text = if is_padded text then slice_range text 1 (length text - 1) else text
 
 -- the text of code where it stands
 abbrev pub code_text : Surroundings → List ℕ → List ℕ
-code_text around text = trimmed (if around.in_table then unescaped_pipes text else text)
+code_text around text = without_padding (if around.in_table then unescaped_pipes text else text)
 
 -- code in a text, between its tags outside images
-abbrev pub code_pieces : Surroundings → List ℕ → List ℕ → List Piece
+abbrev pub code_pieces : Surroundings → List ℕ → List ℕ → List Stroke
 code_pieces around tag text =
-    if around.in_image then said (code_text around text)
+    if around.in_image then saying (code_text around text)
     else Text tag ∷ Text (code_text around text) ∷ Text (codes "</code>") ∷ []
 
 -- a task: its tag, to be closed when it is known whether it is done
-abbrev pub task_pieces : Given → Surroundings → List Piece
+abbrev pub task_pieces : Supply → Surroundings → List Stroke
 task_pieces given around =
     outside_images around
     (Text (codes "<input type=\"checkbox\" ") ∷ (if given.options.gfm_task_list_item_checkable then []
-    else said (codes "disabled=\"\" ")))
+    else saying (codes "disabled=\"\" ")))

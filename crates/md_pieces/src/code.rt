@@ -66,7 +66,7 @@ fn begins_with_pipe(bytes: &[u8]) -> bool
 
 /// A text without one space at each end, where it is padded.
 fn trim(text: &str) -> &str
-    ensures { result.now ≡ texts.trimmed text.now }
+    ensures { result.now ≡ texts.without_padding text.now }
 {
     if is_padded(text) {
         &text[1..text.len() - 1]

@@ -4,7 +4,7 @@ ghost use Rattle.std.specs.Prelude.{◌≡◌, ◌∷◌, [], ◌++◌, ◌||◌
 ghost use Rattle.md_printer.specs.Machine.{printing, ahead_by};
 ghost use Rattle.md_meaning.specs.Media as media;
 ghost use Rattle.md_meaning.specs.Piece.{Text, nowhere};
-ghost use Rattle.md_meaning.specs.Texts.{said};
+ghost use Rattle.md_meaning.specs.Texts.{saying};
 ghost use Rattle.md_meaning.specs.Places.{identifier_at};
 ghost use Rattle.md_printer.specs.Given.{given_of};
 
@@ -205,7 +205,7 @@ fn image_start(
 /// Prints the rest of an image, after its alternative text.
 fn image_end(printer: &mut Printer, title_text: Option<&str>) -> Result<(), AllocError>
     ensures { OnOk result (printer.new ≡ printing []
-        (Text (codes "\"") ∷ media.title_pieces (option_copied title_text.entry) ++ said (codes " />")) printer.old) }
+        (Text (codes "\"") ∷ media.title_pieces (option_copied title_text.entry) ++ saying (codes " />")) printer.old) }
 {
     printer.put("\"")?;
     title(printer, title_text)?;

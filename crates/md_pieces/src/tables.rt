@@ -15,7 +15,7 @@ use std::alloc::{AllocError, Global};
 
 /// How the cells of a column are aligned.
 fn align_attribute(kind: AlignKind) -> &'static str
-    ensures { result.now ≡ tables.align_attribute kind }
+    ensures { result.now ≡ tables.alignment_text kind }
 {
     match kind {
         AlignKind::Left => " align=\"left\"",

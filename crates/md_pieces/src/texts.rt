@@ -77,7 +77,7 @@ pub fn reference(printer: &mut Printer, given: &Given, exit: &Exit) -> Result<()
 
 /// A line ending that isn't printed: it is slurped, or stands after a definition.
 fn is_dropped(exit: &Exit) -> bool
-    ensures { result ≡ texts.is_dropped exit.now.around (left_at exit.now [] []) }
+    ensures { result ≡ texts.drops_ending exit.now.around (left_at exit.now [] []) }
 {
     let after_definition = exit.previous.is_some_and(is_definition);
     !exit.around.in_definition && exit.is_slurping || after_definition

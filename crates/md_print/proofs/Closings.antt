@@ -5,14 +5,14 @@ use Rattle.std.specs.Prelude.{if◌then◌else◌}
 use Rattle.std.proofs.lemmas.List.{append-nil}
 use Rattle.md_base.specs.declared.event.Name.{Name}
 use Rattle.md_base.specs.declared.event.Name.TheVariants.{LineEnding, BlankLineEnding, Emphasis, Strong, GfmStrikethrough, HardBreakEscape, HardBreakTrailing, GfmTaskListItemCheck, GfmTaskListItemValueChecked, ListItem, Paragraph, CodeIndented, CodeFenced, MathFlow, CodeFencedFence, MathFlowFence, AutolinkEmail, AutolinkProtocol, GfmAutolinkLiteralEmail, GfmAutolinkLiteralMailto, GfmAutolinkLiteralProtocol, GfmAutolinkLiteralWww, GfmAutolinkLiteralXmpp, CodeText, MathText, HeadingSetextText, DefinitionDestinationString, DefinitionTitleString, Link, Image, Resource, ResourceDestinationString, ResourceTitleString, GfmFootnoteCall, GfmTableCell}
-use Rattle.md_meaning.specs.Piece.{Piece, Sheet}
+use Rattle.md_meaning.specs.Piece.{Stroke, Sheet}
 use Rattle.md_base.specs.declared.event.Point.{Point}
-use Rattle.md_meaning.specs.Given.{Given}
+use Rattle.md_meaning.specs.Given.{Supply}
 use Rattle.md_meaning.specs.Places.{Left}
 use Rattle.md_meaning.specs.declared.context.Surroundings.{Surroundings}
 use Rattle.md_meaning.specs.declared.context.Ahead.{Ahead}
 use Rattle.md_meaning.specs.declared.context.Passed.{Passed}
-use Rattle.md_meaning.specs.Blocks.{when}
+use Rattle.md_meaning.specs.Blocks.{where_so}
 use Rattle.md_meaning.specs.Printed.{text_closing, block_closing, media_closing, gfm_closing, is_captured}
 use Rattle.md_printer.specs.Machine.{Printer, printing}
 use Rattle.md_printer.specs.declared.frames.Exit.{Exit}
@@ -23,7 +23,7 @@ use Rattle.md_print.specs.Closings.{group_of, in_group, is_captured_group}
 
 -- what is handed to a table of closings
 pub record At : Type 0 where
-  pub given : Given
+  pub given : Supply
   pub around : Surroundings
   pub left : Left
   pub ahead : Ahead
@@ -34,7 +34,7 @@ pub record At : Type 0 where
   pub inner : Sheet
 
 -- what is handed where a node is exited, whose children tell this ahead
-abbrev pub at_exit : Given → Exit → Ahead → Sheet → Printer → At
+abbrev pub at_exit : Supply → Exit → Ahead → Sheet → Printer → At
 at_exit given exit ahead inner state = record {
   given = given;
   around = exit.around;
@@ -47,20 +47,20 @@ at_exit given exit ahead inner state = record {
   inner = inner;
 }
 
-abbrev pub text : At → Name → List Piece
+abbrev pub text : At → Name → List Stroke
 text at name = text_closing at.given at.around at.left at.last at.start at.end at.inner name
 
-abbrev pub block : At → Name → List Piece
+abbrev pub block : At → Name → List Stroke
 block at name = block_closing at.given at.around at.left at.ahead at.passed at.start at.end name
 
-abbrev pub medium : At → Name → List Piece
+abbrev pub medium : At → Name → List Stroke
 medium at name = media_closing at.given at.around at.ahead at.start at.end at.inner name
 
-abbrev pub table : At → Name → List Piece
+abbrev pub table : At → Name → List Stroke
 table at name = gfm_closing at.given at.around at.left at.ahead at.passed at.inner name
 
 -- what a node prints, from all four tables
-abbrev pub whole : At → Name → List Piece
+abbrev pub whole : At → Name → List Stroke
 whole at name = text at name ++ (block at name ++ (medium at name ++ table at name))
 
 -- what a node prints is what its group prints
@@ -106,14 +106,14 @@ printing-group ending at name group same state =
     ∙ ap (λ pieces. printing ending pieces state) (sym (closing-group at name))
 
 -- nothing more is printed
-pub alone : (ending : List ℕ) (pieces : List Piece) (state : Printer) →
+pub alone : (ending : List ℕ) (pieces : List Stroke) (state : Printer) →
     printing [] pieces state ≡ printing ending pieces state →
     printing [] pieces state ≡ printing ending (pieces ++ []) state
 alone ending pieces state same = same ∙ ap (λ ps. printing ending ps state) (sym (append-nil pieces))
 
 -- what code, a footnote call or a cell prints
-abbrev pub read : At → Name → List Piece
-read at name = when (is_captured name) (text at name ++ table at name)
+abbrev pub read : At → Name → List Stroke
+read at name = where_so (is_captured name) (text at name ++ table at name)
 
 -- none of it is for a name beside these
 pub nothing-read : (at : At) (name : Name) → name ≢ CodeText → name ≢ MathText → name ≢ GfmFootnoteCall →

@@ -4,15 +4,15 @@ use Rattle.std.specs.Prelude.{if◌then◌else◌, Option, None, Some}
 use Rattle.md_meaning.specs.declared.context.Surroundings.{Surroundings}
 use Rattle.md_meaning.specs.declared.context.Ahead.{Ahead}
 use Rattle.md_text.specs.declared.options.CompileOptions.{CompileOptions}
-use Rattle.md_meaning.specs.Given.{Given}
-use Rattle.md_meaning.specs.Piece.{Piece, Text, Sheet, Target}
-use Rattle.md_meaning.specs.Texts.{said, code_pieces, code_text}
+use Rattle.md_meaning.specs.Given.{Supply}
+use Rattle.md_meaning.specs.Piece.{Stroke, Text, Sheet, Target}
+use Rattle.md_meaning.specs.Texts.{saying, code_pieces, code_text}
 use Rattle.md_meaning.specs.Media.{link_pieces, image_pieces, link_to, image_of, link_start, link_end, image_start, title_pieces, target_of}
 use Rattle.md_printer.specs.Machine.{Printer, printing}
 
-chosen : (ending : List ℕ) (b : Bool) (label : List ℕ) (pieces : List Piece) (state : Printer) →
+chosen : (ending : List ℕ) (b : Bool) (label : List ℕ) (pieces : List Stroke) (state : Printer) →
     printing [] pieces state ≡ printing ending pieces state →
-    printing [] (if b then said label else pieces) state ≡ printing ending (if b then said label else pieces) state
+    printing [] (if b then saying label else pieces) state ≡ printing ending (if b then saying label else pieces) state
 chosen ending true label pieces state e = refl
 chosen ending false label pieces state e = e
 
@@ -20,7 +20,7 @@ pub code_ending : (ending : List ℕ) (around : Surroundings) (tag text : List �
     printing [] (code_pieces around tag text) state ≡ printing ending (code_pieces around tag text) state
 code_ending ending around tag text state =
     chosen ending around.in_image (code_text around text) (Text tag ∷ Text (code_text around text)
-    ∷ said (codes "</code>")) state refl
+    ∷ saying (codes "</code>")) state refl
 
 -- a link or an image outside an image, with a title or without one
 link_to_ending : (ending : List ℕ) (options : CompileOptions) (to : List ℕ) (title : Option (List ℕ)) (label : List ℕ)
@@ -31,12 +31,12 @@ link_to_ending ending options to (Some title) label state = refl
 
 image_of_ending : (ending : List ℕ) (options : CompileOptions) (from : List ℕ) (title : Option (List ℕ))
     (label : List ℕ) (state : Printer) →
-    printing [] (image_start options from label ++ (title_pieces title ++ said (codes " />"))) state
-    ≡ printing ending (image_start options from label ++ (title_pieces title ++ said (codes " />"))) state
+    printing [] (image_start options from label ++ (title_pieces title ++ saying (codes " />"))) state
+    ≡ printing ending (image_start options from label ++ (title_pieces title ++ saying (codes " />"))) state
 image_of_ending ending options from None label state = refl
 image_of_ending ending options from (Some title) label state = refl
 
-pub link_ending : (ending : List ℕ) (given : Given) (around : Surroundings) (ahead : Ahead) (inner : Sheet)
+pub link_ending : (ending : List ℕ) (given : Supply) (around : Surroundings) (ahead : Ahead) (inner : Sheet)
     (state : Printer) → printing [] (link_pieces given around ahead inner) state
     ≡ printing ending (link_pieces given around ahead inner) state
 link_ending ending given around ahead inner state =
@@ -44,7 +44,7 @@ link_ending ending given around ahead inner state =
     chosen ending around.in_image inner.text (link_to given.options target inner.text) state
     (link_to_ending ending given.options target.destination target.title inner.text state)
 
-pub image_ending : (ending : List ℕ) (given : Given) (around : Surroundings) (ahead : Ahead) (inner : Sheet)
+pub image_ending : (ending : List ℕ) (given : Supply) (around : Surroundings) (ahead : Ahead) (inner : Sheet)
     (state : Printer) → printing [] (image_pieces given around ahead inner) state
     ≡ printing ending (image_pieces given around ahead inner) state
 image_ending ending given around ahead inner state =

@@ -2,7 +2,7 @@
 use Rattle.std.specs.Prelude.{Bool, true, false, List, [], ◌++◌}
 use Rattle.md_base.specs.declared.event.Name.{Name}
 use Rattle.md_base.specs.declared.event.Name.TheVariants.{LineEnding, BlankLineEnding, Data, CharacterEscapeValue, CodeTextData, MathTextData, CharacterReferenceValue, HtmlFlowData, HtmlTextData, Emphasis, Strong, GfmStrikethrough, HardBreakEscape, HardBreakTrailing, GfmTaskListItemCheck, GfmTaskListItemValueChecked, BlockQuote, ListOrdered, ListUnordered, ListItem, Paragraph, ThematicBreak, HeadingAtx, HeadingSetextUnderlineSequence, CodeIndented, CodeFenced, MathFlow, CodeFencedFence, MathFlowFence, CodeFencedFenceInfo, CodeFlowChunk, MathFlowChunk, HtmlFlow, AutolinkEmail, AutolinkProtocol, GfmAutolinkLiteralEmail, GfmAutolinkLiteralMailto, GfmAutolinkLiteralProtocol, GfmAutolinkLiteralWww, GfmAutolinkLiteralXmpp, GfmTable, GfmTableHead, GfmTableBody, GfmTableRow, CodeText, MathText, HeadingSetextText, CodeFencedFenceMeta, MathFlowFenceMeta, Frontmatter, Definition, DefinitionLabelString, DefinitionDestinationString, DefinitionTitleString, GfmFootnoteDefinition, GfmFootnoteDefinitionLabelString, Link, Image, Resource, ResourceDestinationString, ResourceTitleString, ReferenceString, GfmFootnoteCall, GfmTableCell, GfmTableDelimiterRow}
-use Rattle.md_meaning.specs.Piece.{Piece}
+use Rattle.md_meaning.specs.Piece.{Stroke}
 use Rattle.md_print.specs.declared.groups.Group.{Group}
 use Rattle.md_print.specs.declared.groups.Group.TheVariants.{Silent, Text, Span, Block, Autolink, Table, Captured}
 
@@ -87,7 +87,7 @@ is_light Text = true
 is_light _ = false
 
 -- of what a node prints as a text, a block, a medium or a part of a table, what its group prints
-abbrev pub in_group : Group → List Piece → List Piece → List Piece → List Piece → List Piece
+abbrev pub in_group : Group → List Stroke → List Stroke → List Stroke → List Stroke → List Stroke
 in_group Silent text block medium table = []
 in_group Text text block medium table = text
 in_group Span text block medium table = text

@@ -8,7 +8,7 @@ ghost use Rattle.md_around.specs.Steps.{first_or};
 ghost use Rattle.md_meaning.specs.Piece.{Text, Needed, Forced, Noted, blank};
 ghost use Rattle.md_meaning.specs.Piece as piece;
 ghost use Rattle.md_meaning.specs.Texts as texts;
-ghost use Rattle.md_meaning.specs.Texts.{said};
+ghost use Rattle.md_meaning.specs.Texts.{saying};
 ghost use Rattle.md_meaning.specs.Blocks as blocks;
 ghost use Rattle.md_meaning.specs.Printed as printed;
 ghost use Rattle.md_meaning.specs.Printed.{is_captured};
@@ -239,7 +239,7 @@ fn close_read(
     name: Name,
 ) -> Result<(), AllocError>
     ensures { OnOk result (printer.new ≡ printing given.now.ending.now
-        (blocks.when (is_captured name) (printed.text_closing (given_of given.now) exit.now.around
+        (blocks.where_so (is_captured name) (printed.text_closing (given_of given.now) exit.now.around
         (left_at exit.now printer.old.log.called (first_or [] printer.old.tables))
         exit.now.is_last exit.now.start exit.now.end inner.now.sheet name
         ++ printed.gfm_closing (given_of given.now) exit.now.around
@@ -331,7 +331,7 @@ fn paragraph(printer: &mut Printer, around: Surroundings) -> Result<(), AllocErr
 /// Prints a heading's end, with the rank that its mark tells.
 fn heading(printer: &mut Printer, bytes: &[u8]) -> Result<(), AllocError>
     ensures { OnOk result (printer.new
-        ≡ printing [] (said (blocks.heading_closing (blocks.rank_of bytes.now printer.old.frame.ahead.mark)))
+        ≡ printing [] (saying (blocks.heading_closing (blocks.rank_of bytes.now printer.old.frame.ahead.mark)))
         printer.old) }
 {
     let place = printer.place();
@@ -395,7 +395,7 @@ fn fence(printer: &mut Printer, exit: &Exit) -> Result<(), AllocError>
 
 /// Whether code has one fence alone.
 fn is_unclosed(passed: Passed) -> bool
-    ensures { result ≡ blocks.is_unclosed passed }
+    ensures { result ≡ blocks.lacks_fence passed }
 {
     passed.spine.has_fence && !passed.spine.has_second_fence
 }
@@ -409,7 +409,7 @@ fn is_contained(container: Container) -> bool
 
 /// Prints a line ending in any case, where it is asked for.
 fn force_if(printer: &mut Printer, ending: &str, forced: bool) -> Result<(), AllocError>
-    ensures { OnOk result (printer.new ≡ printing ending.now (blocks.when forced (Forced ∷ [])) printer.old) }
+    ensures { OnOk result (printer.new ≡ printing ending.now (blocks.where_so forced (Forced ∷ [])) printer.old) }
 {
     if forced {
         printer.force(ending)
@@ -420,14 +420,14 @@ fn force_if(printer: &mut Printer, ending: &str, forced: bool) -> Result<(), All
 
 /// Prints a line ending unless a line begins here, where it is asked for.
 fn need_if(printer: &mut Printer, ending: &str, needed: bool) -> Result<(), AllocError>
-    ensures { OnOk result (printer.new ≡ printing ending.now (blocks.when needed (Needed ∷ [])) printer.old) }
+    ensures { OnOk result (printer.new ≡ printing ending.now (blocks.where_so needed (Needed ∷ [])) printer.old) }
 {
     if needed { printer.need(ending) } else { Ok(()) }
 }
 
 /// Whether code isn't closed and stands in a container, and more than its fence is in it.
 fn runs_out(around: Surroundings, passed: Passed) -> bool
-    ensures { result ≡ blocks.runs_out around passed }
+    ensures { result ≡ blocks.is_cut_short around passed }
 {
     let after_fence = passed.last.is_some_and(is_fence);
     is_unclosed(passed) && is_contained(around.container) && !after_fence

@@ -4,7 +4,7 @@ ghost use Rattle.std.specs.Prelude.{◌≡◌, ◌∷◌, [], ◌++◌, OnOk, co
 ghost use Rattle.md_printer.specs.Machine.{printing, ahead_by};
 ghost use Rattle.md_meaning.specs.Piece.{Text, Needed};
 ghost use Rattle.md_meaning.specs.Texts as texts;
-ghost use Rattle.md_meaning.specs.Texts.{said, outside_images};
+ghost use Rattle.md_meaning.specs.Texts.{saying, outside_images};
 ghost use Rattle.md_meaning.specs.Blocks as blocks;
 ghost use Rattle.md_meaning.specs.Printed as printed;
 ghost use Rattle.md_printer.specs.Given.{given_of};
@@ -78,7 +78,7 @@ pub fn outside_images(
     around: Surroundings,
     tag: &str,
 ) -> Result<(), AllocError>
-    ensures { OnOk result (printer.new ≡ printing [] (outside_images around (said tag.now)) printer.old) }
+    ensures { OnOk result (printer.new ≡ printing [] (outside_images around (saying tag.now)) printer.old) }
 {
     if around.in_image {
         Ok(())
@@ -89,7 +89,7 @@ pub fn outside_images(
 
 /// Whether paragraphs print no tags.
 pub fn is_tight(container: Container) -> bool
-    ensures { result ≡ blocks.is_tight container }
+    ensures { result ≡ blocks.tight_in container }
 {
     matches!(container, Container::TightList)
 }
@@ -111,8 +111,8 @@ fn ordered_list(
     given: &Given,
     number: Option<Position>,
 ) -> Result<(), AllocError>
-    ensures { OnOk result (printer.new ≡ printing given.now.ending.now (blocks.on_own_line (codes "<ol")
-        ++ (blocks.start_pieces given.now.bytes.now number ++ said (codes ">"))) printer.old) }
+    ensures { OnOk result (printer.new ≡ printing given.now.ending.now (blocks.on_new_line (codes "<ol")
+        ++ (blocks.start_pieces given.now.bytes.now number ++ saying (codes ">"))) printer.old) }
 {
     on_own_line(printer, given.ending, "<ol")?;
     start(printer, given, number)?;

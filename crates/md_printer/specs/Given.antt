@@ -9,17 +9,17 @@ use Rattle.md_base.specs.declared.event.Name.{Name}
 use Rattle.md_printer.specs.declared.frames.Exit.{Exit}
 use Rattle.md_printer.specs.Machine.{Printer, document_frame}
 use Rattle.md_around.specs.Steps.{first_or}
-use Rattle.md_meaning.specs.Piece.{Piece, Sheet}
+use Rattle.md_meaning.specs.Piece.{Stroke, Sheet}
 use Rattle.md_meaning.specs.Places.{Left}
 use Rattle.md_meaning.specs.declared.context.Ahead.{Ahead}
 use Rattle.md_meaning.specs.declared.context.Passed.{Passed}
 use Rattle.md_meaning.specs.Printed.{closing}
-use Rattle.md_meaning.specs.Given.{Given}
+use Rattle.md_meaning.specs.Given.{Supply}
 use Rattle.md_meaning.specs.Calls.{Called}
 use Rattle.md_base.specs.declared.event.AlignKind.{AlignKind}
 use Rattle.md_base.specs.declared.event.Point.{Point}
 
-abbrev pub given_of : GivenInside → Given
+abbrev pub given_of : GivenInside → Supply
 given_of given = record {
   bytes = given.bytes.now;
   names = name_table given.names.now;
@@ -65,8 +65,8 @@ left_at exit called columns = record {
 }
 
 -- what is printed where a node is exited, whose children tell this ahead and so far
-abbrev pub closing_at : Given → Exit → List Called → List AlignKind → Ahead → Passed → Sheet → Name →
-    List Piece
+abbrev pub closing_at : Supply → Exit → List Called → List AlignKind → Ahead → Passed → Sheet → Name →
+    List Stroke
 closing_at given exit called columns ahead passed inner name =
     closing given exit.around (left_at exit called columns) ahead passed exit.is_last exit.start exit.end inner name
 

@@ -20,11 +20,11 @@ use Rattle.md_base.specs.NameTests.{is_call, is_table, is_link_definition, is_fo
 use Rattle.md_meaning.specs.declared.context.Ahead.{Ahead}
 use Rattle.md_meaning.specs.declared.context.Spine.{Spine}
 use Rattle.md_text.specs.declared.options.CompileOptions.{CompileOptions}
-use Rattle.md_meaning.specs.Piece.{Piece, Sheet, blank, lay}
+use Rattle.md_meaning.specs.Piece.{Stroke, Sheet, blank, lay}
 use Rattle.md_meaning.specs.Surroundings.{own_marks, inside}
 use Rattle.md_around.specs.Steps.{first_or, others_of, no_spine, nothing_passed, passing, slurps_after}
 pub use Rattle.md_around.specs.Frames.{Frame, ahead_by, document_frame}
-use Rattle.md_meaning.specs.Given.{Given, Defined}
+use Rattle.md_meaning.specs.Given.{Supply, Defined}
 use Rattle.md_meaning.specs.Places.{Left, identifier_at}
 use Rattle.md_meaning.specs.Printed.{opening, closing, is_captured}
 
@@ -64,7 +64,7 @@ beginning = record {
 }
 
 -- some pieces are laid on the sheet
-abbrev pub printing : List ℕ → List Piece → Printer → Printer
+abbrev pub printing : List ℕ → List Stroke → Printer → Printer
 printing ending pieces state = record state { sheet = lay ending state.sheet pieces }
 
 -- the sheet is put below an empty one
@@ -109,7 +109,7 @@ abbrev pub leaving_table : Bool → Printer → Printer
 leaving_table is_table state = record state { tables = if is_table then others_of state.tables else state.tables }
 
 -- a node is entered, whose children's text is captured or not
-abbrev pub entered : Given → Ahead → Bool → List AlignKind → Bool → Name → Point → Printer → Printer
+abbrev pub entered : Supply → Ahead → Bool → List AlignKind → Bool → Name → Point → Printer → Printer
 entered given ahead loose columns captured name start state =
     entering_table (is_table name) columns
     (opening_frame given.options ahead loose name start
@@ -147,7 +147,7 @@ left_in state =
     }
 
 -- what is printed where the innermost node is left
-abbrev pub closing_in : Given → Bool → Name → Point → Sheet → Printer → List Piece
+abbrev pub closing_in : Supply → Bool → Name → Point → Sheet → Printer → List Stroke
 closing_in given last name end inner state =
     closing given (first_or document_frame state.frames).around
     (left_in state) state.frame.ahead state.frame.passed last state.frame.start end inner name
@@ -172,7 +172,7 @@ logging bytes ahead name inner state = record state {
 }
 
 -- a node is exited, whose children's text was captured or not
-abbrev pub exited : Given → Bool → Bool → Name → Point → Printer → Printer
+abbrev pub exited : Supply → Bool → Bool → Name → Point → Printer → Printer
 exited given last captured name end state =
     leaving name
     (printing given.ending
@@ -196,19 +196,19 @@ loose_told ListUnordered children = option_map_or is_loose children false
 loose_told _ children = false
 
 -- an event, with the children of the node that it enters
-abbrev pub stepped : Given → Kind → Name → Point → Option Forest → Bool → Printer → Printer
+abbrev pub stepped : Supply → Kind → Name → Point → Option Forest → Bool → Printer → Printer
 stepped given Enter name point children last state =
     entered given (ahead_told name children) (loose_told name children) (columns_told name children)
     (is_captured name) name point state
 stepped given Exit name point children last state = exited given last (is_captured name) name point state
 
 -- the events one after another, each with the children of the node that it enters
-abbrev pub run : Given → List Event → List (Option Forest) → Printer → Printer
+abbrev pub run : Supply → List Event → List (Option Forest) → Printer → Printer
 run given [] nodes state = state
 run given (event ∷ events) [] state = state
 run given (event ∷ events) (children ∷ nodes) state =
     run given events nodes (stepped given event.kind event.name event.point children (is_nil events) state)
 
 -- the text at the end: the section of footnotes comes last
-abbrev pub finished : Given → Printer → Sheet
+abbrev pub finished : Supply → Printer → Sheet
 finished given state = lay given.ending state.sheet (section_pieces given.options state.log.footnotes state.log.called)

@@ -2,7 +2,7 @@
 
 ghost use Rattle.std.specs.Prelude.{◌≡◌, [], OnOk};
 ghost use Rattle.md_printer.specs.Machine.{printing};
-ghost use Rattle.md_meaning.specs.Texts.{said};
+ghost use Rattle.md_meaning.specs.Texts.{saying};
 ghost use Rattle.md_text.specs.Encode.{encoded};
 
 use crate::printer::Printer;
@@ -15,7 +15,7 @@ use std::alloc::AllocError;
 ///
 /// `AllocError`, only where memory runs out.
 pub fn put_encoded(printer: &mut Printer, text: &str, escaping: bool) -> Result<(), AllocError>
-    ensures { OnOk result (printer.new ≡ printing [] (said (encoded escaping text.now)) printer.old) }
+    ensures { OnOk result (printer.new ≡ printing [] (saying (encoded escaping text.now)) printer.old) }
 {
     let mut rest = text;
     while let Some((index, other)) = first_replaced(rest.as_bytes(), escaping) {

@@ -6,7 +6,7 @@ ghost use Rattle.std.specs.Str.{IsCharBoundary};
 ghost use Rattle.md_base.specs.Place as place;
 ghost use Rattle.md_base.specs.Reference.{decoded, name_table};
 ghost use Rattle.md_meaning.specs.Given as given;
-ghost use Rattle.md_meaning.specs.Places.{length_of, identifier_at, without_zeros, has_leading_zero};
+ghost use Rattle.md_meaning.specs.Places.{length_of, identifier_at, unpadded, has_leading_zero};
 
 use md_base::{Point, Position, Slice, normalize_identifier};
 use md_sheet::{Definitions, IdOptions};
@@ -114,7 +114,7 @@ pub fn length_of(bytes: &[u8], position: Position) -> usize
 
 /// Digits without the zeros before the number that they write.
 pub fn without_zeros(mut digits: &str) -> &str
-    ensures { result.now ≡ without_zeros digits.entry.now }
+    ensures { result.now ≡ unpadded digits.entry.now }
 {
     while has_leading_zero(digits) {
         digits = &digits[1..];

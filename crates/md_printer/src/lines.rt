@@ -13,7 +13,7 @@ use std::alloc::AllocError;
 ///
 /// `AllocError`, only where memory runs out.
 pub fn on_own_line(printer: &mut Printer, ending: &str, tag: &str) -> Result<(), AllocError>
-    ensures { OnOk result (printer.new ≡ printing ending.now (blocks.on_own_line tag.now) printer.old) }
+    ensures { OnOk result (printer.new ≡ printing ending.now (blocks.on_new_line tag.now) printer.old) }
 {
     printer.need(ending)?;
     printer.put(tag)

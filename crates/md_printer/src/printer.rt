@@ -8,7 +8,7 @@ ghost use Rattle.md_meaning.specs.Piece.{Text, Needed, Forced, Noted, Recalled, 
 ghost use Rattle.md_meaning.specs.Calls.{number_among, count_among};
 ghost use Rattle.md_meaning.specs.Footnotes.{section_pieces};
 ghost use Rattle.md_sheet.specs.Seen.{counted, noted};
-ghost use Rattle.md_meaning.specs.Texts.{said};
+ghost use Rattle.md_meaning.specs.Texts.{saying};
 
 use crate::frames::{Exit, Lookahead};
 use crate::section::{Settings, lay_section};
@@ -62,7 +62,7 @@ impl Printer {
     ///
     /// `AllocError`, only where memory runs out.
     pub fn put(&mut self, text: &str) -> Result<(), AllocError>
-        ensures { OnOk result (self.new ≡ machine.printing [] (said text.now) self.old) }
+        ensures { OnOk result (self.new ≡ machine.printing [] (saying text.now) self.old) }
     {
         self.sheet.put(text)
     }
@@ -73,7 +73,7 @@ impl Printer {
     ///
     /// `AllocError`, only where memory runs out.
     pub fn append(&mut self, alloc: Global, text: Rope) -> Result<(), AllocError>
-        ensures { OnOk result (self.new ≡ machine.printing [] (said text) self.old) }
+        ensures { OnOk result (self.new ≡ machine.printing [] (saying text) self.old) }
     {
         self.sheet.append(alloc, text)
     }

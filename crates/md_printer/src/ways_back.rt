@@ -29,7 +29,7 @@ fn push_href(
     occurrence: usize,
 ) -> Result<(), AllocError>
     ensures { OnOk result (string_bytes text.new ≡ string_bytes text.old
-        ++ (codes "<a href=\"#" ++ (notes.call_id options.now footnote.now.identifier.now footnote.now.number occurrence
+        ++ (codes "<a href=\"#" ++ (notes.id_of_call options.now footnote.now.identifier.now footnote.now.number occurrence
         ++ codes "\" data-footnote-backref=\"\" aria-label=\""))) }
 {
     let id = call_id(alloc, &ids_by(options), footnote, occurrence)?;
@@ -67,7 +67,7 @@ fn push_backreference(
     occurrence: usize,
 ) -> Result<(), AllocError>
     ensures { OnOk result (string_bytes text.new ≡ string_bytes text.old
-        ++ notes.backreference options.now footnote.now.identifier.now footnote.now.number occurrence) }
+        ++ notes.return_link options.now footnote.now.identifier.now footnote.now.number occurrence) }
 {
     push_href(alloc, text, options, footnote, occurrence)?;
     push_label(alloc, text, options)?;
@@ -97,7 +97,7 @@ pub fn backreferences(
     count: usize,
 ) -> Result<String, AllocError>
     ensures { IfOk result (λ text. string_bytes text
-        ≡ notes.backreferences options.now footnote.now.identifier.now footnote.now.number count) }
+        ≡ notes.return_links options.now footnote.now.identifier.now footnote.now.number count) }
 {
     let mut text = String::new(alloc);
     let mut done = 0;

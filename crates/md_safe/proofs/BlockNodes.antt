@@ -14,11 +14,11 @@ use Rattle.md_text.proofs.HtmlJoin.{nothing, text}
 use Rattle.md_base.specs.NameTests.{is_transparent, is_call}
 use Rattle.md_meaning.specs.declared.context.Surroundings.{Surroundings}
 use Rattle.md_meaning.specs.declared.context.Passed.{Passed}
-use Rattle.md_meaning.specs.Piece.{Piece, Text, Needed, Forced, Heading, Destination, Title}
+use Rattle.md_meaning.specs.Piece.{Stroke, Text, Needed, Forced, Heading, Destination, Title}
 use Rattle.md_meaning.specs.Given.{serialized_of}
 use Rattle.md_meaning.specs.Places.{ahead_of}
-use Rattle.md_meaning.specs.Texts.{said, html_pieces, blank_line_pieces}
-use Rattle.md_meaning.specs.Blocks.{on_own_line, when, item_closing, rank_of, heading_opening, heading_closing, setext_rank, setext_pieces, is_dash_at, code_end, indented_closing, fenced_closing, is_unclosed, runs_out, start_pieces, is_tight}
+use Rattle.md_meaning.specs.Texts.{saying, html_pieces, blank_line_pieces}
+use Rattle.md_meaning.specs.Blocks.{on_new_line, where_so, item_closing, rank_of, heading_opening, heading_closing, setext_rank, setext_pieces, is_dash_at, code_closing, indented_closing, fenced_closing, lacks_fence, is_cut_short, start_pieces, tight_in}
 use Rattle.md_meaning.specs.Tables.{empty_cells}
 use Rattle.md_shape.specs.Built.{Blocks, is_part, is_string, is_span, is_in_media, is_autolink}
 use Rattle.md_safe.proofs.Texts.{Escaped}
@@ -103,47 +103,47 @@ is_silent MdxJsxTextTag = true
 is_silent _ = false
 
 -- a needed line ending, where a test holds
-when-needed : (s : Setting) (holds : Bool) → Prints s Escaped (when holds (Needed ∷ []))
+when-needed : (s : Setting) (holds : Bool) → Prints s Escaped (where_so holds (Needed ∷ []))
 when-needed s true = adds-needed s.p s.given.ending s.ending
 when-needed s false = adds-nil s.p s.given.ending
 
-when-forced : (s : Setting) (holds : Bool) → Prints s Escaped (when holds (Forced ∷ []))
+when-forced : (s : Setting) (holds : Bool) → Prints s Escaped (where_so holds (Forced ∷ []))
 when-forced s true = adds-forced s.p s.given.ending s.ending
 when-forced s false = adds-nil s.p s.given.ending
 
 -- an end on its own line where a test holds
-when-end : (s : Setting) (holds : Bool) (c : List ℕ) → Prints s (IsFramed c) ((when holds (Needed ∷ []) ++ said c)
+when-end : (s : Setting) (holds : Bool) (c : List ℕ) → Prints s (IsFramed c) ((where_so holds (Needed ∷ []) ++ saying c)
     ++ [])
-when-end s holds c = prints-alone s (IsFramed c) (when holds (Needed ∷ [])
-    ++ said c) (adds-framed s.p s.given.ending c (when holds (Needed ∷ [])) [] (when-needed s holds)
+when-end s holds c = prints-alone s (IsFramed c) (where_so holds (Needed ∷ [])
+    ++ saying c) (adds-framed s.p s.given.ending c (where_so holds (Needed ∷ [])) [] (when-needed s holds)
     (adds-nil s.p s.given.ending))
 
 -- the end of fenced code
 fenced-end : (s : Setting) (around : Surroundings) (passed : Passed) →
-    Prints s (IsFramed code_end) (fenced_closing around passed ++ [])
+    Prints s (IsFramed code_closing) (fenced_closing around passed ++ [])
 fenced-end s around passed =
-    let out : List Piece = when (runs_out around passed) (Forced ∷ []) in
-    let line : List Piece = when passed.spine.has_chunk (Needed ∷ []) in
-    let last : List Piece = when (is_unclosed passed) (Needed ∷ []) in
-    prints-alone s (IsFramed code_end) (fenced_closing around passed)
-    (subst (Prints s (IsFramed code_end)) (append_assoc out line (Text code_end ∷ last))
-    (adds-framed s.p s.given.ending code_end (out ++ line) last
+    let out : List Stroke = where_so (is_cut_short around passed) (Forced ∷ []) in
+    let line : List Stroke = where_so passed.spine.has_chunk (Needed ∷ []) in
+    let last : List Stroke = where_so (lacks_fence passed) (Needed ∷ []) in
+    prints-alone s (IsFramed code_closing) (fenced_closing around passed)
+    (subst (Prints s (IsFramed code_closing)) (append_assoc out line (Text code_closing ∷ last))
+    (adds-framed s.p s.given.ending code_closing (out ++ line) last
     (adds-append s.p s.given.ending Escaped Escaped Escaped out line escaped-append
-    (when-forced s (runs_out around passed)) (when-needed s passed.spine.has_chunk))
-    (when-needed s (is_unclosed passed))))
+    (when-forced s (is_cut_short around passed)) (when-needed s passed.spine.has_chunk))
+    (when-needed s (lacks_fence passed))))
 
 -- a block's tags on lines of their own
-block-pair : (s : Setting) (o c : List ℕ) → Bracket s.p o c → (inner : List Piece) → Prints s (Reads s) inner →
-    Prints s (Reads s) (on_own_line o ++ (inner ++ on_own_line c))
+block-pair : (s : Setting) (o c : List ℕ) → Bracket s.p o c → (inner : List Stroke) → Prints s (Reads s) inner →
+    Prints s (Reads s) (on_new_line o ++ (inner ++ on_new_line c))
 block-pair s o c bracket inner a =
-    adds-pair s.p s.given.ending o c (on_own_line o) inner (on_own_line c) bracket
+    adds-pair s.p s.given.ending o c (on_new_line o) inner (on_new_line c) bracket
     (framed-needed s.p s.given.ending o s.ending) a (framed-needed s.p s.given.ending c s.ending)
 
 -- a paragraph
-paragraph-node : (s : Setting) (tagged : Bool) (inner : List Piece) → Prints s (Reads s) inner →
-    Prints s (Reads s) (when tagged (on_own_line (codes "<p>")) ++ (inner ++ (when tagged (said (codes "</p>")) ++ [])))
+paragraph-node : (s : Setting) (tagged : Bool) (inner : List Stroke) → Prints s (Reads s) inner →
+    Prints s (Reads s) (where_so tagged (on_new_line (codes "<p>")) ++ (inner ++ (where_so tagged (saying (codes "</p>")) ++ [])))
 paragraph-node s true inner a =
-    adds-pair s.p s.given.ending (codes "<p>") (codes "</p>") (on_own_line (codes "<p>")) inner (said (codes "</p>"))
+    adds-pair s.p s.given.ending (codes "<p>") (codes "</p>") (on_new_line (codes "<p>")) inner (saying (codes "</p>"))
     (bracket-plain s.p (codes "p") refl)
     (framed-needed s.p s.given.ending (codes "<p>") s.ending) a (framed-text s.p s.given.ending (codes "</p>"))
 paragraph-node s false inner a = prints-alone s (Reads s) inner a
@@ -153,11 +153,11 @@ setext-fits bytes true = (omega arith, omega arith)
 setext-fits bytes false = (omega arith, omega arith)
 
 -- a line of code
-chunk-node : (s : Setting) (t : Spot) (inner : List Piece) → Prints s (λ x. x ≡ []) inner →
+chunk-node : (s : Setting) (t : Spot) (inner : List Stroke) → Prints s (λ x. x ≡ []) inner →
     Prints s (Reads s) (inner ++ (Text (encoded true (serialized_of s.given.bytes t.start t.end)) ∷ []))
 chunk-node s t inner a =
     let x : List ℕ = encoded true (serialized_of s.given.bytes t.start t.end) in
-    prints-own s (Reads s) inner (said x) a (adds-text s.p s.given.ending (Reads s) x
+    prints-own s (Reads s) inner (saying x) a (adds-text s.p s.given.ending (Reads s) x
     (s.p.plain x (text s.p.test x (is_escaped-encoded (serialized_of s.given.bytes t.start t.end)))))
 
 -- nothing is claimed of no text
@@ -165,7 +165,7 @@ pub holds-none : (s : Setting) → Reads s []
 holds-none s = s.p.plain [] (nothing s.p.test)
 
 flow-node : (s : Setting) (t : Spot) (name : Name) → t.around.is_escaping ≡ true → is_flow name ≡ true →
-    IsFitAt s t name → (is_setext name ≡ true → IsWhole s.p) → (inner : List Piece) → Inside s t Blocks name inner →
+    IsFitAt s t name → (is_setext name ≡ true → IsWhole s.p) → (inner : List Stroke) → Inside s t Blocks name inner →
     Prints s (Reads s) (node_pieces s t name inner)
 flow-node s t BlankLineEnding e is fit whole inner a =
     prints-own s (Reads s) inner (blank_line_pieces t.last) a
@@ -176,30 +176,30 @@ flow-node s t BlockQuote e is fit whole inner a = block-pair s (codes "<blockquo
 flow-node s t ListOrdered e is fit whole inner a =
     let opening = ordered-opening s.p s.given.ending s.ending s.given.options s.test s.given.bytes
     (ahead_of t.children).number fit in
-    adds-pair s.p s.given.ending opening.open_tag (codes "</ol>") (on_own_line (codes "<ol")
-    ++ (start_pieces s.given.bytes (ahead_of t.children).number ++ said (codes ">"))) inner (Forced
+    adds-pair s.p s.given.ending opening.open_tag (codes "</ol>") (on_new_line (codes "<ol")
+    ++ (start_pieces s.given.bytes (ahead_of t.children).number ++ saying (codes ">"))) inner (Forced
     ∷ Text (codes "</ol>") ∷ [])
     opening.bracket opening.adds a (framed-forced s.p s.given.ending (codes "</ol>") s.ending)
 flow-node s t ListUnordered e is fit whole inner a =
-    adds-pair s.p s.given.ending (codes "<ul>") (codes "</ul>") (on_own_line (codes "<ul>")) inner (Forced
+    adds-pair s.p s.given.ending (codes "<ul>") (codes "</ul>") (on_new_line (codes "<ul>")) inner (Forced
     ∷ Text (codes "</ul>") ∷ []) (bracket-plain s.p (codes "ul") refl)
     (framed-needed s.p s.given.ending (codes "<ul>") s.ending) a
     (framed-forced s.p s.given.ending (codes "</ul>") s.ending)
 flow-node s t ListItem e is fit whole inner a =
-    adds-pair s.p s.given.ending (codes "<li>") (codes "</li>") (on_own_line (codes "<li>")) inner
+    adds-pair s.p s.given.ending (codes "<li>") (codes "</li>") (on_new_line (codes "<li>")) inner
     (item_closing t.around t.passed ++ []) (bracket-plain s.p (codes "li") refl)
     (framed-needed s.p s.given.ending (codes "<li>") s.ending) a (when-end s _ (codes "</li>"))
-flow-node s t Paragraph e is fit whole inner a = paragraph-node s (not (is_tight t.around.container)) inner a
+flow-node s t Paragraph e is fit whole inner a = paragraph-node s (not (tight_in t.around.container)) inner a
 flow-node s t ThematicBreak e is fit whole inner a =
-    adds-after s.p s.given.ending inner (on_own_line (codes "<hr />")) a
-    (adds-before (plain_of s.p) s.given.ending (Needed ∷ []) (said (codes "<hr />"))
+    adds-after s.p s.given.ending inner (on_new_line (codes "<hr />")) a
+    (adds-before (plain_of s.p) s.given.ending (Needed ∷ []) (saying (codes "<hr />"))
     (adds-escaped s.p s.given.ending (Needed ∷ []) (adds-needed s.p s.given.ending s.ending))
-    (adds-flat s.p s.given.ending (HasReadingWith s.p.test) (said (codes "<hr />")) refl
+    (adds-flat s.p s.given.ending (HasReadingWith s.p.test) (saying (codes "<hr />")) refl
     (void-read (plain_of s.p) (codes "hr") [] refl refl)))
 flow-node s t HeadingAtx e is fit whole inner a =
     let rank : ℕ = rank_of s.given.bytes (ahead_of t.children).mark in
     adds-pair s.p s.given.ending (heading_opening rank) (heading_closing rank)
-    (on_own_line (heading_opening rank)) inner (said (heading_closing rank)) (bracket-heading s.p rank fit)
+    (on_new_line (heading_opening rank)) inner (saying (heading_closing rank)) (bracket-heading s.p rank fit)
     (framed-needed s.p s.given.ending (heading_opening rank) s.ending) a
     (framed-text s.p s.given.ending (heading_closing rank))
 flow-node s t HeadingSetextText e is fit whole inner a =
@@ -211,9 +211,9 @@ flow-node s t HeadingSetextUnderlineSequence e is fit whole inner a =
     (adds-setext s.p s.given.ending (whole refl).recalls s.ending (setext_rank s.given.bytes t.start)
     (setext-fits s.given.bytes (is_dash_at s.given.bytes t.start.index)))
 flow-node s t CodeIndented e is fit whole inner a =
-    adds-pair s.p s.given.ending (codes "<pre><code>") code_end (on_own_line (codes "<pre><code>")) inner
+    adds-pair s.p s.given.ending (codes "<pre><code>") code_closing (on_new_line (codes "<pre><code>")) inner
     (indented_closing t.passed ++ []) (bracket-code s.p)
-    (framed-needed s.p s.given.ending (codes "<pre><code>") s.ending) a (when-end s t.passed.spine.has_chunk code_end)
+    (framed-needed s.p s.given.ending (codes "<pre><code>") s.ending) a (when-end s t.passed.spine.has_chunk code_closing)
 flow-node s t CodeFenced e is fit whole inner a = adds-raw s.p s.given.ending s.ending code_tag inner
     (fenced_closing t.around t.passed ++ []) a (fenced-end s t.around t.passed)
 flow-node s t MathFlow e is fit whole inner a = adds-raw s.p s.given.ending s.ending math_tag inner
@@ -230,7 +230,7 @@ flow-node s t HtmlFlowData e is fit whole inner a =
 flow-node s t _ e is fit whole inner a = lie is
 
 hidden-node : (s : Setting) (t : Spot) (name : Name) → t.around.is_escaping ≡ true → is_hidden name ≡ true →
-    (inner : List Piece) → Inside s t Blocks name inner → Prints s (Reads s) (node_pieces s t name inner)
+    (inner : List Stroke) → Inside s t Blocks name inner → Prints s (Reads s) (node_pieces s t name inner)
 hidden-node s t CodeFencedFenceMeta e is inner a = adds-nothing s.p s.given.ending (Reads s) (holds-none s)
 hidden-node s t MathFlowFenceMeta e is inner a = adds-nothing s.p s.given.ending (Reads s) (holds-none s)
 hidden-node s t Frontmatter e is inner a = adds-nothing s.p s.given.ending (Reads s) (holds-none s)
@@ -247,26 +247,26 @@ hidden-node s t GfmTableDelimiterRow e is inner a = adds-nothing s.p s.given.end
 hidden-node s t _ e is inner a = lie is
 
 -- a row
-row-node : (s : Setting) (in_head : Bool) (kinds : List AlignKind) (inner : List Piece) → Prints s (Reads s) inner
-    → Prints s (Reads s) (on_own_line (codes "<tr>") ++ (inner
-    ++ (empty_cells in_head kinds ++ on_own_line (codes "</tr>"))))
+row-node : (s : Setting) (in_head : Bool) (kinds : List AlignKind) (inner : List Stroke) → Prints s (Reads s) inner
+    → Prints s (Reads s) (on_new_line (codes "<tr>") ++ (inner
+    ++ (empty_cells in_head kinds ++ on_new_line (codes "</tr>"))))
 row-node s in_head kinds inner a =
-    subst (λ x. Prints s (Reads s) (on_own_line (codes "<tr>") ++ x))
-    (append_assoc inner (empty_cells in_head kinds) (on_own_line (codes "</tr>")))
+    subst (λ x. Prints s (Reads s) (on_new_line (codes "<tr>") ++ x))
+    (append_assoc inner (empty_cells in_head kinds) (on_new_line (codes "</tr>")))
     (block-pair s (codes "<tr>") (codes "</tr>") (bracket-plain s.p (codes "tr") refl) (inner
     ++ empty_cells in_head kinds)
     (adds-after s.p s.given.ending inner (empty_cells in_head kinds) a
     (adds-empty_cells s.p s.given.ending s.ending s.given.options s.test in_head kinds)))
 
-table-node : (s : Setting) (t : Spot) (name : Name) → is_tabular name ≡ true → (inner : List Piece) →
+table-node : (s : Setting) (t : Spot) (name : Name) → is_tabular name ≡ true → (inner : List Stroke) →
     Inside s t Blocks name inner → Prints s (Reads s) (node_pieces s t name inner)
 table-node s t GfmTable is inner a = block-pair s (codes "<table>") (codes "</table>")
     (bracket-plain s.p (codes "table") refl) inner a
 table-node s t GfmTableHead is inner a = block-pair s (codes "<thead>") (codes "</thead>")
     (bracket-plain s.p (codes "thead") refl) inner a
 table-node s t GfmTableBody is inner a =
-    adds-pair s.p s.given.ending (codes "<tbody>") (codes "</tbody>") (said (codes "<tbody>")) inner
-    (on_own_line (codes "</tbody>")) (bracket-plain s.p (codes "tbody") refl)
+    adds-pair s.p s.given.ending (codes "<tbody>") (codes "</tbody>") (saying (codes "<tbody>")) inner
+    (on_new_line (codes "</tbody>")) (bracket-plain s.p (codes "tbody") refl)
     (framed-text s.p s.given.ending (codes "<tbody>")) a (framed-needed s.p s.given.ending (codes "</tbody>") s.ending)
 table-node s t GfmTableRow is inner a = row-node s t.around.in_head (drop t.passed.spine.cells t.left.columns) inner a
 table-node s t GfmTableCell is inner a =
@@ -274,7 +274,7 @@ table-node s t GfmTableCell is inner a =
     (slice_get t.left.columns t.left.spine.cells) (sheet_of s inner).text (sheet-holds s (Reads s) inner a)
 table-node s t _ is inner a = lie is
 
-silent-node : (s : Setting) (t : Spot) (name : Name) → is_silent name ≡ true → (inner : List Piece) →
+silent-node : (s : Setting) (t : Spot) (name : Name) → is_silent name ≡ true → (inner : List Stroke) →
     Inside s t Blocks name inner → Prints s (Reads s) (node_pieces s t name inner)
 silent-node s t ListItemPrefix is inner a = prints-alone s (Reads s) inner a
 silent-node s t ListItemValue is inner a = prints-alone s (Reads s) inner a
@@ -301,7 +301,7 @@ covered _ = refl
 -- blocks
 pub block-node : (s : Setting) (t : Spot) (name : Name) → t.around.is_escaping ≡ true → is_transparent name ≡ false →
     is_part name ≡ false → IsFitAt s t name → ((is_setext name || is_call name) ≡ true → IsWhole s.p) →
-    (inner : List Piece) → Inside s t Blocks name inner → Prints s (Reads s) (node_pieces s t name inner)
+    (inner : List Stroke) → Inside s t Blocks name inner → Prints s (Reads s) (node_pieces s t name inner)
 block-node s t name e solid whole fit asked inner a =
     elim (or_cases (is_transparent name) _ (covered name)) [
       | inl is ↦ lie (sym solid ∙ is)

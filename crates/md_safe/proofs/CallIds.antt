@@ -3,11 +3,11 @@ use Rattle.std.proofs.Common.{◌≡◌, ℕ, suc, List, [], ◌∷◌, ◌++◌
 use Rattle.md_text.specs.References.{read_back}
 use Rattle.md_text.specs.declared.options.CompileOptions.{CompileOptions}
 use Rattle.md_meaning.specs.Calls.{tally, number_among, count_among}
-use Rattle.md_meaning.specs.Footnotes.{call_id}
+use Rattle.md_meaning.specs.Footnotes.{id_of_call}
 
 -- the id of a call after others, its references read back
 abbrev pub id_after : CompileOptions → List (List ℕ) → List ℕ → List ℕ
-id_after options before identifier = read_back (call_id options identifier (number_among (tally before) identifier)
+id_after options before identifier = read_back (id_of_call options identifier (number_among (tally before) identifier)
     (suc (count_among (tally before) identifier)))
 
 -- the ids of some calls after others

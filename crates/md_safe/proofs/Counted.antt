@@ -10,7 +10,7 @@ use Rattle.md_text.proofs.HtmlWriting.{attributes_before, written_attributes-bef
 use Rattle.md_text.specs.Ids.{ids_in}
 use Rattle.md_text.proofs.HtmlIds.{occurs, is_without, none-attributes, Counts, counts-plain, counts-more, counts-join, counts-element, counts-takes}
 use Rattle.md_text.specs.declared.options.CompileOptions.{CompileOptions}
-use Rattle.md_meaning.specs.Piece.{Piece, Sheet, lay}
+use Rattle.md_meaning.specs.Piece.{Stroke, Sheet, lay}
 use Rattle.md_meaning.specs.Footnotes.{Footnote}
 use Rattle.md_safe.proofs.Claim.{Claim}
 use Rattle.md_safe.proofs.Texts.{Escaped}
@@ -67,11 +67,11 @@ waiting-none w true n = counts-more w 0 n [] (omega arith) (counts-plain w [] (n
 waiting-none w false n = tt
 
 -- pieces add a text of which something holds, where something holds of the heading before them, and after them
-abbrev pub Steps : List ℕ → (pre post holds : List ℕ → Type 0) → List Piece → Type 0
+abbrev pub Steps : List ℕ → (pre post holds : List ℕ → Type 0) → List Stroke → Type 0
 Steps ending pre post holds pieces = (sheet : Sheet) → AreGood pre sheet.notes →
     Grows post holds sheet (lay ending sheet pieces)
 
-pub steps-append : (ending : List ℕ) (pre mid post f g h : List ℕ → Type 0) (xs ys : List Piece) →
+pub steps-append : (ending : List ℕ) (pre mid post f g h : List ℕ → Type 0) (xs ys : List Stroke) →
     ((x y : List ℕ) → f x → g y → h (x ++ y)) → Steps ending pre mid f xs → Steps ending mid post g ys →
     Steps ending pre post h (xs ++ ys)
 steps-append ending pre mid post f g h xs ys both a b sheet good =
@@ -86,7 +86,7 @@ steps-append ending pre mid post f g h xs ys both a b sheet good =
     })
 
 -- less is asked before, and less claimed after
-pub steps-weaker : (ending : List ℕ) (pre pre' post post' f g : List ℕ → Type 0) (pieces : List Piece) →
+pub steps-weaker : (ending : List ℕ) (pre pre' post post' f g : List ℕ → Type 0) (pieces : List Stroke) →
     ((x : List ℕ) → pre' x → pre x) → ((x : List ℕ) → post x → post' x) → ((x : List ℕ) → f x → g x) →
     Steps ending pre post f pieces → Steps ending pre' post' g pieces
 steps-weaker ending pre pre' post post' f g pieces asked claimed weaker a sheet good =

@@ -9,7 +9,7 @@ use Rattle.md_base.specs.NameTests.{is_transparent, is_call, is_footnote_definit
 use Rattle.md_infer.specs.Looseness.{is_loose}
 use Rattle.md_text.proofs.HtmlIds.{occurs, occurs-append, Counts, counts-join}
 use Rattle.md_meaning.specs.declared.context.Surroundings.{Surroundings}
-use Rattle.md_meaning.specs.Places.{Before, before_children, before_next, identifier_at, ahead_of, calls_of}
+use Rattle.md_meaning.specs.Places.{Stood, stood_inside, stood_after, identifier_at, ahead_of, calls_of}
 use Rattle.md_meaning.specs.Footnotes.{Footnote}
 use Rattle.md_meaning.specs.Printed.{printed, footnotes_of}
 use Rattle.md_shape.specs.Built.{Blocks, content_of, content_inside, content_after_node, content_past, content_after, is_part, may_stand, IsBuilt}
@@ -85,7 +85,7 @@ node-spent d w t name waits m f = by (is_transparent name) refl
 -- what one node and what is after it cost
 due-parts : (d : Document) (w : List ℕ) (t : Place) (name : Name) →
     due d w t.before (Node name t.start t.end t.children t.rest)
-    ≡ cost_at d w t name + due d w (before_next d.given t.around name t.start t.end t.children t.before) t.rest
+    ≡ cost_at d w t name + due d w (stood_after d.given t.around name t.start t.end t.children t.before) t.rest
 due-parts d w t name =
     let below : List (List ℕ) = calls_of d.given.bytes t.children in
     let own : List (List ℕ) = cond (is_call name) (identifier_at d.given.bytes (ahead_of t.children).label ∷ []) [] in
@@ -96,7 +96,7 @@ due-parts d w t name =
     ∙ occurs-append w (ids_after d.given.options t.before.calls (below ++ (own ++ [])))
     (ids_after d.given.options (t.before.calls ++ (below ++ (own ++ []))) after)
 
-pub spent : (d : Document) (w : List ℕ) (forest : Forest) (around : Surroundings) (before : Before) (waits : Bool)
+pub spent : (d : Document) (w : List ℕ) (forest : Forest) (around : Surroundings) (before : Stood) (waits : Bool)
     (m : ℕ) → Fits d around waits forest → Spent d w around before waits m forest
 spent d w Empty around before waits m f = record {
   body = 0;
@@ -114,10 +114,10 @@ spent d w Empty around before waits m f = record {
 spent d w (Node name start end children rest) around before waits m f =
     let t : Place = place_of around before start end children rest in
     let waits' : Bool = cond (is_transparent name) (waits_after waits children) (waits_past waits name) in
-    let next : Before = before_next d.given around name start end children before in
+    let next : Stood = stood_after d.given around name start end children before in
     let one : NodeSpent d w waits m waits' (cost_at d w t name) (pieces_at d t name) (noted_at d t name) =
     node-spent d w t name waits m f (λ is. spent d w children (inside d.given.options (is_loose children) name around)
-    (before_children name children before) (cond (is_transparent name) waits false) (cond (is_transparent name) m 0)
+    (stood_inside name children before) (cond (is_transparent name) waits false) (cond (is_transparent name) m 0)
     (fits-inside d name start end children rest around waits f is)) in
     let later : Spent d w around next waits' one.left rest =
     spent d w rest around next waits' one.left (fits-after d name start end children rest around waits f) in

@@ -15,13 +15,13 @@ use Rattle.md_text.proofs.HtmlIds.{occurs, occurs-append, is_without, Counts, co
 use Rattle.md_safe.proofs.Counted.{counts-call}
 use Rattle.md_meaning.specs.declared.context.Surroundings.{Surroundings}
 use Rattle.md_meaning.specs.Surroundings.{inside}
-use Rattle.md_meaning.specs.Piece.{Piece, blank, lay}
-use Rattle.md_meaning.specs.Given.{Given}
-use Rattle.md_meaning.specs.Places.{Before, before_children, before_next, identifier_at, ahead_of, calls_of}
+use Rattle.md_meaning.specs.Piece.{Stroke, blank, lay}
+use Rattle.md_meaning.specs.Given.{Supply}
+use Rattle.md_meaning.specs.Places.{Stood, stood_inside, stood_after, identifier_at, ahead_of, calls_of}
 use Rattle.std.specs.Fmt.{decimal}
 use Rattle.md_text.specs.References.{read_back}
 use Rattle.md_meaning.specs.Calls.{Called, tally, number_among, count_among}
-use Rattle.md_meaning.specs.Footnotes.{Footnote, footnote_id, call_id, call_tags}
+use Rattle.md_meaning.specs.Footnotes.{Footnote, footnote_id, id_of_call, call_tags}
 use Rattle.md_safe.proofs.Media.{footnote_id-escaped, call_id-escaped}
 use Rattle.md_safe.proofs.Tags.{adds-flat}
 use Rattle.md_meaning.specs.Printed.{printed, footnotes_of}
@@ -41,7 +41,7 @@ use Rattle.md_shape.proofs.Underlines.{both_none}
 
 -- a document whose HTML is escaped
 pub record Document : Type 0 where
-  pub given : Given
+  pub given : Supply
   pub html : given.options.allow_dangerous_html ≡ false
   pub ending : Escaped given.ending
   pub titles : AreTitles given.definitions
@@ -57,12 +57,12 @@ counted_in d w n noted unnoted = record {
 }
 
 -- how many of the calls in some nodes have the id
-abbrev pub due : Document → List ℕ → Before → Forest → ℕ
+abbrev pub due : Document → List ℕ → Stood → Forest → ℕ
 due d w before forest = occurs w (ids_after d.given.options before.calls (calls_of d.given.bytes forest))
 
 -- what some nodes print has the id so often, a heading that waits after them so often, and their footnotes so often:
 -- together at most so often as the heading that waits before them, and as their calls
-pub record Spent (d : Document) (w : List ℕ) (around : Surroundings) (before : Before) (waits : Bool) (m : ℕ)
+pub record Spent (d : Document) (w : List ℕ) (around : Surroundings) (before : Stood) (waits : Bool) (m : ℕ)
     (forest : Forest) : Type 0 where
   pub body : ℕ
   pub left : ℕ
@@ -74,7 +74,7 @@ pub record Spent (d : Document) (w : List ℕ) (around : Surroundings) (before :
 
 -- the same of one node
 pub record NodeSpent (d : Document) (w : List ℕ) (waits : Bool) (m : ℕ) (later_waits : Bool) (cost : ℕ)
-    (pieces : List Piece) (footnotes : List Footnote) : Type 0 where
+    (pieces : List Stroke) (footnotes : List Footnote) : Type 0 where
   pub body : ℕ
   pub left : ℕ
   pub notes : ℕ
@@ -85,13 +85,13 @@ pub record NodeSpent (d : Document) (w : List ℕ) (waits : Bool) (m : ℕ) (lat
 -- where a node is
 pub record Place : Type 0 where
   pub around : Surroundings
-  pub before : Before
+  pub before : Stood
   pub start : Point
   pub end : Point
   pub children : Forest
   pub rest : Forest
 
-abbrev pub place_of : Surroundings → Before → Point → Point → Forest → Forest → Place
+abbrev pub place_of : Surroundings → Stood → Point → Point → Forest → Forest → Place
 place_of around before start end children rest = record {
   around = around;
   before = before;
@@ -107,15 +107,15 @@ spot_at d t name = spot_of d.given t.around t.before t.start t.end name t.childr
 abbrev pub inner_around : Document → Place → Name → Surroundings
 inner_around d t name = inside d.given.options (is_loose t.children) name t.around
 
-abbrev pub inner_at : Document → Place → Name → List Piece
-inner_at d t name = printed d.given (inner_around d t name) (before_children name t.children t.before) t.children
+abbrev pub inner_at : Document → Place → Name → List Stroke
+inner_at d t name = printed d.given (inner_around d t name) (stood_inside name t.children t.before) t.children
 
-abbrev pub pieces_at : Document → Place → Name → List Piece
+abbrev pub pieces_at : Document → Place → Name → List Stroke
 pieces_at d t name = node_pieces (counted_in d [] 0 (λ _. Unit {0}) tt) (spot_at d t name) name (inner_at d t name)
 
 abbrev pub inner_notes : Document → Place → Name → List Footnote
 inner_notes d t name =
-    footnotes_of d.given (inner_around d t name) (before_children name t.children t.before) t.children
+    footnotes_of d.given (inner_around d t name) (stood_inside name t.children t.before) t.children
 
 abbrev pub footnote_at : Document → Place → Name → Footnote
 footnote_at d t name = record {
@@ -138,11 +138,11 @@ cost_at d w t name = due d w t.before (Node name t.start t.end t.children Empty)
 -- the children, where blocks stand in the node
 abbrev pub Below : Document → List ℕ → Place → Name → Bool → ℕ → Type 0
 Below d w t name waits m =
-    Spent d w (inner_around d t name) (before_children name t.children t.before) waits m t.children
+    Spent d w (inner_around d t name) (stood_inside name t.children t.before) waits m t.children
 
 -- what a node costs is what its children do, and it itself where it is a call
 pub cost-parts : (d : Document) (w : List ℕ) (t : Place) (name : Name) →
-    cost_at d w t name ≡ due d w (before_children name t.children t.before) t.children
+    cost_at d w t name ≡ due d w (stood_inside name t.children t.before) t.children
     + occurs w (ids_after d.given.options (t.before.calls ++ calls_of d.given.bytes t.children)
     (cond (is_call name) (identifier_at d.given.bytes (ahead_of t.children).label ∷ []) [] ++ []))
 cost-parts d w t name =
@@ -153,7 +153,7 @@ cost-parts d w t name =
     (ids_after d.given.options (t.before.calls ++ calls_of d.given.bytes t.children) own)
 
 cost-least : (d : Document) (w : List ℕ) (t : Place) (name : Name) →
-    due d w (before_children name t.children t.before) t.children ≤ cost_at d w t name
+    due d w (stood_inside name t.children t.before) t.children ≤ cost_at d w t name
 cost-least d w t name = omega (cost-parts d w t name, arith)
 
 -- nothing of no text
@@ -165,7 +165,7 @@ through-same : (d : Document) (w : List ℕ) (t : Place) (name : Name) (waits : 
     pieces_at d t name ≡ inner_at d t name ++ [] → is_footnote_definition name ≡ false → Below d w t name waits m →
     NodeSpent d w waits m (waits_after waits t.children) (cost_at d w t name) (pieces_at d t name) (noted_at d t name)
 through-same d w t name waits m is none b =
-    let inner : List Piece = inner_at d t name in
+    let inner : List Stroke = inner_at d t name in
     record {
       body = b.body;
       left = b.left;
@@ -279,26 +279,26 @@ none_here content GfmFootnoteDefinition stands other = lie (differ other (no_def
 none_here content _ stands other = refl
 
 -- no footnote is defined but among blocks
-no_footnotes : (d : Document) (content : Content) (forest : Forest) (around : Surroundings) (before : Before) →
+no_footnotes : (d : Document) (content : Content) (forest : Forest) (around : Surroundings) (before : Stood) →
     is_blocks content ≡ false → IsBuilt d.given.bytes content forest → footnotes_of d.given around before forest ≡ []
 no_footnotes d content Empty around before other built = refl
 no_footnotes d content (Node name start end children rest) around before other built =
     let below : List Footnote = footnotes_of d.given (inside d.given.options (is_loose children) name around)
-    (before_children name children before) children in
+    (stood_inside name children before) children in
     let own : Footnote = record {
       identifier = identifier_at d.given.bytes (ahead_of children).footnote;
       text = (lay d.given.ending blank (printed d.given (inside d.given.options (is_loose children) name around)
-          (before_children name children before) children)).text;
+          (stood_inside name children before) children)).text;
     } in
     let after : List Footnote =
-    footnotes_of d.given around (before_next d.given around name start end children before) rest in
+    footnotes_of d.given around (stood_after d.given around name start end children before) rest in
     ap (λ fs. fs ++ (cond (is_footnote_definition name) (own ∷ []) [] ++ after))
     (no_footnotes d (content_inside content name) children (inside d.given.options (is_loose children) name around)
-    (before_children name children before)
+    (stood_inside name children before)
     (isn't (is_blocks (content_inside content name)) (λ h. differ other (inside-blocks content name h))) built.2)
     ∙ ap (λ b. cond b (own ∷ []) [] ++ after) (none_here content name built.0 other)
     ∙ no_footnotes d (content_after_node content name children) rest around
-    (before_next d.given around name start end children before)
+    (stood_after d.given around name start end children before)
     (isn't (is_blocks (content_after_node content name children))
     (asked-after-node (false ≡ true) content name children (λ h. differ other h))) built.3
 
@@ -324,7 +324,7 @@ around-others d w t name waits m stands other none blocks =
           (keeps_wait w m name (or_parts (is_setext name) (is_call name) other).0 waits) (λ x h. h) printed_so;
       texts = subst (TextsCount w 0) (sym (noted-inside d t name none
           ∙ no_footnotes d (content_of name Blocks) t.children (inner_around d t name)
-          (before_children name t.children t.before) blocks
+          (stood_inside name t.children t.before) blocks
           (subst (λ b. IsBuilt d.given.bytes (cond b Blocks (content_of name Blocks)) t.children) stands.solid
           stands.built.2))) tt;
       few = omega arith;
@@ -388,19 +388,19 @@ seen_through name names = by (is_transparent name)
     by false h = absurd (cc h)
 
 -- nothing is printed by what is looked through
-nothing_printed : (d : Document) (forest : Forest) (around : Surroundings) (before : Before) →
+nothing_printed : (d : Document) (forest : Forest) (around : Surroundings) (before : Stood) →
     spine_names forest ≡ [] → printed d.given around before forest ≡ []
 nothing_printed d Empty around before h = refl
 nothing_printed d (Node name start end children rest) around before h =
     let parts = both_none (cond (is_transparent name) (spine_names children) (name ∷ [])) (spine_names rest) h in
     let seen = seen_through name (spine_names children) parts.0 in
     let t : Place = place_of around before start end children rest in
-    let after : List Piece =
-    printed d.given around (before_next d.given around name start end children before) rest in
+    let after : List Stroke =
+    printed d.given around (stood_after d.given around name start end children before) rest in
     ap (λ ps. ps ++ after) (through_pieces d t name seen.0
     ∙ ap (λ ps. ps ++ []) (nothing_printed d children (inner_around d t name)
-    (before_children name children before) seen.1))
-    ∙ nothing_printed d rest around (before_next d.given around name start end children before) parts.1
+    (stood_inside name children before) seen.1))
+    ∙ nothing_printed d rest around (stood_after d.given around name start end children before) parts.1
 
 -- the underline of a heading, which prints the text that waits
 underline : (d : Document) (w : List ℕ) (t : Place) (m : ℕ) → spine_names t.children ≡ [] →
@@ -415,7 +415,7 @@ underline d w t m none b =
     (setext-fits d.given.bytes (is_dash_at d.given.bytes t.start.index)) in
     let empty : inner_at d t HeadingSetextUnderlineSequence ≡ [] =
     nothing_printed d t.children (inner_around d t HeadingSetextUnderlineSequence)
-    (before_children HeadingSetextUnderlineSequence t.children t.before) none in
+    (stood_inside HeadingSetextUnderlineSequence t.children t.before) none in
     record {
       body = m;
       left = 0;
@@ -436,10 +436,10 @@ call d w t waits m b =
     let called : List Called = tally (t.before.calls ++ calls_of d.given.bytes t.children) in
     let number : ℕ = number_among called identifier in
     let occurrence : ℕ = suc (count_among called identifier) in
-    let id : List ℕ = call_id d.given.options identifier number occurrence in
+    let id : List ℕ = id_of_call d.given.options identifier number occurrence in
     let hit : ℕ = occurs w (read_back id ∷ []) in
     let s : Setting = counted_in d w hit (λ _. Unit {0}) tt in
-    let tags : List Piece = call_tags d.given.options identifier number occurrence in
+    let tags : List Stroke = call_tags d.given.options identifier number occurrence in
     let printed_so : Prints s (Counts w hit) tags =
     adds-flat s.p d.given.ending (Counts w hit) tags refl
     (counts-call w (footnote_id d.given.options identifier number) id (decimal number)

@@ -10,7 +10,7 @@ use Rattle.md_text.proofs.HtmlIds.{occurs, occurs-append, Counts, counts-more, c
 use Rattle.md_meaning.specs.Piece.{blank, lay}
 use Rattle.md_meaning.specs.Surroundings.{outermost}
 use Rattle.md_meaning.specs.Calls.{Called, tally, distinct, count_of}
-use Rattle.md_meaning.specs.Places.{nothing_before, calls_of}
+use Rattle.md_meaning.specs.Places.{nothing_stood, calls_of}
 use Rattle.md_meaning.specs.Footnotes.{Footnote, footnote_id, heading_label_of, footnote_text, items_pieces, item_pieces, section_pieces}
 use Rattle.md_meaning.specs.Printed.{printed, footnotes_of}
 use Rattle.md_shape.specs.Built.{Blocks, IsBuilt}
@@ -179,14 +179,14 @@ identifiers-called calls = by (count_of calls) (distinct calls)
 pub document-counted : (d : Document) (w : List ℕ) (document : Forest) → KeepsGrammar d.given.options →
     d.given.options.gfm_footnote_number_ids ≡ true → IsBuilt d.given.bytes Blocks document →
     IsUnderlined false document → length (calls_of d.given.bytes document) + 2 < 2 ^ 64
-    → Counts w 1 (lay d.given.ending blank (printed d.given outermost nothing_before document
-    ++ section_pieces d.given.options (footnotes_of d.given outermost nothing_before document)
+    → Counts w 1 (lay d.given.ending blank (printed d.given outermost nothing_stood document
+    ++ section_pieces d.given.options (footnotes_of d.given outermost nothing_stood document)
     (tally (calls_of d.given.bytes document)))).text
 document-counted d w document keeps on built underlined small =
     let calls : List (List ℕ) = calls_of d.given.bytes document in
-    let footnotes : List Footnote = footnotes_of d.given outermost nothing_before document in
-    let b : Spent d w outermost nothing_before false 0 document =
-    spent d w document outermost nothing_before false 0
+    let footnotes : List Footnote = footnotes_of d.given outermost nothing_stood document in
+    let b : Spent d w outermost nothing_stood false 0 document =
+    spent d w document outermost nothing_stood false 0
     (record { built = built; escaping = refl; underlined = underlined }) in
     let rest : ℕ = occurs w label_id + (occurs w (note_ids d.given.options 1 (tally calls)) + b.notes) in
     let section : Prints (plain_setting d w 0) (Counts w rest)
@@ -195,16 +195,16 @@ document-counted d w document keeps on built underlined small =
     (subst (TextsFor w b.notes footnotes) (sym (identifiers-called calls))
     (texts-for w b.notes footnotes (distinct calls) (distinct-apart calls) b.texts)) in
     let all : Steps d.given.ending (λ _. Unit {0}) (λ _. Unit {0}) (Counts w (b.body + rest))
-    (printed d.given outermost nothing_before document ++ section_pieces d.given.options footnotes (tally calls)) =
+    (printed d.given outermost nothing_stood document ++ section_pieces d.given.options footnotes (tally calls)) =
     steps-append d.given.ending (λ _. Unit {0}) (λ _. Unit {0}) (λ _. Unit {0}) (Counts w b.body) (Counts w rest)
-    (Counts w (b.body + rest)) (printed d.given outermost nothing_before document)
+    (Counts w (b.body + rest)) (printed d.given outermost nothing_stood document)
     (section_pieces d.given.options footnotes (tally calls)) (counts-join w b.body rest)
     (steps-weaker d.given.ending (λ _. Unit {0}) (λ _. Unit {0}) (Waiting w (waits_after false document) b.left)
-    (λ _. Unit {0}) (Counts w b.body) (Counts w b.body) (printed d.given outermost nothing_before document) (λ x h. h)
+    (λ _. Unit {0}) (Counts w b.body) (Counts w b.body) (printed d.given outermost nothing_stood document) (λ x h. h)
     (λ x h. tt) (λ x h. h) b.prints) section in
-    counts-more w (b.body + rest) 1 (lay d.given.ending blank (printed d.given outermost nothing_before document
+    counts-more w (b.body + rest) 1 (lay d.given.ending blank (printed d.given outermost nothing_stood document
     ++ section_pieces d.given.options footnotes (tally calls))).text
     (omega (b.few, document-once d.given.options on w calls small, arith))
     (adds-blank (plain_setting d w 0).p d.given.ending (Counts w (b.body + rest))
-    (printed d.given outermost nothing_before document
+    (printed d.given outermost nothing_stood document
     ++ section_pieces d.given.options footnotes (tally calls)) all).0

@@ -16,7 +16,7 @@ use Rattle.md_text.proofs.HtmlSplit.{split}
 use Rattle.md_text.proofs.HtmlIds.{occurs}
 use Rattle.md_text.specs.declared.options.CompileOptions.{CompileOptions}
 use Rattle.md_meaning.specs.Calls.{Called, distinct, count_of, tally, number_among, count_among}
-use Rattle.md_meaning.specs.Footnotes.{prefix_of, id_of, numbered_id_of, occurrence_suffix, footnote_id, call_id}
+use Rattle.md_meaning.specs.Footnotes.{prefix_of, id_by_name, numbered_id_of, occurrence_suffix, footnote_id, id_of_call}
 use Rattle.md_meaning.specs.Meaning.Footnotes.{place_among}
 use Rattle.md_shape.specs.Built.{is_digit}
 use Rattle.md_meaning.proofs.Identifiers.{is_in, same, itself, is_in-distinct}
@@ -127,18 +127,18 @@ call_tail number occurrence = codes "fnref-" ++ (decimal number ++ (45 ∷ decim
 note-back : (options : CompileOptions) → options.gfm_footnote_number_ids ≡ true → (identifier : List ℕ) (number : ℕ) →
     read_back (footnote_id options identifier number) ≡ back_prefix options ++ note_tail number
 note-back options on identifier number =
-    ap (λ b. read_back (cond b (numbered_id_of options (codes "fn-") number) (id_of options (codes "fn-") identifier)))
+    ap (λ b. read_back (cond b (numbered_id_of options (codes "fn-") number) (id_by_name options (codes "fn-") identifier)))
     on
     ∙ prefix-back options (note_tail number)
     ∙ ap (λ x. back_prefix options ++ x) (plain-back (note_tail number) (digits-no_and (decimal number)
     (decimal-digits number)))
 
 call-back : (options : CompileOptions) → options.gfm_footnote_number_ids ≡ true → (identifier : List ℕ)
-    (number occurrence : ℕ) → read_back (call_id options identifier number occurrence)
+    (number occurrence : ℕ) → read_back (id_of_call options identifier number occurrence)
     ≡ back_prefix options ++ call_tail number occurrence
 call-back options on identifier number occurrence =
     ap (λ b. read_back (cond b (numbered_id_of options (codes "fnref-") number ++ (45 ∷ decimal occurrence))
-    (id_of options (codes "fnref-") identifier ++ occurrence_suffix occurrence))) on
+    (id_by_name options (codes "fnref-") identifier ++ occurrence_suffix occurrence))) on
     ∙ ap read_back (append_assoc (prefix_of options) (codes "fnref-" ++ decimal number) (45 ∷ decimal occurrence))
     ∙ prefix-back options (call_tail number occurrence)
     ∙ ap (λ x. back_prefix options ++ x) (plain-back (call_tail number occurrence)

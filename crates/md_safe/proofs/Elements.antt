@@ -8,11 +8,11 @@ use Rattle.md_base.specs.declared.event.Position.{Position}
 use Rattle.md_text.specs.Html.{opening_tag, closing_tag, is_tag, elements}
 use Rattle.md_text.proofs.HtmlJoin.{text, join}
 use Rattle.md_text.specs.declared.options.CompileOptions.{CompileOptions}
-use Rattle.md_meaning.specs.Piece.{Piece, Text, Needed, Recalled}
+use Rattle.md_meaning.specs.Piece.{Stroke, Text, Needed, Recalled}
 use Rattle.md_meaning.specs.Given.{text_of}
-use Rattle.md_meaning.specs.Places.{without_zeros}
-use Rattle.md_meaning.specs.Blocks.{on_own_line, start_pieces, heading_name, heading_opening, heading_closing, code_end}
-use Rattle.md_meaning.specs.Texts.{said}
+use Rattle.md_meaning.specs.Places.{unpadded}
+use Rattle.md_meaning.specs.Blocks.{on_new_line, start_pieces, heading_name, heading_opening, heading_closing, code_closing}
+use Rattle.md_meaning.specs.Texts.{saying}
 use Rattle.md_shape.specs.Built.{is_digit}
 use Rattle.md_safe.proofs.Texts.{Escaped, zeros-escaped}
 use Rattle.md_safe.proofs.Claim.{Claim}
@@ -23,7 +23,7 @@ pub bracket-plain : (p : Claim) (name : List ℕ) → is_tag elements name [] �
     Bracket p (opening_tag name []) (closing_tag name)
 bracket-plain p name h = bracket-tag p name [] h refl
 
-pub bracket-code : (p : Claim) → Bracket p (codes "<pre><code>") code_end
+pub bracket-code : (p : Claim) → Bracket p (codes "<pre><code>") code_closing
 bracket-code p = bracket-two p (codes "<pre>") (codes "</pre>") (codes "<code>") (codes "</code>")
     (bracket-plain p (codes "pre") refl) (bracket-plain p (codes "code") refl)
 
@@ -50,7 +50,7 @@ adds-setext p ending recalls h rank fits =
     (framed-text p ending (heading_closing rank))
 
 -- some texts after pieces that add an escaped one
-pub adds-framed_flat : (p : Claim) (ending : List ℕ) (xs zs : List Piece) → are_texts zs ≡ true →
+pub adds-framed_flat : (p : Claim) (ending : List ℕ) (xs zs : List Stroke) → are_texts zs ≡ true →
     Adds p ending Escaped xs → Adds p ending (IsFramed (flat zs)) (xs ++ zs)
 adds-framed_flat p ending xs zs texts a =
     adds-append p ending Escaped (λ w. w ≡ flat zs) (IsFramed (flat zs)) xs zs
@@ -65,7 +65,7 @@ adds-framed_flat p ending xs zs texts a =
     a (adds-flat p ending (λ w. w ≡ flat zs) zs texts refl)
 
 -- the opening of a list, between pieces
-pub record IsOpening (p : Claim) (ending : List ℕ) (close : List ℕ) (pieces : List Piece) : Type 0 where
+pub record IsOpening (p : Claim) (ending : List ℕ) (close : List ℕ) (pieces : List Stroke) : Type 0 where
   pub open_tag : List ℕ
   pub adds : Adds p ending (IsFramed open_tag) pieces
   pub bracket : Bracket p open_tag close
@@ -103,16 +103,16 @@ without_start p ending h =
 pub ordered-opening : (p : Claim) (ending : List ℕ) → Escaped ending → (options : CompileOptions) →
     IsTest p.test options → (bytes : List ℕ) (number : Option Position)
     → option_map_or (λ place. list_all is_digit (text_of bytes place.start place.end)) number true ≡ true
-    → IsOpening p ending (codes "</ol>") (on_own_line (codes "<ol") ++ (start_pieces bytes number ++ said (codes ">")))
+    → IsOpening p ending (codes "</ol>") (on_new_line (codes "<ol") ++ (start_pieces bytes number ++ saying (codes ">")))
 ordered-opening p ending h options test bytes None fits = without_start p ending h
 ordered-opening p ending h options test bytes (Some place) fits =
-    by (bytes_eq (without_zeros (text_of bytes place.start place.end)) (codes "1"))
+    by (bytes_eq (unpadded (text_of bytes place.start place.end)) (codes "1"))
   where
-    by : (one : Bool) → IsOpening p ending (codes "</ol>") (on_own_line (codes "<ol")
-        ++ ((cond one [] (Text (codes " start=\"") ∷ Text (without_zeros (text_of bytes place.start place.end))
-        ∷ Text (codes "\"") ∷ [])) ++ said (codes ">")))
+    by : (one : Bool) → IsOpening p ending (codes "</ol>") (on_new_line (codes "<ol")
+        ++ ((cond one [] (Text (codes " start=\"") ∷ Text (unpadded (text_of bytes place.start place.end))
+        ∷ Text (codes "\"") ∷ [])) ++ saying (codes ">")))
     by true = without_start p ending h
-    by false = with_start p ending h options test (without_zeros (text_of bytes place.start place.end))
+    by false = with_start p ending h options test (unpadded (text_of bytes place.start place.end))
         (zeros-escaped (text_of bytes place.start place.end) fits)
 
 -- code in a text
@@ -175,24 +175,24 @@ task-read p options test checkable x done =
 
 -- a task outside images
 pub adds-task : (p : Claim) (ending : List ℕ) (options : CompileOptions) → IsTest p.test options →
-    (checkable in_image : Bool) (inner : List Piece) → Adds p ending (IsDone in_image) inner
+    (checkable in_image : Bool) (inner : List Stroke) → Adds p ending (IsDone in_image) inner
     → Adds p ending p.holds ((Text (codes "<input type=\"checkbox\" ")
-    ∷ (cond checkable [] (said (codes "disabled=\"\" ")))) ++ (inner ++ said (codes "/>")))
+    ∷ (cond checkable [] (saying (codes "disabled=\"\" ")))) ++ (inner ++ saying (codes "/>")))
 adds-task p ending options test checkable in_image inner a =
     adds-append p ending (λ x. x ≡ task_tag checkable) (λ w. (x : List ℕ) × (w ≡ x ++ codes "/>")
     × ((x ≡ []) ⊎ (x ≡ codes "checked=\"\" "))) p.holds
-    (Text (codes "<input type=\"checkbox\" ") ∷ (cond checkable [] (said (codes "disabled=\"\" ")))) (inner
-    ++ said (codes "/>"))
+    (Text (codes "<input type=\"checkbox\" ") ∷ (cond checkable [] (saying (codes "disabled=\"\" ")))) (inner
+    ++ saying (codes "/>"))
     (λ x w f g. subst p.holds (ap (λ w. task_tag checkable ++ w) (sym g.1)
     ∙ ap (λ x. x ++ w) (sym f)) (task-read p options test checkable g.0 g.2))
     (first checkable)
     (adds-append p ending (IsDone in_image) (λ x. x ≡ codes "/>") (λ w. (x : List ℕ) × (w ≡ x ++ codes "/>")
-    × ((x ≡ []) ⊎ (x ≡ codes "checked=\"\" "))) inner (said (codes "/>"))
+    × ((x ≡ []) ⊎ (x ≡ codes "checked=\"\" "))) inner (saying (codes "/>"))
     (λ x y f g. (x, ap (λ y. x ++ y) g, elim f [ inl e ↦ inl e | inr e ↦ inr e.1 ]))
-    a (adds-flat p ending (λ x. x ≡ codes "/>") (said (codes "/>")) refl refl))
+    a (adds-flat p ending (λ x. x ≡ codes "/>") (saying (codes "/>")) refl refl))
   where
     first : (checkable : Bool) → Adds p ending (λ x. x ≡ task_tag checkable) (Text (codes "<input type=\"checkbox\" ")
-        ∷ (cond checkable [] (said (codes "disabled=\"\" "))))
+        ∷ (cond checkable [] (saying (codes "disabled=\"\" "))))
     first true = adds-flat p ending (λ x. x ≡ task_tag true) (Text (codes "<input type=\"checkbox\" ") ∷ []) refl refl
     first false = adds-flat p ending (λ x. x ≡ task_tag false) (Text (codes "<input type=\"checkbox\" ")
         ∷ Text (codes "disabled=\"\" ") ∷ []) refl refl
@@ -202,7 +202,7 @@ pub record IsRaw (p : Claim) (tag x : List ℕ) : Type 0 where
   pub attributes : List ℕ
   pub body : List ℕ
   pub whole : x ≡ attributes ++ (62 ∷ body)
-  pub bracket : Bracket p (tag ++ (attributes ++ (62 ∷ []))) code_end
+  pub bracket : Bracket p (tag ++ (attributes ++ (62 ∷ []))) code_closing
   pub escaped : Escaped body
 
 raw_regrouped : (e tag w y g c h : List ℕ) → e ++ (((tag ++ (w ++ (62 ∷ []))) ++ ((y ++ g) ++ c)) ++ h) ≡ (e ++ tag)
@@ -213,38 +213,38 @@ raw_regrouped e tag w y g c h = simp append_assoc
 abbrev pub IsBegun : List ℕ → List ℕ → Type 0
 IsBegun tag x = (e : List ℕ) × (x ≡ e ++ tag) × Escaped e
 
-raw-enclosed : (p : Claim) (tag x y z : List ℕ) → IsBegun tag x → IsRaw p tag y → IsFramed code_end z →
+raw-enclosed : (p : Claim) (tag x y z : List ℕ) → IsBegun tag x → IsRaw p tag y → IsFramed code_closing z →
     p.holds (x ++ (y ++ z))
 raw-enclosed p tag x y z a r c =
     let inside : p.holds (r.body ++ c.before) =
     p.plain (r.body ++ c.before) (join p.test r.body c.before (text p.test r.body r.escaped)
     (text p.test c.before c.escaped_before)) in
-    let all : p.holds (a.0 ++ (((tag ++ (r.attributes ++ (62 ∷ []))) ++ ((r.body ++ c.before) ++ code_end))
+    let all : p.holds (a.0 ++ (((tag ++ (r.attributes ++ (62 ∷ []))) ++ ((r.body ++ c.before) ++ code_closing))
     ++ c.after)) =
-    p.before a.0 (((tag ++ (r.attributes ++ (62 ∷ []))) ++ ((r.body ++ c.before) ++ code_end))
+    p.before a.0 (((tag ++ (r.attributes ++ (62 ∷ []))) ++ ((r.body ++ c.before) ++ code_closing))
     ++ c.after) (text p.test a.0 a.2)
-    (p.after ((tag ++ (r.attributes ++ (62 ∷ []))) ++ ((r.body ++ c.before) ++ code_end)) c.after
+    (p.after ((tag ++ (r.attributes ++ (62 ∷ []))) ++ ((r.body ++ c.before) ++ code_closing)) c.after
     (r.bracket (r.body ++ c.before) inside) (text p.test c.after c.escaped_after)) in
     let parts : p.holds ((a.0 ++ tag) ++ ((r.attributes ++ (62 ∷ r.body))
-    ++ (c.before ++ (code_end ++ c.after)))) =
-    subst p.holds (raw_regrouped a.0 tag r.attributes r.body c.before code_end c.after) all in
+    ++ (c.before ++ (code_closing ++ c.after)))) =
+    subst p.holds (raw_regrouped a.0 tag r.attributes r.body c.before code_closing c.after) all in
     subst (λ x. p.holds (x ++ (y ++ z))) (sym a.1)
     (subst (λ y. p.holds ((a.0 ++ tag) ++ (y ++ z))) (sym r.whole)
     (subst (λ z. p.holds ((a.0 ++ tag) ++ ((r.attributes ++ (62 ∷ r.body)) ++ z))) (sym c.whole) parts))
 
 -- fenced code or math
-pub adds-raw : (p : Claim) (ending : List ℕ) → Escaped ending → (tag : List ℕ) (inner end : List Piece) →
-    Adds p ending (IsRaw p tag) inner → Adds p ending (IsFramed code_end) end
+pub adds-raw : (p : Claim) (ending : List ℕ) → Escaped ending → (tag : List ℕ) (inner end : List Stroke) →
+    Adds p ending (IsRaw p tag) inner → Adds p ending (IsFramed code_closing) end
     → Adds p ending p.holds ((Needed ∷ Text tag ∷ []) ++ (inner ++ end))
 adds-raw p ending h tag inner end a b =
     adds-append p ending (IsBegun tag) (λ w. (y : List ℕ) × (z : List ℕ) × (w ≡ y ++ z) × IsRaw p tag y
-    × IsFramed code_end z) p.holds (Needed ∷ Text tag ∷ []) (inner ++ end)
+    × IsFramed code_closing z) p.holds (Needed ∷ Text tag ∷ []) (inner ++ end)
     (λ x w f g. subst (λ w. p.holds (x ++ w)) (sym g.2) (raw-enclosed p tag x g.0 g.1 f g.3 g.4))
     (adds-append p ending Escaped (λ x. x ≡ tag) (IsBegun tag) (Needed ∷ []) (Text tag
     ∷ []) (λ x y f g. (x, ap (λ y. x ++ y) g, f)) (adds-needed p ending h)
     (adds-flat p ending (λ x. x ≡ tag) (Text tag ∷ []) refl (append-nil tag)))
-    (adds-append p ending (IsRaw p tag) (IsFramed code_end) (λ w. (y : List ℕ) × (z : List ℕ) × (w ≡ y ++ z)
-    × IsRaw p tag y × IsFramed code_end z) inner end (λ y z f g. (y, z, refl, f, g)) a b)
+    (adds-append p ending (IsRaw p tag) (IsFramed code_closing) (λ w. (y : List ℕ) × (z : List ℕ) × (w ≡ y ++ z)
+    × IsRaw p tag y × IsFramed code_closing z) inner end (λ y z f g. (y, z, refl, f, g)) a b)
 
 -- the tags of fenced code, without the end of the second one, and of math
 abbrev pub code_tag : List ℕ
@@ -255,7 +255,7 @@ math_tag = codes "<pre><code class=\"language-math math-display\""
 
 -- what may stand in the tag of fenced code
 abbrev pub IsInCode : Claim → List ℕ → Type 0
-IsInCode p x = Bracket p (code_tag ++ (x ++ (62 ∷ []))) code_end
+IsInCode p x = Bracket p (code_tag ++ (x ++ (62 ∷ []))) code_closing
 
 pub bare-in_code : (p : Claim) → IsInCode p []
 bare-in_code p = bracket-code p
@@ -272,7 +272,7 @@ info_regrouped v = simp append_assoc
 pub info-in_code : (p : Claim) (options : CompileOptions) → IsTest p.test options → (v : List ℕ) → Escaped v →
     IsInCode p (codes " class=\"language-" ++ (v ++ codes "\""))
 info-in_code p options test v h =
-    subst (λ o. Bracket p o code_end) (info_regrouped v)
+    subst (λ o. Bracket p o code_closing) (info_regrouped v)
     (bracket-two p (codes "<pre>") (codes "</pre>") (opening_tag (codes "code")
     (attribute (codes "class") (codes "language-" ++ v) ∷ [])) (codes "</code>")
     (bracket-plain p (codes "pre") refl)

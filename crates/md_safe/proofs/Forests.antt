@@ -12,9 +12,9 @@ use Rattle.md_base.specs.Children.{is_empty}
 use Rattle.md_infer.specs.Looseness.{is_loose}
 use Rattle.md_text.specs.declared.options.CompileOptions.{CompileOptions}
 use Rattle.md_meaning.specs.declared.context.Surroundings.{Surroundings}
-use Rattle.md_meaning.specs.Piece.{Piece, blank, lay, Sheet}
-use Rattle.md_meaning.specs.Given.{Given, Defined}
-use Rattle.md_meaning.specs.Places.{Before, before_children, before_next, left_of, passed_over, ahead_of, identifier_at}
+use Rattle.md_meaning.specs.Piece.{Stroke, blank, lay, Sheet}
+use Rattle.md_meaning.specs.Given.{Supply, Defined}
+use Rattle.md_meaning.specs.Places.{Stood, stood_inside, stood_after, left_of, passed_over, ahead_of, identifier_at}
 use Rattle.md_meaning.specs.Surroundings.{inside, spine_inside}
 use Rattle.md_meaning.specs.Footnotes.{Footnote}
 use Rattle.md_meaning.specs.Printed.{printed, definitions_of, footnotes_of}
@@ -59,7 +59,7 @@ children-follow content name names stands f = by (is_transparent name) refl
     by false e = follows-inside content name (second (is_transparent name) (may_stand content name) e stands)
 
 -- a node where it stands
-abbrev pub spot_of : Given → Surroundings → Before → Point → Point → Name → Forest → Forest → Spot
+abbrev pub spot_of : Supply → Surroundings → Stood → Point → Point → Name → Forest → Forest → Spot
 spot_of given around before start end name children rest = record {
   around = around;
   left = left_of given.bytes before children;
@@ -71,26 +71,26 @@ spot_of given around before start end name children rest = record {
 }
 
 -- nodes print what may stand where they are, before what is printed after them
-pub forest-prints : (s : Setting) (forest : Forest) (around : Surroundings) (before : Before) (content : Content) →
+pub forest-prints : (s : Setting) (forest : Forest) (around : Surroundings) (before : Stood) (content : Content) →
     IsBuilt s.given.bytes content forest → Suits around.is_escaping around.in_image content →
     Follows content before.spine → (is_blocks content ≡ true → IsWhole s.p)
-    → (later : List Piece) → Prints s (Holds s.p around.is_escaping around.in_image (content_after content forest))
+    → (later : List Stroke) → Prints s (Holds s.p around.is_escaping around.in_image (content_after content forest))
     later → Prints s (Holds s.p around.is_escaping around.in_image content) (printed s.given around before forest
     ++ later)
 forest-prints s Empty around before content built suits f whole later h = h
 forest-prints s (Node name start end children rest) around before content built suits f whole later h =
     let t : Spot = spot_of s.given around before start end name children rest in
     let around' : Surroundings = inside s.given.options (is_loose children) name around in
-    let inner : List Piece = printed s.given around' (before_children name children before) children in
-    let others : List Piece = printed s.given around (before_next s.given around name start end children before) rest in
+    let inner : List Stroke = printed s.given around' (stood_inside name children before) children in
+    let others : List Stroke = printed s.given around (stood_after s.given around name start end children before) rest in
     subst (Prints s (Holds s.p around.is_escaping around.in_image content))
     (sym (append_assoc (node_pieces s t name inner) others later))
     (any-node s t content name before.spine refl built.0 built.1 suits f whole inner (others ++ later) built.2
     (λ pieces g.
-    forest-prints s children around' (before_children name children before) (content_inside content name) built.2
+    forest-prints s children around' (stood_inside name children before) (content_inside content name) built.2
     (children-suit s.given.options s.test.html (is_loose children) around content name built.0 suits)
     (children-follow content name before.spine built.0 f) (λ h. whole (inside-blocks content name h)) pieces g)
-    (forest-prints s rest around (before_next s.given around name start end children before)
+    (forest-prints s rest around (stood_after s.given around name start end children before)
     (content_after_node content name children) built.3
     (suits-after-node around.is_escaping around.in_image content name children suits)
     (follows-after-node s.given.bytes content name before.spine children built.0 built.2 f)
@@ -98,13 +98,13 @@ forest-prints s (Node name start end children rest) around before content built 
 
 -- the children of a node that isn't transparent print what may stand in it
 pub children-print : (s : Setting) (name : Name) (start end : Point) (children rest : Forest) (around : Surroundings)
-    (before : Before) (content : Content) → is_transparent name ≡ false →
+    (before : Stood) (content : Content) → is_transparent name ≡ false →
     IsBuilt s.given.bytes content (Node name start end children rest)
     → Suits around.is_escaping around.in_image content → Follows content before.spine
     → (is_blocks (content_of name content) ≡ true → IsWhole s.p)
     → Inside s (spot_of s.given around before start end name children rest) content name
     (printed s.given (inside s.given.options (is_loose children) name around)
-    (before_children name children before) children)
+    (stood_inside name children before) children)
 children-print s name start end children rest around before content solid built suits f whole =
     let t : Spot = spot_of s.given around before start end name children rest in
     let around' : Surroundings = inside s.given.options (is_loose children) name around in
@@ -114,24 +114,24 @@ children-print s name start end children rest around before content solid built 
     let within : IsBuilt s.given.bytes (content_of name content) children =
     subst (λ c. IsBuilt s.given.bytes c children) same built.2 in
     inside-alone s t content name may built.1 within (printed s.given around'
-    (before_children name children before) children)
+    (stood_inside name children before) children)
     (λ pieces g.
-    forest-prints s children around' (before_children name children before) (content_of name content) within
+    forest-prints s children around' (stood_inside name children before) (content_of name content) within
     (suits-inside s.given.options s.test.html (is_loose children) around content name may suits)
     (subst (λ n. Follows (content_of name content) n) (sym (ap (λ b. cond b before.spine []) solid))
     (follows-inside content name may)) whole pieces g)
 
 -- the title of a definition that is one of the nodes
 defined-here : (s : Setting) (name : Name) (start end : Point) (children rest : Forest) (around : Surroundings)
-    (before : Before) (content : Content) → IsBuilt s.given.bytes content (Node name start end children rest)
+    (before : Stood) (content : Content) → IsBuilt s.given.bytes content (Node name start end children rest)
     → Suits around.is_escaping around.in_image content → Follows content before.spine
     → (is_blocks content ≡ true → IsWhole s.p) → is_link_definition name ≡ true
     → IsEscapedTitle (lay s.given.ending blank (printed s.given
     (inside s.given.options (is_loose children) name around)
-    (before_children name children before) children)).notes.target.title
+    (stood_inside name children before) children)).notes.target.title
 defined-here s Definition start end children rest around before content built suits f whole is =
-    let inner : List Piece = printed s.given (inside s.given.options (is_loose children) Definition around)
-    (before_children Definition children before) children in
+    let inner : List Stroke = printed s.given (inside s.given.options (is_loose children) Definition around)
+    (stood_inside Definition children before) children in
     (adds-blank s.p s.given.ending (Holds s.p around.is_escaping around.in_image content) inner
     (children-print s Definition start end children rest around before content refl built suits f whole)).1.title
 defined-here s _ start end children rest around before content built suits f whole is = lie is
@@ -177,29 +177,29 @@ noted-text s Done escaping in_image stands x h = lie stands
 noted-text s Nothing escaping in_image stands x h = lie stands
 
 noted-here : (s : Setting) (name : Name) (start end : Point) (children rest : Forest) (around : Surroundings)
-    (before : Before) (content : Content) → IsBuilt s.given.bytes content (Node name start end children rest)
+    (before : Stood) (content : Content) → IsBuilt s.given.bytes content (Node name start end children rest)
     → Suits around.is_escaping around.in_image content → Follows content before.spine
     → (is_blocks content ≡ true → IsWhole s.p) → is_footnote_definition name ≡ true
     → s.p.holds (lay s.given.ending blank (printed s.given
-    (inside s.given.options (is_loose children) name around) (before_children name children before) children)).text
+    (inside s.given.options (is_loose children) name around) (stood_inside name children before) children)).text
 noted-here s GfmFootnoteDefinition start end children rest around before content built suits f whole is =
-    let inner : List Piece = printed s.given (inside s.given.options (is_loose children) GfmFootnoteDefinition around)
-    (before_children GfmFootnoteDefinition children before) children in
+    let inner : List Stroke = printed s.given (inside s.given.options (is_loose children) GfmFootnoteDefinition around)
+    (stood_inside GfmFootnoteDefinition children before) children in
     noted-text s content around.is_escaping around.in_image built.0 (lay s.given.ending blank inner).text
     (adds-blank s.p s.given.ending (Holds s.p around.is_escaping around.in_image content) inner
     (children-print s GfmFootnoteDefinition start end children rest around before content refl built suits f whole)).0
 noted-here s _ start end children rest around before content built suits f whole is = lie is
 
 -- what all nodes define and note
-pub gathered : (s : Setting) (forest : Forest) (around : Surroundings) (before : Before) (content : Content) →
+pub gathered : (s : Setting) (forest : Forest) (around : Surroundings) (before : Stood) (content : Content) →
     IsBuilt s.given.bytes content forest → Suits around.is_escaping around.in_image content →
     Follows content before.spine → (is_blocks content ≡ true → IsWhole s.p)
     → Gathered s (definitions_of s.given around before forest) (footnotes_of s.given around before forest)
 gathered s Empty around before content built suits f whole = record { titles = tt; texts = tt }
 gathered s (Node name start end children rest) around before content built suits f whole =
     let around' : Surroundings = inside s.given.options (is_loose children) name around in
-    let within : Before = before_children name children before in
-    let next : Before = before_next s.given around name start end children before in
+    let within : Stood = stood_inside name children before in
+    let next : Stood = stood_after s.given around name start end children before in
     let sheet : Sheet = lay s.given.ending blank (printed s.given around' within children) in
     let defined : Defined = record {
       identifier = identifier_at s.given.bytes (ahead_of children).defined;

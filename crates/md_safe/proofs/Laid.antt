@@ -1,7 +1,7 @@
 -- What a list of pieces adds to a sheet: the claim on texts carried over to what is laid out.
 use Rattle.std.proofs.Common.{◌≡◌, ℕ, Bool, true, false, cond, List, [], ◌∷◌, ◌++◌, refl, sym, ap, ◌∙◌, subst, append_assoc, append-nil}
 use Rattle.std.specs.Prelude.{Option, Some, None}
-use Rattle.md_meaning.specs.Piece.{Piece, Text, Needed, Forced, Noted, Recalled, Note, Heading, Destination, Title, Resource, Target, Notes, Sheet, no_notes, blank, with_note, is_line_start, lay}
+use Rattle.md_meaning.specs.Piece.{Stroke, Text, Needed, Forced, Noted, Recalled, Note, Heading, Destination, Title, Resource, Target, Notes, Sheet, no_notes, blank, with_note, is_line_start, lay}
 use Rattle.md_safe.proofs.Texts.{Escaped}
 use Rattle.md_safe.proofs.Claim.{Claim}
 use Rattle.md_meaning.proofs.Lays.{lay-append}
@@ -30,19 +30,19 @@ pub record Grows (noted : List ℕ → Type 0) (holds : List ℕ → Type 0) (be
   pub good : AreGood noted after.notes
 
 -- pieces add a text of which something holds to each sheet with good notes
-abbrev pub Adds : Claim → List ℕ → (List ℕ → Type 0) → List Piece → Type 0
+abbrev pub Adds : Claim → List ℕ → (List ℕ → Type 0) → List Stroke → Type 0
 Adds p ending holds pieces = (sheet : Sheet) → AreGood p.noted sheet.notes →
     Grows p.noted holds sheet (lay ending sheet pieces)
 
 -- something else holds as well
-pub adds-weaker : (p : Claim) (ending : List ℕ) (f g : List ℕ → Type 0) (pieces : List Piece) →
+pub adds-weaker : (p : Claim) (ending : List ℕ) (f g : List ℕ → Type 0) (pieces : List Stroke) →
     ((x : List ℕ) → f x → g x) → Adds p ending f pieces → Adds p ending g pieces
 adds-weaker p ending f g pieces weaker a sheet good =
     let r = a sheet good in
     record { added = r.added; grown = r.grown; it_holds = weaker r.added r.it_holds; good = r.good }
 
 -- one list after another
-pub adds-append : (p : Claim) (ending : List ℕ) (f g h : List ℕ → Type 0) (xs ys : List Piece) →
+pub adds-append : (p : Claim) (ending : List ℕ) (f g h : List ℕ → Type 0) (xs ys : List Stroke) →
     ((x y : List ℕ) → f x → g y → h (x ++ y)) → Adds p ending f xs → Adds p ending g ys → Adds p ending h (xs ++ ys)
 adds-append p ending f g h xs ys both a b sheet good =
     let r = a sheet good in
@@ -118,7 +118,7 @@ pub good-none : (p : Claim) → AreGood p.noted no_notes
 good-none p = record { heading = p.unnoted; title = tt; resource = tt }
 
 -- pieces laid out on a sheet of their own
-pub adds-blank : (p : Claim) (ending : List ℕ) (f : List ℕ → Type 0) (pieces : List Piece) →
+pub adds-blank : (p : Claim) (ending : List ℕ) (f : List ℕ → Type 0) (pieces : List Stroke) →
     Adds p ending f pieces → f (lay ending blank pieces).text × AreGood p.noted (lay ending blank pieces).notes
 adds-blank p ending f pieces a =
     let r = a blank (good-none p) in

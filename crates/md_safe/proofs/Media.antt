@@ -12,10 +12,10 @@ use Rattle.md_text.proofs.EncodeLaws.{is_escaped-encoded}
 use Rattle.md_text.proofs.EscapedLemmas.{escaped-append, sanitized-escaped, sanitized_with-escaped}
 use Rattle.md_text.proofs.HtmlJoin.{nothing, text, join}
 use Rattle.md_text.specs.declared.options.CompileOptions.{CompileOptions}
-use Rattle.md_meaning.specs.Piece.{Piece, Text, Needed, Target}
+use Rattle.md_meaning.specs.Piece.{Stroke, Text, Needed, Target}
 use Rattle.md_meaning.specs.Media.{href_of, src_of, link_to, image_of, link_start, link_end, title_pieces}
-use Rattle.md_meaning.specs.Footnotes.{escaped_option, prefix_of, back_label_of, heading_label_of, id_of, numbered_id_of, footnote_id, call_id, occurrence_suffix, occurrence_mark, call_tags, backreference, backreferences, arrow}
-use Rattle.md_meaning.specs.Tables.{align_attribute, cell_pieces, cell_in, empty_cells}
+use Rattle.md_meaning.specs.Footnotes.{escaped_option, prefix_of, back_label_of, heading_label_of, id_by_name, numbered_id_of, footnote_id, id_of_call, occurrence_suffix, occurrence_mark, call_tags, return_link, return_links, arrow}
+use Rattle.md_meaning.specs.Tables.{alignment_text, cell_pieces, cell_in, empty_cells}
 use Rattle.md_safe.proofs.Texts.{Escaped, decimal-escaped}
 use Rattle.md_safe.proofs.Claim.{Claim, plain_of, reading}
 use Rattle.md_safe.proofs.Laid.{Adds, IsEscapedTitle, adds-append, adds-nothing, adds-needed}
@@ -137,7 +137,7 @@ label-escaped options = escaped_option-escaped (option_map string_bytes options.
     (codes "Footnotes") refl
 
 id-escaped : (options : CompileOptions) (kind identifier : List ℕ) → Escaped kind →
-    Escaped (id_of options kind identifier)
+    Escaped (id_by_name options kind identifier)
 id-escaped options kind identifier h =
     escaped-append (prefix_of options) (kind ++ sanitized identifier)
     (escaped_option-escaped (option_map string_bytes options.gfm_footnote_clobber_prefix) (codes "user-content-") refl)
@@ -154,7 +154,7 @@ pub footnote_id-escaped : (options : CompileOptions) (identifier : List ℕ) (nu
     Escaped (footnote_id options identifier number)
 footnote_id-escaped options identifier number =
     cond_both options.gfm_footnote_number_ids (numbered_id_of options (codes "fn-") number)
-    (id_of options (codes "fn-") identifier) Escaped
+    (id_by_name options (codes "fn-") identifier) Escaped
     (λ _. numbered-escaped options (codes "fn-") number refl) (λ _. id-escaped options (codes "fn-") identifier refl)
 
 suffix-escaped : (occurrence : ℕ) → Escaped (occurrence_suffix occurrence)
@@ -162,14 +162,14 @@ suffix-escaped occurrence = cond_both (occurrence == 1) [] (45
     ∷ decimal occurrence) Escaped (λ _. refl) (λ _. decimal-escaped occurrence)
 
 pub call_id-escaped : (options : CompileOptions) (identifier : List ℕ) (number occurrence : ℕ) →
-    Escaped (call_id options identifier number occurrence)
+    Escaped (id_of_call options identifier number occurrence)
 call_id-escaped options identifier number occurrence =
     cond_both options.gfm_footnote_number_ids
     (numbered_id_of options (codes "fnref-") number ++ (45 ∷ decimal occurrence))
-    (id_of options (codes "fnref-") identifier ++ occurrence_suffix occurrence) Escaped
+    (id_by_name options (codes "fnref-") identifier ++ occurrence_suffix occurrence) Escaped
     (λ _. escaped-append (numbered_id_of options (codes "fnref-") number) (45 ∷ decimal occurrence)
     (numbered-escaped options (codes "fnref-") number refl) (decimal-escaped occurrence))
-    (λ _. escaped-append (id_of options (codes "fnref-") identifier) (occurrence_suffix occurrence)
+    (λ _. escaped-append (id_by_name options (codes "fnref-") identifier) (occurrence_suffix occurrence)
     (id-escaped options (codes "fnref-") identifier refl) (suffix-escaped occurrence))
 
 pub a_call : (v w : List ℕ) → Escaped v → Escaped w → is_tag elements (codes "a") (attribute (codes "href") (35 ∷ v)
@@ -210,11 +210,11 @@ call-read p options test v w n h passes g k =
 -- a call
 pub adds-call : (p : Claim) (ending : List ℕ) (options : CompileOptions) (test : IsTest p.test options)
     (identifier : List ℕ) (number occurrence : ℕ) →
-    p.test (attribute (codes "id") (call_id options identifier number occurrence)) ≡ true → Adds p ending p.holds
+    p.test (attribute (codes "id") (id_of_call options identifier number occurrence)) ≡ true → Adds p ending p.holds
     (call_tags options identifier number occurrence)
 adds-call p ending options test identifier number occurrence passes =
     adds-flat p ending p.holds (call_tags options identifier number occurrence) refl
-    (call-read p options test (footnote_id options identifier number) (call_id options identifier number occurrence)
+    (call-read p options test (footnote_id options identifier number) (id_of_call options identifier number occurrence)
     (decimal number) (footnote_id-escaped options identifier number) passes
     (call_id-escaped options identifier number occurrence)
     (decimal-escaped number))
@@ -247,28 +247,28 @@ back-read p options test v t m h g r =
     (join p arrow m (text p arrow refl) r)
 
 backreference-read : (p : Attribute → Bool) (options : CompileOptions) (test : IsTest p options) (identifier : List ℕ)
-    (number occurrence : ℕ) → HasReadingWith p (backreference options identifier number occurrence)
+    (number occurrence : ℕ) → HasReadingWith p (return_link options identifier number occurrence)
 backreference-read p options test identifier number occurrence =
-    back-read p options test (call_id options identifier number occurrence) (back_label_of options)
+    back-read p options test (id_of_call options identifier number occurrence) (back_label_of options)
     (occurrence_mark occurrence) (call_id-escaped options identifier number occurrence)
     (escaped_option-escaped (option_map string_bytes options.gfm_footnote_back_label) (codes "Back to content") refl)
     (mark-read p occurrence)
 
 -- the ways back to calls
 pub backreferences-read : (p : Attribute → Bool) (options : CompileOptions) (test : IsTest p options)
-    (identifier : List ℕ) (number count : ℕ) → HasReadingWith p (backreferences options identifier number count)
+    (identifier : List ℕ) (number count : ℕ) → HasReadingWith p (return_links options identifier number count)
 backreferences-read p options test identifier number zero = nothing p
 backreferences-read p options test identifier number (suc count) =
-    join p (backreferences options identifier number count) ((cond (count == 0) [] (32 ∷ []))
-    ++ backreference options identifier number (suc count))
+    join p (return_links options identifier number count) ((cond (count == 0) [] (32 ∷ []))
+    ++ return_link options identifier number (suc count))
     (backreferences-read p options test identifier number count)
-    (join p (cond (count == 0) [] (32 ∷ [])) (backreference options identifier number (suc count))
+    (join p (cond (count == 0) [] (32 ∷ [])) (return_link options identifier number (suc count))
     (cond_both (count == 0) [] (32 ∷ []) (HasReadingWith p) (λ _. nothing p) (λ _. text p (32 ∷ []) refl))
     (backreference-read p options test identifier number (suc count)))
 
 -- a cell's texts
-abbrev cell_texts : Bool → AlignKind → List ℕ → List Piece
-cell_texts in_head kind x = Text (cond in_head (codes "<th") (codes "<td")) ∷ Text (align_attribute kind)
+abbrev cell_texts : Bool → AlignKind → List ℕ → List Stroke
+cell_texts in_head kind x = Text (cond in_head (codes "<th") (codes "<td")) ∷ Text (alignment_text kind)
     ∷ Text (codes ">") ∷ Text x ∷ Text (cond in_head (codes "</th>") (codes "</td>")) ∷ []
 
 cell-flat : (p : Claim) (ending : List ℕ) (options : CompileOptions) (test : IsTest p.test options)

@@ -11,10 +11,10 @@ use Rattle.md_text.proofs.EscapedLemmas.{escaped-append}
 use Rattle.md_base.specs.NameTests.{is_transparent}
 use Rattle.md_base.specs.NameTests.{is_fence as fence_name}
 use Rattle.md_infer.specs.Looseness.{is_loose}
-use Rattle.md_meaning.specs.Piece.{Piece, Text, Needed}
+use Rattle.md_meaning.specs.Piece.{Stroke, Text, Needed}
 use Rattle.md_meaning.specs.Given.{serialized_of}
 use Rattle.md_meaning.specs.Surroundings.{inside}
-use Rattle.md_meaning.specs.Texts.{said, line_ending_pieces, blank_line_pieces}
+use Rattle.md_meaning.specs.Texts.{saying, line_ending_pieces, blank_line_pieces}
 use Rattle.md_shape.specs.Built.{Content, Blocks, Spans, Strings, FirstFence, FirstMathFence, Chunks, InfoAndMeta, MetaAlone, Done, Nothing, is_part, is_string, is_span, is_in_media, is_autolink, is_code_fence, is_math_fence, may_stand, content_of, content_past, content_after, IsBuilt}
 use Rattle.md_safe.proofs.Texts.{Escaped}
 use Rattle.md_safe.proofs.Laid.{adds-append, adds-text, adds-nothing, adds-needed, adds-weaker}
@@ -31,7 +31,7 @@ IsNil x = x ≡ []
 
 -- spans
 span-any : (s : Setting) (t : Spot) (name : Name) → Suits t.around.is_escaping t.around.in_image Spans →
-    may_stand Spans name ≡ true → IsFitAt s t name → (inner : List Piece) → Inside s t Spans name inner →
+    may_stand Spans name ≡ true → IsFitAt s t name → (inner : List Stroke) → Inside s t Spans name inner →
     Prints s Escaped (node_pieces s t name inner)
 span-any s t name suits stands fit inner a =
     let w = wide-escaped s.p t.around.in_image suits.1 in
@@ -49,28 +49,28 @@ span-any s t name suits stands fit inner a =
 
 -- the end of a first fence
 begun : (s : Setting) (has_fence : Bool) (holds within later : List ℕ → Type 0) →
-    ((x y : List ℕ) → within x → later y → holds (x ++ (62 ∷ y))) → has_fence ≡ false → (inner rest : List Piece) →
+    ((x y : List ℕ) → within x → later y → holds (x ++ (62 ∷ y))) → has_fence ≡ false → (inner rest : List Stroke) →
     Prints s within inner → Prints s later rest
-    → Prints s holds ((inner ++ ((cond (not has_fence) (said (codes ">")) []) ++ [])) ++ rest)
+    → Prints s holds ((inner ++ ((cond (not has_fence) (saying (codes ">")) []) ++ [])) ++ rest)
 begun s true holds within later both e inner rest a b = lie (sym e)
 begun s false holds within later both e inner rest a b =
-    subst (Prints s holds) (sym (append_assoc inner (said (codes ">")) rest))
+    subst (Prints s holds) (sym (append_assoc inner (saying (codes ">")) rest))
     (adds-append s.p s.given.ending within (λ w. (y : List ℕ) × (w ≡ 62 ∷ y) × later y) holds inner (Text (codes ">")
     ∷ rest)
     (λ x w f g. subst (λ w. holds (x ++ w)) (sym g.1) (both x g.0 f g.2)) a
     (adds-append s.p s.given.ending (λ x. x ≡ codes ">") later (λ w. (y : List ℕ) × (w ≡ 62 ∷ y)
-    × later y) (said (codes ">")) rest (λ x y f g. (y, ap (λ x. x ++ y) f, g))
+    × later y) (saying (codes ">")) rest (λ x y f g. (y, ap (λ x. x ++ y) f, g))
     (adds-text s.p s.given.ending (λ x. x ≡ codes ">") (codes ">") refl) b))
 
 code_fence-node : (s : Setting) (t : Spot) (name : Name) → t.left.spine.has_fence ≡ false →
-    is_code_fence name ≡ true → (inner rest : List Piece) → Inside s t FirstFence name inner → Prints s Escaped rest →
+    is_code_fence name ≡ true → (inner rest : List Stroke) → Inside s t FirstFence name inner → Prints s Escaped rest →
     Prints s (IsRaw s.p code_tag) (node_pieces s t name inner ++ rest)
 code_fence-node s t CodeFencedFence e is inner rest a b =
     begun s t.left.spine.has_fence (IsRaw s.p code_tag) (IsInCode s.p) Escaped (raw-code s.p) e inner rest a b
 code_fence-node s t _ e is inner rest a b = lie is
 
 math_fence-node : (s : Setting) (t : Spot) (name : Name) → t.left.spine.has_fence ≡ false →
-    is_math_fence name ≡ true → (inner rest : List Piece) → Inside s t FirstMathFence name inner →
+    is_math_fence name ≡ true → (inner rest : List Stroke) → Inside s t FirstMathFence name inner →
     Prints s Escaped rest → Prints s (IsRaw s.p math_tag) (node_pieces s t name inner ++ rest)
 math_fence-node s t MathFlowFence e is inner rest a b =
     begun s t.left.spine.has_fence (IsRaw s.p math_tag) IsNil Escaped
@@ -79,20 +79,20 @@ math_fence-node s t MathFlowFence e is inner rest a b =
 math_fence-node s t _ e is inner rest a b = lie is
 
 -- a later fence prints nothing
-closed : (s : Setting) (has_fence : Bool) → has_fence ≡ true → (inner : List Piece) → Prints s IsNil inner →
-    Prints s Escaped (inner ++ ((cond (not has_fence) (said (codes ">")) []) ++ []))
+closed : (s : Setting) (has_fence : Bool) → has_fence ≡ true → (inner : List Stroke) → Prints s IsNil inner →
+    Prints s Escaped (inner ++ ((cond (not has_fence) (saying (codes ">")) []) ++ []))
 closed s true e inner a = prints-own s Escaped inner [] a (adds-nil s.p s.given.ending)
 closed s false e inner a = lie e
 
-chunk-escaped : (s : Setting) (t : Spot) (inner : List Piece) → Prints s IsNil inner →
+chunk-escaped : (s : Setting) (t : Spot) (inner : List Stroke) → Prints s IsNil inner →
     Prints s Escaped (inner ++ (Text (encoded true (serialized_of s.given.bytes t.start t.end)) ∷ []))
 chunk-escaped s t inner a =
     let x : List ℕ = encoded true (serialized_of s.given.bytes t.start t.end) in
-    prints-own s Escaped inner (said x) a (adds-text s.p s.given.ending Escaped x
+    prints-own s Escaped inner (saying x) a (adds-text s.p s.given.ending Escaped x
     (is_escaped-encoded (serialized_of s.given.bytes t.start t.end)))
 
 line-node : (s : Setting) (t : Spot) (name : Name) → t.left.spine.has_fence ≡ true → may_stand Chunks name ≡ true →
-    IsFitAt s t name → (inner : List Piece) → Inside s t Chunks name inner →
+    IsFitAt s t name → (inner : List Stroke) → Inside s t Chunks name inner →
     Prints s Escaped (node_pieces s t name inner)
 line-node s t LineEnding e is fit inner a = prints-own s Escaped inner
     (line_ending_pieces s.given t.around t.left t.start t.end) a (line_ending-escaped s t fit)
@@ -107,31 +107,31 @@ line-node s t MathFlowFence e is fit inner a = closed s t.left.spine.has_fence e
 line-node s t _ e is fit inner a = lie is
 
 -- the info string
-info-node : (s : Setting) (escaping : Bool) → escaping ≡ true → (inner rest : List Piece) →
+info-node : (s : Setting) (escaping : Bool) → escaping ≡ true → (inner rest : List Stroke) →
     Prints s (λ x. escaping ≡ true → Escaped x) inner → Prints s IsNil rest
-    → Prints s (IsInCode s.p) ((said (codes " class=\"language-") ++ (inner ++ said (codes "\""))) ++ rest)
+    → Prints s (IsInCode s.p) ((saying (codes " class=\"language-") ++ (inner ++ saying (codes "\""))) ++ rest)
 info-node s escaping e inner rest a b =
     adds-append s.p s.given.ending (λ w. (v : List ℕ) × (w ≡ codes " class=\"language-" ++ (v ++ codes "\""))
-    × Escaped v) IsNil (IsInCode s.p) (said (codes " class=\"language-") ++ (inner ++ said (codes "\""))) rest
+    × Escaped v) IsNil (IsInCode s.p) (saying (codes " class=\"language-") ++ (inner ++ saying (codes "\""))) rest
     (λ x y f g. subst (IsInCode s.p) (sym (ap (λ y. x ++ y) g ∙ append-nil x ∙ f.1))
     (info-in_code s.p s.given.options s.test f.0 f.2))
     (adds-append s.p s.given.ending (λ x. x ≡ codes " class=\"language-") (λ w. (v : List ℕ) × (w ≡ v ++ codes "\"")
     × Escaped v) (λ w. (v : List ℕ) × (w ≡ codes " class=\"language-" ++ (v ++ codes "\"")) × Escaped v)
-    (said (codes " class=\"language-")) (inner ++ said (codes "\""))
+    (saying (codes " class=\"language-")) (inner ++ saying (codes "\""))
     (λ x w f g. (g.0, ap (λ x. x ++ w) f ∙ ap (λ w. codes " class=\"language-" ++ w) g.1, g.2))
     (adds-text s.p s.given.ending (λ x. x ≡ codes " class=\"language-") (codes " class=\"language-") refl)
     (adds-append s.p s.given.ending (λ x. escaping ≡ true →
-    Escaped x) (λ x. x ≡ codes "\"") (λ w. (v : List ℕ) × (w ≡ v ++ codes "\"") × Escaped v) inner (said (codes "\""))
+    Escaped x) (λ x. x ≡ codes "\"") (λ w. (v : List ℕ) × (w ≡ v ++ codes "\"") × Escaped v) inner (saying (codes "\""))
     (λ v y f g. (v, ap (λ y. v ++ y) g, f e)) a
     (adds-text s.p s.given.ending (λ x. x ≡ codes "\"") (codes "\"") refl)))
     b
 
-in_code-nil : (s : Setting) (rest : List Piece) → Prints s IsNil rest → Prints s (IsInCode s.p) rest
+in_code-nil : (s : Setting) (rest : List Stroke) → Prints s IsNil rest → Prints s (IsInCode s.p) rest
 in_code-nil s rest b = adds-weaker s.p s.given.ending IsNil (IsInCode s.p) rest
     (λ x e. subst (IsInCode s.p) (sym e) (bare-in_code s.p)) b
 
 info_or_meta-node : (s : Setting) (t : Spot) (name : Name) → t.around.is_escaping ≡ true →
-    may_stand InfoAndMeta name ≡ true → (inner rest : List Piece) → Inside s t InfoAndMeta name inner →
+    may_stand InfoAndMeta name ≡ true → (inner rest : List Stroke) → Inside s t InfoAndMeta name inner →
     Prints s (Here s t (content_past InfoAndMeta name)) rest
     → Prints s (IsInCode s.p) (node_pieces s t name inner ++ rest)
 info_or_meta-node s t CodeFencedFenceInfo e is inner rest a b = info-node s t.around.is_escaping e inner rest a b
@@ -139,26 +139,26 @@ info_or_meta-node s t CodeFencedFenceMeta e is inner rest a b = in_code-nil s re
 info_or_meta-node s t MathFlowFenceMeta e is inner rest a b = in_code-nil s rest b
 info_or_meta-node s t _ e is inner rest a b = lie is
 
-meta-node : (s : Setting) (t : Spot) (name : Name) → may_stand MetaAlone name ≡ true → (inner rest : List Piece) →
+meta-node : (s : Setting) (t : Spot) (name : Name) → may_stand MetaAlone name ≡ true → (inner rest : List Stroke) →
     Prints s IsNil rest → Prints s IsNil (node_pieces s t name inner ++ rest)
 meta-node s t CodeFencedFenceMeta is inner rest b = b
 meta-node s t MathFlowFenceMeta is inner rest b = b
 meta-node s t _ is inner rest b = lie is
 
 -- the mark of a task that is done
-checked : (s : Setting) (in_image : Bool) (inner rest : List Piece) → Prints s IsNil inner → Prints s IsNil rest →
-    Prints s (IsDone in_image) ((inner ++ ((cond in_image [] (said (codes "checked=\"\" "))) ++ [])) ++ rest)
+checked : (s : Setting) (in_image : Bool) (inner rest : List Stroke) → Prints s IsNil inner → Prints s IsNil rest →
+    Prints s (IsDone in_image) ((inner ++ ((cond in_image [] (saying (codes "checked=\"\" "))) ++ [])) ++ rest)
 checked s in_image inner rest a b =
     adds-append s.p s.given.ending (IsDone in_image) IsNil (IsDone in_image) (inner
-    ++ ((cond in_image [] (said (codes "checked=\"\" "))) ++ [])) rest
+    ++ ((cond in_image [] (saying (codes "checked=\"\" "))) ++ [])) rest
     (λ x y f g. subst (IsDone in_image) (sym (ap (λ y. x ++ y) g ∙ append-nil x)) f)
-    (prints-own s (IsDone in_image) inner (cond in_image [] (said (codes "checked=\"\" "))) a (by in_image)) b
+    (prints-own s (IsDone in_image) inner (cond in_image [] (saying (codes "checked=\"\" "))) a (by in_image)) b
   where
-    by : (in_image : Bool) → Prints s (IsDone in_image) (cond in_image [] (said (codes "checked=\"\" ")))
+    by : (in_image : Bool) → Prints s (IsDone in_image) (cond in_image [] (saying (codes "checked=\"\" ")))
     by true = adds-nothing s.p s.given.ending (IsDone true) (inl refl)
     by false = adds-text s.p s.given.ending (IsDone false) (codes "checked=\"\" ") (inr (refl, refl))
 
-done-node : (s : Setting) (t : Spot) (name : Name) → may_stand Done name ≡ true → (inner rest : List Piece) →
+done-node : (s : Setting) (t : Spot) (name : Name) → may_stand Done name ≡ true → (inner rest : List Stroke) →
     Inside s t Done name inner → Prints s IsNil rest → Prints s (IsDone t.around.in_image) (node_pieces s t name inner
     ++ rest)
 done-node s t GfmTaskListItemValueChecked is inner rest a b = checked s t.around.in_image inner rest a b
@@ -174,7 +174,7 @@ pub solid-node : (s : Setting) (t : Spot) (content : Content) (name : Name) (nam
     t.left.spine.has_fence ≡ list_any fence_name names → is_transparent name ≡ false → may_stand content name ≡ true →
     IsFitAt s t name
     → Suits t.around.is_escaping t.around.in_image content → Follows content names →
-    (is_blocks content ≡ true → IsWhole s.p) → (inner rest : List Piece) →
+    (is_blocks content ≡ true → IsWhole s.p) → (inner rest : List Stroke) →
     Inside s t content name inner → Prints s (Here s t (content_past content name)) rest →
     Prints s (Here s t content) (node_pieces s t name inner ++ rest)
 solid-node s t Blocks name names fences solid stands fit suits f whole inner rest a b =
@@ -203,15 +203,15 @@ solid-node s t Done name names fences solid stands fit suits f whole inner rest 
 solid-node s t Nothing name names fences solid stands fit suits f whole inner rest a b = lie stands
 
 -- what children print before any other pieces
-abbrev pub Before : Setting → Spot → Content → Name → List Piece → Type 0
+abbrev pub Before : Setting → Spot → Content → Name → List Stroke → Type 0
 Before s t content name inner =
-    (rest : List Piece) → Prints s (Holds s.p (inside s.given.options (is_loose t.children) name t.around).is_escaping
+    (rest : List Stroke) → Prints s (Holds s.p (inside s.given.options (is_loose t.children) name t.around).is_escaping
     (inside s.given.options (is_loose t.children) name t.around).in_image (content_after content t.children)) rest
     → Prints s (Holds s.p (inside s.given.options (is_loose t.children) name t.around).is_escaping
     (inside s.given.options (is_loose t.children) name t.around).in_image content) (inner ++ rest)
 
 through-node : (s : Setting) (t : Spot) (content : Content) (name : Name) → is_transparent name ≡ true →
-    (inner rest : List Piece) → Before s t content name inner →
+    (inner rest : List Stroke) → Before s t content name inner →
     Prints s (Here s t (content_after content t.children)) rest →
     Prints s (Here s t content) (node_pieces s t name inner ++ rest)
 through-node s t content (Other number) is inner rest a b =
@@ -224,7 +224,7 @@ through-node s t content _ is inner rest a b = lie is
 
 -- what a node that isn't transparent holds
 pub inside-alone : (s : Setting) (t : Spot) (content : Content) (name : Name) → may_stand content name ≡ true →
-    IsFitAt s t name → IsBuilt s.given.bytes (content_of name content) t.children → (inner : List Piece) →
+    IsFitAt s t name → IsBuilt s.given.bytes (content_of name content) t.children → (inner : List Stroke) →
     Before s t (content_of name content) name inner → Inside s t content name inner
 inside-alone s t content name stands fit built inner a =
     let around = inside s.given.options (is_loose t.children) name t.around in
@@ -240,7 +240,7 @@ pub any-node : (s : Setting) (t : Spot) (content : Content) (name : Name) (names
     t.left.spine.has_fence ≡ list_any fence_name names → (is_transparent name || may_stand content name) ≡ true →
     IsFitAt s t name
     → Suits t.around.is_escaping t.around.in_image content → Follows content names →
-    (is_blocks content ≡ true → IsWhole s.p) → (inner rest : List Piece)
+    (is_blocks content ≡ true → IsWhole s.p) → (inner rest : List Stroke)
     → IsBuilt s.given.bytes (cond (is_transparent name) content (content_of name content)) t.children
     → Before s t (cond (is_transparent name) content (content_of name content)) name inner
     → Prints s (Here s t (cond (is_transparent name) (content_after content t.children) (content_past content name)))

@@ -10,9 +10,9 @@ use Rattle.md_text.specs.Laws.{is_line_ends}
 use Rattle.md_text.proofs.EscapedLemmas.{escaped-append}
 use Rattle.md_text.proofs.HtmlJoin.{text, join}
 use Rattle.md_text.specs.declared.options.CompileOptions.{CompileOptions}
-use Rattle.md_meaning.specs.Piece.{Piece, Text, Needed, Forced}
+use Rattle.md_meaning.specs.Piece.{Stroke, Text, Needed, Forced}
 use Rattle.md_meaning.specs.Calls.{Called}
-use Rattle.md_meaning.specs.Footnotes.{Footnote, escaped_option, tag_of, attributes_of, heading_label_of, footnote_id, backreferences, without_endings, paragraph_end, ends_in_paragraph, body_pieces, footnote_text, item_pieces, items_pieces, section_opening, section_closing, section_pieces}
+use Rattle.md_meaning.specs.Footnotes.{Footnote, escaped_option, tag_of, attributes_of, heading_label_of, footnote_id, return_links, without_endings, paragraph_end, ends_in_paragraph, body_pieces, footnote_text, item_pieces, items_pieces, section_opening, section_closing, section_pieces}
 use Rattle.md_safe.proofs.Texts.{Escaped}
 use Rattle.md_safe.proofs.Claim.{Claim, plain_of}
 use Rattle.md_safe.proofs.Laid.{adds-append, adds-text, adds-nothing, adds-needed, adds-forced}
@@ -175,7 +175,7 @@ pub item-prints : (s : Setting) (q : Claim) (x identifier : List ℕ) (number co
     (codes "</li>") → Reads s x → Prints s q.holds (item_pieces s.given.options x identifier number count)
 item-prints s q x identifier number count turn r =
     let v : List ℕ = footnote_id s.given.options identifier number in
-    let back : List ℕ = backreferences s.given.options identifier number count in
+    let back : List ℕ = return_links s.given.options identifier number count in
     adds-turned s.p q s.given.ending (codes "<li id=\"" ++ (v ++ (codes "\">" ++ []))) (codes "</li>")
     (Forced ∷ Text (codes "<li id=\"") ∷ Text v ∷ Text (codes "\">") ∷ Forced ∷ []) (body_pieces x back) (Needed
     ∷ Text (codes "</li>") ∷ [])
@@ -211,7 +211,7 @@ items-print s whole footnotes number (called ∷ others) h =
     (items-print s whole footnotes (suc number) others h)
 
 -- the beginning of the section
-abbrev head_texts : CompileOptions → List Piece
+abbrev head_texts : CompileOptions → List Stroke
 head_texts options =
     Text (codes "<section data-footnotes=\"\" class=\"footnotes\"><") ∷ Text (tag_of options)
     ∷ Text (codes " id=\"footnote-label\" ") ∷ Text (attributes_of options) ∷ Text (codes ">")
@@ -222,12 +222,12 @@ head_texts options =
 pub section-around : (s : Setting) (q : Claim) →
     Turns s.p q (heading_text (codes "h2") (codes "class=\"sr-only\"") (heading_label_of s.given.options))
     (codes "</section>") → s.given.options.gfm_footnote_label_tag_name ≡ None →
-    s.given.options.gfm_footnote_label_attributes ≡ None → (items : List Piece) → Prints s (Reads s) items
+    s.given.options.gfm_footnote_label_attributes ≡ None → (items : List Stroke) → Prints s (Reads s) items
     → Prints s q.holds (section_opening s.given.options ++ (items ++ section_closing))
 section-around s q turn no_tag no_attributes items a =
-    let ol : List Piece = Forced ∷ Text (codes "<ol>") ∷ [] in
-    let end : List Piece = Forced ∷ Text (codes "</ol>") ∷ [] in
-    let last : List Piece = Forced ∷ Text (codes "</section>") ∷ Forced ∷ [] in
+    let ol : List Stroke = Forced ∷ Text (codes "<ol>") ∷ [] in
+    let end : List Stroke = Forced ∷ Text (codes "</ol>") ∷ [] in
+    let last : List Stroke = Forced ∷ Text (codes "</section>") ∷ Forced ∷ [] in
     subst (λ x. Prints s q.holds ((Needed ∷ head_texts s.given.options) ++ (ol ++ x))) (append_assoc items end last)
     (adds-turned s.p q s.given.ending (flat (head_texts s.given.options)) (codes "</section>") (Needed
     ∷ head_texts s.given.options) (ol ++ (items ++ end)) last

@@ -15,8 +15,8 @@ use Rattle.md_infer.specs.Looseness.{is_loose}
 use Rattle.md_meaning.specs.declared.context.Surroundings.{Surroundings}
 use Rattle.md_meaning.specs.declared.context.Passed.{Passed}
 use Rattle.md_meaning.specs.declared.context.Ahead.{Ahead}
-use Rattle.md_meaning.specs.Piece.{Piece, Target, Sheet, nowhere}
-use Rattle.md_meaning.specs.Given.{Given, Defined}
+use Rattle.md_meaning.specs.Piece.{Stroke, Target, Sheet, nowhere}
+use Rattle.md_meaning.specs.Given.{Supply, Defined}
 use Rattle.md_meaning.specs.Places.{Left, ahead_of, identifier_at}
 use Rattle.md_meaning.specs.Surroundings.{inside}
 use Rattle.md_meaning.specs.Media.{defined_target, target_of, referring}
@@ -36,7 +36,7 @@ AreTitles (defined ∷ others) = IsEscapedTitle defined.target.title × AreTitle
 -- a document, and a claim
 pub record Setting : Type 1 where
   pub p : Claim
-  pub given : Given
+  pub given : Supply
   pub test : IsTest p.test given.options
   pub ending : Escaped given.ending
   pub titles : AreTitles given.definitions
@@ -64,7 +64,7 @@ pub record Spot : Type 0 where
   pub children : Forest
 
 -- what a node prints
-abbrev pub node_pieces : Setting → Spot → Name → List Piece → List Piece
+abbrev pub node_pieces : Setting → Spot → Name → List Stroke → List Stroke
 node_pieces s t name inner = printed_node s.given t.around t.left
     (ahead_of t.children) t.passed t.last t.start t.end name inner
 
@@ -77,11 +77,11 @@ abbrev pub Here : Setting → Spot → Content → List ℕ → Type 0
 Here s t content x = Holds s.p t.around.is_escaping t.around.in_image content x
 
 -- pieces add a text of which something holds
-abbrev pub Prints : Setting → (List ℕ → Type 0) → List Piece → Type 0
+abbrev pub Prints : Setting → (List ℕ → Type 0) → List Stroke → Type 0
 Prints s holds pieces = Adds s.p s.given.ending holds pieces
 
 -- the children print what may stand in the node
-abbrev pub Inside : Setting → Spot → Content → Name → List Piece → Type 0
+abbrev pub Inside : Setting → Spot → Content → Name → List Stroke → Type 0
 Inside s t content name inner =
     Adds s.p s.given.ending (Holds s.p (inside s.given.options (is_loose t.children) name t.around).is_escaping
     (inside s.given.options (is_loose t.children) name t.around).in_image (content_of name content)) inner
@@ -141,19 +141,19 @@ pub encoded-escaped : (escaping : Bool) (x : List ℕ) → escaping ≡ true →
 encoded-escaped escaping x e = subst (λ b. Escaped (encoded b x)) (sym e) (is_escaped-encoded x)
 
 -- with nothing after it
-pub prints-alone : (s : Setting) (holds : List ℕ → Type 0) (xs : List Piece) → Prints s holds xs →
+pub prints-alone : (s : Setting) (holds : List ℕ → Type 0) (xs : List Stroke) → Prints s holds xs →
     Prints s holds (xs ++ [])
 prints-alone s holds xs a = subst (Prints s holds) (sym (append-nil xs)) a
 
 -- what stands in a node, and what it prints after that
 pub prints-both : (s : Setting) (holds beside : List ℕ → Type 0) →
     ((x y : List ℕ) → holds x → beside y → holds (x ++ y)) →
-    (xs ys : List Piece) → Prints s holds xs → Prints s beside ys → Prints s holds (xs ++ (ys ++ []))
+    (xs ys : List Stroke) → Prints s holds xs → Prints s beside ys → Prints s holds (xs ++ (ys ++ []))
 prints-both s holds beside both xs ys a b = adds-append s.p s.given.ending holds beside holds xs (ys
     ++ []) both a (prints-alone s beside ys b)
 
 -- nothing in the node, and what it prints
-pub prints-own : (s : Setting) (holds : List ℕ → Type 0) (xs ys : List Piece) → Prints s (λ x. x ≡ []) xs →
+pub prints-own : (s : Setting) (holds : List ℕ → Type 0) (xs ys : List Stroke) → Prints s (λ x. x ≡ []) xs →
     Prints s holds ys → Prints s holds (xs ++ (ys ++ []))
 prints-own s holds xs ys a b =
     adds-append s.p s.given.ending (λ x. x ≡ []) holds holds xs (ys

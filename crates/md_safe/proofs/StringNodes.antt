@@ -8,9 +8,9 @@ use Rattle.md_base.specs.declared.event.Name.{Name}
 use Rattle.md_base.specs.declared.event.Name.TheVariants.{LineEnding, Data, CharacterEscapeValue, CharacterReferenceMarker, CharacterReferenceMarkerNumeric, CharacterReferenceMarkerHexadecimal, CharacterReferenceValue, CodeTextData, MathTextData}
 use Rattle.md_text.specs.Encode.{encoded}
 use Rattle.md_text.specs.Laws.{is_line_ends}
-use Rattle.md_meaning.specs.Piece.{Piece, Text}
+use Rattle.md_meaning.specs.Piece.{Stroke, Text}
 use Rattle.md_meaning.specs.Given.{text_of}
-use Rattle.md_meaning.specs.Texts.{said, line_ending_pieces, marker_of, is_dropped}
+use Rattle.md_meaning.specs.Texts.{saying, line_ending_pieces, marker_of, drops_ending}
 use Rattle.md_shape.specs.Built.{Content, is_string}
 use Rattle.md_safe.proofs.Texts.{Escaped, line_ends-escaped}
 use Rattle.md_safe.proofs.Laid.{adds-text, adds-nothing, adds-weaker}
@@ -18,29 +18,29 @@ use Rattle.md_safe.proofs.Spot.{Setting, Spot, node_pieces, IsFitAt, Here, Print
 
 -- a text, encoded where that is asked for
 data-node : (s : Setting) (t : Spot) (content : Content) → IsNarrow t.around.is_escaping (Here s t content) →
-    (inner : List Piece) → Prints s (Here s t content) inner → (x : List ℕ)
+    (inner : List Stroke) → Prints s (Here s t content) inner → (x : List ℕ)
     → Prints s (Here s t content) (inner ++ (Text (encoded t.around.is_escaping x) ∷ []))
 data-node s t content n inner a x =
     let beside : List ℕ → Type 0 = λ y. t.around.is_escaping ≡ true → Escaped y in
-    prints-both s (Here s t content) beside n.both inner (said (encoded t.around.is_escaping x)) a
+    prints-both s (Here s t content) beside n.both inner (saying (encoded t.around.is_escaping x)) a
     (adds-text s.p s.given.ending beside (encoded t.around.is_escaping x) (encoded-escaped t.around.is_escaping x))
 
 -- a line ending
 pub line_ending-escaped : (s : Setting) (t : Spot) → is_line_ends (text_of s.given.bytes t.start t.end) ≡ true →
     Prints s Escaped (line_ending_pieces s.given t.around t.left t.start t.end)
 line_ending-escaped s t h =
-    cond_both t.around.in_code (said (32 ∷ [])) (cond (is_dropped t.around t.left) []
-    (said (text_of s.given.bytes t.start t.end))) (Prints s Escaped)
+    cond_both t.around.in_code (saying (32 ∷ [])) (cond (drops_ending t.around t.left) []
+    (saying (text_of s.given.bytes t.start t.end))) (Prints s Escaped)
     (λ _. adds-text s.p s.given.ending Escaped (32 ∷ []) refl)
     (λ _.
-    cond_both (is_dropped t.around t.left) [] (said (text_of s.given.bytes t.start t.end)) (Prints s Escaped)
+    cond_both (drops_ending t.around t.left) [] (saying (text_of s.given.bytes t.start t.end)) (Prints s Escaped)
     (λ _. adds-nothing s.p s.given.ending Escaped refl)
     (λ _. adds-text s.p s.given.ending Escaped (text_of s.given.bytes t.start t.end)
     (line_ends-escaped (text_of s.given.bytes t.start t.end) h)))
 
 pub string-node : (s : Setting) (t : Spot) (content : Content) (name : Name) →
     IsNarrow t.around.is_escaping (Here s t content) → is_string name ≡ true → IsFitAt s t name →
-    (inner : List Piece) → Inside s t content name inner
+    (inner : List Stroke) → Inside s t content name inner
     → Prints s (Here s t content) (node_pieces s t name inner)
 string-node s t content LineEnding n is fit inner a =
     prints-own s (Here s t content) inner (line_ending_pieces s.given t.around t.left t.start t.end) a

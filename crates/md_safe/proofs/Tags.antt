@@ -6,7 +6,7 @@ use Rattle.md_text.specs.Html.{Attribute, HasReadingWith, opening_tag, closing_t
 use Rattle.md_text.proofs.HtmlJoin.{text, void, opening-before}
 use Rattle.md_text.proofs.HtmlWriting.{attributes_before, written_attributes-before}
 use Rattle.md_text.specs.declared.options.CompileOptions.{CompileOptions}
-use Rattle.md_meaning.specs.Piece.{Piece, Text, Needed, Forced, Noted, Recalled}
+use Rattle.md_meaning.specs.Piece.{Stroke, Text, Needed, Forced, Noted, Recalled}
 use Rattle.md_meaning.specs.Media.{href_of, src_of}
 use Rattle.md_safe.proofs.Texts.{Escaped}
 use Rattle.md_safe.proofs.Claim.{Claim}
@@ -97,7 +97,7 @@ enclosed p q o c x y z bracket a r b =
     (subst (λ z. q.holds ((a.before ++ (o ++ a.after)) ++ (y ++ z))) (sym b.whole) parts)
 
 -- pieces between those of two texts
-pub adds-turned : (p q : Claim) (ending o c : List ℕ) (xs ys zs : List Piece) → Turns p q o c →
+pub adds-turned : (p q : Claim) (ending o c : List ℕ) (xs ys zs : List Stroke) → Turns p q o c →
     Adds p ending (IsFramed o) xs → Adds p ending p.holds ys → Adds p ending (IsFramed c) zs
     → Adds p ending q.holds (xs ++ (ys ++ zs))
 adds-turned p q ending o c xs ys zs bracket a r b =
@@ -111,13 +111,13 @@ adds-turned p q ending o c xs ys zs bracket a r b =
     r b)
 
 -- pieces between those of a bracket
-pub adds-pair : (p : Claim) (ending o c : List ℕ) (xs ys zs : List Piece) → Bracket p o c →
+pub adds-pair : (p : Claim) (ending o c : List ℕ) (xs ys zs : List Stroke) → Bracket p o c →
     Adds p ending (IsFramed o) xs → Adds p ending p.holds ys → Adds p ending (IsFramed c) zs
     → Adds p ending p.holds (xs ++ (ys ++ zs))
 adds-pair p ending o c xs ys zs bracket a r b = adds-turned p p ending o c xs ys zs bracket a r b
 
 -- a tag between pieces that add escaped texts
-pub adds-framed : (p : Claim) (ending c : List ℕ) (xs zs : List Piece) → Adds p ending Escaped xs →
+pub adds-framed : (p : Claim) (ending c : List ℕ) (xs zs : List Stroke) → Adds p ending Escaped xs →
     Adds p ending Escaped zs → Adds p ending (IsFramed c) (xs ++ (Text c ∷ zs))
 adds-framed p ending c xs zs a b =
     adds-append p ending Escaped (λ w. (z : List ℕ) × (w ≡ c ++ z) × Escaped z) (IsFramed c) xs (Text c ∷ zs)
@@ -149,31 +149,31 @@ pub framed-forced : (p : Claim) (ending c : List ℕ) → Escaped ending →
 framed-forced p ending c h = adds-framed p ending c (Forced ∷ []) [] (adds-forced p ending h) (adds-nil p ending)
 
 -- what is claimed before or after what has a reading
-pub adds-before : (p : Claim) (ending : List ℕ) (xs ys : List Piece) → Adds p ending (HasReadingWith p.test) xs →
+pub adds-before : (p : Claim) (ending : List ℕ) (xs ys : List Stroke) → Adds p ending (HasReadingWith p.test) xs →
     Adds p ending p.holds ys → Adds p ending p.holds (xs ++ ys)
 adds-before p ending xs ys a b = adds-append p ending (HasReadingWith p.test) p.holds p.holds xs ys p.before a b
 
-pub adds-after : (p : Claim) (ending : List ℕ) (xs ys : List Piece) → Adds p ending p.holds xs →
+pub adds-after : (p : Claim) (ending : List ℕ) (xs ys : List Stroke) → Adds p ending p.holds xs →
     Adds p ending (HasReadingWith p.test) ys → Adds p ending p.holds (xs ++ ys)
 adds-after p ending xs ys a b = adds-append p ending p.holds (HasReadingWith p.test) p.holds xs ys p.after a b
 
 -- an escaped text has a reading
-pub adds-escaped : (p : Claim) (ending : List ℕ) (xs : List Piece) → Adds p ending Escaped xs →
+pub adds-escaped : (p : Claim) (ending : List ℕ) (xs : List Stroke) → Adds p ending Escaped xs →
     Adds p ending (HasReadingWith p.test) xs
 adds-escaped p ending xs a = adds-weaker p ending Escaped (HasReadingWith p.test) xs (text p.test) a
 
 -- the texts of some pieces in one
-abbrev pub flat : List Piece → List ℕ
+abbrev pub flat : List Stroke → List ℕ
 flat [] = []
 flat (Text x ∷ pieces) = x ++ flat pieces
 flat (_ ∷ pieces) = flat pieces
 
-abbrev pub are_texts : List Piece → Bool
+abbrev pub are_texts : List Stroke → Bool
 are_texts [] = true
 are_texts (Text x ∷ pieces) = are_texts pieces
 are_texts (_ ∷ pieces) = false
 
-pub adds-flat : (p : Claim) (ending : List ℕ) (f : List ℕ → Type 0) (pieces : List Piece) →
+pub adds-flat : (p : Claim) (ending : List ℕ) (f : List ℕ → Type 0) (pieces : List Stroke) →
     are_texts pieces ≡ true → f (flat pieces) → Adds p ending f pieces
 adds-flat p ending f [] texts h = adds-nothing p ending f h
 adds-flat p ending f (Text x ∷ pieces) texts h =

@@ -7,8 +7,8 @@ use Rattle.std.proofs.lemmas.Bool.{and_parts, or_cases, cond_both, agree_below_a
 use Rattle.md_text.specs.References.{is_escaped}
 use Rattle.md_text.specs.Laws.{is_line_ends}
 use Rattle.md_text.proofs.EscapedLemmas.{completes_reference, escaped-tail, escaped-without}
-use Rattle.md_meaning.specs.Texts.{is_space, is_padded, is_blank, trimmed, unescaped_pipes, escapes_pipe, begins_with_pipe}
-use Rattle.md_meaning.specs.Places.{without_zeros, has_leading_zero}
+use Rattle.md_meaning.specs.Texts.{is_space, is_padded, is_blank, without_padding, unescaped_pipes, escapes_pipe, begins_with_pipe}
+use Rattle.md_meaning.specs.Places.{unpadded, has_leading_zero}
 use Rattle.md_shape.specs.Built.{is_digit}
 
 -- a text is escaped
@@ -61,10 +61,10 @@ digits-escaped (b ∷ text) h =
     plain_first b text (digit-plain b parts.0) (digits-escaped text parts.1)
 
 -- digits without the zeros before them are digits
-pub zeros-escaped : (text : List ℕ) → list_all is_digit text ≡ true → Escaped (without_zeros text)
+pub zeros-escaped : (text : List ℕ) → list_all is_digit text ≡ true → Escaped (unpadded text)
 zeros-escaped [] h = refl
 zeros-escaped (b ∷ text) h =
-    cond_both (has_leading_zero (b ∷ text)) (without_zeros text) (b ∷ text) Escaped
+    cond_both (has_leading_zero (b ∷ text)) (unpadded text) (b ∷ text) Escaped
     (λ _. zeros-escaped text (and_parts (is_digit b) (list_all is_digit text) h).1)
     (λ _. digits-escaped (b ∷ text) h)
 
@@ -138,6 +138,6 @@ trim_both (b ∷ c ∷ text) h padded =
     cut_last c _ text cut (subst (λ n. is_space (slice_get (c ∷ text) n) ≡ true) (sym cut) last)
     (escaped-tail b (c ∷ text) h)
 
-pub trimmed-escaped : (text : List ℕ) → Escaped text → Escaped (trimmed text)
+pub trimmed-escaped : (text : List ℕ) → Escaped text → Escaped (without_padding text)
 trimmed-escaped text h = cond_both (is_padded text) (slice_range text 1 (length text - 1)) text Escaped
     (trim_both text h) (λ _. h)

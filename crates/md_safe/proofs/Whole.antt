@@ -24,11 +24,11 @@ use Rattle.md_base.specs.Children.{or_else}
 use Rattle.md_base.specs.NameTests.{is_line_ending, is_call}
 use Rattle.std.proofs.lemmas.List.{length-append}
 use Rattle.md_text.specs.declared.options.CompileOptions.{CompileOptions}
-use Rattle.md_meaning.specs.Piece.{Piece, blank, lay}
+use Rattle.md_meaning.specs.Piece.{Stroke, blank, lay}
 use Rattle.md_meaning.specs.Surroundings.{outermost}
-use Rattle.md_meaning.specs.Given.{Given, text_of}
+use Rattle.md_meaning.specs.Given.{Supply, text_of}
 use Rattle.md_meaning.specs.Calls.{tally}
-use Rattle.md_meaning.specs.Places.{nothing_before, first_ending, calls_of, identifier_at, ahead_of}
+use Rattle.md_meaning.specs.Places.{nothing_stood, first_ending, calls_of, identifier_at, ahead_of}
 use Rattle.md_meaning.specs.Footnotes.{section_pieces}
 use Rattle.md_meaning.specs.Printed.{printed, definitions_of, footnotes_of}
 use Rattle.md_meaning.specs.Meaning.{ending_at}
@@ -95,18 +95,18 @@ blocks-stay forest = stays-after (λ content. content ≡ Blocks)
 -- a document before its section
 document-prints : (s : Setting) → IsWhole s.p → (document : Forest) → IsBuilt s.given.bytes Blocks document →
     KeepsGrammar s.given.options
-    → s.p.holds (lay s.given.ending blank (printed s.given outermost nothing_before document
-    ++ section_pieces s.given.options (footnotes_of s.given outermost nothing_before document)
+    → s.p.holds (lay s.given.ending blank (printed s.given outermost nothing_stood document
+    ++ section_pieces s.given.options (footnotes_of s.given outermost nothing_stood document)
     (tally (calls_of s.given.bytes document)))).text
 document-prints s whole document built keeps =
-    let section : List Piece = section_pieces s.given.options (footnotes_of s.given outermost nothing_before document)
+    let section : List Stroke = section_pieces s.given.options (footnotes_of s.given outermost nothing_stood document)
     (tally (calls_of s.given.bytes document)) in
     let last : Prints s (Reads s) section =
     section-prints s whole keeps.usual_tag keeps.usual_attributes
-    (footnotes_of s.given outermost nothing_before document) (tally (calls_of s.given.bytes document))
-    (gathered s document outermost nothing_before Blocks built refl tt (λ _. whole)).texts in
-    (adds-blank s.p s.given.ending (Reads s) (printed s.given outermost nothing_before document ++ section)
-    (forest-prints s document outermost nothing_before Blocks built refl tt (λ _. whole) section
+    (footnotes_of s.given outermost nothing_stood document) (tally (calls_of s.given.bytes document))
+    (gathered s document outermost nothing_stood Blocks built refl tt (λ _. whole)).texts in
+    (adds-blank s.p s.given.ending (Reads s) (printed s.given outermost nothing_stood document ++ section)
+    (forest-prints s document outermost nothing_stood Blocks built refl tt (λ _. whole) section
     (subst (λ content. Prints s (Holds s.p true false content) section) (sym (blocks-stay document)) last))).0
 
 -- any attribute passes
@@ -128,9 +128,9 @@ titles-escaped : (bytes : List ℕ) (names : List (List ℕ × List ℕ)) (optio
       options = options;
       ending = ending;
       definitions = [];
-    }) outermost nothing_before document)
+    }) outermost nothing_stood document)
 titles-escaped bytes names options document ending escaped built keeps =
-    let alone : Given = record { bytes = bytes; names = names; options = options; ending = ending; definitions = [] } in
+    let alone : Supply = record { bytes = bytes; names = names; options = options; ending = ending; definitions = [] } in
     let claim : Claim = passing any_attribute (HasReadingWith any_attribute) (nothing any_attribute) in
     let whole : IsWhole claim = record {
       both = join any_attribute;
@@ -145,7 +145,7 @@ titles-escaped bytes names options document ending escaped built keeps =
       ending = escaped;
       titles = tt;
     } in
-    (gathered s document outermost nothing_before Blocks built refl tt (λ _. whole)).titles
+    (gathered s document outermost nothing_stood Blocks built refl tt (λ _. whole)).titles
 
 -- the meaning has a reading in which each attribute passes the test
 meaning-reads : (p : Attribute → Bool) (bytes : List ℕ) (names : List (List ℕ × List ℕ)) (options : CompileOptions)
@@ -157,10 +157,10 @@ meaning-reads p bytes names options document test ids built keeps =
     let ending : List ℕ = ending_at options bytes (first_ending document) in
     let escaped : Escaped ending = ending-escaped options bytes (first_ending document)
     (first-is_ending bytes Blocks document built) in
-    let alone : Given = record { bytes = bytes; names = names; options = options; ending = ending; definitions = [] } in
-    let titles : AreTitles (definitions_of alone outermost nothing_before document) =
+    let alone : Supply = record { bytes = bytes; names = names; options = options; ending = ending; definitions = [] } in
+    let titles : AreTitles (definitions_of alone outermost nothing_stood document) =
     titles-escaped bytes names options document ending escaped built keeps in
-    let given : Given = record alone { definitions = definitions_of alone outermost nothing_before document } in
+    let given : Supply = record alone { definitions = definitions_of alone outermost nothing_stood document } in
     let s : Setting = record { p = claim; given = given; test = test; ending = escaped; titles = titles } in
     document-prints s whole document built keeps
 
@@ -250,9 +250,9 @@ distinct-ids bytes names options document built underlined keeps small =
     let ending : List ℕ = ending_at options bytes (first_ending document) in
     let escaped : Escaped ending = ending-escaped options bytes (first_ending document)
     (first-is_ending bytes Blocks document built) in
-    let alone : Given = record { bytes = bytes; names = names; options = options; ending = ending; definitions = [] } in
+    let alone : Supply = record { bytes = bytes; names = names; options = options; ending = ending; definitions = [] } in
     let d : Document = record {
-      given = record alone { definitions = definitions_of alone outermost nothing_before document };
+      given = record alone { definitions = definitions_of alone outermost nothing_stood document };
       html = keeps.grammar.escapes_html;
       ending = escaped;
       titles = titles-escaped bytes names options document ending escaped built keeps.grammar;

@@ -8,26 +8,26 @@ use Rattle.md_base.specs.NameTests.{is_label, is_label_text, is_reference, is_de
 use Rattle.md_tree.specs.Rules.{place}
 
 -- the place of the first node on the spine whose name passes a test
-abbrev pub first : (Name → Bool) → Forest → Option Position
-first test children = first_on_spine test (λ start end inner. place start end) children
+abbrev pub first_by : (Name → Bool) → Forest → Option Position
+first_by test children = first_on_spine test (λ start end inner. place start end) children
 
 -- what is found in the first such node
-abbrev pub in_first : (Name → Bool) → (Forest → Option Position) → Forest → Option Position
-in_first test find children = unwrap_or (first_on_spine test (λ start end inner. find inner) children) None
+abbrev pub in_first_by : (Name → Bool) → (Forest → Option Position) → Forest → Option Position
+in_first_by test find children = unwrap_or (first_on_spine test (λ start end inner. find inner) children) None
 
 -- the text of a node's label
 abbrev pub label_in_node : Forest → Option Position
-label_in_node children = in_first is_label (first is_label_text) children
+label_in_node children = in_first_by is_label (first_by is_label_text) children
 
 -- a link's or an image's reference where it has one, else the text of its label
 abbrev pub referring_in : Forest → Option Position
 referring_in children =
-    if is_some (first is_reference children) then first is_reference children else label_in_node children
+    if is_some (first_by is_reference children) then first_by is_reference children else label_in_node children
 
 -- the label of a definition
 abbrev pub defined_label : Forest → Option Position
-defined_label children = first is_definition_label children
+defined_label children = first_by is_definition_label children
 
 -- the label of a footnote definition, in its prefix
 abbrev pub footnote_label : Forest → Option Position
-footnote_label children = in_first is_footnote_prefix (first is_footnote_label) children
+footnote_label children = in_first_by is_footnote_prefix (first_by is_footnote_label) children

@@ -2,7 +2,7 @@
 use Rattle.std.proofs.Common.{◌≡◌, ℕ, ◌+◌, zero, suc, List, [], ◌∷◌, ◌++◌, Some, None, is_some, drop, refl, ap, sym, ◌∙◌, arith, unwrap_or}
 use Rattle.std.specs.Prelude.{slice_get}
 use Rattle.std.proofs.lemmas.Bool.{true≢false}
-use Rattle.md_meaning.specs.Piece.{Piece, Sheet, lay, lay_piece}
+use Rattle.md_meaning.specs.Piece.{Stroke, Sheet, lay, lay_piece}
 
 pub drop-found : {A : Type 0} (xs : List A) (i : ℕ) (x : A) → slice_get xs i ≡ Some x → drop i xs ≡ x ∷ drop (i + 1) xs
 drop-found [] i x h = absurd (true≢false (sym (ap is_some h)))
@@ -19,7 +19,7 @@ drop-missing (y ∷ ys) zero h = absurd (true≢false (ap is_some h))
 drop-missing (y ∷ ys) (suc i) h = drop-missing ys i h
 
 -- pieces are laid one list after another
-pub lay-append : (ending : List ℕ) (sheet : Sheet) (xs ys : List Piece) →
+pub lay-append : (ending : List ℕ) (sheet : Sheet) (xs ys : List Stroke) →
     lay ending sheet (xs ++ ys) ≡ lay ending (lay ending sheet xs) ys
 lay-append ending sheet [] ys = refl
 lay-append ending sheet (x ∷ xs) ys = lay-append ending (lay_piece ending sheet x) xs ys

@@ -47,7 +47,7 @@ pub fn escaped_option(
 
 /// `fn-` or `fnref-` after the prefix, and the identifier as a URL.
 fn id_of(alloc: Global, ids: &IdOptions, kind: &str, identifier: &str) -> Result<String, AllocError>
-    ensures { IfOk result (λ id. string_bytes id ≡ notes.id_of (choosing ids.now) kind.now identifier.now) }
+    ensures { IfOk result (λ id. string_bytes id ≡ notes.id_by_name (choosing ids.now) kind.now identifier.now) }
 {
     let mut id = escaped_option(alloc, ids.prefix, "user-content-")?;
     id.push_str(kind)?;
@@ -121,7 +121,7 @@ pub fn call_id(
     occurrence: usize,
 ) -> Result<String, AllocError>
     ensures { IfOk result (λ id. string_bytes id
-        ≡ notes.call_id (choosing ids.now) footnote.now.identifier.now footnote.now.number occurrence) }
+        ≡ notes.id_of_call (choosing ids.now) footnote.now.identifier.now footnote.now.number occurrence) }
 {
     if ids.by_number {
         let mut id = numbered_id_of(alloc, ids, "fnref-", footnote.number)?;

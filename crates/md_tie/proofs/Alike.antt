@@ -17,7 +17,7 @@ use Rattle.md_tree.specs.Rules.{place, columns}
 use Rattle.md_meaning.specs.Places.{ahead_of, length_of}
 use Rattle.md_meaning.specs.Places as machine
 use Rattle.md_meaning.specs.Blocks.{rank_of}
-use Rattle.md_meaning.specs.Meaning.Finds.{first, in_first, number_in_list}
+use Rattle.md_meaning.specs.Meaning.Finds.{first_named, in_first_named, number_in_list}
 use Rattle.md_meaning.specs.Meaning.Blocks.{without_zeros}
 
 pub call-is : (name : Name) → is_call name ≡ is GfmFootnoteCall name
@@ -84,7 +84,7 @@ number-same children =
     ∙ ap (λ test. found_by (is ListItem) (found_by test (place_by is_item_value)) children) (fun_ext prefix_is)
     ∙ ap (λ test. found_by (is ListItem) (found_by (is ListItemPrefix) (place_by test)) children) (fun_ext value_is)
 
-mark-same : (children : Forest) → (ahead_of children).mark ≡ first HeadingAtxSequence children
+mark-same : (children : Forest) → (ahead_of children).mark ≡ first_named HeadingAtxSequence children
 mark-same children = ap (λ test. place_by test children) (fun_ext mark_is)
 
 -- a heading's rank, where it has one
@@ -101,11 +101,11 @@ fitting bytes (Some at) small = by (fits bytes at.start at.end) small
     by false h = absurd (omega (arith, h))
 
 pub rank-same : (bytes : List ℕ) (children : Forest) → 1 ≤ rank_of bytes (ahead_of children).mark →
-    rank_of bytes (ahead_of children).mark ≡ long (first HeadingAtxSequence children)
+    rank_of bytes (ahead_of children).mark ≡ long (first_named HeadingAtxSequence children)
 rank-same bytes children small = fitting bytes (ahead_of children).mark small ∙ ap long (mark-same children)
 
 -- zeros before a number
-pub zeros-same : (digits : List ℕ) → machine.without_zeros digits ≡ without_zeros digits
+pub zeros-same : (digits : List ℕ) → machine.unpadded digits ≡ without_zeros digits
 zeros-same [] = refl
 zeros-same (digit ∷ digits) =
     let choose : Bool → List ℕ → List ℕ = λ b rest. if b then rest else digit ∷ digits in

@@ -23,7 +23,7 @@ use Rattle.md_meaning.specs.Places.{identifier_at}
 use Rattle.md_meaning.specs.Places.{calls_of as calls_in}
 use Rattle.md_meaning.specs.Printed.{is_captured}
 use Rattle.md_meaning.specs.Piece.{Sheet, Notes, Target}
-use Rattle.md_meaning.specs.Piece.{Piece as Printed, Text as Said}
+use Rattle.md_meaning.specs.Piece.{Stroke as Printed, Text as Said}
 use Rattle.md_meaning.specs.Texts as old
 use Rattle.md_meaning.specs.Media as old_media
 use Rattle.md_meaning.specs.Tables as old_tables
@@ -34,7 +34,7 @@ use Rattle.md_shape.specs.Labels.{label_in_node, referring_in}
 use Rattle.md_shape.specs.Leads.{IsLabelled}
 use Rattle.md_meaning.specs.Meaning.At.{Given, Found, nothing_found, target_in, identifier_of}
 use Rattle.md_meaning.specs.Meaning.Spans.{without_escapes, trimmed}
-use Rattle.md_meaning.specs.Meaning.Media.{href, defined_by, leads_to, title_attribute, anchor, picture}
+use Rattle.md_meaning.specs.Meaning.Media.{href, target_defined, leads_to, title_attribute, anchor, picture}
 use Rattle.md_meaning.specs.Meaning.Tables.{cell_of}
 use Rattle.md_meaning.specs.Meaning.Footnotes.{place_among, id_of, call_id}
 use Rattle.md_meaning.specs.Meaning.Means.{prints}
@@ -167,7 +167,7 @@ call-says false options identifier number occurrence notes =
     ∷ Text (codes "\" id=\"") ∷ Text own
     ∷ Text (codes "\" data-footnote-ref=\"\" aria-describedby=\"footnote-label\">") ∷ Text (decimal number)
     ∷ Text (codes "</a></sup>") ∷ [] in (
-      ap (λ to. tags to (old_notes.call_id options identifier number occurrence))
+      ap (λ to. tags to (old_notes.id_of_call options identifier number occurrence))
           (footnote_id-same options identifier number)
           ∙ ap (tags (id_of options (codes "fn-") identifier number))
           (call_id-same options identifier number occurrence),
@@ -202,20 +202,20 @@ numbered given at later alike own calls notes sheet =
 -- the target that is meant, where both find the same
 leading : (given : Given) (at : Here) (resource : Option Target) → resource ≡ at.found.resource →
     (is_some at.found.resource ≡ true) ⊎ IsLabelled (referring_in at.children) at.children →
-    unwrap_or resource (defined_by given (identifier_at given.bytes (referring_in at.children)))
+    unwrap_or resource (target_defined given (identifier_at given.bytes (referring_in at.children)))
     ≡ leads_to given (at_of at)
 leading given at resource same (inl there) =
-    ap (λ r. unwrap_or r (defined_by given (identifier_at given.bytes (referring_in at.children)))) same
+    ap (λ r. unwrap_or r (target_defined given (identifier_at given.bytes (referring_in at.children)))) same
     ∙ by at.found.resource there
   where
     by : (found : Option Target) → is_some found ≡ true →
-        unwrap_or found (defined_by given (identifier_at given.bytes (referring_in at.children)))
-        ≡ unwrap_or found (defined_by given (identifier_of given.bytes at.children))
+        unwrap_or found (target_defined given (identifier_at given.bytes (referring_in at.children)))
+        ≡ unwrap_or found (target_defined given (identifier_of given.bytes at.children))
     by None h = lie h
     by (Some target) h = refl
 leading given at resource same (inr alike) =
-    ap (λ r. unwrap_or r (defined_by given (identifier_at given.bytes (referring_in at.children)))) same
-    ∙ ap (λ i. unwrap_or at.found.resource (defined_by given i))
+    ap (λ r. unwrap_or r (target_defined given (identifier_at given.bytes (referring_in at.children)))) same
+    ∙ ap (λ i. unwrap_or at.found.resource (target_defined given i))
     (sym (label-known given.bytes (referring_in at.children) at.children alike))
 
 -- what the machine finds ahead of a node is what the meaning finds in it
@@ -294,7 +294,7 @@ captured given at Resource inner sheet later h text resource target alike own ca
 }
 captured given at Link inner sheet later h text resource target alike own calls =
     let leads : Target = unwrap_or sheet.notes.resource
-    (defined_by given (identifier_at given.bytes (referring_in at.children))) in
+    (target_defined given (identifier_at given.bytes (referring_in at.children))) in
     let means_so : Target → List ℕ → List Piece = λ t l. if at.around.in_image then Text l ∷ []
     else anchor given.options t l in
     quietly given at Link inner sheet refl
@@ -305,7 +305,7 @@ captured given at Link inner sheet later h text resource target alike own calls 
     )) refl
 captured given at Image inner sheet later h text resource target alike own calls =
     let leads : Target = unwrap_or sheet.notes.resource
-    (defined_by given (identifier_at given.bytes (referring_in at.children))) in
+    (target_defined given (identifier_at given.bytes (referring_in at.children))) in
     let means_so : Target → List ℕ → List Piece = λ t l. if at.around.in_image then Text l ∷ []
     else picture given.options t l in
     quietly given at Image inner sheet refl

@@ -33,10 +33,10 @@ use Rattle.md_meaning.specs.declared.context.Surroundings.{Surroundings}
 use Rattle.md_meaning.specs.Surroundings.{inside}
 use Rattle.md_meaning.specs.Given.{Defined}
 use Rattle.md_meaning.specs.Footnotes.{Footnote}
-use Rattle.md_meaning.specs.Places.{identifier_at, calls_of, ahead_of, before_children as children_stood, before_next as next_stood, Before as Stood}
+use Rattle.md_meaning.specs.Places.{identifier_at, calls_of, ahead_of, stood_inside as children_stood, stood_after as next_stood, Stood}
 use Rattle.md_meaning.specs.Printed.{is_captured, printed, definitions_of, footnotes_of}
 use Rattle.md_meaning.specs.Piece.{Notes, Target, blank, no_notes, lay}
-use Rattle.md_meaning.specs.Piece.{Piece as Printed}
+use Rattle.md_meaning.specs.Piece.{Stroke as Printed}
 use Rattle.md_meaning.specs.Meaning.Layout.{layout, when}
 use Rattle.md_shape.specs.Labels.{label_in_node, referring_in, defined_label, footnote_label}
 use Rattle.md_shape.specs.Leads.{IsLabelled, label_target}

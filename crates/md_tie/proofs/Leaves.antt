@@ -57,7 +57,7 @@ space-same : (byte : Option ℕ) → old.is_space byte ≡ option_map_or (λ b. 
 space-same None = refl
 space-same (Some byte) = refl
 
-pub trimmed-same : (text : List ℕ) → old.trimmed text ≡ trimmed text
+pub trimmed-same : (text : List ℕ) → old.without_padding text ≡ trimmed text
 trimmed-same text =
     let shorter : List ℕ = slice_range text 1 (length text - 1) in
     ap (λ b. if b && old.is_space (slice_get text (length text - 1)) && not (old.is_blank text) then shorter
@@ -71,7 +71,7 @@ trimmed-same text =
     less : (n : ℕ) → n - 1 - 1 ≡ n - 2
     less n = omega arith
 
-pub code-same : (in_table : Bool) (text : List ℕ) → old.trimmed (if in_table then old.unescaped_pipes text else text)
+pub code-same : (in_table : Bool) (text : List ℕ) → old.without_padding (if in_table then old.unescaped_pipes text else text)
     ≡ trimmed (if in_table then without_escapes text else text)
 code-same true text = trimmed-same (old.unescaped_pipes text) ∙ ap trimmed (escapes-same text)
 code-same false text = trimmed-same text
@@ -174,24 +174,24 @@ pub footnote_id-same : (options : CompileOptions) (identifier : List ℕ) (numbe
 footnote_id-same options identifier number = by options.gfm_footnote_number_ids
   where
     by : (b : Bool) → (if b then old_notes.numbered_id_of options (codes "fn-") number
-        else old_notes.id_of options (codes "fn-") identifier)
+        else old_notes.id_by_name options (codes "fn-") identifier)
         ≡ old_notes.prefix_of options ++ (codes "fn-" ++ (if b then decimal number else sanitized identifier))
     by true = refl
     by false = refl
 
 pub call_id-same : (options : CompileOptions) (identifier : List ℕ) (number occurrence : ℕ) →
-    old_notes.call_id options identifier number occurrence ≡ notes.call_id options identifier number occurrence
+    old_notes.id_of_call options identifier number occurrence ≡ notes.call_id options identifier number occurrence
 call_id-same options identifier number occurrence = by options.gfm_footnote_number_ids
   where
     by : (b : Bool) → (if b then old_notes.numbered_id_of options (codes "fnref-") number ++ 45 ∷ decimal occurrence
-        else old_notes.id_of options (codes "fnref-") identifier ++ old_notes.occurrence_suffix occurrence)
+        else old_notes.id_by_name options (codes "fnref-") identifier ++ old_notes.occurrence_suffix occurrence)
         ≡ (old_notes.prefix_of options ++ (codes "fnref-" ++ (if b then decimal number else sanitized identifier)))
         ++ (if not b && (occurrence == 1) then [] else codes "-" ++ decimal occurrence)
     by true = refl
     by false = refl
 
 back_reference-same : (options : CompileOptions) (identifier : List ℕ) (number occurrence : ℕ) →
-    old_notes.backreference options identifier number occurrence
+    old_notes.return_link options identifier number occurrence
     ≡ notes.backreference options identifier number occurrence
 back_reference-same options identifier number occurrence =
     ap (λ id. codes "<a href=\"#" ++ (id ++ (codes "\" data-footnote-backref=\"\" aria-label=\""
@@ -200,22 +200,22 @@ back_reference-same options identifier number occurrence =
     (call_id-same options identifier number occurrence)
 
 pub back-same : (options : CompileOptions) (identifier : List ℕ) (number count : ℕ) →
-    old_notes.backreferences options identifier number count ≡ notes.backreferences options identifier number count
+    old_notes.return_links options identifier number count ≡ notes.backreferences options identifier number count
 back-same options identifier number zero = refl
 back-same options identifier number (suc count) =
     ap (λ back. back ++ ((if count == 0 then [] else 32 ∷ [])
-    ++ old_notes.backreference options identifier number (suc count)))
+    ++ old_notes.return_link options identifier number (suc count)))
     (back-same options identifier number count)
     ∙ ap (λ way. notes.backreferences options identifier number count ++ ((if count == 0 then [] else 32 ∷ []) ++ way))
     (back_reference-same options identifier number (suc count))
 
-pub align-same : (kind : AlignKind) → old_tables.align_attribute kind ≡ align_attribute kind
+pub align-same : (kind : AlignKind) → old_tables.alignment_text kind ≡ align_attribute kind
 align-same align.None = refl
 align-same align.Left = refl
 align-same align.Right = refl
 align-same align.Center = refl
 
-pub tight-same : (container : Container) → old_blocks.is_tight container ≡ is_tight container
+pub tight-same : (container : Container) → old_blocks.tight_in container ≡ is_tight container
 tight-same Nothing = refl
 tight-same _ = refl
 

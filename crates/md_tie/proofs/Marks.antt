@@ -22,12 +22,12 @@ use Rattle.md_meaning.specs.declared.context.Container.TheVariants.{TightList}
 use Rattle.md_text.specs.declared.options.CompileOptions.{CompileOptions}
 use Rattle.md_meaning.specs.Surroundings.{Mark, Sets, Clears, is_slurping, inside, told_by, fence_marks, paragraph_marks, spine_inside, spine_after_node, exit_marks, own_marks, marks_of}
 use Rattle.md_meaning.specs.Places.{identifier_at, calls_of, ahead_of}
-use Rattle.md_meaning.specs.Places.{Before as Stood, before_children as children_stood, before_next as next_stood}
+use Rattle.md_meaning.specs.Places.{Stood, stood_inside as children_stood, stood_after as next_stood}
 use Rattle.md_meaning.specs.Meaning.Around.{is_tight}
 use Rattle.md_meaning.specs.Meaning.Layout.{when, layout}
 use Rattle.md_meaning.specs.Meaning.At.{Given, At, Before, Found, identifier_of}
-use Rattle.md_meaning.specs.Meaning.Before.{before_children, slurps_after}
-use Rattle.md_meaning.specs.Meaning.Nodes.{Outcome, outcome, node, found_at, followed, before_next}
+use Rattle.md_meaning.specs.Meaning.Before.{before_children, lets_slurp}
+use Rattle.md_meaning.specs.Meaning.Nodes.{Outcome, outcome, node, found_at, continued, before_next}
 use Rattle.md_shape.specs.Labels.{label_in_node}
 use Rattle.md_shape.proofs.Leading.{call-refers}
 use Rattle.md_shape.proofs.Listed.{node_at}
@@ -72,7 +72,7 @@ ended true false = refl
 ended false true = refl
 ended false false = refl
 
-exit-slurps : (at : At) (name : Name) (inner : Bool) → slurps_after at name inner
+exit-slurps : (at : At) (name : Name) (inner : Bool) → lets_slurp at name inner
     ≡ slurping_after inner (exit_marks at.around (told_by at.before.spine) name)
 exit-slurps at Paragraph inner = tightly at.around.container inner
 exit-slurps at CodeFencedFence inner = fenced (list_any is_fence at.before.spine) inner
@@ -89,7 +89,7 @@ exit-slurps at ListItem inner = cleared inner
 exit-slurps at _ inner = kept inner
 
 own-slurps : (at : At) (name : Name) (inner : Bool) →
-    (if at.around.in_definition then inner else slurps_after at name inner)
+    (if at.around.in_definition then inner else lets_slurp at name inner)
     ≡ slurping_after inner (own_marks at.around (told_by at.before.spine) name)
 own-slurps at name inner =
     ap (λ b. if at.around.in_definition then inner else b) (exit-slurps at name inner)
@@ -108,14 +108,14 @@ slurping-both before (Sets ∷ xs) ys = refl
 slurping-both before (Clears ∷ xs) ys = refl
 
 later-slurps : (at : At) (name : Name) (here : Outcome) (later : Before → Outcome) →
-    (followed at name here later).slurps ≡ (later (before_next at name here)).slurps
+    (continued at name here later).slurps ≡ (later (before_next at name here)).slurps
 later-slurps at name here later = refl
 
 -- what a node and those after it mean, by what its children mean
 abbrev pub meant_by : Given → Surroundings → Before → Name → Point → Point → Forest → Forest → Outcome → Outcome
 meant_by given around before name start end children rest inner =
     let at : At = node_at around before children start end (around.is_outermost && is_empty rest) inner in
-    followed at name (node given at name inner) (λ next. outcome given around next rest)
+    continued at name (node given at name inner) (λ next. outcome given around next rest)
 
 pub meant-by : (given : Given) (around : Surroundings) (before : Before) (name : Name) (start end : Point)
     (children rest : Forest) →

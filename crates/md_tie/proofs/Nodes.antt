@@ -14,7 +14,7 @@ use Rattle.md_base.specs.Children.{or_else}
 use Rattle.md_base.specs.NameTests.{is_transparent}
 use Rattle.md_meaning.specs.Printed.{is_captured}
 use Rattle.md_meaning.specs.Piece.{Sheet, Notes, Target, blank, no_notes, lay}
-use Rattle.md_meaning.specs.Piece.{Piece as Printed}
+use Rattle.md_meaning.specs.Piece.{Stroke as Printed}
 use Rattle.md_meaning.specs.Meaning.Layout.{Piece, layout}
 use Rattle.md_meaning.specs.Meaning.At.{Given, At, Found, nothing_found, target_in}
 use Rattle.md_meaning.specs.Meaning.Means.{prints}

@@ -4,7 +4,7 @@ use Rattle.std.proofs.Common.{◌≡◌, ℕ, true, List, [], ◌∷◌, ◌++�
 use Rattle.std.specs.Prelude.{if◌then◌else◌, length, ◌-◌, slice_get, ◌||◌, ◌==◌}
 use Rattle.std.specs.Option.{option_map_or}
 use Rattle.md_meaning.specs.Piece.{Sheet, Notes, with_note, lay, blank, no_notes, ends_line, is_line_start}
-use Rattle.md_meaning.specs.Piece.{Piece as Printed, Text as Said, Needed as Wanted, Forced as Added, Noted, Recalled}
+use Rattle.md_meaning.specs.Piece.{Stroke as Printed, Text as Said, Needed as Wanted, Forced as Added, Noted, Recalled}
 use Rattle.md_meaning.specs.Meaning.Layout.{Piece, Text, Needed, Forced, begins_line, laid_after, layout}
 
 -- pieces of the meaning; a heading that is recalled is the one that was noted last

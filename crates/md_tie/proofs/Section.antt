@@ -5,7 +5,7 @@ use Rattle.std.specs.List.{flat_map}
 use Rattle.std.proofs.lemmas.Bool.{ne_eqb}
 use Rattle.md_meaning.specs.Calls.{Called, distinct, count_of, tally}
 use Rattle.md_meaning.specs.Piece.{Notes}
-use Rattle.md_meaning.specs.Piece.{Piece as Printed, Text as Said, Needed as Wanted, Forced as Added}
+use Rattle.md_meaning.specs.Piece.{Stroke as Printed, Text as Said, Needed as Wanted, Forced as Added}
 use Rattle.md_meaning.specs.Footnotes.{Footnote}
 use Rattle.md_meaning.specs.Footnotes as old
 use Rattle.md_meaning.specs.Meaning.Layout.{Piece, Text, Needed, Forced, on_own_line, when}
@@ -51,7 +51,7 @@ item-read given footnotes identifier tail pieces notes h =
     ∷ Text (id_of given.options (codes "fn-") identifier number) ∷ Text (codes "\">") ∷ Forced ∷ ps in
     let begun : List ℕ → List Piece → List Piece = λ id ps. Forced ∷ Text (codes "<li id=\"")
     ∷ Text id ∷ Text (codes "\">") ∷ Forced ∷ ps in
-    let back : List ℕ = old.backreferences given.options identifier number (count_of given.calls identifier) in
+    let back : List ℕ = old.return_links given.options identifier number (count_of given.calls identifier) in
     let ends : List Printed = Wanted ∷ Said (codes "</li>") ∷ [] in
     ap (λ id. begun id (read notes ((old.body_pieces text back ++ ends) ++ tail)))
     (footnote_id-same given.options identifier number)

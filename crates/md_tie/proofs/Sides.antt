@@ -28,13 +28,13 @@ use Rattle.md_base.specs.Is.{is}
 use Rattle.md_base.specs.Tree.{Forest}
 use Rattle.md_tree.specs.Rules.{place}
 use Rattle.md_meaning.specs.Given.{text_of}
-use Rattle.md_meaning.specs.Given.{Given as MachineGiven}
+use Rattle.md_meaning.specs.Given.{Supply as MachineGiven}
 use Rattle.md_meaning.specs.Places.{ahead_of, left_of, passed_over}
 use Rattle.md_meaning.specs.Places as machine
-use Rattle.md_meaning.specs.Places.{Before as Stood}
+use Rattle.md_meaning.specs.Places.{Stood}
 use Rattle.md_meaning.specs.Printed.{opening, closing, is_captured}
 use Rattle.md_meaning.specs.Piece.{Sheet, Notes, blank}
-use Rattle.md_meaning.specs.Piece.{Piece as Printed, Text as Said, Needed as Wanted, Forced as Added}
+use Rattle.md_meaning.specs.Piece.{Stroke as Printed, Text as Said, Needed as Wanted, Forced as Added}
 use Rattle.md_meaning.specs.Blocks as old
 use Rattle.md_meaning.specs.Tables as old_tables
 use Rattle.md_meaning.specs.Media as old_media
@@ -42,7 +42,7 @@ use Rattle.md_meaning.specs.Meaning.Layout.{Piece, Text, Needed, Forced, said, o
 use Rattle.md_meaning.specs.Meaning.Around.{is_tight}
 use Rattle.md_meaning.specs.Meaning.At.{Given, Found, Before, At, text_in}
 use Rattle.md_meaning.specs.Meaning.Before.{is_first_fence}
-use Rattle.md_meaning.specs.Meaning.Spans.{written, reference, is_dropped, line_ending, html, marker, task_start}
+use Rattle.md_meaning.specs.Meaning.Spans.{escaped, reference, is_dropped, line_ending, html, marker, task_start}
 use Rattle.md_meaning.specs.Meaning.Finds.{number_in_list}
 use Rattle.md_meaning.specs.Meaning.Blocks.{without_zeros, list_start, heading, heading_tag, atx_rank, underline_rank, chunk, code_end, is_unclosed, runs_out}
 use Rattle.md_meaning.specs.Meaning.Media.{autolink, literal}
@@ -208,7 +208,7 @@ list-says : (bytes : List ℕ) (place : Option Position) (notes : Notes) →
     ∷ []) (started bytes place ++ said (codes ">"))
 list-says bytes None notes = (refl, refl)
 list-says bytes (Some place) notes =
-    let says = start-says (machine.without_zeros (text_of bytes place.start place.end)) notes in (
+    let says = start-says (machine.unpadded (text_of bytes place.start place.end)) notes in (
       says.0
           ∙ ap (λ digits. started_with digits ++ said (codes ">"))
           (zeros-same (text_of bytes place.start place.end)),
@@ -216,24 +216,24 @@ list-says bytes (Some place) notes =
     )
 
 item-says : (prefix paragraph tight : Bool) (notes : Notes) →
-    Says notes ((old.when (not (prefix || paragraph && tight)) (Wanted ∷ []) ++ Said (codes "</li>") ∷ [])
+    Says notes ((old.where_so (not (prefix || paragraph && tight)) (Wanted ∷ []) ++ Said (codes "</li>") ∷ [])
     ++ []) ((if prefix || paragraph && tight then [] else Needed ∷ []) ++ said (codes "</li>"))
 item-says prefix paragraph tight notes = here (prefix || paragraph && tight)
   where
-    here : (b : Bool) → Says notes ((old.when (not b) (Wanted ∷ []) ++ Said (codes "</li>") ∷ [])
+    here : (b : Bool) → Says notes ((old.where_so (not b) (Wanted ∷ []) ++ Said (codes "</li>") ∷ [])
         ++ []) ((if b then [] else Needed ∷ []) ++ said (codes "</li>"))
     here true = (refl, refl)
     here false = (refl, refl)
 
 -- the end of code
-chunk-says : (chunk : Bool) (notes : Notes) → Says notes ((old.when chunk (Wanted ∷ []) ++ Said old.code_end ∷ [])
+chunk-says : (chunk : Bool) (notes : Notes) → Says notes ((old.where_so chunk (Wanted ∷ []) ++ Said old.code_closing ∷ [])
     ++ []) (when chunk (Needed ∷ []) ++ said (codes "</code></pre>"))
 chunk-says true notes = (refl, refl)
 chunk-says false notes = (refl, refl)
 
 fence-says : (runs chunk unclosed : Bool) (notes : Notes) →
-    Says notes ((old.when runs (Added ∷ []) ++ (old.when chunk (Wanted ∷ [])
-    ++ (Said old.code_end ∷ [] ++ old.when unclosed (Wanted ∷ [])))) ++ [])
+    Says notes ((old.where_so runs (Added ∷ []) ++ (old.where_so chunk (Wanted ∷ [])
+    ++ (Said old.code_closing ∷ [] ++ old.where_so unclosed (Wanted ∷ [])))) ++ [])
     (when runs (Forced ∷ []) ++ ((when chunk (Needed ∷ []) ++ said (codes "</code></pre>"))
     ++ when unclosed (Needed ∷ [])))
 fence-says true true true notes = (refl, refl)
@@ -250,10 +250,10 @@ contained container = elim container [ Nothing ↦ false | _ ↦ true ]
 
 fenced-says : (container : Container) (names : List Name) (last : Option Name) (chunk : Bool) (notes : Notes) →
     Says notes
-    ((old.when ((list_any is_fence names && not (two_pass is_fence names)) && old.is_contained container
+    ((old.where_so ((list_any is_fence names && not (two_pass is_fence names)) && old.is_contained container
     && not (option_map_or is_fence last false)) (Added ∷ [])
-    ++ (old.when chunk (Wanted ∷ []) ++ (Said old.code_end ∷ []
-    ++ old.when (list_any is_fence names && not (two_pass is_fence names)) (Wanted ∷ [])))) ++ [])
+    ++ (old.where_so chunk (Wanted ∷ []) ++ (Said old.code_closing ∷ []
+    ++ old.where_so (list_any is_fence names && not (two_pass is_fence names)) (Wanted ∷ [])))) ++ [])
     (when ((count_by is_fence names == 1) && contained container
     && not (option_map_or is_fence last false)) (Forced ∷ [])
     ++ ((when chunk (Needed ∷ []) ++ said (codes "</code></pre>"))
@@ -335,30 +335,30 @@ row-says : (in_head : Bool) (kinds : List AlignKind) (notes : Notes) →
     ++ on_own_line (codes "</tr>"))
 row-says in_head kinds notes = cells-read in_head kinds (Wanted ∷ Said (codes "</tr>") ∷ []) notes
 
-paragraph-says : (tight : Bool) (notes : Notes) → Says notes (old.when (not tight) (Wanted ∷ Said (codes "<p>") ∷ []))
+paragraph-says : (tight : Bool) (notes : Notes) → Says notes (old.where_so (not tight) (Wanted ∷ Said (codes "<p>") ∷ []))
     (if tight then [] else on_own_line (codes "<p>"))
 paragraph-says true notes = (refl, refl)
 paragraph-says false notes = (refl, refl)
 
-paragraph_end-says : (tight : Bool) (notes : Notes) → Says notes (old.when (not tight) (Said (codes "</p>") ∷ [])
+paragraph_end-says : (tight : Bool) (notes : Notes) → Says notes (old.where_so (not tight) (Said (codes "</p>") ∷ [])
     ++ []) (if tight then [] else said (codes "</p>"))
 paragraph_end-says true notes = (refl, refl)
 paragraph_end-says false notes = (refl, refl)
 
 pub sides : (given : Given) (at : Here) (name : Name) → IsFit given.bytes name at.start at.end at.children →
     is_captured name ≡ false → drops name ≡ false → Sides given at name
-sides given at Data fit h d = leaf given at Data (written (at_of at) (text_at given at)) refl refl
+sides given at Data fit h d = leaf given at Data (escaped (at_of at) (text_at given at)) refl refl
     (λ n r. (refl, refl)) refl
 sides given at CharacterEscapeValue fit h d = leaf given at CharacterEscapeValue
-    (written (at_of at) (text_at given at)) refl refl (λ n r. (refl, refl)) refl
+    (escaped (at_of at) (text_at given at)) refl refl (λ n r. (refl, refl)) refl
 sides given at CodeTextData fit h d =
-    leaf given at CodeTextData (written (at_of at) (text_at given at)) refl refl
+    leaf given at CodeTextData (escaped (at_of at) (text_at given at)) refl refl
     (λ n r. (refl, refl)) refl
 sides given at MathTextData fit h d =
-    leaf given at MathTextData (written (at_of at) (text_at given at)) refl refl
+    leaf given at MathTextData (escaped (at_of at) (text_at given at)) refl refl
     (λ n r. (refl, refl)) refl
 sides given at CharacterReferenceValue fit h d =
-    leaf given at CharacterReferenceValue (written (at_of at) (reference given (at_of at))) refl refl
+    leaf given at CharacterReferenceValue (escaped (at_of at) (reference given (at_of at))) refl refl
     (λ n r. (
       ap (λ k. Text (encoded at.around.is_escaping
           (unwrap_or (decoded given.names k (text_at given at)) [])) ∷ [])
@@ -378,11 +378,11 @@ sides given at BlankLineEnding fit h d =
     leaf given at BlankLineEnding (when at.is_last (Needed ∷ [])) refl refl
     (λ n r. either at.is_last n (Wanted ∷ []) [] (Needed ∷ []) [] (refl, refl) (refl, refl)) refl
 sides given at HtmlFlowData fit h d =
-    leaf given at HtmlFlowData (written (at_of at) (html given (at_of at))) refl refl
+    leaf given at HtmlFlowData (escaped (at_of at) (html given (at_of at))) refl refl
     (λ n r. html-same given.options.gfm_tagfilter given.options.allow_dangerous_html at.around.is_escaping
     (text_at given at) n) refl
 sides given at HtmlTextData fit h d =
-    leaf given at HtmlTextData (written (at_of at) (html given (at_of at))) refl refl
+    leaf given at HtmlTextData (escaped (at_of at) (html given (at_of at))) refl refl
     (λ n r. html-same given.options.gfm_tagfilter given.options.allow_dangerous_html at.around.is_escaping
     (text_at given at) n) refl
 sides given at CodeFlowChunk fit h d = leaf given at CodeFlowChunk (chunk given (at_of at)) refl refl
@@ -458,7 +458,7 @@ sides given at ListItem fit h d =
     (ends (option_map_or (is ListItemPrefix) last false) (option_map_or (is Paragraph) last false) tight)
     (λ n. (refl, refl))
     (λ n. let says = item-says (option_map_or is_item_prefix last false) (option_map_or is_paragraph last false)
-    (old.is_tight at.around.container) n in (
+    (old.tight_in at.around.container) n in (
       says.0
           ∙ ap (ends (option_map_or is_item_prefix last false) (option_map_or is_paragraph last false))
           (tight-same at.around.container)
@@ -471,9 +471,9 @@ sides given at Paragraph fit h d =
     record {
       front = if tight then [] else on_own_line (codes "<p>");
       back = if tight then [] else said (codes "</p>");
-      opens = λ n. let says = paragraph-says (old.is_tight at.around.container) n in
+      opens = λ n. let says = paragraph-says (old.tight_in at.around.container) n in
           (says.0 ∙ ap (λ b. if b then [] else on_own_line (codes "<p>")) (tight-same at.around.container), says.1);
-      closes = λ n r. let says = paragraph_end-says (old.is_tight at.around.container) n in
+      closes = λ n r. let says = paragraph_end-says (old.tight_in at.around.container) n in
           (says.0 ∙ ap (λ b. if b then [] else said (codes "</p>")) (tight-same at.around.container), says.1);
       whole = λ inner none. span-whole tight (on_own_line (codes "<p>")) inner (said (codes "</p>"));
     }

@@ -24,10 +24,10 @@ use Rattle.md_infer.specs.Looseness.{is_loose}
 use Rattle.md_shape.proofs.Symbols.{Told, told}
 use Rattle.md_meaning.specs.declared.context.Surroundings.{Surroundings}
 use Rattle.md_meaning.specs.Surroundings.{inside}
-use Rattle.md_meaning.specs.Places.{Before as Stood, before_children as children_stood, before_next as next_stood}
+use Rattle.md_meaning.specs.Places.{Stood, stood_inside as children_stood, stood_after as next_stood}
 use Rattle.md_meaning.specs.Printed.{is_captured, printed}
 use Rattle.md_meaning.specs.Piece.{Sheet, blank, lay}
-use Rattle.md_meaning.specs.Piece.{Piece as Printed}
+use Rattle.md_meaning.specs.Piece.{Stroke as Printed}
 use Rattle.md_meaning.specs.Meaning.Layout.{Piece, layout}
 use Rattle.md_meaning.specs.Meaning.At.{Given, At, Before, Found, nothing_found}
 use Rattle.md_meaning.specs.Meaning.Before.{before_children}

@@ -13,10 +13,10 @@ use Rattle.md_meaning.specs.Calls.{tally}
 use Rattle.md_meaning.specs.Given.{Defined}
 use Rattle.md_meaning.specs.Footnotes.{Footnote, section_pieces}
 use Rattle.md_meaning.specs.Places.{first_ending}
-use Rattle.md_meaning.specs.Places.{nothing_before as nothing_stood, calls_of}
+use Rattle.md_meaning.specs.Places.{nothing_stood, calls_of}
 use Rattle.md_meaning.specs.Printed.{printed, footnotes_of}
 use Rattle.md_meaning.specs.Piece.{no_notes}
-use Rattle.md_meaning.specs.Piece.{Piece as Printed, layout as laid}
+use Rattle.md_meaning.specs.Piece.{Stroke as Printed, laid_out as laid}
 use Rattle.md_meaning.specs.Meaning.{meaning, ending_at}
 use Rattle.md_meaning.specs.Whole.{printed_meaning}
 use Rattle.md_meaning.specs.Meaning.At.{Given}

@@ -16,8 +16,8 @@ is_first_fence at = not (list_any is_fence at.before.spine)
 
 -- after a node outside definitions the next line ending is slurped: the node's exit sets that, or it was so after the
 -- node's children and its exit doesn't clear it
-abbrev pub slurps_after : At → Name → Bool → Bool
-slurps_after at name inner = is_fence name && is_first_fence at || is HeadingSetextText name || is Frontmatter name
+abbrev pub lets_slurp : At → Name → Bool → Bool
+lets_slurp at name inner = is_fence name && is_first_fence at || is HeadingSetextText name || is Frontmatter name
     || is Paragraph name && is_tight at.around.container
     || inner && not (is BlankLineEnding name || is BlockQuote name || is CodeIndented name || is CodeFenced name
     || is MathFlow name || is ListItem name || is LineEnding name && not at.around.in_code)

@@ -13,7 +13,7 @@ use Rattle.md_tree.specs.Rules.{columns}
 use Rattle.md_meaning.specs.declared.context.Container.TheVariants.{Nothing}
 use Rattle.md_meaning.specs.Meaning.Around.{is_tight}
 use Rattle.md_meaning.specs.Meaning.Layout.{Piece, Text, Needed, Forced, said, on_own_line, when}
-use Rattle.md_meaning.specs.Meaning.Finds.{first, number_in_list}
+use Rattle.md_meaning.specs.Meaning.Finds.{first_named, number_in_list}
 use Rattle.md_meaning.specs.Meaning.Spans.{is_at}
 use Rattle.md_meaning.specs.Meaning.At.{Given, At, text_in}
 
@@ -43,7 +43,7 @@ heading rank inner = on_own_line (heading_tag (codes "<h") rank) ++ (inner ++ sa
 
 -- how long a heading's first mark is
 abbrev pub atx_rank : At → ℕ
-atx_rank at = option_map_or (λ place. columns place.start place.end) (first HeadingAtxSequence at.children) 0
+atx_rank at = option_map_or (λ place. columns place.start place.end) (first_named HeadingAtxSequence at.children) 0
 
 -- 2 where the underline begins with `-`, else 1
 abbrev pub underline_rank : Given → At → ℕ

@@ -10,16 +10,16 @@ use Rattle.md_base.specs.NameTests.{is_line_ending}
 use Rattle.md_tree.specs.Rules.{place}
 
 -- the place of the first node of a name on the spine
-abbrev pub first : Name → Forest → Option Position
-first name children = first_on_spine (is name) (λ start end inner. place start end) children
+abbrev pub first_named : Name → Forest → Option Position
+first_named name children = first_on_spine (is name) (λ start end inner. place start end) children
 
 -- what is found in the first such node
-abbrev pub in_first : Name → (Forest → Option Position) → Forest → Option Position
-in_first name find children = unwrap_or (first_on_spine (is name) (λ start end inner. find inner) children) None
+abbrev pub in_first_named : Name → (Forest → Option Position) → Forest → Option Position
+in_first_named name find children = unwrap_or (first_on_spine (is name) (λ start end inner. find inner) children) None
 
 -- the number of a list's first item, in its prefix
 abbrev pub number_in_list : Forest → Option Position
-number_in_list children = in_first ListItem (in_first ListItemPrefix (first ListItemValue)) children
+number_in_list children = in_first_named ListItem (in_first_named ListItemPrefix (first_named ListItemValue)) children
 
 -- the place of the line ending, blank or not, that exits first
 abbrev pub first_ending : Forest → Option Position

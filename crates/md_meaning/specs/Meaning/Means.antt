@@ -6,18 +6,18 @@ use Rattle.md_meaning.specs.Meaning.Layout.{Piece, Text, Needed, Forced, layout,
 use Rattle.md_meaning.specs.Meaning.At.{Given, At, text_in}
 use Rattle.md_meaning.specs.Meaning.Around.{is_tight}
 use Rattle.md_meaning.specs.Meaning.Before.{is_first_fence}
-use Rattle.md_meaning.specs.Meaning.Spans.{written, reference, line_ending, html, span, task_start, code}
+use Rattle.md_meaning.specs.Meaning.Spans.{escaped, reference, line_ending, html, span, task_start, code}
 use Rattle.md_meaning.specs.Meaning.Blocks.{list_start, ends_in_line, heading, atx_rank, underline_rank, chunk, code_end, fenced}
 use Rattle.md_meaning.specs.Meaning.Media.{anchor, picture, medium, autolink, literal}
 use Rattle.md_meaning.specs.Meaning.Tables.{cell, row_end}
 use Rattle.md_meaning.specs.Meaning.Footnotes.{call}
 
 abbrev pub prints : Given → At → Name → List Piece → List Piece
-prints given at Data inner = written at (text_in given.bytes at.place)
-prints given at CharacterEscapeValue inner = written at (text_in given.bytes at.place)
-prints given at CodeTextData inner = written at (text_in given.bytes at.place)
-prints given at MathTextData inner = written at (text_in given.bytes at.place)
-prints given at CharacterReferenceValue inner = written at (reference given at)
+prints given at Data inner = escaped at (text_in given.bytes at.place)
+prints given at CharacterEscapeValue inner = escaped at (text_in given.bytes at.place)
+prints given at CodeTextData inner = escaped at (text_in given.bytes at.place)
+prints given at MathTextData inner = escaped at (text_in given.bytes at.place)
+prints given at CharacterReferenceValue inner = escaped at (reference given at)
 prints given at LineEnding inner = line_ending given at
 prints given at BlankLineEnding inner = when at.is_last (Needed ∷ [])
 prints given at BlockQuote inner = on_own_line (codes "<blockquote>") ++ (inner ++ on_own_line (codes "</blockquote>"))
@@ -45,8 +45,8 @@ prints given at CodeText inner = code at (codes "<code>") (layout given.ending i
 prints given at MathText inner =
     code at (codes "<code class=\"language-math math-inline\">") (layout given.ending inner)
 prints given at HtmlFlow inner = Needed ∷ inner
-prints given at HtmlFlowData inner = written at (html given at)
-prints given at HtmlTextData inner = written at (html given at)
+prints given at HtmlFlowData inner = escaped at (html given at)
+prints given at HtmlTextData inner = escaped at (html given at)
 prints given at Emphasis inner = span at (said (codes "<em>")) inner (said (codes "</em>"))
 prints given at Strong inner = span at (said (codes "<strong>")) inner (said (codes "</strong>"))
 prints given at GfmStrikethrough inner = span at (said (codes "<del>")) inner (said (codes "</del>"))

@@ -19,13 +19,13 @@ src options destination =
     url (options.allow_any_img_src || options.allow_dangerous_protocol) image_protocols destination
 
 -- where the first definition with an identifier leads
-abbrev pub defined_by : Given → List ℕ → Target
-defined_by given identifier = option_map_or (λ defined. defined.target)
+abbrev pub target_defined : Given → List ℕ → Target
+target_defined given identifier = option_map_or (λ defined. defined.target)
     (find (λ defined. bytes_eq defined.identifier identifier) given.definitions) (target_in nothing_found)
 
 -- where a link or an image leads: as its resource says, else as the definition to which it refers
 abbrev pub leads_to : Given → At → Target
-leads_to given at = unwrap_or at.found.resource (defined_by given (identifier_of given.bytes at.children))
+leads_to given at = unwrap_or at.found.resource (target_defined given (identifier_of given.bytes at.children))
 
 -- ` title="` title `"`, where there is one
 abbrev pub title_attribute : Option (List ℕ) → List Piece

@@ -12,7 +12,7 @@ use Rattle.md_tree.specs.Rules.{place}
 use Rattle.md_meaning.specs.Meaning.Around.{inside}
 use Rattle.md_meaning.specs.Meaning.Layout.{Piece, layout, when}
 use Rattle.md_meaning.specs.Meaning.At.{Defined, Footnote, Given, Found, nothing_found, target_in, Before, At, identifier_of}
-use Rattle.md_meaning.specs.Meaning.Before.{before_children, slurps_after}
+use Rattle.md_meaning.specs.Meaning.Before.{before_children, lets_slurp}
 use Rattle.md_meaning.specs.Meaning.Means.{prints}
 
 -- what nodes mean: their pieces, what is found on their spine, the calls, the definitions and the footnotes by their
@@ -64,7 +64,7 @@ node given at name inner =
           ++ when (is Definition name) (record { identifier = identifier; target = target_in at.found } ∷ []);
       footnotes = inner.footnotes
           ++ when (is GfmFootnoteDefinition name) (record { identifier = identifier; text = text } ∷ []);
-      slurps = if at.around.in_definition then inner.slurps else slurps_after at name inner.slurps;
+      slurps = if at.around.in_definition then inner.slurps else lets_slurp at name inner.slurps;
     }
 
 -- what stands before the next sibling of a node that means this
@@ -78,8 +78,8 @@ before_next at name here = record at.before {
 }
 
 -- a node, and what later nodes mean after it
-abbrev pub followed : At → Name → Outcome → (Before → Outcome) → Outcome
-followed at name here later = both here (later (before_next at name here))
+abbrev pub continued : At → Name → Outcome → (Before → Outcome) → Outcome
+continued at name here later = both here (later (before_next at name here))
 
 -- what some nodes mean, by what stands around them and before them
 abbrev pub outcome : Given → Surroundings → Before → Forest → Outcome
@@ -98,4 +98,4 @@ outcome given around before (Node name start end children rest) =
       is_last = around.is_outermost && is_empty rest;
     }
     in
-    followed at name (node given at name inner) (λ next. outcome given around next rest)
+    continued at name (node given at name inner) (λ next. outcome given around next rest)

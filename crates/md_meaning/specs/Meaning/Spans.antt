@@ -12,8 +12,8 @@ use Rattle.md_meaning.specs.Meaning.Layout.{Piece, Text, said, when}
 use Rattle.md_meaning.specs.Meaning.At.{Given, At, text_in}
 
 -- a text, escaped where the surroundings say so
-abbrev pub written : At → List ℕ → List Piece
-written at text = said (encoded at.around.is_escaping text)
+abbrev pub escaped : At → List ℕ → List Piece
+escaped at text = said (encoded at.around.is_escaping text)
 
 -- the marker that a name is: `x`, `#` or `&`
 abbrev pub marker : Name → ℕ

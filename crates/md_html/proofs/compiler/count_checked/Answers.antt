@@ -12,7 +12,7 @@ use Rattle.md_safe.proofs.Whole.{one-reading, safe-links, safe-images, distinct-
 use Rattle.md_standard.proofs.Tokenized.{read-tokenized, link-tokens, image-tokens}
 use Rattle.md_base.specs.Reference.{name_table}
 use Rattle.md_base.specs.Tree.{Forest, flatten}
-use Rattle.md_meaning.specs.Given.{Given, Defined}
+use Rattle.md_meaning.specs.Given.{Supply, Defined}
 use Rattle.md_base.specs.declared.event.Event.{Event}
 use Rattle.md_pattern.specs.Shape.{IsShaped}
 use Rattle.md_html.specs.OwnDefinitions.{own_definitions}
@@ -35,7 +35,7 @@ returns c =
     let names : List (List ℕ × List ℕ) = name_table c.names.result.now in
     let bytes : List ℕ = c.bytes.result.now in
     let given_events : List Event = c.args.checked.now.events in
-    let given : List ℕ → List Defined → Given = λ e ds. given_with options names bytes e ds in
+    let given : List ℕ → List Defined → Supply = λ e ds. given_with options names bytes e ds in
     let ending : List ℕ = c.ending_of.result.now in
     let known : List Defined = c.in_ok-definitions.definitions in
     let read = c.ending_of.ensures.grammatical in

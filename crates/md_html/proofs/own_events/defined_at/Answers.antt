@@ -7,7 +7,7 @@ use Rattle.md_tree.specs.Entered.{children_of}
 use Rattle.md_infer.specs.Partners.{partners_of}
 use Rattle.md_tree.proofs.Indexed.{flatten_one}
 use Rattle.md_base.specs.declared.event.Name.TheVariants.{GfmTable}
-use Rattle.md_meaning.specs.Given.{Given}
+use Rattle.md_meaning.specs.Given.{Supply}
 use Rattle.md_printer.specs.Machine as machine
 use Rattle.md_printer.specs.Machine.{Printer}
 use Rattle.md_printer.specs.Given.{given_of}
@@ -17,7 +17,7 @@ use Rattle.md_html.proofs.own_events.defined_at.Goals as goal
 
 pub returns : goal.returns
 returns c = λ document flat place there.
-    let given : Given = given_of c.args.given.now in
+    let given : Supply = given_of c.args.given.now in
     let read = c.run_node-ran.ensures.grammatical in
     let shaped : IsShaped document =
     subst IsShaped (flatten_one GfmTable (record { line = 0; column = 0; index = 0; vs = 0 }) read.0 document

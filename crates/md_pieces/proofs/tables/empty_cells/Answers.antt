@@ -2,7 +2,7 @@
 -- By itself the search can't take the first of a list's rest, or join what is printed in parts.
 use Rattle.std.proofs.Common.{[], ◌+◌, drop, List, ap, sym, ◌∙◌}
 use Rattle.md_base.specs.declared.event.AlignKind.{AlignKind}
-use Rattle.md_meaning.specs.Piece.{Piece}
+use Rattle.md_meaning.specs.Piece.{Stroke}
 use Rattle.md_printer.specs.Machine.{Printer, printing}
 use Rattle.md_around.specs.Steps.{first_or}
 use Rattle.md_meaning.specs.Tables as tables
@@ -16,8 +16,8 @@ loop-kind-preserved c =
     let before : Printer = c.loop-kind.printer in
     let index = c.loop-kind.index in
     let columns : List AlignKind = first_or [] before.tables in
-    let own : List Piece = tables.cell_pieces c.args.in_head c.in-Some.kind [] in
-    let later : List Piece = tables.empty_cells c.args.in_head (drop (index + 1) columns) in (
+    let own : List Stroke = tables.cell_pieces c.args.in_head c.in-Some.kind [] in
+    let later : List Stroke = tables.empty_cells c.args.in_head (drop (index + 1) columns) in (
       ap (λ s. s.tables) c.in_ok-cell.ensures ∙ c.loop-kind.invariant.0,
       ap (λ s. printing ending (tables.empty_cells c.args.in_head (drop (index + 1) (first_or [] s.tables))) s)
           c.in_ok-cell.ensures

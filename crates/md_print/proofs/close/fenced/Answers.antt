@@ -1,10 +1,10 @@
 -- The four parts of the end, one after another.
 use Rattle.std.proofs.Common.{◌≡◌, ◌∷◌, [], ◌++◌, List, Bool, OnOk, ap, sym, subst, ◌∙◌}
 use Rattle.md_printer.specs.Machine.{Printer, printing}
-use Rattle.md_meaning.specs.Piece.{Piece, Needed, Forced}
+use Rattle.md_meaning.specs.Piece.{Stroke, Needed, Forced}
 use Rattle.md_meaning.specs.declared.context.Passed.{Passed}
-use Rattle.md_meaning.specs.Texts.{said}
-use Rattle.md_meaning.specs.Blocks.{when, is_unclosed, runs_out, code_end, fenced_closing}
+use Rattle.md_meaning.specs.Texts.{saying}
+use Rattle.md_meaning.specs.Blocks.{where_so, lacks_fence, is_cut_short, code_closing, fenced_closing}
 use Rattle.md_printer.proofs.Printing.{printing-append}
 use Rattle.md_print.proofs.close.fenced.Goals as goal
 
@@ -13,14 +13,14 @@ returns c =
     let ending = c.args.ending.now in
     let around = c.args.around in
     let passed : Passed = c.passed-passed.result in
-    let forced : List Piece = when (runs_out around passed) (Forced ∷ []) in
-    let needed : List Piece = when passed.spine.has_chunk (Needed ∷ []) in
-    let end : List Piece = said code_end in
-    let last : List Piece = when (is_unclosed passed) (Needed ∷ []) in
+    let forced : List Stroke = where_so (is_cut_short around passed) (Forced ∷ []) in
+    let needed : List Stroke = where_so passed.spine.has_chunk (Needed ∷ []) in
+    let end : List Stroke = saying code_closing in
+    let last : List Stroke = where_so (lacks_fence passed) (Needed ∷ []) in
     let start : Printer = c.args.printer.now in
     let P : Printer → Type 0 = λ s. OnOk c.need_if-2.result (c.need_if-2.new.printer ≡ s) in
-    let F : Bool → Printer = λ b. printing ending (when b (Forced ∷ [])) start in
-    let L : Bool → Printer → Printer = λ b s. printing ending (when b (Needed ∷ [])) s in
+    let F : Bool → Printer = λ b. printing ending (where_so b (Forced ∷ [])) start in
+    let L : Bool → Printer → Printer = λ b s. printing ending (where_so b (Needed ∷ [])) s in
     subst P
     (ap (λ b. L b c.put.new.self) c.is_unclosed.ensures
     ∙ ap (λ s. printing ending last s)

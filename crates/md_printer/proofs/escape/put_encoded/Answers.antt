@@ -2,7 +2,7 @@
 use Rattle.std.proofs.Common.{◌≡◌, ◌+◌, ◌-◌, ℕ, List, slice_range, [], take, drop, ap, ◌∙◌, arith}
 use Rattle.std.proofs.lemmas.Str.{IsCharBoundary-after_ascii}
 use Rattle.md_text.specs.Encode.{encoded}
-use Rattle.md_meaning.specs.Texts.{said}
+use Rattle.md_meaning.specs.Texts.{saying}
 use Rattle.md_printer.specs.Machine.{Printer, printing}
 use Rattle.md_text.proofs.EncodeLemmas.{encoded-at}
 use Rattle.md_printer.proofs.Escaping.{printed-parts}
@@ -22,10 +22,10 @@ loop-index-preserved c =
     let other : List ℕ = c.in-Some.other.now in
     let before : Printer = c.loop-index.printer in
     let later : List ℕ = encoded html (drop (index + 1) rest) in (
-      ap (λ text. printing [] (said (encoded html text)) c.put-in-Some.new.self) c.range_from-rest.ensures.value
-          ∙ ap (λ s. printing [] (said later) s) (c.in_ok-put-2.ensures
-          ∙ ap (λ s. printing [] (said other) s) (c.in_ok-put.ensures
-          ∙ ap (λ text. printing [] (said text) before) (c.range.ensures.value ∙ from_start rest index)))
+      ap (λ text. printing [] (saying (encoded html text)) c.put-in-Some.new.self) c.range_from-rest.ensures.value
+          ∙ ap (λ s. printing [] (saying later) s) (c.in_ok-put-2.ensures
+          ∙ ap (λ s. printing [] (saying other) s) (c.in_ok-put.ensures
+          ∙ ap (λ text. printing [] (saying text) before) (c.range.ensures.value ∙ from_start rest index)))
           ∙ printed-parts (take index rest) other later (encoded html rest) before
           (encoded-at html rest other index found.0 found.2 found.3)
           ∙ c.loop-index.invariant.0,

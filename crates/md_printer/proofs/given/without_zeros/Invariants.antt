@@ -2,11 +2,11 @@
 use Rattle.std.proofs.Common.{◌≡◌, length}
 use denote.Text.{Utf8}
 use denote.Shadow.{shadow}
-use Rattle.md_meaning.specs.Places.{without_zeros}
+use Rattle.md_meaning.specs.Places.{unpadded}
 use Rattle.md_printer.proofs.given.without_zeros.Given as goal
 
 abbrev pub invariant-loop-digits : goal.invariant-loop-digits
-invariant-loop-digits l = (without_zeros l.digits ≡ without_zeros l.initial.digits) × shadow (Utf8 l.digits)
+invariant-loop-digits l = (unpadded l.digits ≡ unpadded l.initial.digits) × shadow (Utf8 l.digits)
 
 abbrev pub decreases-loop-digits : goal.decreases-loop-digits
 decreases-loop-digits l = length l.digits

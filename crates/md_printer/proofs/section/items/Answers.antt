@@ -5,7 +5,7 @@ use Rattle.md_meaning.specs.Piece.{lay}
 use Rattle.md_meaning.specs.Footnotes as notes
 use Rattle.md_printer.proofs.section.items.Goals as goal
 use Rattle.std.proofs.Common.{ℕ, Bool, Option, String, Global, suc, ◌≡◌, ◌++◌, ap, sym, ◌∙◌, arith, drop}
-use Rattle.md_meaning.specs.Piece.{Piece}
+use Rattle.md_meaning.specs.Piece.{Stroke}
 use Rattle.md_meaning.specs.Calls.{Called}
 use Rattle.md_sheet.proofs.Lists.{drop-found, drop-missing, lay-append}
 use Rattle.md_text.specs.declared.options.CompileOptions.{CompileOptions}
@@ -40,11 +40,11 @@ loop-identifier-preserved c =
     let number : ℕ = c.loop-identifier.index + 1 in
     let called : Called = record { identifier = c.in-Some.identifier.now; count = c.in-Some.count } in
     let text : List ℕ = notes.footnote_text footnotes called.identifier in
-    let own : List Piece = notes.item_pieces options text called.identifier number called.count in
+    let own : List Stroke = notes.item_pieces options text called.identifier number called.count in
     let later : List Called = drop number c.args.calls.now in
-    let laid : List ℕ → List ℕ → List ℕ → List Piece = λ id text back.
+    let laid : List ℕ → List ℕ → List ℕ → List Stroke = λ id text back.
     notes.item_opening id ++ (notes.body_pieces text back ++ notes.item_closing) in
-    let rest : ℕ → List Piece = λ n. notes.items_pieces options footnotes n later in (
+    let rest : ℕ → List Stroke = λ n. notes.items_pieces options footnotes n later in (
       ap (λ s. lay ending s (rest (number + 1)))
           (c.in_ok-item.ensures
           ∙ ap (λ id. lay ending sheet (laid id c.text_of-text.result.now c.as_str-in-Some.result.now))

@@ -6,7 +6,7 @@ use Rattle.md_meaning.specs.Footnotes as notes
 use Rattle.md_printer.proofs.section.lay_section.Goals as goal
 use Rattle.std.proofs.Common.{refl, ap, sym, ◌∙◌, subst}
 use Rattle.std.proofs.lemmas.Bool.{true≢false}
-use Rattle.md_meaning.specs.Piece.{Piece, Sheet}
+use Rattle.md_meaning.specs.Piece.{Stroke, Sheet}
 use Rattle.md_meaning.specs.Calls.{Called}
 use Rattle.md_text.specs.declared.options.CompileOptions.{CompileOptions}
 use Rattle.md_sheet.proofs.Lists.{lay-append}
@@ -26,8 +26,8 @@ returns c =
     let calls = c.args.calls.now in
     let ending = c.args.settings.now.ending.now in
     let start : Sheet = c.args.sheet.now in
-    let opening : List Piece = notes.section_opening options in
-    let items : List Piece = notes.items_pieces options footnotes 1 calls in
+    let opening : List Stroke = notes.section_opening options in
+    let items : List Stroke = notes.items_pieces options footnotes 1 calls in
     let P : Sheet → Type 0 = λ s. OnOk c.section_end.result (c.section_end.new.sheet ≡ s) in
     subst P
     (ap (λ s. lay ending s notes.section_closing) (c.in_ok-items.ensures

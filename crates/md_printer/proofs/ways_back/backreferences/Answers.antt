@@ -7,12 +7,12 @@ use Rattle.std.proofs.Common.{ap, sym, ◌∙◌, append_assoc, arith}
 use Rattle.md_text.specs.declared.options.CompileOptions.{CompileOptions}
 
 one_more : (options : CompileOptions) (identifier : List ℕ) (number n : ℕ) →
-    notes.backreferences options identifier number n ++ ((if n == 0 then [] else 32 ∷ [])
-    ++ notes.backreference options identifier number (n + 1)) ≡ notes.backreferences options identifier number (n + 1)
+    notes.return_links options identifier number n ++ ((if n == 0 then [] else 32 ∷ [])
+    ++ notes.return_link options identifier number (n + 1)) ≡ notes.return_links options identifier number (n + 1)
 one_more options identifier number n =
-    ap (λ m. notes.backreferences options identifier number n ++ ((if n == 0 then [] else 32 ∷ [])
-    ++ notes.backreference options identifier number m)) (next n)
-    ∙ ap (λ m. notes.backreferences options identifier number m) (sym (next n))
+    ap (λ m. notes.return_links options identifier number n ++ ((if n == 0 then [] else 32 ∷ [])
+    ++ notes.return_link options identifier number m)) (next n)
+    ∙ ap (λ m. notes.return_links options identifier number m) (sym (next n))
   where
     next : (m : ℕ) → m + 1 ≡ suc m
     next m = omega arith
@@ -24,11 +24,11 @@ loop-done-preserved c =
     let number = c.args.footnote.now.number in
     let done = c.loop-done.done in (
       c.in_ok-push_backreference.ensures
-          ∙ ap (λ t. t ++ notes.backreference options identifier number (done + 1)) c.in_ok-push_space.ensures
+          ∙ ap (λ t. t ++ notes.return_link options identifier number (done + 1)) c.in_ok-push_space.ensures
           ∙ append_assoc (string_bytes c.loop-done.text) (if done == 0 then [] else 32
-          ∷ []) (notes.backreference options identifier number (done + 1))
+          ∷ []) (notes.return_link options identifier number (done + 1))
           ∙ ap (λ t. t ++ ((if done == 0 then [] else 32 ∷ [])
-          ++ notes.backreference options identifier number (done + 1)))
+          ++ notes.return_link options identifier number (done + 1)))
           c.loop-done.invariant.0
           ∙ one_more options identifier number done,
       search rules,

@@ -5,7 +5,7 @@ use Rattle.md_printer.proofs.ways_back.backreferences.Given as goal
 
 abbrev pub invariant-loop-done : goal.invariant-loop-done
 invariant-loop-done l =
-    (string_bytes l.text ≡ notes.backreferences l.options l.footnote.identifier.now l.footnote.number l.done)
+    (string_bytes l.text ≡ notes.return_links l.options l.footnote.identifier.now l.footnote.number l.done)
     × (l.done ≤ l.count)
 
 abbrev pub decreases-loop-done : goal.decreases-loop-done
