@@ -15,7 +15,8 @@ use Rattle.md_meaning.specs.Printed.{printed, definitions_of, footnotes_of}
 abbrev pub printed_meaning : CompileOptions → List (List ℕ × List ℕ) → List ℕ → Forest → List ℕ
 printed_meaning options names bytes document =
     let ending = ending_at options bytes (first_ending document) in
-    let alone : Supply = record { bytes = bytes; names = names; options = options; ending = ending; definitions = [] } in
+    let alone : Supply =
+    record { bytes = bytes; names = names; options = options; ending = ending; definitions = [] } in
     let given : Supply = record alone { definitions = definitions_of alone outermost nothing_stood document } in
     laid_out ending
     (printed given outermost nothing_stood document

@@ -29,7 +29,8 @@ fn push_href(
     occurrence: usize,
 ) -> Result<(), AllocError>
     ensures { OnOk result (string_bytes text.new ≡ string_bytes text.old
-        ++ (codes "<a href=\"#" ++ (notes.id_of_call options.now footnote.now.identifier.now footnote.now.number occurrence
+        ++ (codes "<a href=\"#"
+        ++ (notes.id_of_call options.now footnote.now.identifier.now footnote.now.number occurrence
         ++ codes "\" data-footnote-backref=\"\" aria-label=\""))) }
 {
     let id = call_id(alloc, &ids_by(options), footnote, occurrence)?;

@@ -141,7 +141,8 @@ block-pair s o c bracket inner a =
 
 -- a paragraph
 paragraph-node : (s : Setting) (tagged : Bool) (inner : List Stroke) → Prints s (Reads s) inner →
-    Prints s (Reads s) (where_so tagged (on_new_line (codes "<p>")) ++ (inner ++ (where_so tagged (saying (codes "</p>")) ++ [])))
+    Prints s (Reads s) (where_so tagged (on_new_line (codes "<p>"))
+    ++ (inner ++ (where_so tagged (saying (codes "</p>")) ++ [])))
 paragraph-node s true inner a =
     adds-pair s.p s.given.ending (codes "<p>") (codes "</p>") (on_new_line (codes "<p>")) inner (saying (codes "</p>"))
     (bracket-plain s.p (codes "p") refl)
@@ -213,7 +214,8 @@ flow-node s t HeadingSetextUnderlineSequence e is fit whole inner a =
 flow-node s t CodeIndented e is fit whole inner a =
     adds-pair s.p s.given.ending (codes "<pre><code>") code_closing (on_new_line (codes "<pre><code>")) inner
     (indented_closing t.passed ++ []) (bracket-code s.p)
-    (framed-needed s.p s.given.ending (codes "<pre><code>") s.ending) a (when-end s t.passed.spine.has_chunk code_closing)
+    (framed-needed s.p s.given.ending (codes "<pre><code>") s.ending) a
+    (when-end s t.passed.spine.has_chunk code_closing)
 flow-node s t CodeFenced e is fit whole inner a = adds-raw s.p s.given.ending s.ending code_tag inner
     (fenced_closing t.around t.passed ++ []) a (fenced-end s t.around t.passed)
 flow-node s t MathFlow e is fit whole inner a = adds-raw s.p s.given.ending s.ending math_tag inner

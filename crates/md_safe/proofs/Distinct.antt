@@ -127,7 +127,8 @@ call_tail number occurrence = codes "fnref-" ++ (decimal number ++ (45 ∷ decim
 note-back : (options : CompileOptions) → options.gfm_footnote_number_ids ≡ true → (identifier : List ℕ) (number : ℕ) →
     read_back (footnote_id options identifier number) ≡ back_prefix options ++ note_tail number
 note-back options on identifier number =
-    ap (λ b. read_back (cond b (numbered_id_of options (codes "fn-") number) (id_by_name options (codes "fn-") identifier)))
+    ap (λ b. read_back (cond b (numbered_id_of options (codes "fn-") number)
+    (id_by_name options (codes "fn-") identifier)))
     on
     ∙ prefix-back options (note_tail number)
     ∙ ap (λ x. back_prefix options ++ x) (plain-back (note_tail number) (digits-no_and (decimal number)

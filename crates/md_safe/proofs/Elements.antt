@@ -103,7 +103,8 @@ without_start p ending h =
 pub ordered-opening : (p : Claim) (ending : List ℕ) → Escaped ending → (options : CompileOptions) →
     IsTest p.test options → (bytes : List ℕ) (number : Option Position)
     → option_map_or (λ place. list_all is_digit (text_of bytes place.start place.end)) number true ≡ true
-    → IsOpening p ending (codes "</ol>") (on_new_line (codes "<ol") ++ (start_pieces bytes number ++ saying (codes ">")))
+    → IsOpening p ending (codes "</ol>")
+    (on_new_line (codes "<ol") ++ (start_pieces bytes number ++ saying (codes ">")))
 ordered-opening p ending h options test bytes None fits = without_start p ending h
 ordered-opening p ending h options test bytes (Some place) fits =
     by (bytes_eq (unpadded (text_of bytes place.start place.end)) (codes "1"))

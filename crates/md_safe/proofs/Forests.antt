@@ -82,7 +82,8 @@ forest-prints s (Node name start end children rest) around before content built 
     let t : Spot = spot_of s.given around before start end name children rest in
     let around' : Surroundings = inside s.given.options (is_loose children) name around in
     let inner : List Stroke = printed s.given around' (stood_inside name children before) children in
-    let others : List Stroke = printed s.given around (stood_after s.given around name start end children before) rest in
+    let others : List Stroke =
+    printed s.given around (stood_after s.given around name start end children before) rest in
     subst (Prints s (Holds s.p around.is_escaping around.in_image content))
     (sym (append_assoc (node_pieces s t name inner) others later))
     (any-node s t content name before.spine refl built.0 built.1 suits f whole inner (others ++ later) built.2

@@ -130,7 +130,8 @@ titles-escaped : (bytes : List ℕ) (names : List (List ℕ × List ℕ)) (optio
       definitions = [];
     }) outermost nothing_stood document)
 titles-escaped bytes names options document ending escaped built keeps =
-    let alone : Supply = record { bytes = bytes; names = names; options = options; ending = ending; definitions = [] } in
+    let alone : Supply =
+    record { bytes = bytes; names = names; options = options; ending = ending; definitions = [] } in
     let claim : Claim = passing any_attribute (HasReadingWith any_attribute) (nothing any_attribute) in
     let whole : IsWhole claim = record {
       both = join any_attribute;
@@ -157,7 +158,8 @@ meaning-reads p bytes names options document test ids built keeps =
     let ending : List ℕ = ending_at options bytes (first_ending document) in
     let escaped : Escaped ending = ending-escaped options bytes (first_ending document)
     (first-is_ending bytes Blocks document built) in
-    let alone : Supply = record { bytes = bytes; names = names; options = options; ending = ending; definitions = [] } in
+    let alone : Supply =
+    record { bytes = bytes; names = names; options = options; ending = ending; definitions = [] } in
     let titles : AreTitles (definitions_of alone outermost nothing_stood document) =
     titles-escaped bytes names options document ending escaped built keeps in
     let given : Supply = record alone { definitions = definitions_of alone outermost nothing_stood document } in
@@ -250,7 +252,8 @@ distinct-ids bytes names options document built underlined keeps small =
     let ending : List ℕ = ending_at options bytes (first_ending document) in
     let escaped : Escaped ending = ending-escaped options bytes (first_ending document)
     (first-is_ending bytes Blocks document built) in
-    let alone : Supply = record { bytes = bytes; names = names; options = options; ending = ending; definitions = [] } in
+    let alone : Supply =
+    record { bytes = bytes; names = names; options = options; ending = ending; definitions = [] } in
     let d : Document = record {
       given = record alone { definitions = definitions_of alone outermost nothing_stood document };
       html = keeps.grammar.escapes_html;

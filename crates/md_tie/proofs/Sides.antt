@@ -226,7 +226,8 @@ item-says prefix paragraph tight notes = here (prefix || paragraph && tight)
     here false = (refl, refl)
 
 -- the end of code
-chunk-says : (chunk : Bool) (notes : Notes) → Says notes ((old.where_so chunk (Wanted ∷ []) ++ Said old.code_closing ∷ [])
+chunk-says : (chunk : Bool) (notes : Notes) →
+    Says notes ((old.where_so chunk (Wanted ∷ []) ++ Said old.code_closing ∷ [])
     ++ []) (when chunk (Needed ∷ []) ++ said (codes "</code></pre>"))
 chunk-says true notes = (refl, refl)
 chunk-says false notes = (refl, refl)
@@ -335,7 +336,8 @@ row-says : (in_head : Bool) (kinds : List AlignKind) (notes : Notes) →
     ++ on_own_line (codes "</tr>"))
 row-says in_head kinds notes = cells-read in_head kinds (Wanted ∷ Said (codes "</tr>") ∷ []) notes
 
-paragraph-says : (tight : Bool) (notes : Notes) → Says notes (old.where_so (not tight) (Wanted ∷ Said (codes "<p>") ∷ []))
+paragraph-says : (tight : Bool) (notes : Notes) →
+    Says notes (old.where_so (not tight) (Wanted ∷ Said (codes "<p>") ∷ []))
     (if tight then [] else on_own_line (codes "<p>"))
 paragraph-says true notes = (refl, refl)
 paragraph-says false notes = (refl, refl)
