@@ -1,8 +1,10 @@
 //! What holds of every document, as the contracts of functions that do nothing.
 
 ghost use Rattle.md_base.specs.Tree.{Forest, flatten};
+ghost use Rattle.md_base.specs.declared.event.Event.{Event};
+ghost use Rattle.md_tree.specs.Refusal.{BeginNoTree, LeaveOpen};
 ghost use Rattle.md_tree.specs.Tables.{IsTable};
-ghost use Rattle.std.specs.Prelude.{◌≡◌, Option};
+ghost use Rattle.std.specs.Prelude.{◌≡◌, ℕ, List, Option, take};
 ghost use Rattle.md_pattern.specs.declared.kinds.Role.{Role};
 ghost use Rattle.md_pattern.specs.declared.kinds.Symbol.{Symbol};
 ghost use Rattle.md_pattern.specs.Shape.{AreShaped};
@@ -11,6 +13,11 @@ ghost use Rattle.md_tree.specs.Laws.{HasOneAlignmentForEachValue, HasOneSpine, I
 /// A list of events is the flattening of one document at most.
 pub fn events_flatten_one_document()
     ensures { (one other : Forest) → flatten one ≡ flatten other → one ≡ other }
+{}
+
+/// Where events leave something open, each of them is in order.
+pub fn open_events_are_in_order()
+    ensures { (events : List Event) (count : ℕ) → LeaveOpen events → BeginNoTree (take count events) → ⊥ }
 {}
 
 /// Where nodes have the shape of the grammar, their spine is the same by names and by symbols.
