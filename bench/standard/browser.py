@@ -6,8 +6,9 @@
 PROGRAM is the built `mdevents`. Each text is written into a document of its own, by the browser's parser as it reads a
 page, and set into a `div` of another. In both documents that come of it there may be no script element, no attribute
 whose name begins with `on`, and, but where an option lets them, no `href` and no `src` with a scheme that isn't
-permitted, by the browser's own `URL`; and nothing may run: no call of `alert`, `confirm`, `prompt` or `eval`. It fails,
-with status 1, on each of these, and where it doesn't find them in texts that have them.
+permitted, by the browser's own `URL`; and nothing may run: no call of `alert`, `confirm`, `prompt` or `eval`. Besides,
+each attack is the title of an empty page (`--page`), whose document must have exactly this title and an empty body. It
+fails, with status 1, on each of these, and where it doesn't find them in texts that have them.
 """
 
 import itertools
@@ -30,6 +31,7 @@ BAD = [
     ("<a href=' java\nscript:alert(1)'>x</a>", "javascript"),
     ("<img src='irc:x'>", "irc"),
 ]
+BAD_PAGE = ["<!doctype html><title></title>x</title><body>", "</title>x", "the title"]
 
 PAGE = """<!doctype html><meta charset="utf-8"><body><script>
 const PERMITTED = {href: ['http', 'https', 'irc', 'ircs', 'mailto', 'xmpp'], src: ['http', 'https']};
@@ -54,12 +56,18 @@ const opened = (ran) => {
   return frame;
 };
 const wait = (time) => new Promise((done) => setTimeout(done, time));
+const titleFaults = (document, title) => [
+  ...(document.querySelectorAll('title').length === 1 && document.querySelector('title').textContent === title
+    ? [] : ['the title is not ' + title]),
+  ...(document.body.children.length || document.body.textContent.trim() ? ['something stands in the body'] : []),
+];
 const judged = async (texts) => {
-  const open = texts.map(([text, isAny]) => {
+  const open = texts.map(([text, isAny, title]) => {
     const ran = [], page = opened(ran), part = opened(ran), document = page.contentDocument;
-    document.open(); document.write('<!doctype html><meta charset="utf-8"><body>' + text); document.close();
+    const before = title === null ? '<!doctype html><meta charset="utf-8"><body>' : '';
+    document.open(); document.write(before + text); document.close();
     const div = part.contentDocument.body.appendChild(part.contentDocument.createElement('div'));
-    div.innerHTML = text;
+    if (title === null) div.innerHTML = text; else ran.push(...titleFaults(document, title));
     return {ran, page, part, document, div, isAny};
   });
   await wait(200);
@@ -78,7 +86,7 @@ const judged = async (texts) => {
 
 
 def faults_of(texts, chromium):
-    """What the browser finds in each text; a text comes with whether its option lets any protocol."""
+    """What the browser finds in each text; it comes with whether its option lets any protocol, and a page's title."""
     with tempfile.TemporaryDirectory() as folder:
         page = pathlib.Path(folder) / "page.html"
         given = json.dumps(texts).replace("<", "\\u003c")
@@ -98,18 +106,24 @@ def main():
         if source is None:
             continue
         ran = subprocess.run([program], input=source, capture_output=True, check=True)
-        texts.append([ran.stdout.decode(), LETS_ANY in lines])
+        texts.append([ran.stdout.decode(), LETS_ANY in lines, None])
         sources.append(source)
-    found = faults_of([[text, False] for text, _ in BAD] + texts, chromium)
-    assert len(found) == len(BAD) + len(texts)
-    for (text, word), faults in zip(BAD, found, strict=False):
+    count = len(texts)
+    for title in (text for text, _ in attacks() if "\0" not in text):
+        ran = subprocess.run([program, "--page", title], input=b"--\n", capture_output=True, check=True)
+        texts.append([ran.stdout.decode(), False, title.replace("\r\n", "\n").replace("\r", "\n")])
+        sources.append(title.encode())
+    bad = [([text, False, None], word) for text, word in BAD] + [([BAD_PAGE[0], False, BAD_PAGE[1]], BAD_PAGE[2])]
+    found = faults_of([text for text, _ in bad] + texts, chromium)
+    assert len(found) == len(bad) + len(texts)
+    for (text, word), faults in zip(bad, found, strict=False):
         assert any(word in fault for fault in faults), (text, faults)
     failures = 0
-    for source, (text, _), faults in zip(sources, texts, found[len(BAD) :], strict=True):
+    for source, (text, _, _), faults in zip(sources, texts, found[len(bad) :], strict=True):
         failures += bool(faults)
         if faults:
             print(f"{faults}\n  in {text[:300]!r}\n  of {source[:300]!r}")
-    print(f"{len(texts)} texts, each as a page and inside a div: {failures} with faults")
+    print(f"{count} texts, each as a page and inside a div, and {len(texts) - count} titles: {failures} with faults")
     sys.exit(1 if failures or not texts else 0)
 
 

@@ -59,11 +59,11 @@ abbrev pub in_name : ℕ → List ℕ
 in_name b = in_value (lower b)
 
 -- 13.2.6, the names of start tags at which tree construction may give the tokenizer another state, or begins foreign
--- content, and the two (the last) inside which it ignores a `title` and leaves the state as it is
+-- content, and the three (the last) inside which it may ignore a `title`, and leave the state as it is
 abbrev pub switching : List (List ℕ)
 switching = codes "title" ∷ codes "textarea" ∷ codes "style" ∷ codes "xmp" ∷ codes "iframe" ∷ codes "noembed"
     ∷ codes "noframes" ∷ codes "script" ∷ codes "plaintext" ∷ codes "noscript" ∷ codes "svg" ∷ codes "math"
-    ∷ codes "select" ∷ codes "frameset" ∷ []
+    ∷ codes "select" ∷ codes "frameset" ∷ codes "template" ∷ []
 
 -- no start tag of these names
 abbrev pub leaves_state : Token → Bool

@@ -83,6 +83,7 @@ pub fn stuck_texts()
     ensures comments { run 50 Data (codes "<!-- -->") ≡ None }
     ensures scripts { run 50 Data (codes "<script>1</script>") ≡ None }
     ensures foreign { run 50 Data (codes "<svg>") ≡ None }
+    ensures templates { run 50 Data (codes "<template>") ≡ None }
     ensures numeric { run 50 Data (codes "&#58;") ≡ None }
     ensures unquoted { run 50 Data (codes "<a href=x>") ≡ None }
 {}
