@@ -8,7 +8,7 @@ use Rattle.md_base.specs.Identifier.{normalized}
 use Rattle.md_base.specs.Place.{fits}
 use Rattle.md_base.specs.Tree.{Forest, Empty, Node}
 use Rattle.md_base.specs.NameTests.{is_label, is_label_text, is_reference, is_definition_label, is_footnote_prefix, is_footnote_label, is_call, is_heading_mark, is_item, is_item_prefix, is_item_value, is_table}
-use Rattle.md_base.specs.Children.{or_else, first_on_spine, spine_names, last_name, last_contributing}
+use Rattle.md_base.specs.Children.{first_on_spine, spine_names, last_name, last_contributing}
 use Rattle.md_tree.specs.Rules.{place, columns}
 use Rattle.md_infer.specs.Looseness.{is_loose}
 use Rattle.md_infer.specs.Alignments.{alignments}

@@ -1,15 +1,15 @@
 -- The machine's: what a node knows of the nodes before it.
 pub use Rattle.md_meaning.specs.Meaning.Around.{outermost, inside}
-use Rattle.std.specs.Prelude.{Bool, true, false, not, ◌&&◌, ◌||◌, if◌then◌else◌, List, [], ◌∷◌, ◌++◌, Option, Some, None, unwrap_or, count_by}
+use Rattle.std.specs.Prelude.{Bool, true, false, ◌&&◌, ◌||◌, if◌then◌else◌, List, [], ◌∷◌, ◌++◌, Option, Some, None, unwrap_or, count_by}
 use Rattle.std.specs.List.{list_any}
 use Rattle.md_base.specs.declared.event.Name.{Name}
-use Rattle.md_base.specs.declared.event.Name.TheVariants.{LineEnding, BlankLineEnding, BlockQuote, ListOrdered, ListUnordered, ListItem, GfmFootnoteDefinition, CodeIndented, CodeFenced, CodeFencedFence, MathFlow, MathFlowFence, CodeText, MathText, HtmlFlow, HtmlText, Definition, DefinitionDestinationString, Link, Image, ResourceDestinationString, HeadingSetextText, GfmTable, GfmTableHead, Paragraph, Frontmatter}
+use Rattle.md_base.specs.declared.event.Name.TheVariants.{LineEnding, BlankLineEnding, BlockQuote, ListItem, CodeIndented, CodeFenced, CodeFencedFence, MathFlow, MathFlowFence, HeadingSetextText, Paragraph, Frontmatter}
 use Rattle.md_base.specs.Tree.{Forest, Empty, Node}
 use Rattle.md_base.specs.NameTests.{is_transparent, is_fence, is_chunk, is_cell}
 use Rattle.md_base.specs.Children.{spine_names}
 use Rattle.md_infer.specs.Looseness.{is_loose}
 use Rattle.md_meaning.specs.declared.context.Container.{Container}
-use Rattle.md_meaning.specs.declared.context.Container.TheVariants.{Nothing, TightList, Another}
+use Rattle.md_meaning.specs.declared.context.Container.TheVariants.{TightList}
 use Rattle.md_meaning.specs.declared.context.Surroundings.{Surroundings}
 use Rattle.md_meaning.specs.declared.context.Spine.{Spine}
 use Rattle.md_text.specs.declared.options.CompileOptions.{CompileOptions}

@@ -545,3 +545,56 @@ pub fn meaning_of_identifiers_that_meet_by_number()
     ensures { MeansWith footnotes.ids_by_number footnotes.identifiers_that_meet_bytes footnotes.identifiers_that_meet
         footnotes.identifiers_that_meet_by_number_text }
 {}
+
+/// The meaning of a blank line after an item that ends in a quote with nothing in it, which leaves the list tight.
+pub fn meaning_of_bare_quote_in_an_item()
+    ensures { Means lists.bare_quote_in_an_item_bytes lists.bare_quote_in_an_item lists.bare_quote_in_an_item_text }
+{}
+
+/// The meaning of the same with a space after the quote.
+pub fn meaning_of_bare_quote_before_a_space()
+    ensures { Means lists.bare_quote_before_a_space_bytes lists.bare_quote_before_a_space
+        lists.bare_quote_before_a_space_text }
+{}
+
+/// The meaning of a blank line after an item that ends in a quote with a text in it, which makes the list loose.
+pub fn meaning_of_quote_before_a_blank_line()
+    ensures { Means lists.quote_before_a_blank_line_bytes lists.quote_before_a_blank_line
+        lists.quote_before_a_blank_line_text }
+{}
+
+/// The meaning of math in a text with a line ending in it, which is a space.
+pub fn meaning_of_math_on_two_lines()
+    ensures { Means spans.math_on_two_lines_bytes spans.math_on_two_lines spans.math_on_two_lines_text }
+{}
+
+/// The meaning of references by numbers past the last character.
+pub fn meaning_of_references_past_the_last_character()
+    ensures { Means spans.references_past_the_last_character_bytes spans.references_past_the_last_character
+        spans.references_past_the_last_character_text }
+{}
+
+/// The meaning of a definition with `&` in its destination, which is escaped once.
+pub fn meaning_of_ampersand_in_a_destination()
+    ensures { Means media.ampersand_in_a_destination_bytes media.ampersand_in_a_destination
+        media.ampersand_in_a_destination_text }
+{}
+
+/// The meaning of a label with CR in it, which refers as a space does.
+pub fn meaning_of_carriage_return_in_a_label()
+    ensures { Means media.carriage_return_in_a_label_bytes media.carriage_return_in_a_label
+        media.carriage_return_in_a_label_text }
+{}
+
+/// The meaning of a blank line before all else, whose line ending is the one that is used.
+pub fn meaning_of_blank_line_at_the_start()
+    ensures { Means endings.blank_line_at_the_start_bytes endings.blank_line_at_the_start
+        endings.blank_line_at_the_start_text }
+{}
+
+/// The meaning of a footnote definition in a tight list, whose paragraph has tags, and after which the line ending is
+/// dropped.
+pub fn meaning_of_footnote_definition_in_a_tight_list()
+    ensures { Means footnotes.footnote_definition_in_a_tight_list_bytes footnotes.footnote_definition_in_a_tight_list
+        footnotes.footnote_definition_in_a_tight_list_text }
+{}

@@ -1,5 +1,5 @@
 -- What some nodes mean, one after another.
-use Rattle.std.specs.Prelude.{ℕ, Bool, false, List, [], ◌∷◌, ◌++◌, ◌&&◌, if◌then◌else◌, unwrap_or, Some}
+use Rattle.std.specs.Prelude.{ℕ, Bool, List, [], ◌∷◌, ◌++◌, ◌&&◌, if◌then◌else◌, unwrap_or, Some}
 use Rattle.md_base.specs.declared.event.Name.{Name}
 use Rattle.md_base.specs.declared.event.Name.TheVariants.{HeadingSetextText, Definition, DefinitionDestinationString, DefinitionTitleString, GfmFootnoteCall, GfmFootnoteDefinition, Resource, ResourceDestinationString, ResourceTitleString}
 use Rattle.md_base.specs.Is.{is}

@@ -254,3 +254,21 @@ ending_in_a_dropped_cell_bytes = codes "|" ++ (10 ∷ []) ++ codes "|" ++ (10 �
 abbrev pub ending_in_a_dropped_cell_text : List ℕ
 ending_in_a_dropped_cell_text = codes "<table>" ++ (10 ∷ []) ++ codes "<thead>" ++ (10 ∷ []) ++ codes "<tr>"
     ++ (10 ∷ []) ++ codes "</tr>" ++ (10 ∷ []) ++ codes "</thead>" ++ (10 ∷ []) ++ codes "</table>" ++ (10 ∷ [])
+
+-- a blank line before all else, whose line ending is the one that is used: the tree, its bytes and its text
+abbrev pub blank_line_at_the_start : Forest
+blank_line_at_the_start =
+    Node BlankLineEnding (at 0) (at 2) (Empty) (Node ListUnordered (at 2) (at 9) (Node ListItem (at 2) (at 5)
+    (Node ListItemPrefix (at 2) (at 4) (Node ListItemMarker (at 2) (at 3) (Empty)
+    (Node SpaceOrTab (at 3) (at 4) (Empty) (Empty))) (Node Paragraph (at 4) (at 5)
+    (Node Data (at 4) (at 5) (Empty) (Empty)) (Empty))) (Node LineEnding (at 5) (at 6) (Empty)
+    (Node ListItem (at 6) (at 9) (Node ListItemPrefix (at 6) (at 8) (Node ListItemMarker (at 6) (at 7) (Empty)
+    (Node SpaceOrTab (at 7) (at 8) (Empty) (Empty))) (Node Paragraph (at 8) (at 9)
+    (Node Data (at 8) (at 9) (Empty) (Empty)) (Empty))) (Empty)))) (Empty))
+
+abbrev pub blank_line_at_the_start_bytes : List ℕ
+blank_line_at_the_start_bytes = (13 ∷ []) ++ (10 ∷ []) ++ codes "- a" ++ (10 ∷ []) ++ codes "- b"
+
+abbrev pub blank_line_at_the_start_text : List ℕ
+blank_line_at_the_start_text = codes "<ul>" ++ (13 ∷ []) ++ (10 ∷ []) ++ codes "<li>a</li>" ++ (10 ∷ [])
+    ++ codes "<li>b</li>" ++ (13 ∷ []) ++ (10 ∷ []) ++ codes "</ul>"

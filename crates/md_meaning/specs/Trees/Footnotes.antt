@@ -1,6 +1,6 @@
 -- Worked trees of footnote calls and the section of footnotes.
 use Rattle.std.specs.Prelude.{ℕ, true, List, [], ◌∷◌, ◌++◌, codes}
-use Rattle.md_base.specs.declared.event.Name.TheVariants.{BlankLineEnding, BlockQuote, BlockQuotePrefix, Data, GfmFootnoteCall, GfmFootnoteDefinition, GfmFootnoteDefinitionLabelString, GfmFootnoteDefinitionPrefix, HtmlFlow, HtmlFlowData, Image, Label, LabelText, LineEnding, Paragraph, Resource, ResourceDestinationString, ThematicBreak}
+use Rattle.md_base.specs.declared.event.Name.TheVariants.{BlankLineEnding, BlockQuote, BlockQuotePrefix, Data, GfmFootnoteCall, GfmFootnoteDefinition, GfmFootnoteDefinitionLabelString, GfmFootnoteDefinitionPrefix, HtmlFlow, HtmlFlowData, Image, Label, LabelText, LineEnding, ListItem, ListItemMarker, ListItemPrefix, ListUnordered, Paragraph, Resource, ResourceDestinationString, SpaceOrTab, ThematicBreak}
 use Rattle.md_base.specs.Tree.{Forest, Empty, Node}
 use Rattle.md_text.specs.Defaults.{default_options}
 use Rattle.md_text.specs.declared.options.CompileOptions.{CompileOptions}
@@ -373,3 +373,29 @@ identifiers_that_meet_by_number_text =
     ++ (10 ∷ []) ++ codes "</li>" ++ (10 ∷ []) ++ codes "<li id=\"user-content-fn-2\">" ++ (10 ∷ [])
     ++ codes "<p>y " ++ way_back "2-1" ++ codes "</p>" ++ (10 ∷ []) ++ codes "</li>" ++ (10 ∷ []) ++ codes "</ol>"
     ++ (10 ∷ []) ++ codes "</section>" ++ (10 ∷ [])
+
+-- a footnote definition in a tight list, whose paragraph has tags, and after which the line ending is dropped: the
+-- tree, its bytes and its text
+abbrev pub footnote_definition_in_a_tight_list : Forest
+footnote_definition_in_a_tight_list =
+    Node ListUnordered (at 0) (at 17) (Node ListItem (at 0) (at 17) (Node ListItemPrefix (at 0) (at 2)
+    (Node ListItemMarker (at 0) (at 1) (Empty) (Node SpaceOrTab (at 1) (at 2) (Empty) (Empty)))
+    (Node Paragraph (at 2) (at 7) (Node Data (at 2) (at 3) (Empty) (Node GfmFootnoteCall (at 3) (at 7)
+    (Node Label (at 3) (at 7) (Node LabelText (at 5) (at 6)
+    (Node Data (at 5) (at 6) (Empty) (Empty)) (Empty)) (Empty)) (Empty))) (Node LineEnding (at 7) (at 8) (Empty)
+    (Node GfmFootnoteDefinition (at 8) (at 15) (Node GfmFootnoteDefinitionPrefix (at 8) (at 14)
+    (Node GfmFootnoteDefinitionLabelString (at 10) (at 11) (Node Data (at 10) (at 11) (Empty) (Empty)) (Empty))
+    (Node Paragraph (at 14) (at 15) (Node Data (at 14) (at 15) (Empty) (Empty)) (Empty)))
+    (Node LineEnding (at 15) (at 16) (Empty) (Node Paragraph (at 16) (at 17)
+    (Node Data (at 16) (at 17) (Empty) (Empty)) (Empty))))))) (Empty)) (Empty)
+
+abbrev pub footnote_definition_in_a_tight_list_bytes : List ℕ
+footnote_definition_in_a_tight_list_bytes = codes "- a[^b]" ++ (10 ∷ []) ++ codes "[^b]: c" ++ (10 ∷ [])
+    ++ codes "d"
+
+abbrev pub footnote_definition_in_a_tight_list_text : List ℕ
+footnote_definition_in_a_tight_list_text = codes "<ul>" ++ (10 ∷ []) ++ codes "<li>a" ++ call_tag "b" "b" "1"
+    ++ codes "d</li>" ++ (10 ∷ []) ++ codes "</ul>" ++ (10 ∷ []) ++ section_head ++ (10 ∷ []) ++ codes "<ol>"
+    ++ (10 ∷ []) ++ codes "<li id=\"user-content-fn-b\">" ++ (10 ∷ []) ++ codes "<p>c " ++ way_back "b"
+    ++ codes "</p>" ++ (10 ∷ []) ++ codes "</li>" ++ (10 ∷ []) ++ codes "</ol>" ++ (10 ∷ []) ++ codes "</section>"
+    ++ (10 ∷ [])

@@ -205,3 +205,62 @@ start_number_with_zeros_bytes = codes "007. a"
 abbrev pub start_number_with_zeros_text : List ℕ
 start_number_with_zeros_text = codes "<ol start=\"7\">" ++ (10 ∷ []) ++ codes "<li>a</li>" ++ (10 ∷ [])
     ++ codes "</ol>"
+
+-- a blank line after an item that ends in a quote with nothing in it, which leaves the list tight: the tree, its
+-- bytes and its text
+abbrev pub bare_quote_in_an_item : Forest
+bare_quote_in_an_item =
+    Node ListUnordered (at 0) (at 7) (Node ListItem (at 0) (at 3) (Node ListItemPrefix (at 0) (at 2)
+    (Node ListItemMarker (at 0) (at 1) (Empty) (Node SpaceOrTab (at 1) (at 2) (Empty) (Empty)))
+    (Node BlockQuote (at 2) (at 3) (Node BlockQuotePrefix (at 2) (at 3) (Empty) (Empty)) (Empty)))
+    (Node BlankLineEnding (at 3) (at 4) (Empty) (Node ListItem (at 4) (at 7) (Node ListItemPrefix (at 4) (at 6)
+    (Node ListItemMarker (at 4) (at 5) (Empty) (Node SpaceOrTab (at 5) (at 6) (Empty) (Empty)))
+    (Node Paragraph (at 6) (at 7) (Node Data (at 6) (at 7) (Empty) (Empty)) (Empty))) (Empty)))) (Empty)
+
+abbrev pub bare_quote_in_an_item_bytes : List ℕ
+bare_quote_in_an_item_bytes = codes "- >" ++ (10 ∷ []) ++ codes "- a"
+
+abbrev pub bare_quote_in_an_item_text : List ℕ
+bare_quote_in_an_item_text = codes "<ul>" ++ (10 ∷ []) ++ codes "<li>" ++ (10 ∷ []) ++ codes "<blockquote>"
+    ++ (10 ∷ []) ++ codes "</blockquote>" ++ (10 ∷ []) ++ codes "</li>" ++ (10 ∷ []) ++ codes "<li>a</li>"
+    ++ (10 ∷ []) ++ codes "</ul>"
+
+-- the same with a space after the quote: the tree, its bytes and its text
+abbrev pub bare_quote_before_a_space : Forest
+bare_quote_before_a_space =
+    Node ListUnordered (at 0) (at 8) (Node ListItem (at 0) (at 4) (Node ListItemPrefix (at 0) (at 2)
+    (Node ListItemMarker (at 0) (at 1) (Empty) (Node SpaceOrTab (at 1) (at 2) (Empty) (Empty)))
+    (Node BlockQuote (at 2) (at 3) (Node BlockQuotePrefix (at 2) (at 3) (Empty) (Empty))
+    (Node SpaceOrTab (at 3) (at 4) (Empty) (Empty)))) (Node BlankLineEnding (at 4) (at 5) (Empty)
+    (Node ListItem (at 5) (at 8) (Node ListItemPrefix (at 5) (at 7) (Node ListItemMarker (at 5) (at 6) (Empty)
+    (Node SpaceOrTab (at 6) (at 7) (Empty) (Empty))) (Node Paragraph (at 7) (at 8)
+    (Node Data (at 7) (at 8) (Empty) (Empty)) (Empty))) (Empty)))) (Empty)
+
+abbrev pub bare_quote_before_a_space_bytes : List ℕ
+bare_quote_before_a_space_bytes = codes "- > " ++ (10 ∷ []) ++ codes "- a"
+
+abbrev pub bare_quote_before_a_space_text : List ℕ
+bare_quote_before_a_space_text = codes "<ul>" ++ (10 ∷ []) ++ codes "<li>" ++ (10 ∷ []) ++ codes "<blockquote>"
+    ++ (10 ∷ []) ++ codes "</blockquote>" ++ (10 ∷ []) ++ codes "</li>" ++ (10 ∷ []) ++ codes "<li>a</li>"
+    ++ (10 ∷ []) ++ codes "</ul>"
+
+-- a blank line after an item that ends in a quote with a text in it, which makes the list loose: the tree, its
+-- bytes and its text
+abbrev pub quote_before_a_blank_line : Forest
+quote_before_a_blank_line =
+    Node ListUnordered (at 0) (at 8) (Node ListItem (at 0) (at 4) (Node ListItemPrefix (at 0) (at 2)
+    (Node ListItemMarker (at 0) (at 1) (Empty) (Node SpaceOrTab (at 1) (at 2) (Empty) (Empty)))
+    (Node BlockQuote (at 2) (at 4) (Node BlockQuotePrefix (at 2) (at 3) (Empty) (Node Paragraph (at 3) (at 4)
+    (Node Data (at 3) (at 4) (Empty) (Empty)) (Empty))) (Empty))) (Node BlankLineEnding (at 4) (at 5) (Empty)
+    (Node ListItem (at 5) (at 8) (Node ListItemPrefix (at 5) (at 7) (Node ListItemMarker (at 5) (at 6) (Empty)
+    (Node SpaceOrTab (at 6) (at 7) (Empty) (Empty))) (Node Paragraph (at 7) (at 8)
+    (Node Data (at 7) (at 8) (Empty) (Empty)) (Empty))) (Empty)))) (Empty)
+
+abbrev pub quote_before_a_blank_line_bytes : List ℕ
+quote_before_a_blank_line_bytes = codes "- >a" ++ (10 ∷ []) ++ codes "- b"
+
+abbrev pub quote_before_a_blank_line_text : List ℕ
+quote_before_a_blank_line_text = codes "<ul>" ++ (10 ∷ []) ++ codes "<li>" ++ (10 ∷ []) ++ codes "<blockquote>"
+    ++ (10 ∷ []) ++ codes "<p>a</p>" ++ (10 ∷ []) ++ codes "</blockquote>" ++ (10 ∷ []) ++ codes "</li>"
+    ++ (10 ∷ []) ++ codes "<li>" ++ (10 ∷ []) ++ codes "<p>b</p>" ++ (10 ∷ []) ++ codes "</li>" ++ (10 ∷ [])
+    ++ codes "</ul>"

@@ -180,3 +180,35 @@ any_protocol_bytes = codes "![a](mailto:b)[c](javascript:d)"
 
 abbrev pub any_protocol_text : List ℕ
 any_protocol_text = codes "<p><img src=\"mailto:b\" alt=\"a\" /><a href=\"javascript:d\">c</a></p>"
+
+-- a definition with `&` in its destination, which is escaped once: the tree, its bytes and its text
+abbrev pub ampersand_in_a_destination : Forest
+ampersand_in_a_destination =
+    Node Paragraph (at 0) (at 3) (Node Link (at 0) (at 3) (Node Label (at 0) (at 3)
+    (Node LabelText (at 1) (at 2) (Node Data (at 1) (at 2) (Empty) (Empty)) (Empty)) (Empty)) (Empty))
+    (Node LineEnding (at 3) (at 4) (Empty) (Node BlankLineEnding (at 4) (at 5) (Empty)
+    (Node Definition (at 5) (at 15) (Node DefinitionLabelString (at 6) (at 7)
+    (Node Data (at 6) (at 7) (Empty) (Empty)) (Node DefinitionDestinationString (at 10) (at 15)
+    (Node Data (at 10) (at 15) (Empty) (Empty)) (Empty))) (Empty))))
+
+abbrev pub ampersand_in_a_destination_bytes : List ℕ
+ampersand_in_a_destination_bytes = codes "[a]" ++ (10 ∷ []) ++ (10 ∷ []) ++ codes "[a]: b?c&d"
+
+abbrev pub ampersand_in_a_destination_text : List ℕ
+ampersand_in_a_destination_text = codes "<p><a href=\"b?c&amp;d\">a</a></p>" ++ (10 ∷ [])
+
+-- a label with CR in it, which refers as a space does: the tree, its bytes and its text
+abbrev pub carriage_return_in_a_label : Forest
+carriage_return_in_a_label =
+    Node Paragraph (at 0) (at 5) (Node Link (at 0) (at 5) (Node Label (at 0) (at 5)
+    (Node LabelText (at 1) (at 4) (Node Data (at 1) (at 2) (Empty) (Node LineEnding (at 2) (at 3) (Empty)
+    (Node Data (at 3) (at 4) (Empty) (Empty)))) (Empty)) (Empty)) (Empty)) (Node Definition (at 5) (at 13)
+    (Node DefinitionLabelString (at 6) (at 9) (Node Data (at 6) (at 9) (Empty) (Empty))
+    (Node DefinitionDestinationString (at 12) (at 13)
+    (Node Data (at 12) (at 13) (Empty) (Empty)) (Empty))) (Empty))
+
+abbrev pub carriage_return_in_a_label_bytes : List ℕ
+carriage_return_in_a_label_bytes = codes "[a" ++ (13 ∷ []) ++ codes "b][a b]: c"
+
+abbrev pub carriage_return_in_a_label_text : List ℕ
+carriage_return_in_a_label_text = codes "<p><a href=\"c\">a" ++ (13 ∷ []) ++ codes "b</a></p>"

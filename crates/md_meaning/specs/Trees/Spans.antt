@@ -76,3 +76,31 @@ number_references_bytes = codes "&#60;&#x3C;"
 
 abbrev pub number_references_text : List ℕ
 number_references_text = codes "<p>&lt;&lt;</p>"
+
+-- math in a text with a line ending in it, which is a space: the tree, its bytes and its text
+abbrev pub math_on_two_lines : Forest
+math_on_two_lines =
+    Node MathText (at 0) (at 5) (Node MathTextData (at 1) (at 2) (Empty) (Node LineEnding (at 2) (at 3) (Empty)
+    (Node MathTextData (at 3) (at 4) (Empty) (Empty)))) (Empty)
+
+abbrev pub math_on_two_lines_bytes : List ℕ
+math_on_two_lines_bytes = codes "$a" ++ (10 ∷ []) ++ codes "b$"
+
+abbrev pub math_on_two_lines_text : List ℕ
+math_on_two_lines_text = codes "<code class=\"language-math math-inline\">a b</code>"
+
+-- references by numbers past the last character: the tree, its bytes and its text
+abbrev pub references_past_the_last_character : Forest
+references_past_the_last_character =
+    Node Paragraph (at 0) (at 23) (Node CharacterReferenceMarker (at 0) (at 1) (Empty)
+    (Node CharacterReferenceMarkerNumeric (at 1) (at 2) (Empty)
+    (Node CharacterReferenceValue (at 2) (at 12) (Empty) (Node CharacterReferenceMarker (at 13) (at 14) (Empty)
+    (Node CharacterReferenceMarkerNumeric (at 14) (at 15) (Empty)
+    (Node CharacterReferenceMarkerHexadecimal (at 15) (at 16) (Empty)
+    (Node CharacterReferenceValue (at 16) (at 22) (Empty) (Empty)))))))) (Empty)
+
+abbrev pub references_past_the_last_character_bytes : List ℕ
+references_past_the_last_character_bytes = codes "&#4294967295;&#x110000;"
+
+abbrev pub references_past_the_last_character_text : List ℕ
+references_past_the_last_character_text = codes "<p>" ++ (239 ∷ 191 ∷ 189 ∷ 239 ∷ 191 ∷ 189 ∷ []) ++ codes "</p>"
