@@ -11,3 +11,4 @@ pub mod Schemes
 pub mod SafeTokens
 pub mod PageRuns
 pub mod Tokenized
+pub mod Running

@@ -9,3 +9,4 @@ pub mod Scheme
 pub mod SafeTokens
 pub mod Tokenized
 pub mod PageTokens
+pub mod Running

@@ -14,6 +14,7 @@ ghost use Rattle.md_standard.specs.Tokenizer.{State, IsRun, IsTokenized, leaves_
 ghost use Rattle.md_standard.specs.Tokens.{tokens, seen, is_listed};
 ghost use Rattle.md_standard.specs.PageTokens.{page_text, page_tokens, IsTokenizedPage};
 ghost use Rattle.md_standard.specs.Tokenized.{HasTokensWith, IsTokenizedAsRead};
+ghost use Rattle.md_standard.specs.Running.{runs_nothing};
 ghost use Rattle.md_standard.specs.Scheme.{has_permitted_scheme};
 ghost use Rattle.md_standard.specs.SafeTokens.{has_safe_links, has_safe_images};
 
@@ -49,6 +50,13 @@ pub fn reading_is_tokenized()
 pub fn tags_are_listed()
     ensures { (p : Attribute → Bool) (text : List ℕ) (tokens : List Token)
         → HasOneReadingWith p text → IsTokenized text tokens → IsTrue (list_all is_listed tokens) }
+{}
+
+/// No start tag among the tokens of a text with a reading is of an element that runs or embeds
+/// something, and none has an event handler, a style, or an address but `href` and `src`.
+pub fn nothing_runs()
+    ensures { (p : Attribute → Bool) (text : List ℕ) (tokens : List Token)
+        → HasOneReadingWith p text → IsTokenized text tokens → IsTrue (list_all runs_nothing tokens) }
 {}
 
 /// No start tag among the tokens of a text with a reading is one at which tree construction changes
