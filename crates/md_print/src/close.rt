@@ -425,7 +425,7 @@ fn need_if(printer: &mut Printer, ending: &str, needed: bool) -> Result<(), Allo
     if needed { printer.need(ending) } else { Ok(()) }
 }
 
-/// Whether code isn't closed and stands in a container, and more than its fence is in it.
+/// Whether code isn't closed and stands in a container, and its last child isn't its fence.
 fn runs_out(around: Surroundings, passed: Passed) -> bool
     ensures { result ≡ blocks.is_cut_short around passed }
 {

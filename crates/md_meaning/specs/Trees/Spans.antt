@@ -100,7 +100,7 @@ references_past_the_last_character =
     (Node CharacterReferenceValue (at 16) (at 22) (Empty) (Empty)))))))) (Empty)
 
 abbrev pub references_past_the_last_character_bytes : List ℕ
-references_past_the_last_character_bytes = codes "&#4294967295;&#x110000;"
+references_past_the_last_character_bytes = codes "&#4294967293;&#x110000;"
 
 abbrev pub references_past_the_last_character_text : List ℕ
 references_past_the_last_character_text = codes "<p>" ++ (239 ∷ 191 ∷ 189 ∷ 239 ∷ 191 ∷ 189 ∷ []) ++ codes "</p>"
