@@ -117,6 +117,7 @@ zeros-same (digit ∷ digits) =
     swapped true false = refl
     swapped false true = refl
     swapped false false = refl
+
     leading : (others : List ℕ) → nat_lt 1 (length (digit ∷ others)) && (digit == 48)
         ≡ (digit == 48) && nat_lt 0 (length others)
     leading [] = swapped false (digit == 48)
