@@ -13,7 +13,7 @@ use Rattle.md_base.specs.Is.{is}
 use Rattle.md_base.specs.Children.{is_empty, last_name}
 use Rattle.md_infer.specs.Looseness.{is_bare}
 use Rattle.md_infer.specs.Looseness as written
-use Rattle.md_infer.specs.Blanks.{begins_blank, begins_space_blank, is_end, ends_bare, has_parting_blank, is_loose_without_items, has_inner_blank, is_loose_item, has_loose_item, is_loose}
+use Rattle.md_infer.specs.Blanks.{begins_blank, begins_space_blank, is_end, ends_bare, has_parting_blank, has_inner_blank, is_loose_item, has_loose_item}
 use Rattle.md_infer.proofs.Loosened.{item-same, without-same, items-same}
 use Rattle.md_infer.specs.Alignments.{begins_with_marker, ends_with_marker, alignment_of}
 use Rattle.md_infer.specs.Told.{spaced, is_bare_last, quote_as, parts, loosens, is_nothing, is_marker_last, told_with, nothing_told, told_over, alignment}

@@ -1,10 +1,8 @@
 -- Which lists and items are loose, told from before a blank line ending. Only proofs speak of it: the pass sees the nodes
 -- before a blank line ending first.
 use Rattle.std.specs.Prelude.{Bool, true, false, not, ◌&&◌, ◌||◌, if◌then◌else◌}
-use Rattle.std.specs.Option.{option_map_or}
-use Rattle.md_base.specs.declared.event.Name.{Name}
 use Rattle.md_base.specs.Tree.{Forest, Empty, Node}
-use Rattle.md_base.specs.declared.event.Name.TheVariants.{BlankLineEnding, BlockQuote, BlockQuotePrefix, ListItem, ListItemPrefix, SpaceOrTab}
+use Rattle.md_base.specs.declared.event.Name.TheVariants.{BlankLineEnding, ListItem, ListItemPrefix, SpaceOrTab}
 use Rattle.md_base.specs.Is.{is}
 use Rattle.md_base.specs.Children.{is_empty}
 use Rattle.md_infer.specs.Looseness.{is_bare}

@@ -1,6 +1,6 @@
 -- What the meaning reads of a document of the grammar is there, and what leads to a definition finds one.
 use Rattle.std.proofs.Common.{◌≡◌, ◌⊎◌, inl, inr, ℕ, ◌<◌, Bool, true, false, Option, Some, None, List, [], ◌∷◌, ◌++◌, refl, sym, ap, ◌∙◌, subst}
-use Rattle.std.specs.Prelude.{map, option_map, unwrap_or, is_some, if◌then◌else◌, All, Contains, ◌&&◌, replicate}
+use Rattle.std.specs.Prelude.{map, unwrap_or, is_some, if◌then◌else◌, All, Contains, ◌&&◌, replicate}
 use Rattle.std.proofs.lemmas.List.{map-append, length-map, get_or-map}
 use Rattle.std.proofs.lemmas.List.Elements.{All-nil, All-cons, All-head, All-tail}
 use Rattle.md_base.proofs.Lies.{lie}
@@ -11,7 +11,6 @@ use Rattle.md_base.specs.declared.event.Position.{Position}
 use Rattle.md_base.specs.Place.{fits, spaces_before, spaces_after, bytes_between, text_when, text_between, serialized_between, label_between}
 use Rattle.md_base.proofs.SpaceLemmas.{is_utf8-padded}
 use Rattle.std.specs.Str.{is_utf8}
-use Rattle.md_base.specs.Identifier.{normalized}
 use Rattle.md_pattern.specs.declared.kinds.Symbol.{Symbol}
 use Rattle.md_pattern.specs.declared.kinds.Role.{Role}
 use Rattle.md_pattern.specs.declared.kinds.Role.TheVariants as role

@@ -1,7 +1,7 @@
 -- A name that the machine tests for by a table of its own is the one that the meaning names, and what both find by it
 -- is the same.
 use Rattle.std.proofs.Common.{◌≡◌, ℕ, ◌≤◌, Bool, true, false, ◌&&◌, List, [], ◌∷◌, refl, ap, sym, ◌∙◌, Option, Some, None, arith, length}
-use Rattle.std.specs.Prelude.{if◌then◌else◌, count_by, nat_lt, slice_index, unwrap_or, ◌==◌}
+use Rattle.std.specs.Prelude.{if◌then◌else◌, count_by, nat_lt, unwrap_or, ◌==◌}
 use Rattle.std.specs.Option.{option_map_or}
 use Rattle.std.proofs.lemmas.Bool.{lt-ltb}
 use Rattle.std.proofs.Math.Path.{fun_ext}
@@ -17,7 +17,7 @@ use Rattle.md_tree.specs.Rules.{place, columns}
 use Rattle.md_meaning.specs.Places.{ahead_of, length_of}
 use Rattle.md_meaning.specs.Places as machine
 use Rattle.md_meaning.specs.Blocks.{rank_of}
-use Rattle.md_meaning.specs.Meaning.Finds.{first_named, in_first_named, number_in_list}
+use Rattle.md_meaning.specs.Meaning.Finds.{first_named, number_in_list}
 use Rattle.md_meaning.specs.Meaning.Blocks.{without_zeros}
 
 pub call-is : (name : Name) → is_call name ≡ is GfmFootnoteCall name

@@ -18,7 +18,7 @@ use Rattle.md_tree.specs.Mentions.{identifier_at as label_identifier}
 use Rattle.md_base.specs.Children.{or_else}
 use Rattle.md_base.specs.NameTests.{is_call, is_cell}
 use Rattle.md_text.specs.declared.options.CompileOptions.{CompileOptions}
-use Rattle.md_meaning.specs.Calls.{Called, number_among, count_among, distinct, count_of, tally}
+use Rattle.md_meaning.specs.Calls.{number_among, count_among, distinct, count_of, tally}
 use Rattle.md_meaning.specs.Places.{identifier_at}
 use Rattle.md_meaning.specs.Places.{calls_of as calls_in}
 use Rattle.md_meaning.specs.Printed.{is_captured}

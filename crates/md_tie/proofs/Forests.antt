@@ -16,12 +16,11 @@ use Rattle.md_pattern.specs.Spine.{spine, shown}
 use Rattle.md_pattern.specs.declared.kinds.Role.TheVariants as role
 use Rattle.md_pattern.specs.Pattern.{pattern_of}
 use Rattle.md_pattern.specs.Spine.{Matches}
-use Rattle.md_pattern.specs.Shape.{AreShaped, IsShapedNode, IsStanding, inner_role, inner_before, role_for}
-use Rattle.md_shape.proofs.Letters.{letters, fits-all, grouped-all}
+use Rattle.md_pattern.specs.Shape.{AreShaped, IsShapedNode, IsStanding, inner_role, inner_before}
+use Rattle.md_shape.proofs.Letters.{fits-all, grouped-all}
 use Rattle.md_pattern.specs.Spine.{IsTail}
 use Rattle.md_pattern.specs.declared.kinds.Symbol.TheVariants as symbol
 use Rattle.std.specs.List.{list_all, list_any}
-use Rattle.md_meaning.specs.Surroundings.{is_slurping, spine_inside, marks_of}
 use Rattle.md_base.specs.Children.{is_empty, or_else}
 use Rattle.md_tie.proofs.Reading.{noted_after}
 use Rattle.md_base.specs.NameTests.{is_transparent, is_call, is_link_definition, is_footnote_definition}
@@ -33,28 +32,25 @@ use Rattle.md_meaning.specs.declared.context.Surroundings.{Surroundings}
 use Rattle.md_meaning.specs.Surroundings.{inside}
 use Rattle.md_meaning.specs.Given.{Defined}
 use Rattle.md_meaning.specs.Footnotes.{Footnote}
-use Rattle.md_meaning.specs.Places.{identifier_at, calls_of, ahead_of, stood_inside as children_stood, stood_after as next_stood, Stood}
+use Rattle.md_meaning.specs.Places.{identifier_at, calls_of, stood_inside as children_stood, stood_after as next_stood, Stood}
 use Rattle.md_meaning.specs.Printed.{is_captured, printed, definitions_of, footnotes_of}
 use Rattle.md_meaning.specs.Piece.{Notes, Target, blank, no_notes, lay}
 use Rattle.md_meaning.specs.Piece.{Stroke as Printed}
-use Rattle.md_meaning.specs.Meaning.Layout.{layout, when}
+use Rattle.md_meaning.specs.Meaning.Layout.{layout}
 use Rattle.md_shape.specs.Labels.{label_in_node, referring_in, defined_label, footnote_label}
 use Rattle.md_shape.specs.Leads.{IsLabelled, label_target}
 use Rattle.md_shape.proofs.Leading.{media-spine, call-refers, definition-label, footnote-label}
-use Rattle.md_meaning.specs.Meaning.At.{Given, At, Before, Found, nothing_found, target_in, identifier_of}
-use Rattle.md_meaning.specs.Meaning.Before.{before_children}
+use Rattle.md_meaning.specs.Meaning.At.{Given, Before, Found, target_in, identifier_of}
 use Rattle.md_meaning.specs.Meaning.Means.{prints}
 use Rattle.md_meaning.specs.Meaning.Nodes.{Outcome, outcome, node, both, found_at}
 use Rattle.md_tie.proofs.Sides.{machine_given_of, before_of, Here, at_of, is_leaf, sides}
 use Rattle.md_tie.proofs.Captured.{captured, label-known, KnownAlike}
-use Rattle.md_tie.proofs.Alike.{definition-is, footnote-is}
 use Rattle.md_tie.proofs.Drops.{drops, plain, plain_standing, plain-name, plain-inside, PlainInside}
 use Rattle.md_shape.proofs.Underlines.{underlined, waits_after_symbols, underlined-split, waits-append, matches-underlined}
 use Rattle.md_tie.proofs.Shapes.{leaf-silent, quiet, quiet_name, QuietInside}
 use Rattle.md_tie.proofs.Silence.{all-parts, through, is_resource, silent-printed, silent-meant, Untargeted, quiet-found, found_after, resource-found, only_label, label-printed}
 use Rattle.md_tie.proofs.Marks.{slurps-same, calls-same, own-same, next-same, meant_by, meant-by}
 use Rattle.md_tie.proofs.Nodes.{is_prefix, node_printed, Agree, OnSheet, on_sheet, captured_node, streamed_node, mute_node, through_node, agree_both}
-use Rattle.md_shape.proofs.Listed.{node_at}
 
 -- what is asked of some nodes, before which a heading waits for its underline or none; no string that is dropped stands
 -- where pieces count

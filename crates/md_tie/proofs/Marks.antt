@@ -1,6 +1,6 @@
 -- What stands before a node, as the machine knows it and as the meaning does: both tell the same of line endings and
 -- of calls.
-use Rattle.std.proofs.Common.{◌≡◌, ℕ, Bool, true, false, not, ◌&&◌, ◌||◌, List, [], ◌∷◌, ◌++◌, refl, ap, sym, ◌∙◌, Option, Some, None, append-nil, append_assoc}
+use Rattle.std.proofs.Common.{◌≡◌, ℕ, Bool, true, false, not, ◌&&◌, ◌||◌, List, [], ◌∷◌, ◌++◌, refl, ap, sym, ◌∙◌, Option, append-nil, append_assoc}
 use Rattle.std.specs.Prelude.{if◌then◌else◌, unwrap_or}
 use Rattle.std.specs.List.{list_any}
 use Rattle.md_base.specs.declared.event.Name.{Name}
@@ -9,7 +9,7 @@ use Rattle.md_base.specs.declared.event.Point.{Point}
 use Rattle.md_base.specs.Is.{is}
 use Rattle.md_base.specs.Tree.{Forest, Empty, Node}
 use Rattle.md_base.specs.Children.{is_empty}
-use Rattle.md_base.specs.NameTests.{is_fence, is_call, is_table, is_transparent}
+use Rattle.md_base.specs.NameTests.{is_fence, is_call, is_transparent}
 use Rattle.md_infer.specs.Looseness.{is_loose}
 use Rattle.md_infer.specs.Alignments.{alignments}
 use Rattle.md_pattern.specs.declared.kinds.Symbol.{Symbol}
@@ -19,13 +19,12 @@ use Rattle.md_pattern.specs.Shape.{AreShaped, IsShapedNode, inner_role, inner_be
 use Rattle.md_meaning.specs.declared.context.Surroundings.{Surroundings}
 use Rattle.md_meaning.specs.declared.context.Container.{Container}
 use Rattle.md_meaning.specs.declared.context.Container.TheVariants.{TightList}
-use Rattle.md_text.specs.declared.options.CompileOptions.{CompileOptions}
 use Rattle.md_meaning.specs.Surroundings.{Mark, Sets, Clears, is_slurping, inside, told_by, fence_marks, paragraph_marks, spine_inside, spine_after_node, exit_marks, own_marks, marks_of}
 use Rattle.md_meaning.specs.Places.{identifier_at, calls_of, ahead_of}
 use Rattle.md_meaning.specs.Places.{Stood, stood_inside as children_stood, stood_after as next_stood}
 use Rattle.md_meaning.specs.Meaning.Around.{is_tight}
 use Rattle.md_meaning.specs.Meaning.Layout.{when, layout}
-use Rattle.md_meaning.specs.Meaning.At.{Given, At, Before, Found, identifier_of}
+use Rattle.md_meaning.specs.Meaning.At.{Given, At, Before, identifier_of}
 use Rattle.md_meaning.specs.Meaning.Before.{before_children, lets_slurp}
 use Rattle.md_meaning.specs.Meaning.Nodes.{Outcome, outcome, node, found_at, continued, before_next}
 use Rattle.md_shape.specs.Labels.{label_in_node}

@@ -43,7 +43,6 @@ use Rattle.md_meaning.specs.Meaning.Around.{is_tight}
 use Rattle.md_meaning.specs.Meaning.At.{Given, Found, Before, At, text_in}
 use Rattle.md_meaning.specs.Meaning.Before.{is_first_fence}
 use Rattle.md_meaning.specs.Meaning.Spans.{escaped, reference, is_dropped, line_ending, html, marker, task_start}
-use Rattle.md_meaning.specs.Meaning.Finds.{number_in_list}
 use Rattle.md_meaning.specs.Meaning.Blocks.{without_zeros, list_start, heading, heading_tag, atx_rank, underline_rank, chunk, code_end, is_unclosed, runs_out}
 use Rattle.md_meaning.specs.Meaning.Media.{autolink, literal}
 use Rattle.md_meaning.specs.Meaning.Tables.{align_attribute, cell_of, row_end}
