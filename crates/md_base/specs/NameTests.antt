@@ -1,7 +1,7 @@
 -- Tests on names, each true for the names that it lists.
 use Rattle.std.specs.Prelude.{Bool, true, false, not, ◌||◌}
 use Rattle.md_base.specs.declared.event.Name.{Name}
-use Rattle.md_base.specs.declared.event.Name.TheVariants.{LineEnding, BlankLineEnding, BlockQuote, BlockQuotePrefix, ListItem, ListItemPrefix, ListItemValue, GfmFootnoteDefinition, GfmFootnoteDefinitionPrefix, GfmFootnoteDefinitionLabelString, GfmFootnoteCall, Definition, DefinitionLabelString, CodeFencedFence, MathFlowFence, CodeFlowChunk, MathFlowChunk, HeadingAtxSequence, GfmTable, GfmTableCell, GfmTableDelimiterMarker, GfmTableDelimiterCellValue, GfmTableDelimiterRow, GfmTableHead, ReferenceString, Label, LabelText, SpaceOrTab, Other, Paragraph, Resource}
+use Rattle.md_base.specs.declared.event.Name.TheVariants.{LineEnding, BlankLineEnding, BlockQuote, BlockQuotePrefix, ListItem, ListItemPrefix, ListItemValue, GfmFootnoteDefinition, GfmFootnoteDefinitionPrefix, GfmFootnoteDefinitionLabelString, GfmFootnoteCall, Definition, DefinitionLabelString, CodeFencedFence, MathFlowFence, CodeFlowChunk, MathFlowChunk, HeadingAtxSequence, GfmTable, GfmTableCell, GfmTableDelimiterMarker, GfmTableDelimiterCellValue, GfmTableDelimiterRow, GfmTableHead, ReferenceString, Label, LabelText, SpaceOrTab, Other, Paragraph}
 use Rattle.md_base.specs.Is.{is}
 
 -- a node that its parent's pattern looks through
@@ -62,9 +62,6 @@ is_label_text name = elim name [ LabelText ↦ true | _ ↦ false ]
 
 abbrev pub is_reference : Name → Bool
 is_reference name = elim name [ ReferenceString ↦ true | _ ↦ false ]
-
-abbrev pub is_resource : Name → Bool
-is_resource name = elim name [ Resource ↦ true | _ ↦ false ]
 
 abbrev pub is_definition_label : Name → Bool
 is_definition_label name = elim name [ DefinitionLabelString ↦ true | _ ↦ false ]

@@ -6,6 +6,5 @@ mod facts;
 mod seeking;
 mod told;
 
-pub use facts::{Fact, Facts, OpenNode, Pass, ending_after};
-pub use seeking::{Found, Sight, Sought, Wanted};
-pub use told::{Last, Looseness, Told};
+pub use facts::{Fact, Facts, Pass, ending_after};
+pub use told::Looseness;

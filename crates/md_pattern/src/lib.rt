@@ -9,9 +9,8 @@ mod standings;
 mod state;
 mod steps;
 
-pub use kinds::{Class, Item, Reading, Role, Standing, Symbol};
-pub use patterns::{pattern_of, takes};
+pub use kinds::{Reading, Role, Standing, Symbol};
 pub use shape::role_for;
 pub use standings::standing_of;
-pub use state::{Stage, State};
+pub use state::State;
 pub use steps::{advance, can_be_leaf, is_complete, may_hold, start_of};
