@@ -5,7 +5,8 @@
 
 Each text and each URL of texts.py becomes an equation of a copy of crates/md_standard, which the prover closes by
 computing: what the definitions make of it is what html5lib, or node, answers, or None where tokenizer.py is stuck. It
-fails, with status 1, where one is refused. Texts are kept under 80 characters, pages under 300.
+fails, with status 1, where one is refused, or where it is stuck on a text of the grammar or a page. Texts are kept
+under 80 characters, pages under 300.
 """
 
 import collections
@@ -108,8 +109,11 @@ def main():
     count, urls, seed = (int(given) for given in [*sys.argv[1:], *["10000", "10300", "1"][len(sys.argv) - 1 :]])
     made_by = random.Random(seed)
     made = [*(of_text(made_by) for _ in range(count)), *of_urls(urls, made_by)]
-    for (kind, told), number in sorted(collections.Counter(kind for kind, _ in made).items()):
+    counts = collections.Counter(kind for kind, _ in made)
+    for (kind, told), number in sorted(counts.items()):
         print(f"{kind}: {number} {told}", flush=True)
+    if counts["grammar", "stuck"] or counts["page", "stuck"]:
+        sys.exit("stuck on a text of the grammar or a page")
     ran = checked([equation for _, equation in made])
     wrong = checked(["run 9 Data (with_line_feeds (97 ∷ [])) ≡ Some (Character 98 ∷ EndOfFile ∷ [])"])
     if wrong.returncode == 0:
