@@ -61,7 +61,7 @@ code_end at = when (list_any is_chunk (spine_names at.children)) (Needed ∷ [])
 abbrev pub is_unclosed : At → Bool
 is_unclosed at = count_by is_fence (spine_names at.children) == 1
 
--- code that isn't closed before its container ends: its last child isn't its fence
+-- code or math in a container, with one fence that isn't its last child: the container ends before a closing fence
 abbrev pub runs_out : At → Bool
 runs_out at = is_unclosed at && (elim at.around.container [ Nothing ↦ false | _ ↦ true ])
     && not (option_map_or is_fence (last_name at.children) false)

@@ -12,6 +12,7 @@ use Rattle.md_meaning.specs.Meaning.Media.{anchor, picture, medium, autolink, li
 use Rattle.md_meaning.specs.Meaning.Tables.{cell, row_end}
 use Rattle.md_meaning.specs.Meaning.Footnotes.{call}
 
+-- what a node of each name prints, of what its children print
 abbrev pub prints : Given → At → Name → List Piece → List Piece
 prints given at Data inner = escaped at (text_in given.bytes at.place)
 prints given at CharacterEscapeValue inner = escaped at (text_in given.bytes at.place)

@@ -7,7 +7,7 @@ use Rattle.md_text.specs.declared.options.CompileOptions.{CompileOptions}
 use Rattle.md_meaning.specs.Meaning.Layout.{Piece, Text, said}
 use Rattle.md_meaning.specs.Meaning.At.{Target, Given, At, nothing_found, target_in, text_in, identifier_of}
 
--- a URL as it is written, judged unless that is off
+-- a destination as a URL: with any protocol where `any` is set, else with one of `protocols` or none
 abbrev pub url : Bool → List (List ℕ) → List ℕ → List ℕ
 url any protocols destination = if any then sanitized destination else sanitized_with protocols destination
 

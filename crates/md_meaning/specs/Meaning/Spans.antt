@@ -26,7 +26,7 @@ reference given at =
     let last = slice_get at.before.spine (length at.before.spine - 1) in
     unwrap_or (decoded given.names (option_map_or marker last 38) (text_in given.bytes at.place)) []
 
--- a line ending is dropped where it is slurped, which none in a definition is, and after a definition
+-- a line ending is dropped where it is slurped, which none in a definition is, and after a definition of either kind
 abbrev pub is_dropped : At → Bool
 is_dropped at = not at.around.in_definition && at.before.slurps || option_map_or is_definition at.before.previous false
 
