@@ -172,7 +172,8 @@ impl Printer {
 
     /// How often an identifier was called.
     pub fn count_of(&self, identifier: &str) -> usize
-        ensures { result ≡ count_among self.now.log.called identifier.now }
+        ensures count { result ≡ count_among self.now.log.called identifier.now }
+        ensures fits { result + 1 < 2 ^ 64 }
     {
         self.calls.count_of(identifier)
     }
