@@ -132,8 +132,7 @@ impl Printer {
     ///
     /// # Errors
     ///
-    /// `AllocError`, only where memory runs out, or where one identifier is called more often than
-    /// a `usize` counts.
+    /// `AllocError`, only where memory runs out.
     pub fn log_call(&mut self, identifier: String) -> Result<(), AllocError>
         ensures { OnOk result
             (self.new ≡ record self.old {
