@@ -5,6 +5,9 @@
 /* The number of this interface: it changes when a layout or a number changes. */
 #define BIVDRAZO_VERSION 2
 
+/* The version of the library and of what comes with it. */
+#define BIVDRAZO_VERSION_TEXT "1.0.0"
+
 /* What became of a call. */
 enum {
     /* The text stands in the buffer's first `length` bytes, with no NUL after it. */

@@ -1,5 +1,6 @@
 //! Finds the archive `libbivdrazo.a`, which clients/build makes: in the folder that `BIVDRAZO_FOLDER` names, or else in
-//! `../out`.
+//! `lib`, where the crate's package has it, or else in `../out`. Where there is none, documentation can be made and
+//! types checked, and nothing can be linked.
 
 use std::env;
 use std::path::PathBuf;
@@ -7,13 +8,20 @@ use std::path::PathBuf;
 fn main() {
     println!("cargo:rerun-if-env-changed=BIVDRAZO_FOLDER");
     let here = PathBuf::from(env::var_os("CARGO_MANIFEST_DIR").expect("cargo names this folder"));
-    let folder = env::var_os("BIVDRAZO_FOLDER").map_or_else(|| here.join("../out"), PathBuf::from);
+    let packaged = here.join("lib");
+    let beside = if packaged.exists() {
+        packaged
+    } else {
+        here.join("../out")
+    };
+    let folder = env::var_os("BIVDRAZO_FOLDER").map_or(beside, PathBuf::from);
     let archive = folder.join("libbivdrazo.a");
-    assert!(
-        archive.exists(),
-        "{} isn't there: clients/build makes it",
-        archive.display()
-    );
+    if !archive.exists() {
+        println!(
+            "cargo:warning={} isn't there: clients/build makes it",
+            archive.display()
+        );
+    }
     println!("cargo:rerun-if-changed={}", archive.display());
     println!("cargo:rustc-link-search=native={}", folder.display());
     println!("cargo:rustc-link-lib=static=bivdrazo");

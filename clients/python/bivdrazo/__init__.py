@@ -27,6 +27,7 @@ Calls may be made from any number of threads, and run side by side.
 from .calls import Event, compile, run
 from .errors import Error, Invalid, Refused, Unreadable
 from .numbers import VERSION, Kind, LineEnding, Name, Rule
+from .numbers import VERSION_TEXT as __version__
 
 __all__ = [
     "VERSION",
@@ -39,6 +40,7 @@ __all__ = [
     "Refused",
     "Rule",
     "Unreadable",
+    "__version__",
     "compile",
     "run",
 ]

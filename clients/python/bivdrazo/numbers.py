@@ -5,6 +5,9 @@ import enum
 # The number of this interface: it changes when a layout or a number changes.
 VERSION = 2
 
+# The version of the library and of what comes with it.
+VERSION_TEXT = "1.0.0"
+
 # The options, by their numbers, each with its type.
 OPTIONS = (
     ("allow_any_img_src", "flag"),

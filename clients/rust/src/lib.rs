@@ -24,7 +24,7 @@
 mod ffi;
 mod numbers;
 
-pub use numbers::{Name, Rule, VERSION};
+pub use numbers::{Name, Rule, VERSION, VERSION_TEXT};
 
 use std::error;
 use std::fmt;

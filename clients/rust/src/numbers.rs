@@ -339,6 +339,9 @@ impl Rule {
 /// The number of this interface: it changes when a layout or a number changes.
 pub const VERSION: u32 = 2;
 
+/// The version of the library and of what comes with it.
+pub const VERSION_TEXT: &str = "1.0.0";
+
 pub(crate) const STATUS_OK: u32 = 0;
 pub(crate) const STATUS_TOO_SHORT: u32 = 1;
 pub(crate) const STATUS_REFUSED: u32 = 2;

@@ -2,7 +2,7 @@
 
 use crate::ffi::{error_of, first_size, CAnswer};
 use crate::numbers::NAMES;
-use crate::{compile, run, Error, Event, LineEnding, Name, Options, Rule};
+use crate::{compile, run, Error, Event, LineEnding, Name, Options, Rule, VERSION_TEXT};
 use std::thread;
 
 /// The events of a node over some bytes, with others in it.
@@ -34,6 +34,11 @@ fn error(status: u32, rule: u32, index: usize) -> Error {
         index,
         length: 0,
     })
+}
+
+#[test]
+fn version_is_the_packages() {
+    assert_eq!(VERSION_TEXT, env!("CARGO_PKG_VERSION"));
 }
 
 #[test]
