@@ -1,5 +1,5 @@
 -- What is known after an event, step by step. Only contracts of private functions speak of it.
-use Rattle.std.specs.Prelude.{◌+◌, Bool, true, false, ◌&&◌, ◌||◌, if◌then◌else◌, List, [], ◌∷◌, Some, None}
+use Rattle.std.specs.Prelude.{ℕ, ◌+◌, ◌-◌, ◌^◌, min, Bool, true, false, ◌&&◌, ◌||◌, if◌then◌else◌, List, [], ◌∷◌, Some, None}
 use Rattle.md_base.specs.declared.event.Name.{Name}
 use Rattle.md_base.specs.NameTests.{is_cell, is_transparent, contributes, is_fence, is_chunk}
 use Rattle.md_meaning.specs.declared.context.Spine.{Spine}
@@ -24,13 +24,17 @@ no_spine = record { has_fence = false; has_second_fence = false; has_chunk = fal
 abbrev pub nothing_passed : Spine → Passed
 nothing_passed spine = record { last = None; contributing = None; spine = spine }
 
+-- one more cell, up to the greatest `usize`, which no table has columns for
+abbrev pub cells_after : Name → ℕ → ℕ
+cells_after name cells = if is_cell name then min (cells + 1) (2 ^ 64 - 1) else cells
+
 -- a spine with one more name
 abbrev pub with_name : Name → Spine → Spine
 with_name name spine = record {
   has_fence = spine.has_fence || is_fence name;
   has_second_fence = spine.has_second_fence || spine.has_fence && is_fence name;
   has_chunk = spine.has_chunk || is_chunk name;
-  cells = spine.cells + (if is_cell name then 1 else 0);
+  cells = cells_after name spine.cells;
   last = Some name;
 }
 

@@ -1,16 +1,15 @@
 //! What a node knows of the nodes around it and before it.
 
-ghost use Rattle.std.specs.Prelude.{◌≡◌, ◌+◌, IfOk, OnOk, ◌||◌, ◌&&◌, if◌then◌else◌, Some};
+ghost use Rattle.std.specs.Prelude.{◌≡◌, ◌||◌, ◌&&◌, if◌then◌else◌, Some};
 ghost use Rattle.md_meaning.specs.declared.context.Container.TheVariants.{TightList, Another};
 ghost use Rattle.md_text.specs.declared.options.CompileOptions.{CompileOptions};
 ghost use Rattle.md_meaning.specs.Surroundings as spec;
 ghost use Rattle.md_around.specs.Steps as machine;
-ghost use Rattle.md_base.specs.NameTests.{is_transparent, is_cell, contributes};
+ghost use Rattle.md_base.specs.NameTests.{is_transparent, contributes};
 
 use md_base::name_tests::{contributes, is_cell, is_chunk, is_fence, is_transparent};
 use md_base::{Name, Point};
 use md_meaning::{Container, Passed, Spine, Surroundings};
-use std::alloc::AllocError;
 
 /// A list as the container of its items' children.
 fn list_container(loose: bool) -> Container
@@ -113,30 +112,29 @@ pub const NO_SPINE: Spine = Spine {
     last: None,
 };
 
-/// How many cells there are after one more name; more than a `usize` counts are refused.
+/// How many cells there are after one more name, up to the greatest `usize`.
 #[inline(always)]
-fn cells_after(name: Name, cells: usize) -> Result<usize, AllocError>
-    ensures { IfOk result (λ sum. sum ≡ cells + (if is_cell name then 1 else 0)) }
+fn cells_after(name: Name, cells: usize) -> usize
+    ensures { result ≡ machine.cells_after name cells }
 {
     if is_cell(name) {
-        cells.checked_add(1).ok_or(AllocError)
+        cells.saturating_add(1)
     } else {
-        Ok(cells)
+        cells
     }
 }
 
 /// Adds a name to a spine.
 #[inline(always)]
-fn add_name(spine: &mut Spine, name: Name) -> Result<(), AllocError>
-    ensures { OnOk result (spine.new ≡ machine.with_name name spine.old) }
+fn add_name(spine: &mut Spine, name: Name)
+    ensures { spine.new ≡ machine.with_name name spine.old }
 {
     let fence = is_fence(name);
-    spine.cells = cells_after(name, spine.cells)?;
+    spine.cells = cells_after(name, spine.cells);
     spine.has_second_fence |= spine.has_fence & fence;
     spine.has_fence |= fence;
     spine.has_chunk |= is_chunk(name);
     spine.last = Some(name);
-    Ok(())
 }
 
 /// The last child that an item's end looks at, after one more.
@@ -152,21 +150,16 @@ fn contributing_after(name: Name, before: Option<Name>) -> Option<Name>
 }
 
 /// Passes one more child, which has passed its own children.
-///
-/// # Errors
-///
-/// `AllocError`, only where there are more cells on a spine than a `usize` counts.
 #[inline(always)]
-pub fn pass(passed: &mut Passed, name: Name, inner: Spine) -> Result<(), AllocError>
-    ensures { OnOk result (passed.new ≡ machine.passing name inner passed.old) }
+pub fn pass(passed: &mut Passed, name: Name, inner: Spine)
+    ensures { passed.new ≡ machine.passing name inner passed.old }
 {
     passed.last = Some(name);
     passed.contributing = contributing_after(name, passed.contributing);
     if is_transparent(name) {
         passed.spine = inner;
-        Ok(())
     } else {
-        add_name(&mut passed.spine, name)
+        add_name(&mut passed.spine, name);
     }
 }
 

@@ -1,5 +1,5 @@
 -- What a definition says depends only on its own events.
-use Rattle.std.proofs.Common.{◌≡◌, ◌⊎◌, inl, inr, Bool, true, false, ◌&&◌, ◌||◌, List, [], ◌∷◌, ◌++◌, refl, ap, sym, subst, ◌∙◌, Option, None, append-nil}
+use Rattle.std.proofs.Common.{◌≡◌, ◌≤◌, ◌-◌, ◌^◌, length, arith, ◌⊎◌, inl, inr, Bool, true, false, ◌&&◌, ◌||◌, List, [], ◌∷◌, ◌++◌, refl, ap, sym, subst, ◌∙◌, Option, None, append-nil}
 use Rattle.std.specs.Prelude.{if◌then◌else◌}
 use Rattle.std.specs.List.{list_all}
 use Rattle.std.specs.Option.{option_map_or}
@@ -402,11 +402,12 @@ none-defined given (Node name start end children rest) r b shaped all =
 
 -- the machine over a definition's own events logs it, and nothing else
 pub definition-run : (given : Supply) (start end : Point) (children : Forest) (more : List (Option Forest)) →
+    length (flatten (Node Definition start end children Empty)) ≤ 2 ^ 64 - 1 →
     AreShaped children role.Definition None → Matches role.Definition (spine children) →
     (run given (flatten (Node Definition start end children Empty))
     (children_of (Node Definition start end children Empty) ++ more) beginning).log.definitions
     ≡ defined_alone given children ∷ []
-definition-run given start end children more shaped match =
+definition-run given start end children more few shaped match =
     let node : Forest = Node Definition start end children Empty in
     let nested : Surroundings = inside given.options (is_loose children) Definition outermost in
     let own : Stood = stood_inside Definition children nothing_stood in
@@ -416,6 +417,7 @@ definition-run given start end children more shaped match =
       previous = refl;
       spine = refl;
       columns = refl;
+      narrow = omega arith;
     } in
     let free : list_all hostless (spine children) ≡ true =
     spine-all hostless role.Definition role.Flow None (spine children) (record {
@@ -424,7 +426,7 @@ definition-run given start end children more shaped match =
       first = refl;
     }) match in
     ap (λ es. (run given es (children_of node ++ more) beginning).log.definitions) (sym (append-nil (flatten node)))
-    ∙ ap (λ (s : Printer). s.log.definitions) (run-flatten given node nothing_stood [] more beginning begins refl)
+    ∙ ap (λ (s : Printer). s.log.definitions) (run-flatten given node nothing_stood [] more beginning few begins refl)
     ∙ ap (λ ds. ds ++ defined_alone given children ∷ [])
     (definitions-own given children nested own role.Definition None shaped (inr free)
     ∙ none-defined given children role.Definition None shaped free)

@@ -1,9 +1,9 @@
 -- The definitions of a document, each with where its own events stand.
-use Rattle.std.proofs.Common.{◌≡◌, ◌≤◌, ℕ, ◌+◌, ◌-◌, zero, suc, Bool, true, false, List, [], ◌∷◌, ◌++◌, map, length, take, drop, refl, ap, sym, ◌∙◌, Option, Some, None, append_assoc, append-nil, subst, arith, unwrap_or}
+use Rattle.std.proofs.Common.{◌≡◌, ◌≤◌, ℕ, ◌+◌, ◌-◌, ◌^◌, zero, suc, Bool, true, false, List, [], ◌∷◌, ◌++◌, map, length, take, drop, refl, ap, sym, ◌∙◌, Option, Some, None, append_assoc, append-nil, subst, arith, unwrap_or}
 use Rattle.std.specs.Prelude.{if◌then◌else◌, slice_get}
 use Rattle.std.specs.Option.{option_to_list}
 use Rattle.std.proofs.lemmas.Option.{none-some}
-use Rattle.std.proofs.lemmas.List.{length-append, take-append-drop}
+use Rattle.std.proofs.lemmas.List.{length-append, length-drop, take-append-drop}
 use Rattle.md_base.specs.declared.event.Name.{Name}
 use Rattle.md_base.specs.declared.event.Name.TheVariants.{Definition, GfmTable}
 use Rattle.md_base.specs.declared.event.Point.{Point}
@@ -270,11 +270,11 @@ alone-length n =
     count : (i p a c : ℕ) → p ≡ suc i + a → c ≡ a + 1 → suc p - i ≡ suc c
     count i p a c h e = omega (arith, h, e)
 
-stands-run : (given : Supply) (document : Forest) (n : OwnNode) →
+stands-run : (given : Supply) (document : Forest) (n : OwnNode) → length (flatten document) ≤ 2 ^ 64 - 1 →
     Stands (flatten document) (children_of document) (partners_of 0 document) n →
     (run given (events_at (flatten document) n.index (slice_get (partners_of 0 document) n.index))
     (drop n.index (children_of document)) beginning).log.definitions ≡ defined_alone given n.children ∷ []
-stands-run given document n stands =
+stands-run given document n few stands =
     ap (λ o. (run given (events_at (flatten document) n.index o)
     (drop n.index (children_of document)) beginning).log.definitions) stands.partner
     ∙ ap (λ es. (run given (take (suc (index_after (suc n.index) n.children) - n.index) es)
@@ -284,15 +284,23 @@ stands-run given document n stands =
     ∙ ap (λ es. (run given es (drop n.index (children_of document)) beginning).log.definitions)
     (take-own (flatten (alone n)) stands.later)
     ∙ ap (λ ns. (run given (flatten (alone n)) ns beginning).log.definitions) stands.nodes
-    ∙ definition-run given n.start n.end n.children stands.more stands.shaped stands.match
+    ∙ definition-run given n.start n.end n.children stands.more
+    (within (length (flatten (alone n))) (length stands.later) (length (flatten document)) n.index _
+    (ap (λ es. length es) stands.events ∙ length-append (flatten (alone n)) stands.later)
+    (length-drop n.index (flatten document)) few)
+    stands.shaped stands.match
+  where
+    within : (a b c i d : ℕ) → d ≡ a + b → d ≡ c - i → c ≤ 2 ^ 64 - 1 → a ≤ 2 ^ 64 - 1
+    within a b c i d parts left most = omega (arith, parts, left, most)
 
 -- the machine over the events of one of a document's definitions logs only that definition
-pub own-run : (given : Supply) (document : Forest) (place entry : ℕ) → IsShaped document →
+pub own-run : (given : Supply) (document : Forest) (place entry : ℕ) → length (flatten document) ≤ 2 ^ 64 - 1 →
+    IsShaped document →
     slice_get (entries_of 0 document) place ≡ Some entry →
     (defined : Defined) × (slice_get (own_definitions given document) place ≡ Some defined)
     × ((run given (events_at (flatten document) entry (slice_get (partners_of 0 document) entry))
     (drop entry (children_of document)) beginning).log.definitions ≡ defined ∷ [])
-own-run given document place entry shaped h =
+own-run given document place entry few shaped h =
     let es : List Event = flatten document in
     let ns : List (Option Forest) = children_of document in
     let ps : List ℕ = partners_of 0 document in
@@ -307,7 +315,7 @@ own-run given document place entry shaped h =
       defined_alone given n.children,
       ap (λ xs. slice_get xs place) (sym (nodes-defined given document 0))
           ∙ map-got (λ m. defined_alone given m.children) (own_nodes 0 document) place n found.3,
-      subst logs found.2 (stands-run given document n found.1),
+      subst logs found.2 (stands-run given document n few found.1),
     )
 
 -- as many as entries

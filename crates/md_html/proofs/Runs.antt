@@ -1,8 +1,9 @@
 -- Running the events of some nodes leaves the state that the nodes' own pieces, notes and log make: by induction.
 -- So the text of a run over events is told of the tree, for a whole document and for each definition by itself.
-use Rattle.std.proofs.Common.{◌≡◌, ℕ, ◌+◌, Bool, true, false, ◌&&◌, ◌||◌, cond, List, [], ◌∷◌, ◌++◌, Option, Some, None, refl, ap, sym, ◌∙◌, append_assoc, append-nil, arith}
-use Rattle.std.specs.Prelude.{if◌then◌else◌, unwrap_or, count_by, fold}
+use Rattle.std.proofs.Common.{◌≡◌, ◌≤◌, ℕ, ◌+◌, ◌-◌, ◌^◌, suc, length, Bool, true, false, ◌&&◌, ◌||◌, cond, List, [], ◌∷◌, ◌++◌, Option, Some, None, refl, ap, sym, ◌∙◌, append_assoc, append-nil, arith}
+use Rattle.std.specs.Prelude.{if◌then◌else◌, unwrap_or, count_by, fold, min}
 use Rattle.std.proofs.lemmas.List.Sums.{sum_by-append, fold-append}
+use Rattle.std.proofs.lemmas.List.{length-append}
 use Rattle.md_base.specs.declared.event.AlignKind.{AlignKind}
 use Rattle.md_infer.specs.Alignments.{alignments}
 use Rattle.md_tree.specs.Entered.{children_of}
@@ -32,7 +33,8 @@ use Rattle.md_sheet.proofs.Tally.{fold-tally}
 use Rattle.md_meaning.specs.Calls.{Called, tally}
 use Rattle.md_meaning.specs.Footnotes.{Footnote}
 use Rattle.md_printer.specs.Machine.{Printer, Log, ahead_by, ahead_told, columns_told, loose_told, entering_table, leaving_table, entered, exited, is_nil, run, beginning}
-use Rattle.md_around.specs.Steps.{first_or, others_of, no_spine, with_name, passing, slurps_after}
+use Rattle.md_around.specs.Steps.{first_or, others_of, no_spine, cells_after, with_name, passing, slurps_after}
+use Rattle.md_html.proofs.Held.{held, cells-held, marks-held, closing-held, alignments-length}
 
 -- marks before marks
 pub is_slurping-append : (marks before : List Mark) → is_slurping (marks ++ before)
@@ -92,7 +94,7 @@ count-push p xs x = sum_by-append (λ y. cond (p y) 1 0) xs (x ∷ [])
     zero_plus : (n : ℕ) → 0 + n ≡ n
     zero_plus n = omega arith
 
-pub told_by-push : (xs : List Name) (x : Name) → told_by (xs ++ x ∷ []) ≡ with_name x (told_by xs)
+pub told_by-push : (xs : List Name) (x : Name) → held (told_by (xs ++ x ∷ [])) ≡ with_name x (held (told_by xs))
 told_by-push xs x =
     let spine : Bool → Bool → Bool → ℕ → Option Name → Spine = λ a b c n o. record {
       has_fence = a;
@@ -102,16 +104,17 @@ told_by-push xs x =
       last = o;
     } in
     let ys = xs ++ x ∷ [] in
-    ap (λ a. spine a (two_pass is_fence ys) (list_any is_chunk ys) (count_by is_cell ys) (last_of ys))
+    ap (λ a. spine a (two_pass is_fence ys) (list_any is_chunk ys) (min (count_by is_cell ys) (2 ^ 64 - 1)) (last_of ys))
     (list_any-push is_fence xs x)
-    ∙ ap (λ b. spine (list_any is_fence xs || is_fence x) b (list_any is_chunk ys) (count_by is_cell ys) (last_of ys))
+    ∙ ap (λ b. spine (list_any is_fence xs || is_fence x) b (list_any is_chunk ys) (min (count_by is_cell ys) (2 ^ 64 - 1)) (last_of ys))
     (two_pass-push is_fence xs x)
     ∙ ap (λ c. spine (list_any is_fence xs || is_fence x) (two_pass is_fence xs || list_any is_fence xs
-    && is_fence x) c (count_by is_cell ys) (last_of ys)) (list_any-push is_chunk xs x)
+    && is_fence x) c (min (count_by is_cell ys) (2 ^ 64 - 1)) (last_of ys)) (list_any-push is_chunk xs x)
     ∙ ap (λ n. spine (list_any is_fence xs || is_fence x) (two_pass is_fence xs || list_any is_fence xs
-    && is_fence x) (list_any is_chunk xs || is_chunk x) n (last_of ys)) (count-push is_cell xs x)
+    && is_fence x) (list_any is_chunk xs || is_chunk x) n (last_of ys))
+    (ap (λ n. min n (2 ^ 64 - 1)) (count-push is_cell xs x) ∙ cells-held x (count_by is_cell xs))
     ∙ ap (λ o. spine (list_any is_fence xs || is_fence x) (two_pass is_fence xs || list_any is_fence xs
-    && is_fence x) (list_any is_chunk xs || is_chunk x) (count_by is_cell xs + (if is_cell x then 1 else 0)) o)
+    && is_fence x) (list_any is_chunk xs || is_chunk x) (cells_after x (min (count_by is_cell xs) (2 ^ 64 - 1))) o)
     (last_of-push xs x)
 
 -- small facts on options and tests
@@ -158,7 +161,7 @@ printer_after given before forest state = record state {
     passed = record {
       last = or_else (last_name forest) state.frame.passed.last;
       contributing = or_else (last_contributing forest) state.frame.passed.contributing;
-      spine = told_by (before.spine ++ spine_names forest);
+      spine = held (told_by (before.spine ++ spine_names forest));
     };
   };
 }
@@ -168,8 +171,9 @@ pub record Knows (state : Printer) (before : Stood) : Type 0 where
   pub calls : state.log.called ≡ tally before.calls
   pub slurping : state.is_slurping ≡ is_slurping before.marks
   pub previous : state.frame.passed.last ≡ before.previous
-  pub spine : state.frame.passed.spine ≡ told_by before.spine
+  pub spine : state.frame.passed.spine ≡ held (told_by before.spine)
   pub columns : first_or [] state.tables ≡ before.columns
+  pub narrow : length before.columns ≤ 2 ^ 64 - 1
 
 after-nothing : (given : Supply) (before : Stood) (state : Printer) → Knows state before →
     printer_after given before Empty state ≡ state
@@ -178,7 +182,7 @@ after-nothing given before state knows =
     (append-nil state.log.definitions)
     ∙ ap (λ names. record state {
       frame = record state.frame
-          { passed = record state.frame.passed { spine = told_by names } };
+          { passed = record state.frame.passed { spine = held (told_by names) } };
     }) (append-nil before.spine)
     ∙ ap (λ s. record state { frame = record state.frame { passed = record state.frame.passed { spine = s } } })
     (sym knows.spine)
@@ -192,24 +196,32 @@ inside-told options _ children around = refl
 
 -- the children's state, from the node's
 children_know : (given : Supply) (ahead : Ahead) (before : Stood) (name : Name) (start : Point) (children : Forest)
-    (captured : Bool) (state : Printer) → Knows state before →
+    (captured : Bool) (state : Printer) → length (flatten children) ≤ 2 ^ 64 - 1 → Knows state before →
     Knows (entered given ahead (is_loose children) (columns_told name (Some children)) captured name start state)
     (stood_inside name children before)
-children_know given ahead before name start children captured state knows = record {
+children_know given ahead before name start children captured state few knows = record {
   calls = knows.calls;
   slurping = knows.slurping;
   previous = refl;
   spine =
       ap (λ s. if is_transparent name then s else no_spine) knows.spine
-      ∙ elim (is_transparent name) as (λ b. (if b then told_by before.spine else no_spine)
-      ≡ told_by (if b then before.spine else [])) [ true ↦ refl | false ↦ refl ];
+      ∙ elim (is_transparent name) as (λ b. (if b then held (told_by before.spine) else no_spine)
+      ≡ held (told_by (if b then before.spine else []))) [ true ↦ refl | false ↦ refl ];
   columns =
       elim (is_table name) as (λ b. first_or [] (if b then (if b then alignments children else []) ∷ state.tables
       else state.tables) ≡ (if b then alignments children else before.columns)) [
         | true ↦ refl
         | false ↦ knows.columns
       ];
+  narrow =
+      elim (is_table name) as (λ b. length (if b then alignments children else before.columns) ≤ 2 ^ 64 - 1) [
+        | true ↦ below (length (alignments children)) (length (flatten children)) (alignments-length children) few
+        | false ↦ knows.narrow
+      ];
 }
+  where
+    below : (a b : ℕ) → a ≤ b → b ≤ 2 ^ 64 - 1 → a ≤ 2 ^ 64 - 1
+    below a b within most = omega (arith, within, most)
 
 -- a table that is left is the one that was entered
 abbrev left_tables : Name → Forest → List (List AlignKind) → List (List AlignKind)
@@ -278,8 +290,8 @@ after_node given ahead before last captured name start end children state = reco
       (slurps_after (marks_of given.options (inside given.options (is_loose children) name state.frame.around)
       (spine_inside name before.spine) children) state.is_slurping);
   frame = record state.frame {
-    passed = passing name (told_by (spine_inside name before.spine
-        ++ spine_names children)) state.frame.passed;
+    passed = passing name (held (told_by (spine_inside name before.spine
+        ++ spine_names children))) state.frame.passed;
   };
 }
 
@@ -302,7 +314,7 @@ left-known : (given : Supply) (before : Stood) (name : Name) (start : Point) (ch
       previous = state.frame.passed.last;
       spine = state.frame.passed.spine;
       columns = first_or [] state.tables;
-    }) ≡ left_of given.bytes before children
+    }) ≡ record (left_of given.bytes before children) { spine = held (told_by before.spine) }
 left-known given before name start children captured state knows =
     let calls : List (List ℕ) = before.calls ++ calls_of given.bytes children in
     let L : List Called → Bool → Option Name → Spine → List AlignKind →
@@ -315,7 +327,8 @@ left-known given before name start children captured state knows =
     ∙ ap (λ o. L (tally calls) (is_slurping before.marks) o state.frame.passed.spine (first_or [] state.tables))
     knows.previous
     ∙ ap (λ s. L (tally calls) (is_slurping before.marks) before.previous s (first_or [] state.tables)) knows.spine
-    ∙ ap (λ k. L (tally calls) (is_slurping before.marks) before.previous (told_by before.spine) k) knows.columns
+    ∙ ap (λ k. L (tally calls) (is_slurping before.marks) before.previous (held (told_by before.spine)) k)
+    knows.columns
 
 -- a node is left after its children, whose text is not captured
 node_step-streamed : (given : Supply) (ahead : Ahead) (before : Stood) (last : Bool) (name : Name) (start end : Point)
@@ -328,7 +341,10 @@ node_step-streamed given ahead before last name start end children state knows =
     let opened : List Stroke = opening given around ahead name in
     let inner : List Stroke = printed given (inside given.options (is_loose children) name around)
     (stood_inside name children before) children in
-    let spine : Spine = told_by (spine_inside name before.spine ++ spine_names children) in
+    let spine : Spine = held (told_by (spine_inside name before.spine ++ spine_names children)) in
+    let exact : Left = left_of given.bytes before children in
+    let over : Passed = passed_over (spine_inside name before.spine) children in
+    let known : Left = record exact { spine = held exact.spine } in
     let marks : List Mark = marks_of given.options (inside given.options (is_loose children) name around)
     (spine_inside name before.spine) children in
     let close : Left → Option Name → Option Name → List Stroke =
@@ -337,13 +353,16 @@ node_step-streamed given ahead before last name start end children state knows =
       contributing = p;
       spine = spine;
     }) last start end blank name in
-    let at : List (List AlignKind) → Sheet → Spine → Printer = λ tables sheet told. record state {
+    let own : Spine → List Mark = λ told. own_marks around told name in
+    let at : List (List AlignKind) → Sheet → List Mark → Printer = λ tables sheet mark. record state {
       tables = tables;
       log = (after_node given ahead before last false name start end children state).log;
       sheet = sheet;
-      is_slurping = slurps_after (own_marks around told name) (slurps_after marks state.is_slurping);
+      is_slurping = slurps_after mark (slurps_after marks state.is_slurping);
       frame = record state.frame { passed = passing name spine state.frame.passed };
     } in
+    let sheet_with : List Stroke → Sheet =
+    λ ps. lay given.ending (lay given.ending (lay given.ending state.sheet opened) inner) ps in
     let left : List (List AlignKind) → Left = λ tables. record {
       called = fold counted state.log.called (calls_of given.bytes children);
       is_slurping = state.is_slurping;
@@ -353,21 +372,24 @@ node_step-streamed given ahead before last name start end children state knows =
     } in
     let laid : List (List AlignKind) → Left → Option Name → Option Name → Spine →
     Printer = λ tables l o p told. at tables (lay given.ending
-    (lay given.ending (lay given.ending state.sheet opened) inner) (close l o p)) told in
+    (lay given.ending (lay given.ending state.sheet opened) inner) (close l o p)) (own told) in
     ap (λ tables. laid tables (left tables) (or_else (last_name children) None)
     (or_else (last_contributing children) None) state.frame.passed.spine) (tables-restored name children state.tables)
     ∙ ap (λ l. laid state.tables l (or_else (last_name children) None)
     (or_else (last_contributing children) None) state.frame.passed.spine)
     (left-known given before name start children false state knows)
-    ∙ ap (λ o. laid state.tables (left_of given.bytes before children) o
+    ∙ ap (λ o. laid state.tables known o
     (or_else (last_contributing children) None) state.frame.passed.spine) (or_else-none (last_name children))
-    ∙ ap (λ o. laid state.tables (left_of given.bytes before children)
+    ∙ ap (λ o. laid state.tables known
     (last_name children) o state.frame.passed.spine) (or_else-none (last_contributing children))
-    ∙ ap (λ told. laid state.tables (left_of given.bytes before children) (last_name children)
+    ∙ ap (λ told. laid state.tables known (last_name children)
     (last_contributing children) told) knows.spine
-    ∙ ap (λ sheet. at state.tables sheet (told_by before.spine))
-    (lay_parts given.ending state.sheet opened inner (close (left_of given.bytes before children)
-    (last_name children) (last_contributing children)))
+    ∙ ap (λ mark. at state.tables (sheet_with (close known (last_name children) (last_contributing children))) mark)
+    (marks-held around (told_by before.spine) name)
+    ∙ ap (λ ps. at state.tables (sheet_with ps) (own (told_by before.spine)))
+    (closing-held given around exact ahead over last start end blank name knows.narrow)
+    ∙ ap (λ sheet. at state.tables sheet (own (told_by before.spine)))
+    (lay_parts given.ending state.sheet opened inner (closing given around exact ahead over last start end blank name))
 
 -- a node is left after its children, whose text is captured
 node_step-captured : (given : Supply) (ahead : Ahead) (before : Stood) (last : Bool) (name : Name) (start end : Point)
@@ -380,7 +402,10 @@ node_step-captured given ahead before last name start end children state knows =
     let opened : List Stroke = opening given around ahead name in
     let inner : List Stroke = printed given (inside given.options (is_loose children) name around)
     (stood_inside name children before) children in
-    let spine : Spine = told_by (spine_inside name before.spine ++ spine_names children) in
+    let spine : Spine = held (told_by (spine_inside name before.spine ++ spine_names children)) in
+    let exact : Left = left_of given.bytes before children in
+    let over : Passed = passed_over (spine_inside name before.spine) children in
+    let known : Left = record exact { spine = held exact.spine } in
     let marks : List Mark = marks_of given.options (inside given.options (is_loose children) name around)
     (spine_inside name before.spine) children in
     let close : Left → Option Name → Option Name → List Stroke =
@@ -389,13 +414,15 @@ node_step-captured given ahead before last name start end children state knows =
       contributing = p;
       spine = spine;
     }) last start end (lay given.ending blank inner) name in
-    let at : List (List AlignKind) → Sheet → Spine → Printer = λ tables sheet told. record state {
+    let own : Spine → List Mark = λ told. own_marks around told name in
+    let at : List (List AlignKind) → Sheet → List Mark → Printer = λ tables sheet mark. record state {
       tables = tables;
       log = (after_node given ahead before last true name start end children state).log;
       sheet = sheet;
-      is_slurping = slurps_after (own_marks around told name) (slurps_after marks state.is_slurping);
+      is_slurping = slurps_after mark (slurps_after marks state.is_slurping);
       frame = record state.frame { passed = passing name spine state.frame.passed };
     } in
+    let sheet_with : List Stroke → Sheet = λ ps. lay given.ending (lay given.ending state.sheet opened) ps in
     let left : List (List AlignKind) → Left = λ tables. record {
       called = fold counted state.log.called (calls_of given.bytes children);
       is_slurping = state.is_slurping;
@@ -405,21 +432,25 @@ node_step-captured given ahead before last name start end children state knows =
     } in
     let laid : List (List AlignKind) → Left → Option Name → Option Name → Spine →
     Printer = λ tables l o p told. at tables (lay given.ending (lay given.ending state.sheet opened) (close l o p))
-    told in
+    (own told) in
     ap (λ tables. laid tables (left tables) (or_else (last_name children) None)
     (or_else (last_contributing children) None) state.frame.passed.spine) (tables-restored name children state.tables)
     ∙ ap (λ l. laid state.tables l (or_else (last_name children) None)
     (or_else (last_contributing children) None) state.frame.passed.spine)
     (left-known given before name start children true state knows)
-    ∙ ap (λ o. laid state.tables (left_of given.bytes before children) o
+    ∙ ap (λ o. laid state.tables known o
     (or_else (last_contributing children) None) state.frame.passed.spine) (or_else-none (last_name children))
-    ∙ ap (λ o. laid state.tables (left_of given.bytes before children)
+    ∙ ap (λ o. laid state.tables known
     (last_name children) o state.frame.passed.spine) (or_else-none (last_contributing children))
-    ∙ ap (λ told. laid state.tables (left_of given.bytes before children) (last_name children)
+    ∙ ap (λ told. laid state.tables known (last_name children)
     (last_contributing children) told) knows.spine
-    ∙ ap (λ sheet. at state.tables sheet (told_by before.spine))
-    (lay_two given.ending state.sheet opened (close (left_of given.bytes before children) (last_name children)
-    (last_contributing children)))
+    ∙ ap (λ mark. at state.tables (sheet_with (close known (last_name children) (last_contributing children))) mark)
+    (marks-held around (told_by before.spine) name)
+    ∙ ap (λ ps. at state.tables (sheet_with ps) (own (told_by before.spine)))
+    (closing-held given around exact ahead over last start end (lay given.ending blank inner) name knows.narrow)
+    ∙ ap (λ sheet. at state.tables sheet (own (told_by before.spine)))
+    (lay_two given.ending state.sheet opened (closing given around exact ahead over last start end
+    (lay given.ending blank inner) name))
 
 -- what a node's children tell ahead decides only by what its name reads
 opening-told : (given : Supply) (around : Surroundings) (name : Name) (children : Forest) →
@@ -598,13 +629,14 @@ next_knows given before last captured name start end children state knows =
           ∙ sym (is_slurping-append (own ++ marks) before.marks
           ∙ slurps_after-append own marks (is_slurping before.marks));
       previous = refl;
-      spine = elim (is_transparent name) as (λ b. (if b then told_by ((if b then before.spine else [])
-          ++ spine_names children) else with_name name state.frame.passed.spine)
-          ≡ told_by (before.spine ++ (if b then spine_names children else name ∷ []))) [
+      spine = elim (is_transparent name) as (λ b. (if b then held (told_by ((if b then before.spine else [])
+          ++ spine_names children)) else with_name name state.frame.passed.spine)
+          ≡ held (told_by (before.spine ++ (if b then spine_names children else name ∷ [])))) [
             | true ↦ refl
             | false ↦ ap (λ s. with_name name s) knows.spine ∙ sym (told_by-push before.spine name)
           ];
       columns = knows.columns;
+      narrow = knows.narrow;
     }
 
 -- a node and then its siblings
@@ -651,7 +683,7 @@ after-node given before name start end children rest state =
           && is_empty rest) (is_captured name) name start end children state)).log;
       sheet = sheet;
       is_slurping = slurping;
-      frame = record state.frame { passed = record { last = o; contributing = p; spine = told_by names } };
+      frame = record state.frame { passed = record { last = o; contributing = p; spine = held (told_by names) } };
     } in
     let own_contribution : Option Name = if contributes name then Some name else state.frame.passed.contributing in
     ap (λ sheet. made sheet (slurps_after later (slurps_after own (slurps_after marks state.is_slurping)))
@@ -696,13 +728,15 @@ after-node given before name start end children rest state =
 
 -- running the events of some nodes, and what follows them
 pub run-flatten : (given : Supply) (forest : Forest) (before : Stood) (tail : List Event)
-    (nodes : List (Option Forest)) (state : Printer) →
+    (nodes : List (Option Forest)) (state : Printer) → length (flatten forest) ≤ 2 ^ 64 - 1 →
     Knows state before → state.frame.around.is_outermost ≡ is_nil tail →
     run given (flatten forest ++ tail) (children_of forest ++ nodes) state
     ≡ run given tail nodes (printer_after given before forest state)
-run-flatten given Empty before tail nodes state knows outer =
+run-flatten given Empty before tail nodes state few knows outer =
     ap (λ s. run given tail nodes s) (sym (after-nothing given before state knows))
-run-flatten given (Node name start end children rest) before tail nodes state knows outer =
+run-flatten given (Node name start end children rest) before tail nodes state few knows outer =
+    let parts = parts-within (length (flatten children)) (length (flatten rest)) _
+    (length-append (flatten children) (exiting name end ∷ flatten rest)) few in
     let captured : Bool = is_captured name in
     let told : Ahead = ahead_told name (Some children) in
     let inner : Printer = entered given told (is_loose children)
@@ -720,8 +754,8 @@ run-flatten given (Node name start end children rest) before tail nodes state kn
     ∙ ap (λ cs. run given (flatten children ++ exiting name end ∷ (flatten rest ++ tail)) cs inner)
     (append_assoc (children_of children) (None ∷ children_of rest) nodes)
     ∙ run-flatten given children (stood_inside name children before) (exiting name end
-    ∷ (flatten rest ++ tail)) (None ∷ (children_of rest ++ nodes)) inner
-    (children_know given told before name start children captured state knows)
+    ∷ (flatten rest ++ tail)) (None ∷ (children_of rest ++ nodes)) inner parts.0
+    (children_know given told before name start children captured state parts.0 knows)
     (inside_outermost given.options (is_loose children) name state.frame.around)
     ∙ ap (λ l. run given (flatten rest ++ tail) (children_of rest
     ++ nodes) (exited given l captured name end
@@ -729,6 +763,9 @@ run-flatten given (Node name start end children rest) before tail nodes state kn
     (last-event rest tail ∙ ap (λ o. o && is_empty rest) (sym outer))
     ∙ ap (λ s. run given (flatten rest ++ tail) (children_of rest ++ nodes) s)
     (node_step given before last captured name start end children state knows)
-    ∙ run-flatten given rest next tail nodes left (next_knows given before last captured name start end children state
+    ∙ run-flatten given rest next tail nodes left parts.1 (next_knows given before last captured name start end children state
     knows) outer
     ∙ ap (λ s. run given tail nodes s) (after-node given before name start end children rest state)
+  where
+    parts-within : (a b all : ℕ) → all ≡ a + suc b → suc all ≤ 2 ^ 64 - 1 → (a ≤ 2 ^ 64 - 1) × (b ≤ 2 ^ 64 - 1)
+    parts-within a b all are most = (omega (arith, are, most), omega (arith, are, most))

@@ -1,6 +1,6 @@
 -- The run over a whole document, from its first event on, prints its nodes and the section of its footnotes.
 -- So `count_checked` answers what is printed for the document, which `md_tie` shows to be its meaning.
-use Rattle.std.proofs.Common.{◌≡◌, ℕ, suc, true, false, List, [], ◌∷◌, ◌++◌, Some, refl, ap, sym, ◌∙◌, append_assoc, append-nil, bytes_eq, fold}
+use Rattle.std.proofs.Common.{◌≡◌, ◌≤◌, ℕ, suc, ◌-◌, ◌^◌, length, arith, true, false, List, [], ◌∷◌, ◌++◌, Some, refl, ap, sym, ◌∙◌, append_assoc, append-nil, bytes_eq, fold}
 use Rattle.std.specs.Prelude.{if◌then◌else◌, find}
 use Rattle.std.specs.Option.{option_map_or}
 use Rattle.std.proofs.lemmas.Slice.Eq.{bytes_eq-Decides}
@@ -36,20 +36,29 @@ given_with options names bytes ending definitions = record {
 
 -- nothing stands before the first event
 begins : Knows beginning nothing_stood
-begins = record { calls = refl; slurping = refl; previous = refl; spine = refl; columns = refl }
+begins = record {
+  calls = refl;
+  slurping = refl;
+  previous = refl;
+  spine = refl;
+  columns = refl;
+  narrow = omega arith;
+}
 
-run-document : (given : Supply) (document : Forest) → run given (flatten document) (children_of document) beginning
+run-document : (given : Supply) (document : Forest) → length (flatten document) ≤ 2 ^ 64 - 1 →
+    run given (flatten document) (children_of document) beginning
     ≡ printer_after given nothing_stood document beginning
-run-document given document =
+run-document given document few =
     ap (λ es. run given es (children_of document) beginning) (sym (append-nil (flatten document)))
     ∙ ap (λ cs. run given (flatten document ++ []) cs beginning) (sym (append-nil (children_of document)))
-    ∙ run-flatten given document nothing_stood [] [] beginning begins refl
+    ∙ run-flatten given document nothing_stood [] [] beginning few begins refl
 
 -- one run over the events of a document
-run-events : (given : Supply) (events : List Event) (document : Forest) → flatten document ≡ events →
+run-events : (given : Supply) (events : List Event) (document : Forest) → length (flatten document) ≤ 2 ^ 64 - 1 →
+    flatten document ≡ events →
     run given events (children_of document) beginning ≡ printer_after given nothing_stood document beginning
-run-events given events document flat = ap (λ es. run given es (children_of document) beginning) (sym flat)
-    ∙ run-document given document
+run-events given events document few flat = ap (λ es. run given es (children_of document) beginning) (sym flat)
+    ∙ run-document given document few
 
 -- what is found after one footnote
 found_after : (first : Footnote) (xs ys : List Footnote) (identifier : List ℕ) →
@@ -148,12 +157,12 @@ finished-document given document =
 -- one run: in the definitions that it has the same is found as in those of the document
 pub text-run : (options : CompileOptions) (names : List (List ℕ × List ℕ)) (bytes : List ℕ) (events : List Event)
     (ending : List ℕ) (known : List Defined) (document : Forest) →
-    flatten document ≡ events → ending ≡ ending_at options bytes (first_ending document) →
+    length (flatten document) ≤ 2 ^ 64 - 1 → flatten document ≡ events → ending ≡ ending_at options bytes (first_ending document) →
     FindAlike known (definitions_of (given_with options names bytes ending []) outermost nothing_stood document) →
     (finished (given_with options names bytes ending known)
     (run (given_with options names bytes ending known) events (children_of document) beginning)).text
     ≡ meaning options names bytes document
-text-run options names bytes events ending known document flat ends alike =
+text-run options names bytes events ending known document few flat ends alike =
     let given : List ℕ → List Defined → Supply = λ e ds. given_with options names bytes e ds in
     let seen_first : List ℕ → List Defined = λ e. definitions_of (given e []) outermost nothing_stood document in
     let section : List Footnote → List Stroke = λ fs. section_pieces options fs (tally (calls_of bytes document)) in
@@ -162,7 +171,7 @@ text-run options names bytes events ending known document flat ends alike =
     ++ section (footnotes_of (given e (seen_first e)) outermost nothing_stood document))
     in
     let same : FindAlike known (seen_first ending) = alike in
-    ap (λ s. (finished (given ending known) s).text) (run-events (given ending known) events document flat)
+    ap (λ s. (finished (given ending known) s).text) (run-events (given ending known) events document few flat)
     ∙ finished-document (given ending known) document
     ∙ ap (λ ps. laid_out ending (ps ++ section (footnotes_of (given ending known) outermost nothing_stood document)))
     (printed-alike known (given ending (seen_first ending)) same outermost nothing_stood document)

@@ -167,7 +167,7 @@ pub fn compile_counted(
 ///
 /// # Errors
 ///
-/// `AllocError`, where memory runs out (or a count would pass `usize`, which no list in memory reaches).
+/// `AllocError`, only where memory runs out.
 ///
 /// # Examples
 ///
@@ -406,7 +406,8 @@ fn exit_captured(
     let place = printer.place();
     let sheet = printer.release(given.alloc);
     close_and_log(printer, given, &exit, Inner { place, sheet }, name)?;
-    printer.leave(name)
+    printer.leave(name);
+    Ok(())
 }
 
 /// Exits a node whose children aren't captured.
@@ -423,7 +424,8 @@ fn exit_streamed(
     let exit = printer.exit(is_last, end);
     printer.leave_table_if(is_table(name));
     close(printer, given, &exit, name)?;
-    printer.leave(name)
+    printer.leave(name);
+    Ok(())
 }
 
 /// Exits a node; `is_last` says that nothing follows in the document.
@@ -518,7 +520,8 @@ fn leaf(
 {
     let exit = printer.leaf(place.start, is_last, place.end);
     close(printer, given, &exit, name)?;
-    printer.pass(name)
+    printer.pass(name);
+    Ok(())
 }
 
 /// Two events enter and exit such a node.

@@ -1,6 +1,6 @@
 //! Definitions, each compiled only from its own events.
 
-ghost use Rattle.std.specs.Prelude.{◌≡◌, ◌++◌, ℕ, List, IfOk, OnOk, Some, take, drop, slice_get, length, ◌≤◌};
+ghost use Rattle.std.specs.Prelude.{◌≡◌, ◌++◌, ℕ, List, IfOk, OnOk, Some, take, drop, slice_get, length, ◌≤◌, ◌<◌, ◌^◌};
 ghost use Rattle.std.specs.Option.{option_to_list};
 ghost use Rattle.md_base.specs.Tree.{Forest, flatten};
 ghost use Rattle.md_tree.specs.Grammar.{IsChecked};
@@ -63,6 +63,7 @@ fn run_node(
     entry: usize,
 ) -> Result<(), AllocError>
     ensures grammatical { IsChecked checked.now }
+    ensures fits { length checked.now.events < 2 ^ 63 }
     ensures printed { OnOk result ((document : Forest) → flatten document ≡ checked.now.events
         → printer.new ≡ machine.run (given_of given.now)
         (events_at checked.now.events entry (slice_get (partners_of 0 document) entry))

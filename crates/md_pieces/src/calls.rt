@@ -54,8 +54,7 @@ fn put_tags(printer: &mut Printer, footnote: &str, id: &str, number: &str) -> Re
 ///
 /// # Errors
 ///
-/// `AllocError`, only where memory runs out, or where one identifier is called more often than a
-/// `usize` counts.
+/// `AllocError`, only where memory runs out.
 pub fn call(
     printer: &mut Printer,
     given: &Given,
@@ -74,7 +73,6 @@ pub fn call(
         identifier: identifier.as_str(),
         number: printer.number(identifier.as_str()),
     };
-    let before = printer.count_of(identifier.as_str());
-    let occurrence = before.checked_add(1).ok_or(AllocError)?;
+    let occurrence = printer.count_of(identifier.as_str()) + 1;
     tags(given.alloc, printer, given.options, &footnote, occurrence)
 }

@@ -200,8 +200,7 @@ fn close_table(
 ///
 /// # Errors
 ///
-/// `AllocError`, only where memory runs out, or where one identifier is called more often than a
-/// `usize` counts.
+/// `AllocError`, only where memory runs out.
 pub fn close_captured(
     printer: &mut Printer,
     given: &Given,

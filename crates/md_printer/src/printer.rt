@@ -132,8 +132,7 @@ impl Printer {
     ///
     /// # Errors
     ///
-    /// `AllocError`, only where memory runs out, or where one identifier is called more often than
-    /// a `usize` counts.
+    /// `AllocError`, only where memory runs out.
     pub fn log_call(&mut self, identifier: String) -> Result<(), AllocError>
         ensures { OnOk result
             (self.new ≡ record self.old {
@@ -172,7 +171,8 @@ impl Printer {
 
     /// How often an identifier was called.
     pub fn count_of(&self, identifier: &str) -> usize
-        ensures { result ≡ count_among self.now.log.called identifier.now }
+        ensures count { result ≡ count_among self.now.log.called identifier.now }
+        ensures fits { result + 1 < 2 ^ 64 }
     {
         self.calls.count_of(identifier)
     }
@@ -380,34 +380,26 @@ impl Printer {
     }
 
     /// Leaves the innermost node that is open.
-    ///
-    /// # Errors
-    ///
-    /// `AllocError`, only where there are more cells on a spine than a `usize` counts.
-    pub fn leave(&mut self, name: Name) -> Result<(), AllocError>
-        ensures { OnOk result (self.new ≡ machine.leaving name self.old) }
+    pub fn leave(&mut self, name: Name)
+        ensures { self.new ≡ machine.leaving name self.old }
     {
         let inner = self.frame.passed.spine;
         leave(&mut self.frame, &mut self.frames);
-        self.pass_child(name, inner)
+        self.pass_child(name, inner);
     }
 
     /// Passes a node without children.
-    ///
-    /// # Errors
-    ///
-    /// `AllocError`, only where there are more cells on a spine than a `usize` counts.
-    pub fn pass(&mut self, name: Name) -> Result<(), AllocError>
-        ensures { OnOk result (self.new ≡ machine.passing_leaf name self.old) }
+    pub fn pass(&mut self, name: Name)
+        ensures { self.new ≡ machine.passing_leaf name self.old }
     {
         let inner = spine_inside(name, self.frame.passed.spine);
-        self.pass_child(name, inner)
+        self.pass_child(name, inner);
     }
 
     /// Passes a child of the innermost node, which has passed its own children.
     #[inline(always)]
-    fn pass_child(&mut self, name: Name, inner: Spine) -> Result<(), AllocError>
-        ensures { OnOk result (self.new ≡ machine.passing_child name inner self.old) }
+    fn pass_child(&mut self, name: Name, inner: Spine)
+        ensures { self.new ≡ machine.passing_child name inner self.old }
     {
         self.is_slurping = slurps_after(
             self.frame.around,
@@ -415,7 +407,7 @@ impl Printer {
             name,
             self.is_slurping,
         );
-        pass(&mut self.frame.passed, name, inner)
+        pass(&mut self.frame.passed, name, inner);
     }
 
     /// The definitions that were seen.

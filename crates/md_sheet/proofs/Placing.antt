@@ -1,5 +1,5 @@
 -- Entries found by their places.
-use Rattle.std.proofs.Common.{◌≡◌, ◌<◌, ℕ, ◌+◌, zero, suc, Bool, true, false, cond, List, [], ◌∷◌, ◌++◌, length, Option, Some, None, refl, ap, sym, ◌∙◌, arith, bytes_eq, String, Global, string_bytes, unwrap_or, Result, Ok, Err, OnOk, OnErr}
+use Rattle.std.proofs.Common.{◌≡◌, ◌<◌, ◌≤◌, ℕ, ◌+◌, zero, suc, Bool, true, false, cond, List, [], ◌∷◌, ◌++◌, length, Option, Some, None, refl, ap, sym, subst, ◌∙◌, arith, bytes_eq, String, Global, string_bytes, unwrap_or, Result, Ok, Err, OnOk, OnErr}
 use Rattle.std.specs.Prelude.{if◌then◌else◌, option_map, slice_get, slice_index_or, slice_set, find}
 use Rattle.std.specs.Option.{option_map_or}
 use Rattle.std.specs.String.{string_cmp}
@@ -9,7 +9,7 @@ use Rattle.std.proofs.lemmas.Map.Text.{btree_map_updates_text}
 use Rattle.std.proofs.lemmas.Slice.Eq.{bytes_eq-Decides}
 use Rattle.md_meaning.specs.Calls.{number_among, count_among}
 use Rattle.md_meaning.specs.Footnotes.{footnote_text}
-use Rattle.md_sheet.specs.Seen.{counted, noted, calls_in, footnotes_in, again, place_among, FindsPlaces}
+use Rattle.md_sheet.specs.Seen.{counted, noted, calls_in, footnotes_in, again, place_among, FindsPlaces, count_in, CountsWithin}
 
 -- nothing is mapped to nothing
 none-mapped : (o : Option ℕ) → option_map (λ place. suc place) o ≡ None → o ≡ None
@@ -211,12 +211,54 @@ places-again (e ∷ entries) zero q = refl
 places-again (e ∷ entries) (suc i) q = ap (λ o. if bytes_eq (string_bytes e.0) q then Some 0
     else option_map (λ place. suc place) o) (places-again entries i q)
 
--- whether it succeeds or not
-pub places-either : {E : Type 0} (result : Result (Unit {0}) E) (new old : List (String Global × ℕ)) (i : ℕ)
-    (q : List ℕ) →
-    OnOk result (new ≡ again old i) → OnErr result (new ≡ old) → place_among old q ≡ place_among new q
-places-either (Ok done) new old i q counted failed = sym (ap (λ es. place_among es q) counted ∙ places-again old i q)
-places-either (Err error) new old i q counted failed = sym (ap (λ es. place_among es q) failed)
+-- one more of an entry, and a new entry at the end: no count passes a bound that grows by one
+pub within-again : (entries : List (String Global × ℕ)) (bound more i : ℕ) → bound < more →
+    CountsWithin entries bound → CountsWithin (again entries i) more
+within-again [] bound more i longer within = λ place. omega (arith, longer, within place)
+within-again (e ∷ entries) bound more zero longer within = λ place. elim place as
+    (λ n. count_in ((e.0, suc e.1) ∷ entries) n ≤ more) [
+      | zero ↦ both e.1 (within 0)
+      | suc n ↦ higher (count_in entries n) (within (suc n))
+    ]
+  where
+    both : (count : ℕ) → count ≤ bound → suc count ≤ more
+    both count h = omega (arith, longer, h)
+
+    higher : (count : ℕ) → count ≤ bound → count ≤ more
+    higher count h = omega (arith, longer, h)
+within-again (e ∷ entries) bound more (suc i) longer within = λ place. elim place as
+    (λ n. count_in (e ∷ again entries i) n ≤ more) [
+      | zero ↦ higher e.1 (within 0)
+      | suc n ↦ within-again entries bound more i longer (λ m. within (suc m)) n
+    ]
+  where
+    higher : (count : ℕ) → count ≤ bound → count ≤ more
+    higher count h = omega (arith, longer, h)
+
+within-push : (entries : List (String Global × ℕ)) (key : String Global) (bound more : ℕ) → bound < more →
+    CountsWithin entries bound → CountsWithin (entries ++ (key, 1) ∷ []) more
+within-push [] key bound more longer within = λ place. elim place as (λ n. count_in ((key, 1) ∷ []) n ≤ more) [
+  | zero ↦ omega (arith, longer)
+  | suc n ↦ omega (arith, longer)
+]
+within-push (e ∷ entries) key bound more longer within = λ place. elim place as
+    (λ n. count_in (e ∷ (entries ++ (key, 1) ∷ [])) n ≤ more) [
+      | zero ↦ higher e.1 (within 0)
+      | suc n ↦ within-push entries key bound more longer (λ m. within (suc m)) n
+    ]
+  where
+    higher : (count : ℕ) → count ≤ bound → count ≤ more
+    higher count h = omega (arith, longer, h)
+
+-- whether the entry is put there or memory runs out
+pub within-either : {E : Type 0} (result : Result (Unit {0}) E) (new old : List (String Global × ℕ))
+    (key : String Global) (bound more : ℕ) → bound < more →
+    OnOk result (new ≡ old ++ (key, 1) ∷ []) → OnErr result (new ≡ old) → CountsWithin old bound →
+    CountsWithin new more
+within-either (Ok done) new old key bound more longer put failed within = λ place.
+    subst (λ es. count_in es place ≤ more) (sym put) (within-push old key bound more longer within place)
+within-either (Err error) new old key bound more longer put failed within = λ place.
+    subst (λ es. count_in es place ≤ more) (sym failed) (omega (arith, longer, within place))
 
 -- an entry more at the end is found there, unless its identifier is found before it
 place-push : {V : Type 0} (entries : List (String Global × V)) (e : String Global × V) (q : List ℕ) →

@@ -1,5 +1,6 @@
 -- What is seen of footnotes, one exit after another. Only contracts inside the compiler speak of it.
-use Rattle.std.specs.Prelude.{◌≡◌, ℕ, zero, suc, if◌then◌else◌, List, [], ◌∷◌, map, Option, Some, None, option_map, bytes_eq, String, string_bytes}
+use Rattle.std.specs.Prelude.{◌≡◌, ℕ, ◌≤◌, zero, suc, if◌then◌else◌, List, [], ◌∷◌, map, Option, Some, None, option_map, slice_get, bytes_eq, String, string_bytes}
+use Rattle.std.specs.Option.{option_map_or}
 use Rattle.std.specs.BTreeMap.{BTreeMap, get_by_text}
 use Rattle.std.specs.declared.alloc.Global.{Global}
 use Rattle.md_meaning.specs.Piece.{Target}
@@ -48,3 +49,11 @@ place_among (e ∷ entries) identifier =
 abbrev pub FindsPlaces : {V : Type 0} → BTreeMap (String Global) ℕ → List (String Global × V) → Type 0
 FindsPlaces places entries = (identifier : List ℕ) →
     get_by_text places identifier ≡ place_among entries identifier
+
+-- how often what stands at a place is called
+abbrev pub count_in : List (String Global × ℕ) → ℕ → ℕ
+count_in entries place = option_map_or (λ e. e.1) (slice_get entries place) 0
+
+-- no count passes a bound
+abbrev pub CountsWithin : List (String Global × ℕ) → ℕ → Type 0
+CountsWithin entries bound = (place : ℕ) → count_in entries place ≤ bound

@@ -1,9 +1,8 @@
 //! Footnote calls: which identifiers are called, in which order, and how often.
 
-ghost use Rattle.std.specs.Prelude.{◌≡◌, ◌==◌, [], ◌<◌, ◌+◌, ◌^◌, OnOk, OnErr, IfSome, string_bytes, option_map, slice_get, length};
-ghost use Rattle.std.specs.Option.{option_map_or};
+ghost use Rattle.std.specs.Prelude.{◌≡◌, ◌==◌, [], ◌<◌, ◌+◌, ◌^◌, OnOk, IfSome, string_bytes, option_map, slice_get, length};
 ghost use Rattle.md_meaning.specs.Calls.{number_among, count_among};
-ghost use Rattle.md_sheet.specs.Seen.{counted, again};
+ghost use Rattle.md_sheet.specs.Seen.{counted, again, count_in};
 
 use crate::places::{Places, place_of, put_last};
 use std::alloc::{AllocError, Global};
@@ -15,34 +14,36 @@ use std::marker::Model;
 pub struct Calls {
     counts: Vec<(String, usize)>,
     places: Places,
+    /// The place of each call's identifier, in the order of the calls. No count passes the length of this list, so
+    /// each fits.
+    order: Vec<usize>,
 }
 
 impl Model for Calls {
-    ghost use Rattle.std.specs.Prelude.{List};
+    ghost use Rattle.std.specs.Prelude.{List, vec_len};
     ghost use Rattle.md_meaning.specs.Calls.{Called};
-    ghost use Rattle.md_sheet.specs.Seen.{calls_in, FindsPlaces};
+    ghost use Rattle.md_sheet.specs.Seen.{calls_in, FindsPlaces, CountsWithin};
 
     ghost Value = { List Called };
 
     ghost view = { λ c. calls_in c.counts.items };
 
-    ghost invariant = { λ c. FindsPlaces c.places c.counts.items };
+    ghost invariant = { λ c. FindsPlaces c.places c.counts.items × CountsWithin c.counts.items (vec_len c.order) };
 }
 
 /// One call more of the identifier at a place.
-fn count_again(counts: &mut Vec<(String, usize)>, place: usize) -> Result<(), AllocError>
-    requires { place < length counts.old.items }
-    ensures counted { OnOk result (counts.new.items ≡ again counts.old.items place) }
-    ensures failed { OnErr result (counts.new.items ≡ counts.old.items) }
+fn count_again(counts: &mut Vec<(String, usize)>, place: usize)
+    requires within { place < length counts.old.items }
+    requires fits { count_in counts.old.items place < 2 ^ 63 }
+    ensures { counts.new.items ≡ again counts.old.items place }
 {
     let count = counts[place].1;
-    counts[place].1 = count.checked_add(1).ok_or(AllocError)?;
-    Ok(())
+    counts[place].1 = count + 1;
 }
 
 /// How often the identifier at a place is called.
 fn count_at(counts: &[(String, usize)], place: usize) -> usize
-    ensures { result ≡ option_map_or (λ e. e.1) (slice_get counts.now place) 0 }
+    ensures { result ≡ count_in counts.now place }
 {
     match counts.get(place) {
         Some((_, count)) => *count,
@@ -58,6 +59,7 @@ impl Calls {
         Calls {
             counts: Vec::new(alloc),
             places: BTreeMap::new(alloc),
+            order: Vec::new(alloc),
         }
     }
 
@@ -65,12 +67,17 @@ impl Calls {
     ///
     /// # Errors
     ///
-    /// Only where memory runs out, or one identifier is called more often than a `usize` counts.
+    /// Only where memory runs out.
     pub fn count(&mut self, identifier: String) -> Result<(), AllocError>
         ensures { OnOk result (self.new ≡ counted self.old (string_bytes identifier)) }
     {
-        match place_of(&self.places, identifier.as_str()) {
-            Some(place) => count_again(&mut self.counts, place),
+        let place = place_of(&self.places, identifier.as_str());
+        self.order.push(place.unwrap_or(self.counts.len()))?;
+        match place {
+            Some(place) => {
+                count_again(&mut self.counts, place);
+                Ok(())
+            }
             None => put_last(&mut self.counts, &mut self.places, identifier, 1),
         }
     }
@@ -88,7 +95,8 @@ impl Calls {
 
     /// How often an identifier is called.
     pub fn count_of(&self, identifier: &str) -> usize
-        ensures { result ≡ count_among self.now identifier.now }
+        ensures count { result ≡ count_among self.now identifier.now }
+        ensures fits { result + 1 < 2 ^ 64 }
     {
         match place_of(&self.places, identifier) {
             Some(place) => count_at(self.counts.as_slice(), place),

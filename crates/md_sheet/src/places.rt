@@ -1,6 +1,6 @@
 //! Entries in the order in which they came, found by their identifiers in few steps, whoever chose these.
 
-ghost use Rattle.std.specs.Prelude.{◌≡◌, ◌∷◌, [], ◌++◌, OnOk, None, string_bytes};
+ghost use Rattle.std.specs.Prelude.{◌≡◌, ◌∷◌, [], ◌++◌, OnOk, OnErr, None, string_bytes};
 ghost use Rattle.std.specs.BTreeMap.{get_by_text};
 ghost use Rattle.md_sheet.specs.Seen.{place_among, FindsPlaces};
 
@@ -32,6 +32,7 @@ pub fn put_last<V: Drop>(
     requires found { FindsPlaces places.old entries.old.items }
     ensures found { FindsPlaces places.new entries.new.items }
     ensures entries { OnOk result (entries.new.items ≡ entries.old.items ++ (identifier, value) ∷ []) }
+    ensures failed { OnErr result (entries.new.items ≡ entries.old.items) }
 {
     entries.reserve(1)?;
     let copy = identifier.clone()?;

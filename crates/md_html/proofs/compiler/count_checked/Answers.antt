@@ -1,5 +1,5 @@
 -- The run over the events, with the document's definitions, is the meaning of each document that they flatten.
-use Rattle.std.proofs.Common.{◌≡◌, List, [], ℕ, false, length, ◌<◌, ◌^◌, ap, sym, ◌∙◌, subst, string_bytes, arith}
+use Rattle.std.proofs.Common.{◌≡◌, List, [], ℕ, false, length, ◌<◌, ◌≤◌, ◌-◌, ◌^◌, ap, sym, ◌∙◌, subst, string_bytes, arith}
 use Rattle.md_text.specs.Html.{any_attribute, HasOneReadingWith}
 use Rattle.md_text.specs.Safe.{is_safe_link, is_safe_image}
 use Rattle.md_shape.specs.Built.{IsBuilt, Blocks}
@@ -52,7 +52,9 @@ returns c =
     string_bytes c.in_ok-printed.printed.text ≡ printed_meaning options checked.names checked.bytes document =
     λ document flat.
     c.in_ok-printed.ensures.text document flat
-    ∙ text-run options names bytes given_events ending known document flat
+    ∙ text-run options names bytes given_events ending known document
+    (within (length (flatten document)) (length checked.events) (ap (λ es. length es) flat)
+    c.in_ok-printed.ensures.fits) flat
     (c.ending_of.ensures.ending document flat ∙ ap (λ b. ending_at options b (first_ending document))
     (sym c.bytes.ensures))
     (λ identifier.
@@ -109,3 +111,6 @@ returns c =
         c.saturating_add-visits-2.ensures,
       );
     }
+  where
+    within : (n m : ℕ) → n ≡ m → m < 2 ^ 63 → n ≤ 2 ^ 64 - 1
+    within n m same fits = omega (arith, same, fits)

@@ -1,5 +1,5 @@
 -- The frames that are read are the machine's, and each step is the machine's.
-use Rattle.std.proofs.Common.{◌≡◌, Bool, true, [], OnOk, ap, sym, subst, ◌∙◌}
+use Rattle.std.proofs.Common.{◌≡◌, Bool, true, [], ap, sym, ◌∙◌}
 use Rattle.md_printer.specs.declared.frames.Exit.{Exit}
 use Rattle.md_printer.specs.Given.{given_of, closing_at, exit_in}
 use Rattle.md_printer.specs.Machine as machine
@@ -38,4 +38,4 @@ returns c =
     c.release-sheet.ensures.sheet
     ∙ ap (λ s. after (exit_in last end start) start.frame.ahead start.sheet s) c.release-sheet.ensures.state
     ∙ sym (ap (λ b. tabled b) (no_table name c.requires)) in
-    subst (λ s. OnOk c.leave.result (c.leave.new.self ≡ s)) whole c.leave.ensures
+    c.leave.ensures ∙ whole

@@ -1,5 +1,5 @@
 -- The frames that are read are the machine's, and each step is the machine's; nothing is logged.
-use Rattle.std.proofs.Common.{◌≡◌, Bool, false, [], OnOk, ap, sym, subst, ◌∙◌}
+use Rattle.std.proofs.Common.{◌≡◌, Bool, false, [], ap, sym, ◌∙◌}
 use Rattle.md_printer.specs.declared.frames.Exit.{Exit}
 use Rattle.md_printer.specs.Given.{given_of, closing_at, exit_in}
 use Rattle.md_printer.specs.Machine as machine
@@ -30,4 +30,4 @@ returns c =
     ∙ ap (λ s. machine.leaving name (machine.printing given.ending
     (machine.closing_in given last name end blank (tabled (is_table name))) s))
     (sym (unseen given.bytes start.frame.ahead name blank (tabled (is_table name)) c.requires)) in
-    subst (λ s. OnOk c.leave.result (c.leave.new.self ≡ s)) whole c.leave.ensures
+    c.leave.ensures ∙ whole

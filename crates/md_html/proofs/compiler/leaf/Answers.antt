@@ -9,7 +9,6 @@ use Rattle.md_printer.specs.Machine as machine
 use Rattle.md_printer.specs.Machine.{Printer}
 use Rattle.md_around.specs.Steps.{first_or}
 use Rattle.md_html.proofs.Leaves.{leaf-steps, streamed}
-use Rattle.md_html.proofs.Walks.{on_answer}
 use Rattle.md_html.proofs.compiler.leaf.Goals as goal
 
 pub close-requires : goal.close-requires
@@ -24,14 +23,9 @@ returns c =
     machine.passing_leaf name
     (machine.printing given.ending (closing_at given exit before.log.called
     (first_or [] before.tables) before.frame.ahead before.frame.passed blank name) before) in
-    on_answer (λ _. c.pass.new.self ≡ machine.passing_leaf name c.close.new.printer)
-    (λ _. (ahead : Ahead) (loose : Bool) (columns : List AlignKind) →
-    c.pass.new.self ≡ machine.exited given c.args.is_last false name c.args.place.end
-    (machine.entered given ahead loose columns false name c.args.place.start before))
-    (λ _ passed ahead loose columns.
-    passed
+    λ ahead loose columns.
+    c.pass.ensures
     ∙ ap (λ s. machine.passing_leaf name s) c.in_ok-close.ensures
     ∙ ap after c.leaf-exit.ensures
     ∙ leaf-steps given ahead before.frame.ahead before.frame.passed loose columns c.args.is_last name c.args.place.start
-    c.args.place.end before c.requires)
-    c.pass.result c.pass.ensures
+    c.args.place.end before c.requires

@@ -1,7 +1,8 @@
 -- The run over a definition's own events logs one definition, the one looked for: so the last of the log is it.
 -- By itself the search can't find what that run logs.
-use Rattle.std.proofs.Common.{◌≡◌, ◌<◌, ℕ, ◌-◌, [], ◌∷◌, length, drop, ap, sym, ◌∙◌, arith, subst, Some, get_or}
+use Rattle.std.proofs.Common.{◌≡◌, ◌<◌, ◌≤◌, ℕ, ◌-◌, ◌^◌, [], ◌∷◌, length, drop, ap, sym, ◌∙◌, arith, subst, Some, get_or}
 use Rattle.std.specs.Prelude.{slice_get}
+use Rattle.md_base.specs.Tree.{flatten}
 use Rattle.md_pattern.specs.Shape.{IsShaped}
 use Rattle.md_tree.specs.Entered.{children_of}
 use Rattle.md_infer.specs.Partners.{partners_of}
@@ -23,7 +24,9 @@ returns c = λ document flat place there.
     subst IsShaped (flatten_one GfmTable (record { line = 0; column = 0; index = 0; vs = 0 }) read.0 document
     (read.1.flattened ∙ sym flat)) read.1.grammatical.shape
     in
-    let own = own-run given document place c.args.entry shaped there in
+    let own = own-run given document place c.args.entry
+    (few (length (flatten document)) (length c.args.checked.now.events) (ap (λ es. length es) flat)
+    c.run_node-ran.ensures.fits) shaped there in
     let logged : c.into_definitions-logged.result.items ≡ own.0 ∷ [] =
     c.into_definitions-logged.ensures
     ∙ ap (λ (s : Printer). s.log.definitions) (c.in_ok-ran.ensures.printed document flat
@@ -43,3 +46,6 @@ returns c = λ document flat place there.
   where
     positive : (n : ℕ) → n ≡ 1 → 0 < n
     positive n e = omega (arith, e)
+
+    few : (n m : ℕ) → n ≡ m → m < 2 ^ 63 → n ≤ 2 ^ 64 - 1
+    few n m same fits = omega (arith, same, fits)

@@ -4,11 +4,11 @@ use Rattle.std.proofs.Common.{rules, ◌≡◌, ◌+◌, slice_index_or}
 use Rattle.md_sheet.proofs.Placing.{again-set}
 use Rattle.md_sheet.proofs.calls.count_again.Goals as goal
 
-pub returns-clause-counted : goal.returns-clause-counted
-returns-clause-counted c =
-    again-set c.args.counts.now.items c.args.place c.in_ok-counts.field-0 c.index_mut.result.now c.index.result.now
-    c.requires c.index_mut.ensures.value (one_more c)
+pub returns : goal.returns
+returns c =
+    again-set c.args.counts.now.items c.args.place (c.index.result.now.1 + 1) c.index_mut.result.now c.index.result.now
+    c.requires.within c.index_mut.ensures.value (one_more c)
   where
-    one_more : (c : goal.After-counts-1) → c.in_ok-counts.field-0
+    one_more : (c : goal.After-counts-1) → c.index.result.now.1 + 1
         ≡ (slice_index_or c.args.counts.now.items c.args.place c.index.result.now).1 + 1
     one_more c = search rules

@@ -9,7 +9,7 @@ use Rattle.md_sheet.proofs.calls.Calls.number.Goals as goal
 pub overflow_add-result : goal.overflow_add-result
 overflow_add-result c =
     let below = place-below c.self.inside.counts.items c.args.identifier.now c.in-Some.place
-    (sym (c.self.invariant c.args.identifier.now) ∙ sym c.place_of.ensures ∙ c.in-Some.is) in
+    (sym (c.self.invariant.0 c.args.identifier.now) ∙ sym c.place_of.ensures ∙ c.in-Some.is) in
     let length_is = c.len-len.ensures ∙ c.self.inside.counts.ok.0 in
     let fits = c.len-len.type_inv in
     omega (arith, below, length_is, fits)
@@ -18,7 +18,7 @@ pub returns-in-Some : goal.returns-in-Some
 returns-in-Some c =
     let entries = c.self.inside.counts.items in
     ap (λ o. option_map_or (λ place. place + 1) o (length entries + 1))
-    (sym (sym (c.self.invariant c.args.identifier.now) ∙ sym c.place_of.ensures ∙ c.in-Some.is))
+    (sym (sym (c.self.invariant.0 c.args.identifier.now) ∙ sym c.place_of.ensures ∙ c.in-Some.is))
     ∙ number-at entries c.args.identifier.now
     ∙ ap (λ calls. number_among calls c.args.identifier.now) c.self.view_is
 
@@ -27,6 +27,6 @@ returns-in-None c =
     let entries = c.self.inside.counts.items in
     ap (λ n. n + 1) (c.len-len.ensures ∙ c.self.inside.counts.ok.0)
     ∙ ap (λ o. option_map_or (λ place. place + 1) o (length entries + 1))
-    (sym (sym (c.self.invariant c.args.identifier.now) ∙ sym c.place_of.ensures ∙ c.in-None.is))
+    (sym (sym (c.self.invariant.0 c.args.identifier.now) ∙ sym c.place_of.ensures ∙ c.in-None.is))
     ∙ number-at entries c.args.identifier.now
     ∙ ap (λ calls. number_among calls c.args.identifier.now) c.self.view_is
