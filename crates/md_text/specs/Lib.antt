@@ -4,6 +4,7 @@ pub mod Bytes
 pub mod LineEnding
 pub mod Defaults
 pub mod Encode
+pub mod Kept
 pub mod Url
 pub mod Filter
 pub mod References

@@ -4,6 +4,7 @@
 
 mod escape;
 mod filter;
+mod lanes;
 pub mod laws;
 mod line_ending;
 mod names;

@@ -1,0 +1,36 @@
+-- Bytes that stay: those before the first that doesn't are themselves, escaped.
+use Rattle.std.proofs.Common.{◌≡◌, ℕ, ◌+◌, ◌≤◌, Bool, true, false, List, [], ◌∷◌, ◌++◌, length, take, refl, sym, ap, ap₂, subst, ◌∙◌, arith, cond, suc}
+use Rattle.std.proofs.lemmas.List.{take_all}
+use Rattle.std.specs.Cmp.Lexicographic.{bytes_decides}
+use Rattle.std.specs.List.{prefix_len}
+use Rattle.md_text.specs.Encode.{encoded, encoded_byte}
+use Rattle.md_text.specs.Kept.{is_kept}
+
+pub kept-stays : (html : Bool) (b : ℕ) → is_kept html b ≡ true → encoded_byte html b ≡ b ∷ []
+kept-stays html b h = (bytes_decides (encoded_byte html b) (b ∷ [])).0 h
+
+pub stays-kept : (html : Bool) (b : ℕ) → encoded_byte html b ≡ b ∷ [] → is_kept html b ≡ true
+stays-kept html b h = (bytes_decides (encoded_byte html b) (b ∷ [])).1 h
+
+next : (n : ℕ) → suc n ≡ 1 + n
+next n = omega arith
+
+-- the bytes before the first that doesn't stay
+pub encoded-kept : (html : Bool) (bs : List ℕ) →
+    encoded html (take (prefix_len (is_kept html) bs) bs) ≡ take (prefix_len (is_kept html) bs) bs
+encoded-kept html [] = refl
+encoded-kept html (b ∷ bs) = by_first (is_kept html b) refl (encoded-kept html bs)
+  where
+    by_first : (t : Bool) → is_kept html b ≡ t →
+        encoded html (take (prefix_len (is_kept html) bs) bs) ≡ take (prefix_len (is_kept html) bs) bs →
+        encoded html (take (cond t (1 + prefix_len (is_kept html) bs) 0) (b ∷ bs))
+        ≡ take (cond t (1 + prefix_len (is_kept html) bs) 0) (b ∷ bs)
+    by_first true e rest = subst (λ n. encoded html (take n (b ∷ bs)) ≡ take n (b ∷ bs))
+        (next (prefix_len (is_kept html) bs)) (ap₂ (λ x y. x ++ y) (kept-stays html b e) rest)
+    by_first false e rest = refl
+
+-- all bytes, where each stays
+pub encoded-all_kept : (html : Bool) (bs : List ℕ) → length bs ≤ prefix_len (is_kept html) bs → encoded html bs ≡ bs
+encoded-all_kept html bs h =
+    let whole = take_all (prefix_len (is_kept html) bs) bs h in
+    ap (encoded html) (sym whole) ∙ encoded-kept html bs ∙ whole
