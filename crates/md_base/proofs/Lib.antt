@@ -1,6 +1,8 @@
--- The lemmas on derived `==`, identifiers, references, padded slices and cases that can't be. Other crates use some.
+-- The lemmas on derived `==`, identifiers, references, padded slices, ASCII and cases that can't be. Other crates use
+-- some.
 pub mod EnumLemmas
 pub mod IdentifierLemmas
 pub mod ReferenceLemmas
 pub mod SpaceLemmas
+pub mod AsciiLemmas
 pub mod Lies

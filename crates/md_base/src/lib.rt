@@ -12,6 +12,7 @@ pub mod name_tests;
 mod position;
 mod reference;
 mod slice;
+mod text;
 
 pub use event::{AlignKind, Event, Kind, Name, Point, Position};
 pub use event_names::names_by_length;

@@ -5,6 +5,7 @@ ghost use Rattle.md_base.specs.Place as spec;
 ghost use Rattle.md_base.specs.Place.{fits, bytes_between, spaces_before, spaces_after, text_when, text_between};
 
 use crate::event::{Point, Position};
+use crate::text::as_text;
 use std::alloc::{AllocError, Global};
 
 /// How many columns a tab has.
@@ -137,7 +138,7 @@ impl<'a> Slice<'a> {
     pub fn as_str(&self) -> Option<&'a str>
         ensures { option_copied result ≡ text_when true self.now.bytes.now }
     {
-        std::str::from_utf8(self.bytes).ok()
+        as_text(self.bytes)
     }
 
     /// The bytes as a text between the spaces; `None` where they aren't UTF-8.

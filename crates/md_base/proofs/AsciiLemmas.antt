@@ -1,0 +1,33 @@
+-- Which bytes are ASCII, from the masks of loads.
+use Rattle.std.proofs.Common.{◌≡◌, ℕ, ◌+◌, ◌%◌, ◌^◌, ◌<◌, ◌≤◌, eqb, leb, cond, true, List, map, length, get_or, replicate, sym, ap, ◌∙◌, arith, inl, inr}
+use Rattle.std.proofs.lemmas.Bool.{cases_lt, both_ways, eqb-true, le-leb}
+use Rattle.std.proofs.lemmas.List.{get_or_past, length-map}
+use Rattle.std.proofs.lemmas.Simd.{map-map, mask_l-mod, length-chunk, zip2_splat_left, none_from_empty_mask}
+use Rattle.std.specs.Str.{IsAscii}
+use lib.Lanes.{chunk, mask_l, top, zip2}
+
+-- a load none of whose lanes is 128 or more
+pub ascii_in : (xs : List ℕ) (i n : ℕ) → i + n ≤ length xs → n ≤ 64 →
+    eqb (mask_l (map (top 7) (zip2 (λ a b. cond (leb a b) 255 0) (replicate n 128) (chunk i n xs))) % 2 ^ 64) 0 ≡ true →
+    (k : ℕ) → i ≤ k → k < i + n → get_or xs k 0 < 128
+ascii_in xs i n room few none k from to =
+    let v = chunk i n xs in
+    let f = λ (x : ℕ). cond {A = ℕ} (leb 128 x) 255 0 in
+    let p = λ (x : ℕ). top 7 (f x) in
+    let long = length-chunk i n xs room in
+    let lanes = ap (map (top 7)) (zip2_splat_left {Z = ℕ} (λ a b. cond (leb a b) 255 0) 128 n v long)
+    ∙ map-map (top 7) f v in
+    let mask = ap (λ l. mask_l l % 2 ^ 64) lanes ∙ mask_l-mod (map p v) 64 (omega (arith, length-map v p, long)) in
+    elim (cases_lt (get_or xs k 0) 128) [
+      | inl low ↦ low
+      | inr high ↦ absurd (both_ways (p (get_or xs k 0))
+          (none_from_empty_mask p xs i n 0 room (sym mask ∙ eqb-true _ 0 none) k from to)
+          (ap (λ t. top 7 (cond t 255 0)) (le-leb 128 (get_or xs k 0) high)))
+    ]
+
+-- each byte, by its place
+pub ascii_all : (xs : List ℕ) → ((k : ℕ) → k < length xs → get_or xs k 0 < 128) → IsAscii xs
+ascii_all xs h k = elim (cases_lt k (length xs)) [
+  | inl inside ↦ h k inside
+  | inr past ↦ omega (arith, get_or_past xs k 0 past)
+]

@@ -1,0 +1,104 @@
+//! Bytes as a text.
+
+ghost use Rattle.std.specs.Prelude.{◌≡◌, ◌+◌, ◌≤◌, ◌<◌, ◌↔◌, ℕ, length, slice_index, true, IsTrue, option_copied};
+ghost use Rattle.std.specs.Str.{IsAscii, IsUtf8};
+ghost use Rattle.md_base.specs.Place.{text_when};
+
+use simdutf8::is_utf8;
+use std::simd::prelude::*;
+
+/// How many bytes are looked at together.
+const BLOCK_SIZE: usize = 16;
+
+/// How many of fewer bytes than a block has.
+const HALF_BLOCK: usize = 8;
+
+/// How many of fewer bytes than these.
+const QUARTER_BLOCK: usize = 4;
+
+/// The bytes as a text; `None` where they aren't UTF-8.
+#[inline(always)]
+pub(crate) fn as_text(bytes: &[u8]) -> Option<&str>
+    ensures { option_copied result ≡ text_when true bytes.now }
+{
+    if is_text(bytes) {
+        Some(unsafe { std::str::from_utf8_unchecked(bytes) })
+    } else {
+        None
+    }
+}
+
+/// Whether the bytes are UTF-8. Most are ASCII; `is_utf8` looks at sixty-four at once, which few bytes don't repay.
+#[inline(never)]
+fn is_text(bytes: &[u8]) -> bool
+    ensures { IsTrue result ↔ IsUtf8 bytes.now }
+{
+    if is_ascii(bytes) {
+        return true;
+    }
+    if bytes.len() < BLOCK_SIZE {
+        return std::str::from_utf8(bytes).is_ok();
+    }
+    is_utf8(bytes)
+}
+
+/// Whether the bytes are ASCII. Two loads, which may overlap, cover what is shorter than a block.
+#[inline(always)]
+fn is_ascii(bytes: &[u8]) -> bool
+    ensures { IsTrue result → IsAscii bytes.now }
+{
+    let length = bytes.len();
+    if length >= BLOCK_SIZE {
+        return are_ascii_blocks(bytes);
+    }
+    if length >= HALF_BLOCK {
+        return is_ascii_at::<HALF_BLOCK>(bytes, 0)
+            && is_ascii_at::<HALF_BLOCK>(bytes, length - HALF_BLOCK);
+    }
+    if length >= QUARTER_BLOCK {
+        return is_ascii_at::<QUARTER_BLOCK>(bytes, 0)
+            && is_ascii_at::<QUARTER_BLOCK>(bytes, length - QUARTER_BLOCK);
+    }
+    are_ascii_bytes(bytes)
+}
+
+/// The same, block by block; the last block ends with the bytes, and may overlap the one before.
+#[inline(always)]
+fn are_ascii_blocks(bytes: &[u8]) -> bool
+    requires { BLOCK_SIZE ≤ length bytes.now }
+    ensures { IsTrue result → IsAscii bytes.now }
+{
+    let mut at = 0;
+    while bytes.len() - at > BLOCK_SIZE {
+        if !is_ascii_at::<BLOCK_SIZE>(bytes, at) {
+            return false;
+        }
+        at += BLOCK_SIZE;
+    }
+    is_ascii_at::<BLOCK_SIZE>(bytes, bytes.len() - BLOCK_SIZE)
+}
+
+/// The same, byte by byte.
+#[inline(always)]
+fn are_ascii_bytes(bytes: &[u8]) -> bool
+    ensures { IsTrue result → IsAscii bytes.now }
+{
+    let mut at = 0;
+    while at < bytes.len() {
+        if bytes[at] >= 0x80 {
+            return false;
+        }
+        at += 1;
+    }
+    true
+}
+
+/// Whether `N` bytes from an index are ASCII.
+#[inline(always)]
+fn is_ascii_at<const N: usize>(bytes: &[u8], at: usize) -> bool
+    requires { (N ≤ 64) × (at + N ≤ length bytes.now) }
+    ensures { IsTrue result → (k : ℕ) → at ≤ k → k < at + N → slice_index bytes.now k < 128 }
+{
+    let block = Simd::<u8, N>::from_slice(&bytes[at..]);
+    block.simd_ge(Simd::splat(0x80)).to_bitmask() == 0
+}
