@@ -7,6 +7,7 @@ ghost use Rattle.md_tree.specs.TextRuns.{IsRun, AreRuns};
 
 use crate::input::{label_at, text_at};
 use md_base::Position;
+use simdutf8::basic::from_utf8;
 use std::alloc::{AllocError, Global};
 use std::marker::Model;
 
@@ -155,6 +156,26 @@ fn front<'a>(runs: &[Run<'a>]) -> &'a str
 
 /// The texts in the bytes, in order.
 fn runs<'a>(alloc: Global, bytes: &'a [u8]) -> Result<Vec<Run<'a>>, AllocError>
+    ensures { IfOk result (λ runs. AreRuns bytes.now runs.items) }
+{
+    // Few documents have a byte that is in no character, and one look at them all is quicker than a look for those.
+    match from_utf8(bytes) {
+        Ok(text) => whole_run(alloc, text),
+        Err(_) => runs_apart(alloc, bytes),
+    }
+}
+
+/// The one run of bytes that are a text.
+fn whole_run(alloc: Global, text: &str) -> Result<Vec<Run<'_>>, AllocError>
+    ensures { IfOk result (λ runs. AreRuns text.now runs.items) }
+{
+    let mut runs = Vec::new(alloc);
+    runs.push(Run { start: 0, text })?;
+    Ok(runs)
+}
+
+/// The texts between the bytes that are in no character, in order.
+fn runs_apart<'a>(alloc: Global, bytes: &'a [u8]) -> Result<Vec<Run<'a>>, AllocError>
     ensures { IfOk result (λ runs. AreRuns bytes.now runs.items) }
 {
     let mut runs = Vec::new(alloc);

@@ -2,7 +2,7 @@
 use Rattle.std.proofs.Common.{◌≡◌, ◌≤◌, length, drop}
 use Rattle.std.specs.Str.Chunks.{utf8_chunks_rest}
 use Rattle.md_tree.specs.TextRuns.{AreRuns}
-use Rattle.md_tree.proofs.texts.runs.Given as goal
+use Rattle.md_tree.proofs.texts.runs_apart.Given as goal
 
 abbrev pub invariant-loop-chunk : goal.invariant-loop-chunk
 invariant-loop-chunk l =

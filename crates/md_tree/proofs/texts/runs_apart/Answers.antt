@@ -5,7 +5,7 @@ use Rattle.std.specs.Str.Chunks.{utf8_chunks_rest}
 use Rattle.std.proofs.lemmas.List.Elements.{All-push, All-same}
 use Rattle.md_tree.specs.TextRuns.{IsRun}
 use Rattle.md_tree.proofs.TextRuns.{IsRun-chunk}
-use Rattle.md_tree.proofs.texts.runs.Goals as goal
+use Rattle.md_tree.proofs.texts.runs_apart.Goals as goal
 
 pub loop-chunk-preserved : goal.loop-chunk-preserved
 loop-chunk-preserved c =
