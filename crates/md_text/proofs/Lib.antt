@@ -11,6 +11,7 @@ pub mod FilterLaws
 pub mod UrlLaws
 pub mod UrlTwice
 pub mod UrlTriples
+pub mod PlainLemmas
 pub mod ProtocolLemmas
 pub mod EscapedLemmas
 pub mod HtmlWriting

@@ -1,10 +1,9 @@
--- Which bytes a URL keeps, and what becomes of them in HTML: the body's steps, and the ground of the laws on URLs.
-use Rattle.std.proofs.Common.{◌≡◌, ◌≢◌, ℕ, ◌<◌, ◌≤◌, true, false, cond, eqb, List, [], ◌∷◌, refl, sym, ap, ◌∙◌, subst, encode_utf8, arith, ne_eqb, append-nil, inl, inr}
+-- Which bytes a URL keeps, and what becomes of them in HTML: the ground of the laws on URLs.
+use Rattle.std.proofs.Common.{◌≡◌, ◌≢◌, ℕ, ◌<◌, ◌≤◌, true, false, eqb, List, [], ◌∷◌, refl, subst, arith, ne_eqb, inl, inr}
 use Rattle.std.proofs.lemmas.Bool.{cases_lt, both_ways}
 use Rattle.std.proofs.lemmas.Bool.Decides.{nat_tests}
-use Rattle.std.proofs.lemmas.Str.{encode_ascii}
-use Rattle.md_text.specs.Encode.{encoded, encoded_byte}
-use Rattle.md_text.specs.Url.{stays, normalized_byte, percent}
+use Rattle.md_text.specs.Encode.{encoded_byte}
+use Rattle.md_text.specs.Url.{stays}
 use Rattle.md_text.proofs.EncodeLemmas.{encoded_byte-plain}
 
 -- a byte past ASCII doesn't stay
@@ -28,11 +27,3 @@ pub encoded_byte-stays : (b : ℕ) (rest : List ℕ) → stays b rest ≡ true �
 encoded_byte-stays b rest s ne =
     encoded_byte-plain true b (stays-not b 0 rest refl s) (ne_eqb b 38 ne) (stays-not b 34 rest refl s)
     (stays-not b 60 rest refl s) (stays-not b 62 rest refl s)
-
-pub encoded-stays : (b : ℕ) (rest : List ℕ) → stays b rest ≡ true → b ≢ 38 →
-    encoded true (normalized_byte b rest) ≡ encode_utf8 b
-encoded-stays b rest s ne =
-    ap (λ t. encoded true (cond t (b ∷ []) (percent b))) s
-    ∙ append-nil (encoded_byte true b)
-    ∙ encoded_byte-stays b rest s ne
-    ∙ sym (encode_ascii b (stays-ascii b rest s))

@@ -7,15 +7,9 @@ ghost use Rattle.std.specs.Str.{chars};
 ghost use Rattle.md_text.specs.Encode.{encoded, encoded_byte, encoded_character};
 ghost use Rattle.md_text.specs.Kept.{is_kept};
 
-use crate::lanes::first_set;
+use crate::lanes::{ByteTest, LaneTest, first_set, run_length};
 use std::alloc::{AllocError, Global};
 use std::simd::prelude::*;
-
-/// How many bytes of a text are looked at together.
-const BLOCK_SIZE: usize = 16;
-
-/// How many of a text that has no block.
-const HALF_BLOCK: usize = 8;
 
 /// Makes a text safe to stand in HTML; what stays is copied in runs.
 ///
@@ -63,7 +57,7 @@ pub fn first_replaced(bytes: &[u8], encode_html: bool) -> Option<(usize, &'stati
         × (encoded encode_html (take found.0 bytes.now) ≡ take found.0 bytes.now)
         × (encoded_byte encode_html (get_or bytes.now found.0 0) ≡ found.1.now)) }
 {
-    let index = kept_length(bytes, encode_html);
+    let index = run_length(Kept { encode_html }, bytes);
     if index >= bytes.len() {
         return None;
     }
@@ -73,74 +67,39 @@ pub fn first_replaced(bytes: &[u8], encode_html: bool) -> Option<(usize, &'stati
     }
 }
 
-/// How many bytes come before the first that doesn't stay.
-#[inline(never)]
-fn kept_length(bytes: &[u8], encode_html: bool) -> usize
-    ensures { result ≡ prefix_len (is_kept encode_html) bytes.now }
-{
-    let length = bytes.len();
-    if length >= BLOCK_SIZE {
-        return kept_by_blocks(bytes, encode_html);
-    }
-    if length < HALF_BLOCK {
-        return kept_by_bytes(bytes, encode_html);
-    }
-    let run = kept_in::<HALF_BLOCK>(bytes, 0, encode_html);
-    if run < HALF_BLOCK {
-        return run;
-    }
-    // What is left lies in a load that ends with the text, and may overlap the first.
-    let last = length - HALF_BLOCK;
-    last + kept_in::<HALF_BLOCK>(bytes, last, encode_html)
+/// The test that a byte stays.
+#[derive(Clone, Copy)]
+struct Kept {
+    encode_html: bool,
 }
 
-/// The same, block by block; the last block ends with the text, and may overlap the one before.
-#[inline(always)]
-fn kept_by_blocks(bytes: &[u8], encode_html: bool) -> usize
-    requires { BLOCK_SIZE ≤ length bytes.now }
-    ensures { result ≡ prefix_len (is_kept encode_html) bytes.now }
-{
-    let mut at = 0;
-    while bytes.len() - at > BLOCK_SIZE {
-        let run = kept_in::<BLOCK_SIZE>(bytes, at, encode_html);
-        if run < BLOCK_SIZE {
-            return at + run;
+impl ByteTest for Kept {
+    ghost use Rattle.md_text.specs.Kept.{is_kept};
+
+    ghost passes = { λ test. is_kept test.encode_html };
+
+    #[inline(always)]
+    fn is_passed(self, byte: u8) -> bool {
+        is_kept(byte, self.encode_html)
+    }
+}
+
+impl<const N: usize> LaneTest<N> for Kept {
+    #[inline(always)]
+    fn run_in(self, bytes: &[u8], at: usize) -> usize {
+        let Kept { encode_html } = self;
+        let block = Simd::<u8, N>::from_slice(&bytes[at..]);
+        let nul = block.simd_eq(Simd::splat(0));
+        if !encode_html {
+            return first_set(nul.to_bitmask(), N);
         }
-        at += BLOCK_SIZE;
+        let changed = nul
+            | block.simd_eq(Simd::splat(b'&'))
+            | block.simd_eq(Simd::splat(b'"'))
+            | block.simd_eq(Simd::splat(b'<'))
+            | block.simd_eq(Simd::splat(b'>'));
+        first_set(changed.to_bitmask(), N)
     }
-    let last = bytes.len() - BLOCK_SIZE;
-    last + kept_in::<BLOCK_SIZE>(bytes, last, encode_html)
-}
-
-/// The same, byte by byte.
-#[inline(always)]
-fn kept_by_bytes(bytes: &[u8], encode_html: bool) -> usize
-    ensures { result ≡ prefix_len (is_kept encode_html) bytes.now }
-{
-    let mut index = 0;
-    while index < bytes.len() && is_kept(bytes[index], encode_html) {
-        index += 1;
-    }
-    index
-}
-
-/// Of `N` bytes from an index, how many come before the first that doesn't stay.
-#[inline(always)]
-fn kept_in<const N: usize>(bytes: &[u8], at: usize, encode_html: bool) -> usize
-    requires { (N ≤ 64) × (at + N ≤ length bytes.now) }
-    ensures { result ≡ min N (prefix_len (is_kept encode_html) (drop at bytes.now)) }
-{
-    let block = Simd::<u8, N>::from_slice(&bytes[at..]);
-    let nul = block.simd_eq(Simd::splat(0));
-    if !encode_html {
-        return first_set(nul.to_bitmask(), N);
-    }
-    let changed = nul
-        | block.simd_eq(Simd::splat(b'&'))
-        | block.simd_eq(Simd::splat(b'"'))
-        | block.simd_eq(Simd::splat(b'<'))
-        | block.simd_eq(Simd::splat(b'>'));
-    first_set(changed.to_bitmask(), N)
 }
 
 /// Whether a byte stays.

@@ -1,15 +1,21 @@
 //! URLs that may stand in HTML, and their protocols.
 
-ghost use Rattle.std.specs.Prelude.{◌≡◌, ◌≤◌, ◌<◌, ◌++◌, ◌/◌, ◌%◌, IfOk, OnOk, MatchOption, take, length, map, true};
+ghost use Rattle.std.specs.Prelude.{◌≡◌, ◌≤◌, ◌<◌, ◌++◌, ◌∷◌, ◌+◌, ◌/◌, ◌%◌, false, IfOk, OnOk, MatchOption, take, length, map, true};
 ghost use Rattle.std.specs.String.{string_bytes};
-ghost use Rattle.md_text.specs.Encode.{encoded};
+ghost use Rattle.std.specs.List.{prefix_len};
+ghost use Rattle.md_text.specs.Kept.{is_plain};
 ghost use Rattle.md_text.specs.Url.{stays_anywhere, stays, hex_digit, percent};
 ghost use Rattle.md_text.specs.Url.{is_triple_byte, completes_triple};
-ghost use Rattle.md_text.specs.Url.{normalized_byte, sanitized, sanitized_with};
+ghost use Rattle.md_text.specs.Url.{sanitized, sanitized_with};
 ghost use Rattle.md_text.specs.Url.{protocol_of, has_permitted_protocol};
 
+use crate::lanes::{ByteTest, LaneTest, first_set, run_length};
 use crate::names::lowered_is_one_of;
 use std::alloc::{AllocError, Global};
+use std::simd::prelude::*;
+
+/// The hexadecimal digits, in upper case.
+const HEX_DIGITS: [u8; 16] = *b"0123456789ABCDEF";
 
 /// Makes a URL that may stand in HTML.
 ///
@@ -30,12 +36,16 @@ use std::alloc::{AllocError, Global};
 pub fn sanitize(alloc: Global, value: &str) -> Result<String, AllocError>
     ensures { IfOk result (λ url. string_bytes url ≡ sanitized value.now) }
 {
-    let bytes = value.as_bytes();
-    let mut url = String::with_capacity(alloc, bytes.len())?;
-    for (index, byte) in bytes.iter().enumerate() {
-        push_sanitized(&mut url, *byte, &bytes[index + 1..])?;
+    let mut rest = value.as_bytes();
+    let mut url = Vec::with_capacity(alloc, rest.len())?;
+    while let Some((byte, after)) = rest.split_first() {
+        rest = if is_plain(*byte) {
+            push_run(&mut url, rest)?
+        } else {
+            push_changed(&mut url, *byte, after)?
+        };
     }
-    Ok(url)
+    Ok(unsafe { String::from_utf8_unchecked(url) })
 }
 
 /// Makes a URL that may stand in HTML, and drops it where it has a protocol that isn't among
@@ -72,40 +82,95 @@ pub fn sanitize_with_protocols(
     Ok(url)
 }
 
-/// Writes one byte of a URL.
-fn push_sanitized(url: &mut String, byte: u8, rest: &[u8]) -> Result<(), AllocError>
-    ensures { OnOk result (string_bytes url.new
-        ≡ string_bytes url.old ++ encoded true (normalized_byte byte rest.now)) }
+/// Writes the plain bytes that a URL begins with, and gives what is left.
+#[inline(always)]
+fn push_run<'a>(url: &mut Vec<u8>, rest: &'a [u8]) -> Result<&'a [u8], AllocError>
+    ensures value { IfOk result
+        (λ left. url.new.items ++ sanitized left.now ≡ url.old.items ++ sanitized rest.now) }
+    ensures left { IfOk result
+        (λ left. length left.now + prefix_len is_plain rest.now ≡ length rest.now) }
+{
+    let (run, left) = rest.split_at(run_length(Plain, rest));
+    url.extend_from_slice(run)?;
+    Ok(left)
+}
+
+/// Writes what becomes of a byte that isn't plain, with the two digits of a percent triple that it begins, and gives
+/// what is left.
+#[inline(always)]
+fn push_changed<'a>(url: &mut Vec<u8>, byte: u8, rest: &'a [u8]) -> Result<&'a [u8], AllocError>
+    requires { is_plain byte ≡ false }
+    ensures value { IfOk result
+        (λ left. url.new.items ++ sanitized left.now ≡ url.old.items ++ sanitized (byte ∷ rest.now)) }
+    ensures left { IfOk result (λ left. length left.now ≤ length rest.now) }
 {
     if !stays(byte, rest) {
-        push_percent(url, byte)
+        push_percent(url, byte)?;
+        Ok(rest)
     } else if byte == b'&' {
-        url.push_str("&amp;")
+        url.extend_from_slice(b"&amp;")?;
+        Ok(rest)
     } else {
-        url.push(char::from(byte))
+        url.extend_from_slice(&[byte, rest[0], rest[1]])?;
+        Ok(&rest[2..])
     }
 }
 
 /// Writes `%` and a byte in two hexadecimal digits.
-fn push_percent(url: &mut String, byte: u8) -> Result<(), AllocError>
-    ensures { OnOk result (string_bytes url.new ≡ string_bytes url.old ++ percent byte) }
+#[inline(always)]
+fn push_percent(url: &mut Vec<u8>, byte: u8) -> Result<(), AllocError>
+    ensures { OnOk result (url.new.items ≡ url.old.items ++ percent byte) }
 {
-    url.push('%')?;
-    url.push(hex_digit(byte / 16))?;
-    url.push(hex_digit(byte % 16))
+    url.extend_from_slice(&[b'%', hex_digit(byte / 16), hex_digit(byte % 16)])
 }
 
 /// A hexadecimal digit, in upper case.
-fn hex_digit(digit: u8) -> char
+#[inline(always)]
+fn hex_digit(digit: u8) -> u8
     requires { digit < 16 }
-    ensures value { result ≡ hex_digit digit }
-    ensures ascii { result < 128 }
+    ensures { result ≡ hex_digit digit }
 {
-    if digit < 10 {
-        char::from(b'0' + digit)
-    } else {
-        char::from(b'A' - 10 + digit)
+    HEX_DIGITS[usize::from(digit)]
+}
+
+/// The test that a byte is plain.
+#[derive(Clone, Copy)]
+struct Plain;
+
+impl ByteTest for Plain {
+    ghost use Rattle.md_text.specs.Kept.{is_plain};
+
+    ghost passes = { λ _. is_plain };
+
+    #[inline(always)]
+    fn is_passed(self, byte: u8) -> bool {
+        is_plain(byte)
     }
+}
+
+impl<const N: usize> LaneTest<N> for Plain {
+    #[inline(always)]
+    fn run_in(self, bytes: &[u8], at: usize) -> usize {
+        let block = Simd::<u8, N>::from_slice(&bytes[at..]);
+        let escaped = block.simd_eq(Simd::splat(b'"'))
+            | block.simd_eq(Simd::splat(b'&'))
+            | block.simd_eq(Simd::splat(b'<'))
+            | block.simd_eq(Simd::splat(b'>'));
+        let blanks = block.simd_lt(Simd::splat(b'!')) | block.simd_eq(Simd::splat(b'%'));
+        let brackets = block.simd_gt(Simd::splat(b'Z'))
+            & block.simd_lt(Simd::splat(b'a'))
+            & block.simd_ne(Simd::splat(b'_'));
+        let others = block.simd_gt(Simd::splat(b'z')) & block.simd_ne(Simd::splat(b'~'));
+        first_set((escaped | blanks | brackets | others).to_bitmask(), N)
+    }
+}
+
+/// Whether a byte is written as it is, whatever follows it.
+#[inline(always)]
+fn is_plain(byte: u8) -> bool
+    ensures { result ≡ is_plain byte }
+{
+    stays_anywhere(byte) && byte != b'&'
 }
 
 /// Whether a byte stays as it is before the bytes that follow it.
@@ -119,10 +184,11 @@ fn stays(byte: u8, rest: &[u8]) -> bool
 fn stays_anywhere(byte: u8) -> bool
     ensures { result ≡ stays_anywhere byte }
 {
-    matches!(
-        byte,
-        b'!' | b'#' | b'$' | b'&'..=b';' | b'=' | b'?'..=b'Z' | b'_' | b'a'..=b'z' | b'~'
-    )
+    byte < 0x80
+        && matches!(
+            byte,
+            b'!' | b'#' | b'$' | b'&'..=b';' | b'=' | b'?'..=b'Z' | b'_' | b'a'..=b'z' | b'~'
+        )
 }
 
 /// Whether what follows a `%` makes it begin a percent triple.

@@ -5,7 +5,7 @@ use Rattle.std.specs.List.{prefix_len}
 use lib.Lanes.{chunk}
 use Rattle.md_text.specs.Kept.{is_kept}
 use Rattle.md_text.proofs.RunLemmas.{run_is}
-use Rattle.md_text.proofs.escape.kept_in.Goals as goal
+use Rattle.md_text.proofs.escape.KeptLaneTest.run_in.Goals as goal
 
 pub returns-then-not-encode_html : goal.returns-then-not-encode_html
 returns-then-not-encode_html g c =
