@@ -1,10 +1,12 @@
 -- Bytes that stay: those before the first that doesn't are themselves, escaped.
-use Rattle.std.proofs.Common.{◌≡◌, ℕ, ◌+◌, ◌≤◌, Bool, true, false, List, [], ◌∷◌, ◌++◌, length, take, refl, sym, ap, ap₂, subst, ◌∙◌, arith, cond, suc}
+use Rattle.std.proofs.Common.{◌≡◌, ℕ, ◌+◌, ◌<◌, ◌≤◌, inl, inr, Bool, true, false, List, [], ◌∷◌, ◌++◌, length, take, refl, sym, ap, ap₂, subst, ◌∙◌, arith, cond, suc}
 use Rattle.std.proofs.lemmas.List.{take_all}
+use Rattle.std.proofs.lemmas.Bool.{cases_lt, both_ways}
 use Rattle.std.specs.Cmp.Lexicographic.{bytes_decides}
 use Rattle.std.specs.List.{prefix_len}
 use Rattle.md_text.specs.Encode.{encoded, encoded_byte}
 use Rattle.md_text.specs.Kept.{is_kept}
+use Rattle.md_text.proofs.EncodeLemmas.{encoded_byte-high}
 
 pub kept-stays : (html : Bool) (b : ℕ) → is_kept html b ≡ true → encoded_byte html b ≡ b ∷ []
 kept-stays html b h = (bytes_decides (encoded_byte html b) (b ∷ [])).0 h
@@ -34,3 +36,10 @@ pub encoded-all_kept : (html : Bool) (bs : List ℕ) → length bs ≤ prefix_le
 encoded-all_kept html bs h =
     let whole = take_all (prefix_len (is_kept html) bs) bs h in
     ap (encoded html) (sym whole) ∙ encoded-kept html bs ∙ whole
+
+-- a byte that doesn't stay is ASCII
+pub changed-ascii : (html : Bool) (b : ℕ) → is_kept html b ≡ false → b < 128
+changed-ascii html b changes = elim (cases_lt b 128) [
+  | inl low ↦ low
+  | inr high ↦ absurd (both_ways (is_kept html b) changes (stays-kept html b (encoded_byte-high html b high)))
+]

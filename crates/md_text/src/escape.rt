@@ -1,6 +1,6 @@
 //! Escaping of texts that stand in HTML.
 
-ghost use Rattle.std.specs.Prelude.{◌≡◌, ◌+◌, ◌∷◌, ◌<◌, ◌≤◌, [], IfOk, MatchOption, length, get_or, take, drop, min, encode_utf8_all};
+ghost use Rattle.std.specs.Prelude.{◌≡◌, ◌+◌, ◌∷◌, ◌++◌, ◌<◌, ◌≤◌, [], false, IfOk, OnOk, is_ok, if◌then◌else◌, MatchOption, length, get_or, take, drop, min, encode_utf8_all};
 ghost use Rattle.std.specs.String.{string_bytes};
 ghost use Rattle.std.specs.List.{flat_map, prefix_len};
 ghost use Rattle.std.specs.Str.{chars};
@@ -32,14 +32,54 @@ pub fn encode(alloc: Global, value: &str, encode_html: bool) -> Result<String, A
         ≡ encode_utf8_all (flat_map (encoded_character encode_html) (chars value.now))) }
 {
     let mut out = String::with_capacity(alloc, value.len())?;
-    let mut rest = value;
-    while let Some((index, other)) = first_replaced(rest.as_bytes(), encode_html) {
-        out.push_str(&rest[..index])?;
-        out.push_str(other)?;
-        rest = &rest[index + 1..];
-    }
-    out.push_str(rest)?;
+    push_encoded(&mut out, value, encode_html)?;
     Ok(out)
+}
+
+/// Adds a text, made safe to stand in HTML as [`encode`] makes it. Where memory runs out a part of it may be added.
+///
+/// # Errors
+///
+/// Only where memory runs out.
+///
+/// # Examples
+///
+/// ```
+/// let mut out = String::from_str(alloc, "I ")?;
+/// push_encoded(&mut out, "<3 🦀", true)?;
+/// assert_eq!(out.as_str(), "I &lt;3 🦀");
+/// ```
+pub fn push_encoded(out: &mut String, value: &str, encode_html: bool) -> Result<(), AllocError>
+    ensures added { OnOk result (string_bytes out.new ≡ string_bytes out.old ++ encoded encode_html value.now) }
+    ensures before { take (length (string_bytes out.old)) (string_bytes out.new) ≡ string_bytes out.old }
+{
+    let test = Kept { encode_html };
+    let mut rest = value;
+    let mut index = run_length(test, rest.as_bytes());
+    while index < rest.len() {
+        out.push_str(&rest[..index])?;
+        push_replacement(out, rest.as_bytes()[index], encode_html)?;
+        rest = &rest[index + 1..];
+        index = run_length(test, rest.as_bytes());
+    }
+    out.push_str(rest)
+}
+
+/// Adds what stands in place of a byte that doesn't stay. Each text is added by itself, so that its few bytes are
+/// copied as one.
+#[inline(always)]
+fn push_replacement(out: &mut String, byte: u8, encode_html: bool) -> Result<(), AllocError>
+    requires { is_kept encode_html byte ≡ false }
+    ensures { string_bytes out.new ≡ (if is_ok result then
+        string_bytes out.old ++ encoded_byte encode_html byte else string_bytes out.old) }
+{
+    match byte {
+        b'<' => out.push_str("&lt;"),
+        b'>' => out.push_str("&gt;"),
+        b'"' => out.push_str("&quot;"),
+        b'&' => out.push_str("&amp;"),
+        _ => out.push_str("\u{FFFD}"),
+    }
 }
 
 /// The index of the first byte that doesn't stay, and what stands in its place; what is before it stays.
