@@ -11,3 +11,7 @@ is_kept html b = bytes_eq (encoded_byte html b) (b ∷ [])
 -- a byte of a URL that stays whatever follows it, and is escaped as it is
 abbrev pub is_plain : ℕ → Bool
 is_plain b = stays_anywhere b && not (b == 38)
+
+-- a byte that isn't `<`
+abbrev pub opens_no_tag : ℕ → Bool
+opens_no_tag b = not (b == 60)

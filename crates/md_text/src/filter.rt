@@ -1,14 +1,16 @@
 //! The tag filter of GitHub flavored Markdown.
 
-ghost use Rattle.std.specs.Prelude.{◌≡◌, ◌≤◌, ◌++◌, ◌==◌, ◌&&◌, IfOk, OnOk, length, encode_utf8};
+ghost use Rattle.std.specs.Prelude.{◌≡◌, ◌+◌, ◌<◌, ◌≤◌, ◌++◌, IfOk, MatchOption, length, take, drop, slice_index, codes};
 ghost use Rattle.std.specs.String.{string_bytes};
 ghost use Rattle.std.specs.List.{prefix_len};
 ghost use Rattle.md_text.specs.Bytes.{is_letter};
 ghost use Rattle.md_text.specs.Filter.{tag_filtered, past_slash, ends_name, begins_disarmed_name};
 
+use crate::lanes::{ByteTest, LaneTest, first_set, run_length};
 use crate::names::lowered_is_one_of;
 use md_base::GFM_HTML_TAGFILTER_NAMES;
 use std::alloc::{AllocError, Global};
+use std::simd::prelude::*;
 
 /// Disarms the tags that GitHub flavored Markdown doesn't allow in raw HTML.
 ///
@@ -30,31 +32,55 @@ pub fn gfm_tagfilter(alloc: Global, value: &str) -> Result<String, AllocError>
     ensures { IfOk result (λ text. string_bytes text ≡ tag_filtered value.now) }
 {
     let mut out = String::with_capacity(alloc, value.len())?;
-    let mut rest = value.chars();
-    while let Some(c) = rest.next() {
-        push_filtered(&mut out, c, rest.as_str())?;
+    let mut rest = value;
+    while let Some(index) = first_disarmed(rest.as_bytes()) {
+        out.push_str(&rest[..index])?;
+        out.push_str("&lt;")?;
+        rest = &rest[index + 1..];
     }
+    out.push_str(rest)?;
     Ok(out)
 }
 
-/// Writes a character by what follows it.
-fn push_filtered(out: &mut String, c: char, rest: &str) -> Result<(), AllocError>
-    ensures { OnOk result
-        (string_bytes out.new ++ tag_filtered rest.now
-        ≡ string_bytes out.old ++ tag_filtered (encode_utf8 c ++ rest.now)) }
+/// The index of the first `<` of a tag to disarm; what is before it stays.
+fn first_disarmed(bytes: &[u8]) -> Option<usize>
+    ensures { MatchOption result (tag_filtered bytes.now ≡ bytes.now)
+        (λ index. (index < length bytes.now) × (slice_index bytes.now index ≡ 60)
+        × (take index bytes.now ++ codes "&lt;" ++ tag_filtered (drop (index + 1) bytes.now)
+        ≡ tag_filtered bytes.now)) }
 {
-    if opens_disarmed_tag(c, rest.as_bytes()) {
-        out.push_str("&lt;")
-    } else {
-        out.push(c)
+    let mut at = run_length(OpensNoTag, bytes);
+    while at < bytes.len() {
+        let after = &bytes[at + 1..];
+        if begins_disarmed_name(past_slash(after)) {
+            return Some(at);
+        }
+        at = at + 1 + run_length(OpensNoTag, after);
+    }
+    None
+}
+
+/// The test that a byte isn't `<`.
+#[derive(Clone, Copy)]
+struct OpensNoTag;
+
+impl ByteTest for OpensNoTag {
+    ghost use Rattle.md_text.specs.Kept.{opens_no_tag};
+
+    ghost passes = { λ _. opens_no_tag };
+
+    #[inline(always)]
+    fn is_passed(self, byte: u8) -> bool {
+        byte != b'<'
     }
 }
 
-/// Whether a character is the `<` of a tag to disarm.
-fn opens_disarmed_tag(c: char, rest: &[u8]) -> bool
-    ensures { result ≡ ((c == 60) && begins_disarmed_name (past_slash rest.now)) }
-{
-    c == '<' && begins_disarmed_name(past_slash(rest))
+impl<const N: usize> LaneTest<N> for OpensNoTag {
+    #[inline(always)]
+    fn run_in(self, bytes: &[u8], at: usize) -> usize {
+        let block = Simd::<u8, N>::from_slice(&bytes[at..]);
+        first_set(block.simd_eq(Simd::splat(b'<')).to_bitmask(), N)
+    }
 }
 
 /// The bytes without one `/` that they begin with.
