@@ -1,4 +1,5 @@
 -- The lemmas of a script's lines: bytes that are split, numbers, names, events and settings.
+pub mod CommonLemmas
 pub mod LineLemmas
 pub mod NameLemmas
 pub mod NumberLemmas

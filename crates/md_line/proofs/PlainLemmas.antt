@@ -105,7 +105,7 @@ digits_are_none (d ∷ digits) all =
           ∙ there.1,
     )
 
-number_is_digits : (most : ℕ) (digits : List ℕ) (n : ℕ) (a b : Bool) →
+pub number_is_digits : (most : ℕ) (digits : List ℕ) (n : ℕ) (a b : Bool) →
     a ≡ (leb 1 (length digits) && leb (length digits) most) → b ≡ all_ascii_digits digits →
     cond (a && b) (Some (digits_value 10 digits)) None ≡ Some n → b ≡ true
 number_is_digits most digits n true true ea eb e = refl

@@ -1,7 +1,8 @@
 -- What is read of a plain line in one go; only private contracts cite it.
 use Rattle.std.specs.Prelude.{◌≡◌, ℕ, ◌+◌, Bool, ◌||◌, List, ◌∷◌, ◌++◌, length, Some}
 use Rattle.md_base.specs.declared.event.Event.{Event}
-use Rattle.md_line.specs.Line.{is_space, is_line_feed, lines_of, event_of}
+use Rattle.md_base.specs.declared.event.Name.{Name}
+use Rattle.md_line.specs.Line.{is_space, is_line_feed, lines_of, name_of, event_of}
 use Rattle.md_line.specs.Number.{number_of}
 
 -- what a name ends before
@@ -20,3 +21,15 @@ pub record BeginsWithIndex (bytes : List ℕ) (index : ℕ) (following : List �
   pub digits : List ℕ
   pub whole : bytes ≡ digits ++ 10 ∷ following
   pub value : number_of 9 digits ≡ Some index
+
+-- the digits of this number, at most so many, and this after the byte that ends them
+pub record BeginsWithNumber (most end : ℕ) (bytes : List ℕ) (number : ℕ) (following : List ℕ) : Type 0 where
+  pub digits : List ℕ
+  pub whole : bytes ≡ digits ++ end ∷ following
+  pub value : number_of most digits ≡ Some number
+
+-- a text that spells this name, and this after the space that ends it
+pub record BeginsWithName (bytes : List ℕ) (name : Name) (following : List ℕ) : Type 0 where
+  pub text : List ℕ
+  pub whole : bytes ≡ text ++ 32 ∷ following
+  pub says : name_of text ≡ Some name

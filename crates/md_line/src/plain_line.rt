@@ -4,6 +4,8 @@ ghost use Rattle.std.specs.Prelude.{◌≡◌, ◌+◌, ◌*◌, ◌++◌, ◌�
 ghost use Rattle.std.specs.List.{list_any};
 ghost use Rattle.md_line.specs.PlainLine.{is_break, BeginsWithEvent, BeginsWithIndex};
 
+use crate::common_name::read_common_name;
+use crate::digits::digits_before;
 use crate::line::read_kind;
 use crate::name::read_name;
 use md_base::{Event, Point};
@@ -18,6 +20,31 @@ pub fn read_plain_line(input: &[u8]) -> Option<(Event, &[u8])>
     let (name, place) = split_name(rest)?;
     let name = read_name(name)?;
     let (index, following) = split_index(place)?;
+    let point = Point {
+        line: 1,
+        column: 1,
+        index,
+        vs: 0,
+    };
+    Some((Event { kind, name, point }, following))
+}
+
+/// How many bytes the longest index has with its line feed.
+const INDEX_SIZE: usize = 10;
+
+/// The same, in fewer steps, of lines as most are. Nothing also where fewer than sixteen bytes follow the sign or fewer
+/// than ten the name, and of names of more than thirty-one bytes.
+#[inline(always)]
+pub fn read_common_line(input: &[u8]) -> Option<(Event, &[u8])>
+    ensures { IfSome result (λ read. BeginsWithEvent input.now read.0 read.1.now) }
+{
+    let (sign, rest) = input.split_first()?;
+    let kind = read_kind(*sign)?;
+    let (name, place) = read_common_name(rest)?;
+    if place.len() < INDEX_SIZE {
+        return None;
+    }
+    let (index, following) = digits_before(place, b'\n', INDEX_SIZE - 1)?;
     let point = Point {
         line: 1,
         column: 1,

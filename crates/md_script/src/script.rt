@@ -9,7 +9,10 @@ ghost use Rattle.md_script.specs.Script.{end_line, StandsFor};
 use crate::error::RunError;
 use md_base::Event;
 use md_html::CompileOptions;
-use md_line::{is_new, is_setting, options_given, read_event, read_plain_line, split_at_first};
+use md_line::{
+    is_new, is_setting, options_given, read_common_line, read_event, read_plain_line,
+    split_at_first,
+};
 use std::alloc::{AllocError, Global};
 
 /// The line that ends a script.
@@ -34,6 +37,12 @@ pub(crate) fn read_script(alloc: Global, input: &[u8]) -> Result<Script<'_>, Run
     let mut read_lines = 0;
     let mut rest = input;
     'lines: loop {
+        if let Some((event, following)) = read_common_line(rest) {
+            keep(&mut events, event)?;
+            read_lines += 1;
+            rest = following;
+            continue;
+        }
         if let Some((event, following)) = read_plain_line(rest) {
             keep(&mut events, event)?;
             read_lines += 1;

@@ -31,6 +31,13 @@ lines-preserved-in-Some c =
     subst (λ events. Progress c.args.input.now (c.lines.read_lines + 1) events
     (texts_of c.lines.settings.items) c.in-Some.following.now) (sym c.in_ok-keep.ensures) more
 
+pub lines-preserved-in-Some-read_plain_line : goal.lines-preserved-in-Some-read_plain_line
+lines-preserved-in-Some-read_plain_line c =
+    let read = c.in-Some-read_plain_line in
+    let more = plain_more c.lines.invariant read.event read.following.now read.ensures in
+    subst (λ events. Progress c.args.input.now (c.lines.read_lines + 1) events
+    (texts_of c.lines.settings.items) read.following.now) (sym c.in_ok-keep-2.ensures) more
+
 pub lines-preserved : goal.lines-preserved
 lines-preserved c =
     let line = c.first_line.result.0.now in
