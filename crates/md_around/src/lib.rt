@@ -3,4 +3,5 @@
 
 pub mod captured;
 pub mod frames;
+pub mod manners;
 pub mod surroundings;

@@ -1,9 +1,8 @@
 -- Cells that are counted up to the greatest `usize` alone stand in the same columns, where no table has more of them.
-use Rattle.std.proofs.Common.{◌≡◌, ◌≤◌, ℕ, ◌+◌, ◌-◌, ◌^◌, zero, suc, Bool, true, false, List, [], ◌∷◌, ◌++◌, Option, Some, None, length, drop, refl, ap, sym, ◌∙◌, arith}
+use Rattle.std.proofs.Common.{◌≡◌, ◌≤◌, ℕ, ◌+◌, ◌-◌, ◌^◌, zero, suc, Bool, true, false, List, [], ◌∷◌, ◌++◌, None, length, drop, refl, ap, sym, ◌∙◌, arith}
 use Rattle.std.specs.Prelude.{min, slice_get, codes, if◌then◌else◌}
 use Rattle.std.proofs.lemmas.List.{length-append}
 use Rattle.md_base.specs.declared.event.AlignKind.{AlignKind}
-use Rattle.md_base.specs.declared.event.Event.{Event}
 use Rattle.md_base.specs.declared.event.Name.{Name}
 use Rattle.md_base.specs.declared.event.Name.TheVariants.{CodeFencedFence, GfmTableRow, GfmTableCell, GfmTableDelimiterCellValue}
 use Rattle.md_base.specs.declared.event.Point.{Point}
@@ -15,11 +14,11 @@ use Rattle.md_meaning.specs.declared.context.Surroundings.{Surroundings}
 use Rattle.md_meaning.specs.declared.context.Spine.{Spine}
 use Rattle.md_meaning.specs.declared.context.Ahead.{Ahead}
 use Rattle.md_meaning.specs.declared.context.Passed.{Passed}
-use Rattle.md_meaning.specs.Piece.{Stroke, Sheet, Needed, Text}
+use Rattle.md_meaning.specs.Piece.{Sheet, Needed, Text}
 use Rattle.md_meaning.specs.Given.{Supply}
 use Rattle.md_meaning.specs.Places.{Left}
 use Rattle.md_meaning.specs.Printed.{closing}
-use Rattle.md_meaning.specs.Surroundings.{Mark, own_marks}
+use Rattle.md_meaning.specs.Surroundings.{own_marks}
 use Rattle.md_meaning.specs.Tables.{cell_in, empty_cells}
 use Rattle.md_around.specs.Steps.{cells_after}
 

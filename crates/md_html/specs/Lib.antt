@@ -3,3 +3,4 @@ pub mod Safe
 pub mod SafeHtml
 pub mod OwnDefinitions
 pub mod Leaf
+pub mod Plain

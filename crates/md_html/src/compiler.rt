@@ -26,18 +26,24 @@ ghost use Rattle.md_meaning.specs.Printed.{is_captured};
 ghost use Rattle.md_meaning.specs.declared.context.Ahead.{Ahead};
 ghost use Rattle.md_print.specs.Closings.{group_of, is_light};
 ghost use Rattle.md_html.specs.Leaf.{IsLightLeaf};
+ghost use Rattle.md_html.specs.Plain as plain;
+ghost use Rattle.md_printer.specs.Given.{leaf_in};
+ghost use Rattle.md_meaning.specs.Piece.{blank};
+ghost use Rattle.md_meaning.specs.Texts.{data_pieces};
 ghost use Rattle.std.specs.Bool.{OnTrue};
 ghost use Rattle.md_base.specs.declared.event.AlignKind.{AlignKind};
 
+use crate::leaf_kinds::{LeafKind, leaf_kind};
 use crate::own_events::definitions_at;
 use md_around::captured::is_captured;
 use md_base::name_tests::is_table;
 use md_base::{AlignKind, Event, Kind, Name, Point, Position, is_same_name};
 use md_print::close::{close, close_captured};
-use md_print::groups::{group_of, is_light};
-use md_print::open::open;
+use md_print::groups::{Group, group_of};
+use md_print::open::{open, open_plain};
+use md_printer::escape::put_encoded;
 use md_printer::frames::{Exit, Inner, Lookahead};
-use md_printer::given::{Given, identifier_at};
+use md_printer::given::{Given, identifier_at, text_of};
 use md_printer::printer::Printer;
 use md_sheet::{Defined, Definitions};
 use md_text::CompileOptions;
@@ -411,6 +417,7 @@ fn exit_captured(
 }
 
 /// Exits a node whose children aren't captured.
+#[inline(never)]
 fn exit_streamed(
     printer: &mut Printer,
     given: &Given,
@@ -429,6 +436,7 @@ fn exit_streamed(
 }
 
 /// Exits a node; `is_last` says that nothing follows in the document.
+#[inline(always)]
 fn exit(
     printer: &mut Printer,
     given: &Given,
@@ -439,7 +447,10 @@ fn exit(
     ensures { OnOk result (printer.new ≡ machine.exited (given_of given.now) is_last
         (is_captured name) name end printer.old) }
 {
-    if is_captured(name) {
+    if is_silent(name) {
+        printer.leave(name);
+        Ok(())
+    } else if is_captured(name) {
         exit_captured(printer, given, is_last, name, end)
     } else {
         exit_streamed(printer, given, is_last, name, end)
@@ -493,6 +504,26 @@ fn enter_visited(
         ≡ machine.stepped (given_of given.now) Enter visit.entry.event.now.name visit.entry.event.now.point told
         (machine.is_nil visit.entry.later.now) printer.old) }
 {
+    if tells_ahead(visit.event.name) {
+        enter_told(printer, given, checked, visit)
+    } else {
+        enter_plain(printer, given, visit.event)
+    }
+}
+
+/// Enters the node whose entry is visited, with what its children tell ahead.
+#[inline(never)]
+fn enter_told(
+    printer: &mut Printer,
+    given: &Given,
+    checked: &Checked,
+    visit: Visit,
+) -> Result<(), AllocError>
+    requires { EntersAt checked.now.events visit.index visit.event.now.name }
+    ensures { OnOk result ((told : Option Forest) → IsToldAt checked.now visit.entry.index told → printer.new
+        ≡ machine.stepped (given_of given.now) Enter visit.entry.event.now.name visit.entry.event.now.point told
+        (machine.is_nil visit.entry.later.now) printer.old) }
+{
     let event = visit.event;
     let place = place_read(checked, visit.index, event.name);
     let loose = is_loose(checked, visit.index, event.name);
@@ -505,32 +536,118 @@ fn enter_visited(
     enter(printer, given, lookahead, event.name, event.point)
 }
 
+/// Enters a node whose name reads nothing of its children ahead.
+#[inline(always)]
+fn enter_plain(printer: &mut Printer, given: &Given, entry: &Event) -> Result<(), AllocError>
+    requires { plain.tells_ahead entry.now.name ≡ false }
+    ensures { OnOk result ((told : Option Forest) (last : Bool) → printer.new
+        ≡ machine.stepped (given_of given.now) Enter entry.now.name entry.now.point told last printer.old) }
+{
+    let around = printer.around();
+    open_plain(printer, given, around, entry.name)?;
+    printer.capture_if(given.alloc, is_captured(entry.name))?;
+    printer.open_plain_frame(given.options, entry.name, entry.point)
+}
+
+/// A name that reads something of its children before they are printed.
+#[inline(always)]
+fn tells_ahead(name: Name) -> bool
+    ensures { result ≡ plain.tells_ahead name }
+{
+    matches!(
+        name,
+        Name::HeadingAtx
+            | Name::ListOrdered
+            | Name::ListUnordered
+            | Name::GfmTable
+            | Name::Link
+            | Name::Image
+            | Name::GfmFootnoteCall
+            | Name::Definition
+            | Name::GfmFootnoteDefinition
+    )
+}
+
+/// A name that prints nothing by itself.
+#[inline(always)]
+fn is_silent(name: Name) -> bool
+    ensures { result ≡ plain.is_silent (group_of name) }
+{
+    matches!(group_of(name), Group::Silent)
+}
+
 /// Goes over a node without children that prints only at its exit, if at all.
+#[inline(always)]
 fn leaf(
     printer: &mut Printer,
     given: &Given,
     is_last: bool,
-    name: Name,
-    place: Position,
+    entry: &Event,
+    end: Point,
 ) -> Result<(), AllocError>
-    requires { is_light (group_of name) ≡ true }
+    requires { is_light (group_of entry.now.name) ≡ true }
     ensures { OnOk result ((ahead : Ahead) (loose : Bool) (columns : List AlignKind) → printer.new
-        ≡ machine.exited (given_of given.now) is_last false name place.end
-        (machine.entered (given_of given.now) ahead loose columns false name place.start printer.old)) }
+        ≡ machine.exited (given_of given.now) is_last false entry.now.name end
+        (machine.entered (given_of given.now) ahead loose columns false entry.now.name entry.now.point printer.old)) }
 {
-    let exit = printer.leaf(place.start, is_last, place.end);
-    close(printer, given, &exit, name)?;
-    printer.pass(name);
+    match leaf_kind(entry.name) {
+        LeafKind::Text => {
+            put_text(printer, given, entry.point, end)?;
+            printer.pass_quiet(entry.name);
+        }
+        LeafKind::Quiet => printer.pass_quiet(entry.name),
+        LeafKind::Through => printer.pass_through(entry.name),
+        LeafKind::Aside => printer.pass_aside(entry.name),
+        LeafKind::Printing | LeafKind::Heavy => {
+            close_leaf(printer, given, is_last, entry, end)?;
+            printer.pass(entry.name);
+        }
+    }
     Ok(())
 }
 
+/// Prints a text as its surroundings say.
+#[inline(always)]
+fn put_text(
+    printer: &mut Printer,
+    given: &Given,
+    start: Point,
+    end: Point,
+) -> Result<(), AllocError>
+    ensures { OnOk result (printer.new ≡ machine.printing []
+        (data_pieces (given_of given.now) printer.old.frame.around start end) printer.old) }
+{
+    let escaping = printer.around().is_escaping;
+    put_encoded(printer, text_of(given.bytes, start, end), escaping)
+}
+
+/// Prints what a node without children prints at its exit.
+#[inline(never)]
+fn close_leaf(
+    printer: &mut Printer,
+    given: &Given,
+    is_last: bool,
+    entry: &Event,
+    end: Point,
+) -> Result<(), AllocError>
+    requires { is_light (group_of entry.now.name) ≡ true }
+    ensures { OnOk result (printer.new ≡ machine.printing given.now.ending.now
+        (closing_at (given_of given.now) (leaf_in entry.now.point is_last end printer.old) printer.old.log.called
+        (steps.first_or [] printer.old.tables) printer.old.frame.ahead printer.old.frame.passed blank entry.now.name)
+        printer.old) }
+{
+    let exit = printer.leaf(entry.point, is_last, end);
+    close(printer, given, &exit, entry.name)
+}
+
 /// Two events enter and exit such a node.
+#[inline(always)]
 fn is_light_leaf(entry: &Event, exit: &Event) -> bool
     ensures { OnTrue result (IsLightLeaf entry.now exit.now) }
 {
     matches!(entry.kind, Kind::Enter)
         && matches!(exit.kind, Kind::Exit)
-        && is_light(group_of(entry.name))
+        && !matches!(leaf_kind(entry.name), LeafKind::Heavy)
         && is_same_name(entry.name, exit.name)
 }
 
@@ -553,11 +670,7 @@ fn advance(
     if let Some((exit, beyond)) = visit.later.split_first() {
         if is_light_leaf(entry, exit) {
             let is_last = beyond.is_empty();
-            let place = Position {
-                start: entry.point,
-                end: exit.point,
-            };
-            leaf(printer, given, is_last, entry.name, place)?;
+            leaf(printer, given, is_last, entry, exit.point)?;
             return Ok(1);
         }
     }

@@ -3,6 +3,7 @@
 
 mod compiler;
 pub mod laws;
+mod leaf_kinds;
 mod own_events;
 mod safe_html;
 

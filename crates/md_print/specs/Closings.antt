@@ -95,3 +95,7 @@ in_group Block text block medium table = block
 in_group Autolink text block medium table = medium
 in_group Table text block medium table = table
 in_group Captured text block medium table = text ++ (block ++ (medium ++ table))
+
+-- a name that prints what it reads in its children before them
+abbrev pub prints_place : Name → Bool
+prints_place name = elim name [ ListOrdered ↦ true | HeadingAtx ↦ true | _ ↦ false ]

@@ -25,6 +25,7 @@ pub enum Group {
 }
 
 /// The group of a name.
+#[inline(always)]
 pub fn group_of(name: Name) -> Group
     ensures { result ≡ closings.group_of name }
 {
@@ -96,6 +97,7 @@ pub fn group_of(name: Name) -> Group
 }
 
 /// A group whose nodes print only at their exits, if at all, and without a sheet of their own.
+#[inline(always)]
 pub fn is_light(group: Group) -> bool
     ensures { result ≡ closings.is_light group }
 {

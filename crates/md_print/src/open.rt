@@ -1,6 +1,6 @@
 //! What nodes print before their children.
 
-ghost use Rattle.std.specs.Prelude.{◌≡◌, ◌∷◌, [], ◌++◌, OnOk, codes};
+ghost use Rattle.std.specs.Prelude.{◌≡◌, ◌∷◌, [], ◌++◌, OnOk, codes, false};
 ghost use Rattle.md_printer.specs.Machine.{printing, ahead_by};
 ghost use Rattle.md_meaning.specs.Piece.{Text, Needed};
 ghost use Rattle.md_meaning.specs.Texts as texts;
@@ -8,6 +8,8 @@ ghost use Rattle.md_meaning.specs.Texts.{saying, outside_images};
 ghost use Rattle.md_meaning.specs.Blocks as blocks;
 ghost use Rattle.md_meaning.specs.Printed as printed;
 ghost use Rattle.md_printer.specs.Given.{given_of};
+ghost use Rattle.md_meaning.specs.declared.context.Ahead.{Ahead};
+ghost use Rattle.md_print.specs.Closings.{prints_place};
 
 use md_base::{Name, Position};
 use md_meaning::{Container, Surroundings};
@@ -33,11 +35,7 @@ pub fn open(
         printer.old) }
 {
     match name {
-        Name::BlockQuote => on_own_line(printer, given.ending, "<blockquote>"),
         Name::ListOrdered => ordered_list(printer, given, place),
-        Name::ListUnordered => on_own_line(printer, given.ending, "<ul>"),
-        Name::ListItem => on_own_line(printer, given.ending, "<li>"),
-        Name::Paragraph => paragraph(printer, given.ending, around),
         Name::HeadingAtx => {
             on_own_line(
                 printer,
@@ -45,6 +43,31 @@ pub fn open(
                 heading_opening(rank_of(given.bytes, place)),
             )
         }
+        _ => open_plain(printer, given, around, name),
+    }
+}
+
+/// As [`open`], for a node that prints nothing of what it reads in its children.
+///
+/// # Errors
+///
+/// `AllocError`, only where memory runs out.
+#[inline(always)]
+pub fn open_plain(
+    printer: &mut Printer,
+    given: &Given,
+    around: Surroundings,
+    name: Name,
+) -> Result<(), AllocError>
+    requires { prints_place name ≡ false }
+    ensures { OnOk result ((ahead : Ahead) → printer.new
+        ≡ printing given.now.ending.now (printed.opening (given_of given.now) around ahead name) printer.old) }
+{
+    match name {
+        Name::BlockQuote => on_own_line(printer, given.ending, "<blockquote>"),
+        Name::ListUnordered => on_own_line(printer, given.ending, "<ul>"),
+        Name::ListItem => on_own_line(printer, given.ending, "<li>"),
+        Name::Paragraph => paragraph(printer, given.ending, around),
         Name::CodeIndented => on_own_line(printer, given.ending, "<pre><code>"),
         Name::CodeFenced => on_own_line(printer, given.ending, "<pre><code"),
         Name::MathFlow => {

@@ -43,6 +43,7 @@ pub fn ids_by(options: &CompileOptions) -> IdOptions<'_>
 
 /// The text between two points, without the spaces of tabs that are cut there; empty where the points don't fit the
 /// bytes, or these aren't UTF-8.
+#[inline(always)]
 pub fn text_of<'a>(bytes: &'a [u8], start: Point, end: Point) -> &'a str
     ensures { result.now ≡ given.text_of bytes.now start end }
 {

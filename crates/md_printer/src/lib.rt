@@ -6,6 +6,7 @@ pub mod escape;
 pub mod frames;
 pub mod given;
 pub mod lines;
+mod nodes;
 pub mod printer;
 pub mod section;
 mod ways_back;

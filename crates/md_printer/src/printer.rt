@@ -1,6 +1,6 @@
 //! The compiler's state: the text so far, and the nodes that are open.
 
-ghost use Rattle.std.specs.Prelude.{◌≡◌, ◌∷◌, ◌++◌, ◌+◌, ◌<◌, ◌^◌, slice_get, IfOk, IfSome, OnOk, string_bytes, [], true, if◌then◌else◌};
+ghost use Rattle.std.specs.Prelude.{◌≡◌, ◌∷◌, ◌++◌, ◌+◌, ◌<◌, ◌^◌, slice_get, IfOk, IfSome, OnOk, string_bytes, [], true, if◌then◌else◌, false};
 ghost use Rattle.md_printer.specs.Machine as machine;
 ghost use Rattle.md_around.specs.Steps as steps;
 ghost use Rattle.md_meaning.specs.Piece as piece;
@@ -9,11 +9,14 @@ ghost use Rattle.md_meaning.specs.Calls.{number_among, count_among};
 ghost use Rattle.md_meaning.specs.Footnotes.{section_pieces};
 ghost use Rattle.md_sheet.specs.Seen.{counted, noted};
 ghost use Rattle.md_meaning.specs.Texts.{saying};
+ghost use Rattle.md_meaning.specs.declared.context.Spine.{Spine};
+ghost use Rattle.md_around.specs.Manners.{is_quiet, is_through, is_aside, manner_of};
 
 use crate::frames::{Exit, Lookahead};
+use crate::nodes::{DOCUMENT, Node, begin, innermost, keep_place, leave, place_of};
 use crate::section::{Settings, lay_section};
-use md_around::frames::{DOCUMENT_FRAME, Frame, leave};
-use md_around::surroundings::{inside, pass, slurps_after, spine_inside};
+use md_around::manners::{Manner, manner_of, pass_aside, pass_quietly, pass_through};
+use md_around::surroundings::{NO_SPINE, pass, slurps_after};
 use md_base::{AlignKind, Name, Point, Position};
 use md_meaning::{Passed, Spine, Surroundings};
 use md_sheet::{Calls, Defined, Footnotes, Rope, Sheet, Target};
@@ -30,15 +33,19 @@ pub struct Printer {
     definitions: Vec<Defined>,
     footnotes: Footnotes,
     is_slurping: bool,
-    frame: Frame,
-    frames: Vec<Frame>,
+    /// The innermost node that is open.
+    node: Node,
+    /// Those around it, the innermost last.
+    nodes: Vec<Node>,
+    /// The places that the open nodes read, that of the innermost last.
+    places: Vec<Position>,
     tables: Vec<Vec<AlignKind>>,
 }
 
 impl Model for Printer {
     ghost use Rattle.std.specs.Prelude.{reverse, map};
     ghost use Rattle.md_printer.specs.Machine as machine;
-    ghost use Rattle.md_around.specs.Frames.{frame_of, frames_of};
+    ghost use Rattle.md_printer.specs.Nodes.{frame_at, frames_at, places_around};
 
     ghost Value = { machine.Printer };
 
@@ -47,8 +54,8 @@ impl Model for Printer {
       below = reverse p.below.items;
       log = record { called = p.calls; definitions = p.definitions.items; footnotes = p.footnotes };
       is_slurping = p.is_slurping;
-      frame = frame_of p.frame;
-      frames = frames_of p.frames.items;
+      frame = frame_at (reverse p.places.items) p.node;
+      frames = frames_at (places_around p.node.reads (reverse p.places.items)) (reverse p.nodes.items);
       tables = reverse (map (λ v. v.items) p.tables.items);
     } };
 }
@@ -271,45 +278,52 @@ impl Printer {
         ensures sheet { result ≡ self.old.sheet }
         ensures state { self.new ≡ machine.releasing true self.old }
     {
-        let outer = self.below.pop().unwrap_or(Sheet::new(alloc));
-        std::mem::replace(&mut self.sheet, outer)
+        match self.below.pop() {
+            Some(outer) => std::mem::replace(&mut self.sheet, outer),
+            None => std::mem::replace(&mut self.sheet, Sheet::new(alloc)),
+        }
     }
 
     /// The surroundings of the children of the innermost node that is open.
     pub fn around(&self) -> Surroundings
         ensures { result ≡ self.now.frame.around }
     {
-        self.frame.around
+        self.node.around
+    }
+
+    /// The surroundings of the innermost node that is open.
+    #[inline(always)]
+    pub fn around_outer(&self) -> Surroundings
+        ensures { result ≡ (steps.first_or machine.document_frame self.now.frames).around }
+    {
+        innermost(&self.nodes).around
     }
 
     /// The place that the innermost node that is open reads in its children.
     pub fn place(&self) -> Option<Position>
         ensures { machine.ahead_by result ≡ self.now.frame.ahead }
     {
-        self.frame.place
+        place_of(self.node.reads, &self.places)
     }
 
     /// What the children of the innermost node that is open tell so far.
     pub fn passed(&self) -> Passed
         ensures { result ≡ self.now.frame.passed }
     {
-        self.frame.passed
+        self.node.passed
     }
 
     /// What the innermost node that is open is exited with.
     pub fn exit(&self, is_last: bool, end: Point) -> Exit
         ensures { result ≡ exit_in is_last end self.now }
     {
-        let parent = match self.frames.last() {
-            Some(frame) => frame,
-            None => &DOCUMENT_FRAME,
-        };
+        let outer = innermost(&self.nodes);
         Exit {
-            around: parent.around,
-            previous: parent.passed.last,
-            spine: parent.passed.spine,
-            start: self.frame.start,
-            is_slurping: self.frame.is_slurping,
+            around: outer.around,
+            previous: outer.passed.last,
+            spine: outer.passed.spine,
+            start: self.node.start,
+            is_slurping: self.node.is_slurping,
             is_last,
             end,
         }
@@ -320,9 +334,9 @@ impl Printer {
         ensures { result ≡ leaf_in start is_last end self.now }
     {
         Exit {
-            around: self.frame.around,
-            previous: self.frame.passed.last,
-            spine: self.frame.passed.spine,
+            around: self.node.around,
+            previous: self.node.passed.last,
+            spine: self.node.passed.spine,
             start,
             is_slurping: self.is_slurping,
             is_last,
@@ -360,22 +374,45 @@ impl Printer {
         ensures { OnOk result (self.new ≡ machine.opening_frame options.now (machine.ahead_by lookahead.now.place)
             lookahead.now.loose name start self.old) }
     {
-        self.frames.push(self.frame)?;
-        let frame = &mut self.frame;
-        frame.around = inside(
+        let reads = keep_place(&mut self.places, lookahead.place)?;
+        self.nodes.push(self.node)?;
+        begin(
+            &mut self.node,
             options.allow_dangerous_html,
             lookahead.loose,
+            reads,
+            self.is_slurping,
             name,
-            frame.around,
+            start,
         );
-        frame.start = start;
-        frame.is_slurping = self.is_slurping;
-        frame.place = lookahead.place;
-        frame.passed = Passed {
-            last: None,
-            contributing: None,
-            spine: spine_inside(name, frame.passed.spine),
-        };
+        Ok(())
+    }
+
+    /// Opens a node of which nothing is known ahead.
+    ///
+    /// # Errors
+    ///
+    /// `AllocError`, only where memory runs out.
+    #[inline(always)]
+    pub fn open_plain_frame(
+        &mut self,
+        options: &CompileOptions,
+        name: Name,
+        start: Point,
+    ) -> Result<(), AllocError>
+        ensures { OnOk result (self.new ≡ machine.opening_frame options.now (machine.ahead_by None) false name start
+            self.old) }
+    {
+        self.nodes.push(self.node)?;
+        begin(
+            &mut self.node,
+            options.allow_dangerous_html,
+            false,
+            false,
+            self.is_slurping,
+            name,
+            start,
+        );
         Ok(())
     }
 
@@ -383,17 +420,42 @@ impl Printer {
     pub fn leave(&mut self, name: Name)
         ensures { self.new ≡ machine.leaving name self.old }
     {
-        let inner = self.frame.passed.spine;
-        leave(&mut self.frame, &mut self.frames);
+        let inner = self.node.passed.spine;
+        leave(&mut self.node, &mut self.nodes, &mut self.places);
         self.pass_child(name, inner);
     }
 
     /// Passes a node without children.
+    #[inline(always)]
     pub fn pass(&mut self, name: Name)
         ensures { self.new ≡ machine.passing_leaf name self.old }
     {
-        let inner = spine_inside(name, self.frame.passed.spine);
-        self.pass_child(name, inner);
+        match manner_of(name) {
+            Manner::Quiet => self.pass_quiet(name),
+            Manner::Through => self.pass_through(name),
+            Manner::Aside => self.pass_aside(name),
+            Manner::Telling => self.pass_telling(name, NO_SPINE),
+        }
+    }
+
+    /// Passes a node without children that patterns look through.
+    #[inline(always)]
+    pub fn pass_through(&mut self, name: Name)
+        requires { is_through (manner_of name) ≡ true }
+        ensures { self.new ≡ machine.passing_leaf name self.old }
+    {
+        let spine = self.node.passed.spine;
+        pass_through(&mut self.node.passed, name, spine);
+    }
+
+    /// Passes a node without children that patterns and the ends of items look through.
+    #[inline(always)]
+    pub fn pass_aside(&mut self, name: Name)
+        requires { is_aside (manner_of name) ≡ true }
+        ensures { self.new ≡ machine.passing_leaf name self.old }
+    {
+        let spine = self.node.passed.spine;
+        pass_aside(&mut self.node.passed, name, spine);
     }
 
     /// Passes a child of the innermost node, which has passed its own children.
@@ -401,13 +463,35 @@ impl Printer {
     fn pass_child(&mut self, name: Name, inner: Spine)
         ensures { self.new ≡ machine.passing_child name inner self.old }
     {
+        match manner_of(name) {
+            Manner::Quiet => self.pass_quiet(name),
+            Manner::Through => pass_through(&mut self.node.passed, name, inner),
+            Manner::Aside => pass_aside(&mut self.node.passed, name, inner),
+            Manner::Telling => self.pass_telling(name, inner),
+        }
+    }
+
+    /// Passes a quiet child.
+    #[inline(always)]
+    pub fn pass_quiet(&mut self, name: Name)
+        requires { is_quiet (manner_of name) ≡ true }
+        ensures { (inner : Spine) → self.new ≡ machine.passing_child name inner self.old }
+    {
+        pass_quietly(&mut self.node.passed, name);
+    }
+
+    /// As [`pass_child`], with all that any name tells.
+    #[inline(never)]
+    fn pass_telling(&mut self, name: Name, inner: Spine)
+        ensures { self.new ≡ machine.passing_child name inner self.old }
+    {
         self.is_slurping = slurps_after(
-            self.frame.around,
-            self.frame.passed.spine,
+            self.node.around,
+            self.node.passed.spine,
             name,
             self.is_slurping,
         );
-        pass(&mut self.frame.passed, name, inner);
+        pass(&mut self.node.passed, name, inner);
     }
 
     /// The definitions that were seen.
@@ -421,8 +505,9 @@ impl Printer {
             definitions,
             footnotes: _,
             is_slurping: _,
-            frame: _,
-            frames: _,
+            node: _,
+            nodes: _,
+            places: _,
             tables: _,
         } = self;
         definitions
@@ -449,8 +534,9 @@ impl Printer {
             definitions: _,
             footnotes,
             is_slurping: _,
-            frame: _,
-            frames: _,
+            node: _,
+            nodes: _,
+            places: _,
             tables: _,
         } = self;
         let settings = Settings {
@@ -473,8 +559,9 @@ impl Printer {
             definitions: Vec::new(alloc),
             footnotes: Footnotes::new(alloc),
             is_slurping: false,
-            frame: DOCUMENT_FRAME,
-            frames: Vec::new(alloc),
+            node: DOCUMENT,
+            nodes: Vec::new(alloc),
+            places: Vec::new(alloc),
             tables: Vec::new(alloc),
         }
     }

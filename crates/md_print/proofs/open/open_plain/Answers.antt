@@ -1,7 +1,7 @@
 -- The search that proves it, and no other: a wrong body is refused by it in a second, where all that is tried without
 -- an answer takes ten.
 use Rattle.std.proofs.Common.{rules}
-use Rattle.md_print.proofs.open.open.Goals as goal
+use Rattle.md_print.proofs.open.open_plain.Goals as goal
 
 pub returns-in-Emphasis : goal.returns-in-Emphasis
 returns-in-Emphasis c = search rules
