@@ -24,7 +24,7 @@ ghost use Rattle.md_printer.specs.Given.{given_of};
 ghost use Rattle.md_meaning.specs.Places.{first_ending as first_place};
 ghost use Rattle.md_meaning.specs.Printed.{is_captured};
 ghost use Rattle.md_meaning.specs.declared.context.Ahead.{Ahead};
-ghost use Rattle.md_print.specs.Closings.{group_of, is_light};
+ghost use Rattle.md_print.specs.Closings.{group_of, is_light, reads_text, read_pieces};
 ghost use Rattle.md_html.specs.Leaf.{IsLightLeaf};
 ghost use Rattle.md_html.specs.Plain as plain;
 ghost use Rattle.md_printer.specs.Given.{leaf_in};
@@ -38,14 +38,14 @@ use crate::own_events::definitions_at;
 use md_around::captured::is_captured;
 use md_base::name_tests::is_table;
 use md_base::{AlignKind, Event, Kind, Name, Point, Position, is_same_name};
-use md_print::close::{close, close_captured};
+use md_print::close::{close, close_captured, close_with};
 use md_print::groups::{Group, group_of};
 use md_print::open::{open, open_plain};
 use md_printer::escape::put_encoded;
 use md_printer::frames::{Exit, Inner, Lookahead};
 use md_printer::given::{Given, identifier_at, text_of};
 use md_printer::printer::Printer;
-use md_sheet::{Defined, Definitions};
+use md_sheet::{Defined, Definitions, Rope};
 use md_text::CompileOptions;
 use md_tree::{Checked, CompileError, check, gfm_table_align, list_loose};
 use std::alloc::{AllocError, Global};
@@ -416,6 +416,45 @@ fn exit_captured(
     Ok(())
 }
 
+/// Exits a node that prints its children's text, and nothing else of them.
+fn exit_with_text(
+    printer: &mut Printer,
+    given: &Given,
+    is_last: bool,
+    name: Name,
+    end: Point,
+) -> Result<(), AllocError>
+    requires { reads_text name ≡ true }
+    ensures { OnOk result (printer.new ≡ machine.exited (given_of given.now) is_last true name end printer.old) }
+{
+    let exit = printer.exit(is_last, end);
+    let inner = printer.release_text(given.alloc);
+    close_with_rope(printer, given, &exit, &inner, name)?;
+    printer.reuse(inner);
+    printer.leave(name);
+    Ok(())
+}
+
+/// Prints a node with its children's text, which mostly is in one piece.
+fn close_with_rope(
+    printer: &mut Printer,
+    given: &Given,
+    exit: &Exit,
+    inner: &Rope,
+    name: Name,
+) -> Result<(), AllocError>
+    ensures { OnOk result (printer.new ≡ machine.printing given.now.ending.now
+        (read_pieces exit.now (steps.first_or [] printer.old.tables) name inner.now) printer.old) }
+{
+    match inner.whole() {
+        Some(text) => close_with(printer, given, exit, text, name),
+        None => {
+            let text = inner.to_string(given.alloc)?;
+            close_with(printer, given, exit, text.as_str(), name)
+        }
+    }
+}
+
 /// Exits a node whose children aren't captured.
 #[inline(never)]
 fn exit_streamed(
@@ -450,6 +489,8 @@ fn exit(
     if is_silent(name) {
         printer.leave(name);
         Ok(())
+    } else if reads_text(name) {
+        exit_with_text(printer, given, is_last, name, end)
     } else if is_captured(name) {
         exit_captured(printer, given, is_last, name, end)
     } else {
@@ -566,6 +607,14 @@ fn tells_ahead(name: Name) -> bool
             | Name::Definition
             | Name::GfmFootnoteDefinition
     )
+}
+
+/// A name that prints its children's text, and nothing else of them.
+#[inline(always)]
+fn reads_text(name: Name) -> bool
+    ensures { result ≡ reads_text name }
+{
+    matches!(name, Name::CodeText | Name::MathText | Name::GfmTableCell)
 }
 
 /// A name that prints nothing by itself.

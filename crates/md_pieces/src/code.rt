@@ -64,8 +64,8 @@ fn begins_with_pipe(bytes: &[u8]) -> bool
     bytes.first().is_some_and(|byte| *byte == b'|')
 }
 
-/// A text without one space at each end, where it is padded.
-fn trim(text: &str) -> &str
+/// A text without one space at each end, where it is padded: the text of code outside tables.
+pub fn trim(text: &str) -> &str
     ensures { result.now ≡ texts.without_padding text.now }
 {
     if is_padded(text) {

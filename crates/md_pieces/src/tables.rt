@@ -74,11 +74,28 @@ pub fn close_cell(
         (tables.cell_in exit.now.around.in_head (slice_get (first_or [] printer.old.tables) exit.now.spine.cells)
         inner.now.text) printer.old) }
 {
+    let text = inner.to_text(alloc)?;
+    close_cell_with(printer, ending, exit, text.as_str())
+}
+
+/// Prints a cell after its children, whose text it is handed, if the table has its column.
+///
+/// # Errors
+///
+/// `AllocError`, only where memory runs out.
+pub fn close_cell_with(
+    printer: &mut Printer,
+    ending: &str,
+    exit: &Exit,
+    text: &str,
+) -> Result<(), AllocError>
+    ensures { OnOk result (printer.new
+        ≡ printing ending.now
+        (tables.cell_in exit.now.around.in_head (slice_get (first_or [] printer.old.tables) exit.now.spine.cells)
+        text.now) printer.old) }
+{
     match printer.column(exit.spine.cells) {
-        Some(kind) => {
-            let text = inner.to_text(alloc)?;
-            cell(printer, ending, exit.around.in_head, kind, text.as_str())
-        }
+        Some(kind) => cell(printer, ending, exit.around.in_head, kind, text),
         None => Ok(()),
     }
 }

@@ -1,8 +1,13 @@
 -- Names by what prints their nodes after their children. Only contracts inside the compiler speak of them.
-use Rattle.std.specs.Prelude.{Bool, true, false, List, [], ◌++◌}
+use Rattle.std.specs.Prelude.{ℕ, Bool, true, false, if◌then◌else◌, List, [], ◌∷◌, ◌++◌, codes, slice_get}
 use Rattle.md_base.specs.declared.event.Name.{Name}
 use Rattle.md_base.specs.declared.event.Name.TheVariants.{LineEnding, BlankLineEnding, Data, CharacterEscapeValue, CodeTextData, MathTextData, CharacterReferenceValue, HtmlFlowData, HtmlTextData, Emphasis, Strong, GfmStrikethrough, HardBreakEscape, HardBreakTrailing, GfmTaskListItemCheck, GfmTaskListItemValueChecked, BlockQuote, ListOrdered, ListUnordered, ListItem, Paragraph, ThematicBreak, HeadingAtx, HeadingSetextUnderlineSequence, CodeIndented, CodeFenced, MathFlow, CodeFencedFence, MathFlowFence, CodeFencedFenceInfo, CodeFlowChunk, MathFlowChunk, HtmlFlow, AutolinkEmail, AutolinkProtocol, GfmAutolinkLiteralEmail, GfmAutolinkLiteralMailto, GfmAutolinkLiteralProtocol, GfmAutolinkLiteralWww, GfmAutolinkLiteralXmpp, GfmTable, GfmTableHead, GfmTableBody, GfmTableRow, CodeText, MathText, HeadingSetextText, CodeFencedFenceMeta, MathFlowFenceMeta, Frontmatter, Definition, DefinitionLabelString, DefinitionDestinationString, DefinitionTitleString, GfmFootnoteDefinition, GfmFootnoteDefinitionLabelString, Link, Image, Resource, ResourceDestinationString, ResourceTitleString, ReferenceString, GfmFootnoteCall, GfmTableCell, GfmTableDelimiterRow}
-use Rattle.md_meaning.specs.Piece.{Stroke}
+use Rattle.md_base.specs.declared.event.AlignKind.{AlignKind}
+use Rattle.md_meaning.specs.declared.context.Surroundings.{Surroundings}
+use Rattle.md_meaning.specs.Piece.{Stroke, Text as text_stroke}
+use Rattle.md_meaning.specs.Tables.{cell_in}
+use Rattle.md_meaning.specs.Texts.{saying, code_pieces}
+use Rattle.md_printer.specs.declared.frames.Exit.{Exit}
 use Rattle.md_print.specs.declared.groups.Group.{Group}
 use Rattle.md_print.specs.declared.groups.Group.TheVariants.{Silent, Text, Span, Block, Autolink, Table, Captured}
 
@@ -99,3 +104,22 @@ in_group Captured text block medium table = text ++ (block ++ (medium ++ table))
 -- a name that prints what it reads in its children before them
 abbrev pub prints_place : Name → Bool
 prints_place name = elim name [ ListOrdered ↦ true | HeadingAtx ↦ true | _ ↦ false ]
+
+-- a name that prints its children's text, and nothing else of them
+abbrev pub reads_text : Name → Bool
+reads_text name = elim name [ CodeText ↦ true | MathText ↦ true | GfmTableCell ↦ true | _ ↦ false ]
+
+-- what such a name prints of it
+abbrev pub read_pieces : Exit → List AlignKind → Name → List ℕ → List Stroke
+read_pieces exit columns CodeText text = code_pieces exit.around (codes "<code>") text
+read_pieces exit columns MathText text =
+    code_pieces exit.around (codes "<code class=\"language-math math-inline\">") text
+read_pieces exit columns GfmTableCell text =
+    cell_in exit.around.in_head (slice_get columns exit.spine.cells) text
+read_pieces exit columns _ text = []
+
+-- the text of code between its tags
+abbrev pub tagged_pieces : Surroundings → List ℕ → List ℕ → List Stroke
+tagged_pieces around tag text =
+    if around.in_image then saying text
+    else text_stroke tag ∷ text_stroke text ∷ text_stroke (codes "</code>") ∷ []

@@ -2,7 +2,7 @@
 
 ghost use Rattle.std.specs.Prelude.{◌≡◌, ◌∷◌, [], ◌++◌, OnOk, codes, string_bytes, ◌||◌, ◌&&◌, not, true, false};
 ghost use Rattle.md_printer.specs.Machine.{printing, ahead_by};
-ghost use Rattle.md_print.specs.Closings.{group_of};
+ghost use Rattle.md_print.specs.Closings.{group_of, read_pieces, tagged_pieces};
 ghost use Rattle.md_print.specs.declared.groups.Group.TheVariants as group;
 ghost use Rattle.md_around.specs.Steps.{first_or};
 ghost use Rattle.md_meaning.specs.Piece.{Text, Needed, Forced, Noted, blank};
@@ -20,9 +20,9 @@ use md_base::Name;
 use md_base::name_tests::{is_fence, is_item_prefix, is_paragraph};
 use md_meaning::{Container, Passed, Surroundings};
 use md_pieces::calls::call;
-use md_pieces::code::code_text;
+use md_pieces::code::{code_text, trim};
 use md_pieces::media::{autolink, image, is_plain, link};
-use md_pieces::tables::{close_cell, close_row};
+use md_pieces::tables::{close_cell, close_cell_with, close_row};
 use md_pieces::texts::{data, html, line_ending, reference};
 use md_printer::escape::put_encoded;
 use md_printer::frames::{Exit, Inner};
@@ -453,7 +453,33 @@ fn chunk(printer: &mut Printer, given: &Given, exit: &Exit) -> Result<(), AllocE
     put_encoded(printer, text.as_str(), true)
 }
 
-/// Code or mathematics in a text; in an image, without its tags.
+/// Prints code, mathematics or a cell, whose children's text it is handed.
+///
+/// # Errors
+///
+/// `AllocError`, only where memory runs out.
+pub fn close_with(
+    printer: &mut Printer,
+    given: &Given,
+    exit: &Exit,
+    text: &str,
+    name: Name,
+) -> Result<(), AllocError>
+    ensures { OnOk result (printer.new ≡ printing given.now.ending.now
+        (read_pieces exit.now (first_or [] printer.old.tables) name text.now) printer.old) }
+{
+    match name {
+        Name::CodeText => code_with(given.alloc, printer, exit.around, "<code>", text),
+        Name::MathText => {
+            let tag = "<code class=\"language-math math-inline\">";
+            code_with(given.alloc, printer, exit.around, tag, text)
+        }
+        Name::GfmTableCell => close_cell_with(printer, given.ending, exit, text),
+        _ => Ok(()),
+    }
+}
+
+/// Code or mathematics in a text, laid on a sheet.
 fn code(
     alloc: Global,
     printer: &mut Printer,
@@ -463,11 +489,41 @@ fn code(
 ) -> Result<(), AllocError>
     ensures { OnOk result (printer.new ≡ printing [] (texts.code_pieces around tag.now inner.now.text) printer.old) }
 {
-    let text = code_text(alloc, around, inner.to_text(alloc)?.as_str())?;
+    let text = inner.to_text(alloc)?;
+    code_with(alloc, printer, around, tag, text.as_str())
+}
+
+/// Code or mathematics in a text: in a table without the backslashes that escape pipes.
+fn code_with(
+    alloc: Global,
+    printer: &mut Printer,
+    around: Surroundings,
+    tag: &str,
+    text: &str,
+) -> Result<(), AllocError>
+    ensures { OnOk result (printer.new ≡ printing [] (texts.code_pieces around tag.now text.now) printer.old) }
+{
+    if around.in_table {
+        let text = code_text(alloc, around, text)?;
+        tagged(printer, around, tag, text.as_str())
+    } else {
+        tagged(printer, around, tag, trim(text))
+    }
+}
+
+/// The text of code between its tags; in an image, without them.
+fn tagged(
+    printer: &mut Printer,
+    around: Surroundings,
+    tag: &str,
+    text: &str,
+) -> Result<(), AllocError>
+    ensures { OnOk result (printer.new ≡ printing [] (tagged_pieces around tag.now text.now) printer.old) }
+{
     if around.in_image {
-        return printer.put(text.as_str());
+        return printer.put(text);
     }
     printer.put(tag)?;
-    printer.put(text.as_str())?;
+    printer.put(text)?;
     printer.put("</code>")
 }

@@ -3,3 +3,4 @@ pub mod Machine
 pub mod Given
 -- What the printer keeps of open nodes.
 pub mod Nodes
+pub mod Sheets

@@ -6,7 +6,6 @@ ghost use Rattle.md_meaning.specs.Texts.{saying};
 ghost use Rattle.md_text.specs.Encode.{encoded};
 
 use crate::printer::Printer;
-use md_text::first_replaced;
 use std::alloc::AllocError;
 
 /// Prints a text, escaped where `escaping` says so; what stays as it is goes onto the sheet in runs.
@@ -17,11 +16,5 @@ use std::alloc::AllocError;
 pub fn put_encoded(printer: &mut Printer, text: &str, escaping: bool) -> Result<(), AllocError>
     ensures { OnOk result (printer.new ≡ printing [] (saying (encoded escaping text.now)) printer.old) }
 {
-    let mut rest = text;
-    while let Some((index, other)) = first_replaced(rest.as_bytes(), escaping) {
-        printer.put(&rest[..index])?;
-        printer.put(other)?;
-        rest = &rest[index + 1..];
-    }
-    printer.put(rest)
+    printer.put_encoded(text, escaping)
 }

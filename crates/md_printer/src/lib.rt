@@ -9,4 +9,5 @@ pub mod lines;
 mod nodes;
 pub mod printer;
 pub mod section;
+mod sheets;
 mod ways_back;

@@ -9,17 +9,19 @@ ghost use Rattle.md_meaning.specs.Calls.{number_among, count_among};
 ghost use Rattle.md_meaning.specs.Footnotes.{section_pieces};
 ghost use Rattle.md_sheet.specs.Seen.{counted, noted};
 ghost use Rattle.md_meaning.specs.Texts.{saying};
+ghost use Rattle.md_text.specs.Encode.{encoded};
 ghost use Rattle.md_meaning.specs.declared.context.Spine.{Spine};
 ghost use Rattle.md_around.specs.Manners.{is_quiet, is_through, is_aside, manner_of};
 
 use crate::frames::{Exit, Lookahead};
 use crate::nodes::{DOCUMENT, Node, begin, innermost, keep_place, leave, place_of};
 use crate::section::{Settings, lay_section};
+use crate::sheets::{Below, begin_notes, drop_notes, take_notes, take_spare, take_text};
 use md_around::manners::{Manner, manner_of, pass_aside, pass_quietly, pass_through};
 use md_around::surroundings::{NO_SPINE, pass, slurps_after};
 use md_base::{AlignKind, Name, Point, Position};
 use md_meaning::{Passed, Spine, Surroundings};
-use md_sheet::{Calls, Defined, Footnotes, Rope, Sheet, Target};
+use md_sheet::{Calls, Defined, Footnotes, Notes, Rope, Sheet, Target};
 use md_text::CompileOptions;
 use std::alloc::{AllocError, Global};
 use std::marker::Model;
@@ -27,8 +29,18 @@ use std::marker::Model;
 /// The text so far and the nodes that are open.
 #[derive(Drop)]
 pub struct Printer {
-    sheet: Sheet,
-    below: Vec<Sheet>,
+    /// The text of the sheet that is laid out.
+    text: Rope,
+    /// What is noted on it.
+    notes: Notes,
+    /// Something is noted on it.
+    noted: bool,
+    /// The sheets below it, the next one last.
+    below: Vec<Below>,
+    /// What is noted on those of them on which anything is, the next one's last.
+    kept: Vec<Notes>,
+    /// Texts that aren't used any more, for their room.
+    spare: Vec<String>,
     calls: Calls,
     definitions: Vec<Defined>,
     footnotes: Footnotes,
@@ -43,21 +55,36 @@ pub struct Printer {
 }
 
 impl Model for Printer {
-    ghost use Rattle.std.specs.Prelude.{reverse, map};
+    ghost use Rattle.std.specs.Prelude.{◌≡◌, false, reverse, map};
     ghost use Rattle.md_printer.specs.Machine as machine;
+    ghost use Rattle.md_meaning.specs.Piece.{no_notes};
+    ghost use Rattle.md_printer.specs.Sheets.{sheets_at};
     ghost use Rattle.md_printer.specs.Nodes.{frame_at, frames_at, places_around};
 
     ghost Value = { machine.Printer };
 
     ghost view = { λ p. record {
-      sheet = p.sheet;
-      below = reverse p.below.items;
+      sheet = record { text = p.text; notes = p.notes };
+      below = sheets_at (reverse p.kept.items) (reverse p.below.items);
       log = record { called = p.calls; definitions = p.definitions.items; footnotes = p.footnotes };
       is_slurping = p.is_slurping;
       frame = frame_at (reverse p.places.items) p.node;
       frames = frames_at (places_around p.node.reads (reverse p.places.items)) (reverse p.nodes.items);
       tables = reverse (map (λ v. v.items) p.tables.items);
     } };
+
+    ghost invariant = { λ p. p.noted ≡ false → p.notes ≡ no_notes };
+}
+
+/// A line begins after this byte: it is CR or LF, or there is none.
+#[inline(always)]
+fn ends_line(byte: Option<u8>) -> bool
+    ensures { result ≡ piece.ends_line byte }
+{
+    match byte {
+        Some(byte) => byte == b'\r' || byte == b'\n',
+        None => true,
+    }
 }
 
 impl Printer {
@@ -71,7 +98,18 @@ impl Printer {
     pub fn put(&mut self, text: &str) -> Result<(), AllocError>
         ensures { OnOk result (self.new ≡ machine.printing [] (saying text.now) self.old) }
     {
-        self.sheet.put(text)
+        self.text.push_str(text)
+    }
+
+    /// Prints a text, made safe to stand in HTML where `escaping` says so, and without NUL in any case.
+    ///
+    /// # Errors
+    ///
+    /// `AllocError`, only where memory runs out.
+    pub fn put_encoded(&mut self, text: &str, escaping: bool) -> Result<(), AllocError>
+        ensures { OnOk result (self.new ≡ machine.printing [] (saying (encoded escaping text.now)) self.old) }
+    {
+        self.text.push_encoded(text, escaping)
     }
 
     /// Prints a text in parts, without copying the longer of it and the sheet.
@@ -82,7 +120,7 @@ impl Printer {
     pub fn append(&mut self, alloc: Global, text: Rope) -> Result<(), AllocError>
         ensures { OnOk result (self.new ≡ machine.printing [] (saying text) self.old) }
     {
-        self.sheet.append(alloc, text)
+        self.text.append(alloc, text)
     }
 
     /// Prints a line ending, unless a line starts here.
@@ -93,7 +131,11 @@ impl Printer {
     pub fn need(&mut self, ending: &str) -> Result<(), AllocError>
         ensures { OnOk result (self.new ≡ machine.printing ending.now (Needed ∷ []) self.old) }
     {
-        self.sheet.need(ending)
+        if ends_line(self.text.last_byte()) {
+            Ok(())
+        } else {
+            self.text.push_str(ending)
+        }
     }
 
     /// Prints a line ending.
@@ -104,35 +146,39 @@ impl Printer {
     pub fn force(&mut self, ending: &str) -> Result<(), AllocError>
         ensures { OnOk result (self.new ≡ machine.printing ending.now (Forced ∷ []) self.old) }
     {
-        self.sheet.put(ending)
+        self.text.push_str(ending)
     }
 
     /// Notes a heading's text.
     pub fn note_heading(&mut self, text: String)
         ensures { self.new ≡ machine.printing [] (Noted (piece.Heading (string_bytes text)) ∷ []) self.old }
     {
-        self.sheet.note_heading(text);
+        self.notes.note_heading(text);
+        self.noted = true;
     }
 
     /// Notes a destination.
     pub fn note_destination(&mut self, text: String)
         ensures { self.new ≡ machine.printing [] (Noted (piece.Destination (string_bytes text)) ∷ []) self.old }
     {
-        self.sheet.note_destination(text);
+        self.notes.note_destination(text);
+        self.noted = true;
     }
 
     /// Notes a title.
     pub fn note_title(&mut self, text: String)
         ensures { self.new ≡ machine.printing [] (Noted (piece.Title (string_bytes text)) ∷ []) self.old }
     {
-        self.sheet.note_title(text);
+        self.notes.note_title(text);
+        self.noted = true;
     }
 
     /// Notes a resource.
     pub fn note_resource(&mut self, target: Target)
         ensures { self.new ≡ machine.printing [] (Noted (piece.Resource target) ∷ []) self.old }
     {
-        self.sheet.note_resource(target);
+        self.notes.note_resource(target);
+        self.noted = true;
     }
 
     /// Adds a footnote call to those that were seen.
@@ -255,7 +301,7 @@ impl Printer {
     pub fn recall(&mut self) -> Result<(), AllocError>
         ensures { OnOk result (self.new ≡ machine.printing [] (Recalled ∷ []) self.old) }
     {
-        self.sheet.recall()
+        self.text.push_str(self.notes.heading())
     }
 
     /// Begins a text of its own, to be released later.
@@ -267,8 +313,12 @@ impl Printer {
     pub fn capture(&mut self, alloc: Global) -> Result<(), AllocError>
         ensures { OnOk result (self.new ≡ machine.capturing true self.old) }
     {
-        let outer = std::mem::replace(&mut self.sheet, Sheet::new(alloc));
-        self.below.push(outer)?;
+        begin_notes(alloc, &mut self.notes, self.noted, &mut self.kept)?;
+        let inner = Rope::from_string(alloc, take_spare(alloc, &mut self.spare));
+        let text = std::mem::replace(&mut self.text, inner);
+        let noted = self.noted;
+        self.noted = false;
+        self.below.push(Below { text, noted })?;
         Ok(())
     }
 
@@ -278,10 +328,31 @@ impl Printer {
         ensures sheet { result ≡ self.old.sheet }
         ensures state { self.new ≡ machine.releasing true self.old }
     {
-        match self.below.pop() {
-            Some(outer) => std::mem::replace(&mut self.sheet, outer),
-            None => std::mem::replace(&mut self.sheet, Sheet::new(alloc)),
-        }
+        let (text, noted) = take_text(alloc, &mut self.text, &mut self.below);
+        let notes = take_notes(alloc, &mut self.notes, noted, &mut self.kept);
+        self.noted = noted;
+        Sheet::from_parts(text, notes)
+    }
+
+    /// Ends the sheet that was captured last, of which the text is used and the notes aren't, and goes on with the one
+    /// below.
+    #[inline(always)]
+    pub fn release_text(&mut self, alloc: Global) -> Rope
+        ensures text { result ≡ self.old.sheet.text }
+        ensures state { self.new ≡ machine.releasing true self.old }
+    {
+        let (text, noted) = take_text(alloc, &mut self.text, &mut self.below);
+        drop_notes(alloc, &mut self.notes, self.noted, noted, &mut self.kept);
+        self.noted = noted;
+        text
+    }
+
+    /// Keeps the room of a text that isn't used any more.
+    #[inline(always)]
+    pub fn reuse(&mut self, text: Rope)
+        ensures { self.new ≡ self.old }
+    {
+        let _ = self.spare.push(text.emptied());
     }
 
     /// The surroundings of the children of the innermost node that is open.
@@ -499,8 +570,12 @@ impl Printer {
         ensures { result.items ≡ self.log.definitions }
     {
         let Printer {
-            sheet: _,
+            text: _,
+            notes: _,
+            noted: _,
             below: _,
+            kept: _,
+            spare: _,
             calls: _,
             definitions,
             footnotes: _,
@@ -528,8 +603,12 @@ impl Printer {
             ≡ (lay ending.now self.sheet (section_pieces options.now self.log.footnotes self.log.called)).text) }
     {
         let Printer {
-            mut sheet,
+            text,
+            notes,
+            noted: _,
             below: _,
+            kept: _,
+            spare: _,
             calls,
             definitions: _,
             footnotes,
@@ -539,6 +618,7 @@ impl Printer {
             places: _,
             tables: _,
         } = self;
+        let mut sheet = Sheet::from_parts(text, notes);
         let settings = Settings {
             alloc,
             options,
@@ -553,8 +633,12 @@ impl Printer {
         ensures { result ≡ machine.beginning }
     {
         Printer {
-            sheet: Sheet::new(alloc),
+            text: Rope::new(alloc),
+            notes: Notes::new(alloc),
+            noted: false,
             below: Vec::new(alloc),
+            kept: Vec::new(alloc),
+            spare: Vec::new(alloc),
             calls: Calls::new(alloc),
             definitions: Vec::new(alloc),
             footnotes: Footnotes::new(alloc),

@@ -1,7 +1,9 @@
 //! A text in parts, after which another is put without copying the longer of the two.
 
-ghost use Rattle.std.specs.Prelude.{◌≡◌, [], ◌++◌, ◌-◌, OnOk, IfOk, string_bytes, slice_get, length};
+ghost use Rattle.std.specs.Prelude.{◌≡◌, [], ◌++◌, ◌-◌, OnOk, IfOk, IfSome, string_bytes, slice_get, length};
+ghost use Rattle.md_text.specs.Encode.{encoded};
 
+use md_text::push_encoded;
 use std::alloc::{AllocError, Global};
 use std::marker::Model;
 
@@ -12,8 +14,8 @@ pub struct Rope {
     /// The parts before the last one, the last of them first.
     front: Vec<String>,
     last: String,
-    /// How long the text is, as far as a `usize` counts.
-    length: usize,
+    /// How long the parts before the last one are, as far as a `usize` counts.
+    front_length: usize,
 }
 
 impl Model for Rope {
@@ -24,7 +26,7 @@ impl Model for Rope {
 
     ghost view = { λ r. joined r.front.items ++ string_bytes r.last };
 
-    ghost invariant = { λ r. r.length ≡ counted_up (joined r.front.items ++ string_bytes r.last) };
+    ghost invariant = { λ r. r.front_length ≡ counted_up (joined r.front.items) };
 }
 
 impl Rope {
@@ -41,8 +43,8 @@ impl Rope {
     {
         Rope {
             front: Vec::new(alloc),
-            length: text.len(),
             last: text,
+            front_length: 0,
         }
     }
 
@@ -54,9 +56,18 @@ impl Rope {
     pub fn push_str(&mut self, text: &str) -> Result<(), AllocError>
         ensures { OnOk result (self.new ≡ self.old ++ text.now) }
     {
-        self.last.push_str(text)?;
-        self.length = self.length.saturating_add(text.len());
-        Ok(())
+        self.last.push_str(text)
+    }
+
+    /// Adds a text, made safe to stand in HTML where `escaping` says so, and without NUL in any case.
+    ///
+    /// # Errors
+    ///
+    /// Only where memory runs out.
+    pub fn push_encoded(&mut self, text: &str, escaping: bool) -> Result<(), AllocError>
+        ensures { OnOk result (self.new ≡ self.old ++ encoded escaping text.now) }
+    {
+        push_encoded(&mut self.last, text, escaping)
     }
 
     /// Adds another rope's text: the shorter of the two is copied.
@@ -67,7 +78,7 @@ impl Rope {
     pub fn append(&mut self, alloc: Global, other: Rope) -> Result<(), AllocError>
         ensures { OnOk result (self.new ≡ self.old ++ other) }
     {
-        if self.length < other.length {
+        if self.length() < other.length() {
             let before = std::mem::replace(self, other);
             self.put_before(before.into_string(alloc)?)
         } else {
@@ -75,14 +86,43 @@ impl Rope {
         }
     }
 
+    /// How long the text is, as far as a `usize` counts: which of two is copied goes by it, and nothing else.
+    fn length(&self) -> usize {
+        self.front_length.saturating_add(self.last.len())
+    }
+
     /// Puts a text before this one.
     fn put_before(&mut self, text: String) -> Result<(), AllocError>
         ensures { OnOk result (self.new ≡ string_bytes text ++ self.old) }
     {
-        let length = self.length.saturating_add(text.len());
+        let length = self.front_length.saturating_add(text.len());
         self.front.push(text)?;
-        self.length = length;
+        self.front_length = length;
         Ok(())
+    }
+
+    /// The text, where it has one part.
+    pub fn whole(&self) -> Option<&str>
+        ensures { IfSome result (λ text. text.now ≡ self.now) }
+    {
+        if self.front.is_empty() {
+            Some(self.last.as_str())
+        } else {
+            None
+        }
+    }
+
+    /// No text, in the room that the last part of this one had.
+    pub fn emptied(self) -> String
+        ensures { string_bytes result ≡ [] }
+    {
+        let Rope {
+            front: _,
+            mut last,
+            front_length: _,
+        } = self;
+        last.clear();
+        last
     }
 
     /// The text in one piece: as it is, where it has one part.
@@ -97,7 +137,7 @@ impl Rope {
             let Rope {
                 front: _,
                 last,
-                length: _,
+                front_length: _,
             } = self;
             return Ok(last);
         }
@@ -112,7 +152,7 @@ impl Rope {
     pub fn to_string(&self, alloc: Global) -> Result<String, AllocError>
         ensures { IfOk result (λ text. string_bytes text ≡ self.now) }
     {
-        let mut text = String::with_capacity(alloc, self.length)?;
+        let mut text = String::with_capacity(alloc, self.length())?;
         let mut parts = self.front.as_slice();
         while let Some((part, before)) = parts.split_last() {
             text.push_str(part.as_str())?;

@@ -134,6 +134,13 @@ impl Sheet {
         self.text.to_string(alloc)
     }
 
+    /// What is laid out and what was noted, as one.
+    pub fn from_parts(text: Rope, notes: Notes) -> Sheet
+        ensures { result ≡ record { text = text; notes = notes } }
+    {
+        Sheet { text, notes }
+    }
+
     /// The text that is laid out, and what was noted.
     pub fn into_parts(self) -> (Rope, Notes)
         ensures text { result.0 ≡ self.text }

@@ -6,6 +6,7 @@ use Rattle.md_around.specs.Steps.{first_or}
 use Rattle.md_printer.specs.declared.nodes.Node.{Node}
 use Rattle.md_printer.specs.Machine.{Printer, passing_child, leaving}
 use Rattle.md_printer.specs.Nodes.{places_around, frame_at, frames_at, document_node}
+use Rattle.md_printer.specs.Sheets.{sheets_at}
 use Rattle.md_printer.proofs.Leaving.{left}
 use Rattle.md_printer.proofs.printer.Printer.leave.Goals as goal
 
@@ -18,8 +19,8 @@ returns c =
     let places : List Position = reverse kept.places.items in
     let around : List Position = places_around node.reads places in
     let state : Node → List Node → List Position → Printer = λ node nodes places. record {
-      sheet = kept.sheet;
-      below = reverse kept.below.items;
+      sheet = record { text = kept.text; notes = kept.notes };
+      below = sheets_at (reverse kept.kept.items) (reverse kept.below.items);
       log = record { called = kept.calls; definitions = kept.definitions.items; footnotes = kept.footnotes };
       is_slurping = kept.is_slurping;
       frame = frame_at places node;

@@ -21,11 +21,11 @@ own_length c = search rules
 
 pub invariant_of-self-2 : goal.invariant_of-self-2
 invariant_of-self-2 c =
+    let parts = c.self.inside.front.items in
     c.saturating_add-length.ensures
-    ∙ ap (λ n. min (c.self.inside.length + n) (2 ^ 64 - 1)) (own_length c)
-    ∙ counted_up-append (string_bytes c.args.text) (joined c.self.inside.front.items
-    ++ string_bytes c.self.inside.last) c.self.inside.length c.self.invariant
-    ∙ ap (λ t. counted_up t) (sym (text_before c))
+    ∙ ap (λ n. min (c.self.inside.front_length + n) (2 ^ 64 - 1)) (own_length c)
+    ∙ counted_up-append (string_bytes c.args.text) (joined parts) c.self.inside.front_length c.self.invariant
+    ∙ ap (λ t. counted_up t) (sym (ap (λ items. joined items) c.in_ok-push.ensures.items ∙ joined-push parts c.args.text))
 
 pub returns : goal.returns
 returns c = text_before c ∙ ap (λ t. string_bytes c.args.text ++ t) c.self.view_is

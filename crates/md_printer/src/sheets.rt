@@ -1,0 +1,120 @@
+//! The sheets below the one that is laid out.
+
+ghost use Rattle.std.specs.Prelude.{◌≡◌, ◌∷◌, [], ◌++◌, false, reverse, OnOk, string_bytes};
+ghost use Rattle.md_around.specs.Steps.{others_of};
+ghost use Rattle.md_meaning.specs.Piece.{no_notes};
+ghost use Rattle.md_printer.specs.Sheets as spec;
+
+use md_sheet::{Notes, Rope};
+use std::alloc::{AllocError, Global};
+
+/// A sheet below the one that is laid out. What was noted on it stands apart, since on few sheets anything is noted, and
+/// the others are kept with less.
+#[derive(Drop)]
+pub(crate) struct Below {
+    /// Its text.
+    pub(crate) text: Rope,
+    /// Something was noted on it.
+    pub(crate) noted: bool,
+}
+
+/// A text with nothing in it, in the room of one that isn't used any more, if there is one.
+#[inline(always)]
+pub(crate) fn take_spare(alloc: Global, spare: &mut Vec<String>) -> String
+    ensures { string_bytes result ≡ [] }
+{
+    match spare.pop() {
+        Some(mut text) => {
+            text.clear();
+            text
+        }
+        None => String::new(alloc),
+    }
+}
+
+/// Puts aside what was noted on a sheet, if anything was; nothing is noted on the next one.
+#[inline(always)]
+pub(crate) fn begin_notes(
+    alloc: Global,
+    notes: &mut Notes,
+    noted: bool,
+    kept: &mut Vec<Notes>,
+) -> Result<(), AllocError>
+    requires { noted ≡ false → notes.old ≡ no_notes }
+    ensures unnoted { noted ≡ false → notes.new ≡ no_notes }
+    ensures blank { OnOk result (notes.new ≡ no_notes) }
+    ensures own { OnOk result (spec.notes_of noted (reverse kept.new.items) ≡ notes.old) }
+    ensures others { OnOk result (spec.notes_below noted (reverse kept.new.items) ≡ reverse kept.old.items) }
+{
+    if noted {
+        let outer = std::mem::replace(notes, Notes::new(alloc));
+        kept.push(outer)?;
+    }
+    Ok(())
+}
+
+/// What was noted on the sheet below: what was put aside, if anything was noted on it.
+#[inline(always)]
+fn notes_below(alloc: Global, noted: bool, kept: &mut Vec<Notes>) -> Notes
+    ensures notes { result ≡ spec.notes_of noted (reverse kept.old.items) }
+    ensures others { reverse kept.new.items ≡ spec.notes_below noted (reverse kept.old.items) }
+{
+    if noted {
+        match kept.pop() {
+            Some(notes) => notes,
+            None => Notes::new(alloc),
+        }
+    } else {
+        Notes::new(alloc)
+    }
+}
+
+/// Goes back to what was noted on the sheet below, and hands out what was noted on this one.
+pub(crate) fn take_notes(
+    alloc: Global,
+    notes: &mut Notes,
+    below_noted: bool,
+    kept: &mut Vec<Notes>,
+) -> Notes
+    ensures taken { result ≡ notes.old }
+    ensures notes { notes.new ≡ spec.notes_of below_noted (reverse kept.old.items) }
+    ensures others { reverse kept.new.items ≡ spec.notes_below below_noted (reverse kept.old.items) }
+{
+    let below = notes_below(alloc, below_noted, kept);
+    std::mem::replace(notes, below)
+}
+
+/// Goes back to what was noted on the sheet below, where mostly nothing is.
+#[inline(always)]
+pub(crate) fn drop_notes(
+    alloc: Global,
+    notes: &mut Notes,
+    noted: bool,
+    below_noted: bool,
+    kept: &mut Vec<Notes>,
+)
+    requires { noted ≡ false → notes.old ≡ no_notes }
+    ensures notes { notes.new ≡ spec.notes_of below_noted (reverse kept.old.items) }
+    ensures others { reverse kept.new.items ≡ spec.notes_below below_noted (reverse kept.old.items) }
+{
+    if noted || below_noted {
+        *notes = notes_below(alloc, below_noted, kept);
+    }
+}
+
+/// Goes back to the text of the sheet below: what is laid out on this one, and whether anything was noted on that one.
+#[inline(always)]
+pub(crate) fn take_text(alloc: Global, text: &mut Rope, below: &mut Vec<Below>) -> (Rope, bool)
+    ensures taken { result.0 ≡ text.old }
+    ensures noted { result.1 ≡ spec.noted_of (reverse below.old.items) }
+    ensures text { text.new ≡ spec.text_of (reverse below.old.items) }
+    ensures others { reverse below.new.items ≡ others_of (reverse below.old.items) }
+{
+    match below.pop() {
+        Some(sheet) => {
+            let Below { text: outer, noted } = sheet;
+            (std::mem::replace(text, outer), noted)
+        }
+        None => (std::mem::replace(text, Rope::new(alloc)), false),
+    }
+}
