@@ -1,5 +1,5 @@
 -- A node that prints its children's text prints nothing else, is seen for nothing, and is no table.
-use Rattle.std.proofs.Common.{◌≡◌, ℕ, Bool, true, false, List, [], ◌++◌, codes, refl}
+use Rattle.std.proofs.Common.{◌≡◌, ℕ, true, false, List, codes, refl}
 use Rattle.std.proofs.lemmas.List.{append-nil}
 use Rattle.md_base.proofs.Lies.{lie}
 use Rattle.md_base.specs.declared.event.AlignKind.{AlignKind}

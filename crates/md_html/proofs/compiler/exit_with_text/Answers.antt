@@ -1,6 +1,5 @@
 -- Of the sheet that is ended its text alone is read, and each step is the machine's; nothing is logged.
-use Rattle.std.proofs.Common.{◌≡◌, Bool, true, false, ℕ, List, [], ap, sym, ◌∙◌}
-use Rattle.md_base.specs.NameTests.{is_table}
+use Rattle.std.proofs.Common.{◌≡◌, Bool, true, ℕ, List, [], ap, sym, ◌∙◌}
 use Rattle.md_printer.specs.declared.frames.Exit.{Exit}
 use Rattle.md_printer.specs.Given.{given_of, exit_in}
 use Rattle.md_printer.specs.Machine as machine

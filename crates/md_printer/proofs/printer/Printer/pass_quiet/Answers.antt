@@ -1,5 +1,5 @@
 -- A quiet child leaves no mark, and of what is passed no more than the machine's.
-use Rattle.std.proofs.Common.{◌≡◌, Bool, reverse, ap, sym, ◌∙◌}
+use Rattle.std.proofs.Common.{Bool, reverse, ap, sym, ◌∙◌}
 use Rattle.std.specs.Prelude.{map}
 use Rattle.md_around.specs.Steps.{passing}
 use Rattle.md_around.proofs.MannerLemmas.{quiet-marks}

@@ -1,12 +1,12 @@
 -- What is kept of the sheet below is the machine's.
-use Rattle.std.proofs.Common.{◌≡◌, true, ℕ, List, reverse, ap, ◌∙◌}
+use Rattle.std.proofs.Common.{true, ℕ, List, reverse, ap, ◌∙◌}
 use Rattle.std.specs.Prelude.{map}
 use Rattle.md_around.specs.Steps.{others_of}
 use Rattle.md_meaning.specs.Piece.{Notes, Sheet}
 use Rattle.md_printer.specs.declared.sheets.Below.{Below}
 use Rattle.md_printer.specs.Machine.{Printer, releasing}
 use Rattle.md_printer.specs.Nodes.{places_around, frame_at, frames_at}
-use Rattle.md_printer.specs.Sheets.{notes_of, notes_below, sheets_at, text_of, noted_of}
+use Rattle.md_printer.specs.Sheets.{notes_of, notes_below, sheets_at, text_of}
 use Rattle.md_printer.proofs.Released.{released}
 use Rattle.md_printer.proofs.printer.Printer.release.Goals as goal
 
