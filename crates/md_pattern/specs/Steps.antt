@@ -74,31 +74,29 @@ is_complete state = is_whole state.stage && list_all is_optional (items_of state
 abbrev pub start_of : Role → State
 start_of role = record { role = role; before = None; position = 0; stage = Whole }
 
--- a node of this role is a list or a part of one that holds a node whatever it holds, and another node does
-abbrev pub is_full_list_part : Role → Bool
-is_full_list_part role.OrderedList = true
-is_full_list_part role.UnorderedList = true
-is_full_list_part role.FirstOrderedItem = true
-is_full_list_part role.OrderedItem = true
-is_full_list_part role.Item = true
-is_full_list_part role.FirstOrderedPrefix = true
-is_full_list_part role.OrderedPrefix = true
-is_full_list_part role.Prefix = true
-is_full_list_part _ = false
-
-abbrev pub is_full : Role → Bool
-is_full role.FootnoteDefinition = true
-is_full role.FootnotePrefix = true
-is_full role.Heading = true
-is_full role.CodeFenced = true
-is_full role.Math = true
-is_full role.Media = true
-is_full role.FootnoteCall = true
-is_full role.CallLabel = true
-is_full role.Definition = true
-is_full role.Table = true
-is_full role.TableHead = true
-is_full _ = false
+-- how many items of a role's pattern there are up to the last that must be there. Only contracts of private functions
+-- speak of it.
+abbrev pub needed_by : Role → ℕ
+needed_by role.FootnoteDefinition = 1
+needed_by role.FootnotePrefix = 1
+needed_by role.OrderedList = 1
+needed_by role.UnorderedList = 1
+needed_by role.FirstOrderedItem = 1
+needed_by role.OrderedItem = 1
+needed_by role.Item = 1
+needed_by role.FirstOrderedPrefix = 2
+needed_by role.OrderedPrefix = 2
+needed_by role.Prefix = 1
+needed_by role.Heading = 1
+needed_by role.CodeFenced = 1
+needed_by role.Math = 1
+needed_by role.Media = 1
+needed_by role.FootnoteCall = 1
+needed_by role.CallLabel = 2
+needed_by role.Definition = 1
+needed_by role.Table = 1
+needed_by role.TableHead = 3
+needed_by _ = 0
 
 -- a node of this role may have children
 abbrev pub may_hold : Role → Bool

@@ -2,7 +2,7 @@
 
 ghost use Rattle.std.specs.Prelude.{◌≡◌, ◌<◌, ◌+◌, ◌^◌, Some, None, if◌then◌else◌, drop};
 ghost use Rattle.std.specs.List.{list_all};
-ghost use Rattle.md_pattern.specs.Steps.{begun_by, next_stage, is_optional, next_position, seek, advance, is_complete, start_of, may_hold, is_full_list_part, is_full};
+ghost use Rattle.md_pattern.specs.Steps.{begun_by, next_stage, is_optional, next_position, seek, advance, is_complete, start_of, may_hold, needed_by};
 ghost use Rattle.md_pattern.specs.Pattern.{pattern_of};
 ghost use Rattle.md_pattern.specs.Shape.{role_for};
 
@@ -136,23 +136,36 @@ pub fn is_complete(state: State) -> bool
 fn can_end_in(role: Role, from: u8) -> bool
     ensures { result ≡ list_all is_optional (drop from (pattern_of role)) }
 {
-    match role {
-        // Whatever of it was taken.
-        Role::Flow | Role::Phrasing => true,
-        _ => all_optional(pattern_of(role), usize::from(from)),
-    }
+    needed_by(role) <= from
 }
 
-/// Whether each item from here on may be left out.
-fn all_optional(items: &[Item], from: usize) -> bool
-    ensures { result ≡ list_all is_optional (drop from items.now) }
+/// How many items of a role's pattern there are up to the last that must be there.
+#[inline(always)]
+fn needed_by(role: Role) -> u8
+    ensures { result ≡ needed_by role }
 {
-    for position in from..items.len() {
-        if !is_optional(items[position]) {
-            return false;
-        }
+    match role {
+        Role::FootnoteDefinition => 1,
+        Role::FootnotePrefix => 1,
+        Role::OrderedList => 1,
+        Role::UnorderedList => 1,
+        Role::FirstOrderedItem => 1,
+        Role::OrderedItem => 1,
+        Role::Item => 1,
+        Role::FirstOrderedPrefix => 2,
+        Role::OrderedPrefix => 2,
+        Role::Prefix => 1,
+        Role::Heading => 1,
+        Role::CodeFenced => 1,
+        Role::Math => 1,
+        Role::Media => 1,
+        Role::FootnoteCall => 1,
+        Role::CallLabel => 2,
+        Role::Definition => 1,
+        Role::Table => 1,
+        Role::TableHead => 3,
+        _ => 0,
     }
-    true
 }
 
 /// A spine of which nothing has been read.
@@ -172,7 +185,7 @@ pub fn start_of(role: Role) -> State
 fn can_be_empty(role: Role) -> bool
     ensures { result ≡ is_complete (start_of role) }
 {
-    !is_full_list_part(role) && !is_full(role)
+    can_end_in(role, 0)
 }
 
 /// Whether the spine of a node with this usual role may end where it begins, in a node of a role, after a symbol.
@@ -181,52 +194,14 @@ pub fn can_be_leaf(around: Role, before: Option<Symbol>, usual: Role) -> bool
     ensures { result ≡ is_complete (start_of (role_for around before usual)) }
 {
     match usual {
-        // That of most nodes without children.
-        Role::Childless => true,
+        // Those of most nodes without children.
+        Role::Childless | Role::Empty => true,
         _ => can_be_empty(role_for(around, before, usual)),
     }
 }
 
-/// Whether a node of this role is a list or a part of one that holds a node whatever it holds.
-#[inline(always)]
-fn is_full_list_part(role: Role) -> bool
-    ensures { result ≡ is_full_list_part role }
-{
-    matches!(
-        role,
-        Role::OrderedList
-            | Role::UnorderedList
-            | Role::FirstOrderedItem
-            | Role::OrderedItem
-            | Role::Item
-            | Role::FirstOrderedPrefix
-            | Role::OrderedPrefix
-            | Role::Prefix
-    )
-}
-
-/// Whether a node of this role that is no list and no part of one holds a node whatever it holds.
-#[inline(always)]
-fn is_full(role: Role) -> bool
-    ensures { result ≡ is_full role }
-{
-    matches!(
-        role,
-        Role::FootnoteDefinition
-            | Role::FootnotePrefix
-            | Role::Heading
-            | Role::CodeFenced
-            | Role::Math
-            | Role::Media
-            | Role::FootnoteCall
-            | Role::CallLabel
-            | Role::Definition
-            | Role::Table
-            | Role::TableHead
-    )
-}
-
 /// Whether a node of this role may have children.
+#[inline(always)]
 pub fn may_hold(role: Role) -> bool
     ensures { result ≡ may_hold role }
 {
