@@ -1,6 +1,6 @@
 //! The pass over the events from the first to the last, which finds what is read or inferred of each node.
 
-ghost use Rattle.std.specs.Prelude.{◌≡◌, ℕ, true, OnOk, map, set, not, ◌&&◌, IfOk};
+ghost use Rattle.std.specs.Prelude.{◌≡◌, ℕ, ◌+◌, true, OnOk, [], ◌∷◌, ◌++◌, length, map, set, not, ◌&&◌, IfOk};
 ghost use Rattle.md_base.specs.NameTests.{is_transparent, contributes};
 ghost use Rattle.md_infer.specs.Facts as spec;
 ghost use Rattle.md_infer.specs.Ending.{exits_line_ending, ending_after};
@@ -88,12 +88,19 @@ fn opened(entry: usize, name: Name, around: &OpenNode) -> OpenNode
         | Name::ListItem
         | Name::ListItemPrefix
         | Name::ListOrdered
-        | Name::SpaceOrTab
-        | Name::Other(_) => OpenNode {
+        | Name::SpaceOrTab => OpenNode {
             entry,
             contributing: 0,
             collects: collects_in(name, around.collects),
             sought: sought_inside(name, around.sought),
+            told: NOTHING_TOLD,
+        },
+        // What is sought and collected around it is in it as well.
+        Name::Other(_) => OpenNode {
+            entry,
+            contributing: 0,
+            collects: around.collects,
+            sought: around.sought,
             told: NOTHING_TOLD,
         },
         // Nothing is sought or collected in any other.
@@ -174,6 +181,23 @@ fn partner_alone(partner: usize) -> Fact
         read_at: 0,
         looseness: NOT_LOOSE,
     }
+}
+
+/// Adds what is known of an entry and of its own exit, which comes right after; answers the index of the entry.
+#[inline(always)]
+fn push_leaf(facts: &mut Vec<Fact>) -> Result<usize, AllocError>
+    ensures entry { IfOk result (λ entry. entry ≡ length facts.old.items) }
+    ensures facts { IfOk result
+        (λ entry. facts.new.items ≡ (facts.old.items ++ spec.partner_alone (entry + 1) ∷ [])
+        ++ spec.partner_alone entry ∷ []) }
+{
+    let entry = facts.len();
+    if facts.capacity() - entry < 2 {
+        facts.reserve(2)?;
+    }
+    facts.push_reserved(partner_alone(entry + 1));
+    facts.push_reserved(partner_alone(entry));
+    Ok(entry)
 }
 
 /// Goes on with a search after a node without children.
@@ -277,15 +301,14 @@ impl Pass {
     /// # Errors
     ///
     /// `AllocError`, only where memory runs out.
+    #[inline(always)]
     pub fn leaf(&mut self, alloc: Global, name: Name) -> Result<(), AllocError>
         ensures { OnOk result (self.new ≡ spec.passed_exit name (spec.passed_entry name self.old)) }
     {
         if is_table(name) {
             return self.leaf_table(alloc, name);
         }
-        let entry = self.facts.len();
-        self.facts.push(partner_alone(entry + 1))?;
-        self.facts.push(partner_alone(entry))?;
+        let entry = push_leaf(&mut self.facts)?;
         match self.open_nodes.last_mut() {
             Some(here) => follow_leaf(alloc, here, &mut self.ended, name, entry),
             None => follow_leaf(alloc, &mut self.document, &mut self.ended, name, entry),
@@ -317,6 +340,18 @@ impl Pass {
     /// The exit of a node.
     #[inline(always)]
     fn exit(&mut self, alloc: Global, name: Name) -> Result<(), AllocError>
+        ensures { OnOk result (self.new ≡ spec.passed_exit name self.old) }
+    {
+        // Many nodes have such a name: where it is written, what goes by the name is computed when this is built.
+        match name {
+            Name::Other(number) => self.exit_named(alloc, Name::Other(number)),
+            _ => self.exit_named(alloc, name),
+        }
+    }
+
+    /// The same, where the name may be written at the call.
+    #[inline(always)]
+    fn exit_named(&mut self, alloc: Global, name: Name) -> Result<(), AllocError>
         ensures { OnOk result (self.new ≡ spec.passed_exit name self.old) }
     {
         let own = leave_innermost(&mut self.open_nodes, &mut self.document);

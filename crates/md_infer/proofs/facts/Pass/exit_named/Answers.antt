@@ -1,4 +1,4 @@
--- What `exit` leaves is the pass after this exit, in an open node and where only the document is left. The search
+-- What `exit_named` leaves is the pass after this exit, in an open node and where only the document is left. The search
 -- can't see that the first of the open nodes changes where the last of the vector does.
 use Rattle.std.proofs.Common.{rules, ◌≡◌, ◌<◌, ◌-◌, ◌∷◌, [], length, get_or, refl, sym, ap, ◌∙◌, subst}
 use Rattle.std.specs.Prelude.{set}
@@ -6,7 +6,7 @@ use Rattle.md_infer.specs.contracts.facts.Pass.{the_view}
 use Rattle.md_infer.specs.Facts.{opens, fact_of, partner_alone}
 use Rattle.md_infer.specs.Columns.{Collected}
 use Rattle.md_infer.proofs.Opens.{on_answer, opens-set, opens-last, opens-alone, put_then_pushed, passed_exit-by}
-use Rattle.md_infer.proofs.facts.Pass.exit.Goals as goal
+use Rattle.md_infer.proofs.facts.Pass.exit_named.Goals as goal
 
 pub returns-in-Some : goal.returns-in-Some
 returns-in-Some c =
