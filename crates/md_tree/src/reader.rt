@@ -12,7 +12,7 @@ ghost use Rattle.md_tree.specs.Reader.{IsLeaf, HasRead};
 use crate::input::Input;
 use crate::rule::CompileError;
 use crate::walk::Walk;
-use md_base::{Event, Kind, is_same_name};
+use md_base::{Event, Kind, Name, is_same_name};
 use md_infer::{Pass, ending_after};
 use std::alloc::AllocError;
 
@@ -97,6 +97,7 @@ impl Reader {
     }
 
     /// Reads the two events of a node without children, of which the first has this index.
+    #[inline(always)]
     fn read_leaf(
         &mut self,
         input: Input,
@@ -114,8 +115,42 @@ impl Reader {
         ensures refused { IfErr result
             (IsRefusal (handed input.entry.events.now input.entry.bytes.now input.entry.names.now)) }
     {
-        self.walk.leaf(input, index, event.name)?;
-        self.pass.leaf(input.alloc, event.name)?;
+        // Most leaves have one of these names: where it is written, what goes by it is computed when this is built.
+        match event.name {
+            Name::Data => self.read_named(input, index, event, exit, Name::Data),
+            Name::LineEnding => self.read_named(input, index, event, exit, Name::LineEnding),
+            Name::BlankLineEnding => {
+                self.read_named(input, index, event, exit, Name::BlankLineEnding)
+            }
+            Name::SpaceOrTab => self.read_named(input, index, event, exit, Name::SpaceOrTab),
+            Name::Other(number) => self.read_named(input, index, event, exit, Name::Other(number)),
+            name => self.read_named(input, index, event, exit, name),
+        }
+    }
+
+    /// The same, of a node that has this name.
+    #[inline(always)]
+    fn read_named(
+        &mut self,
+        input: Input,
+        index: usize,
+        event: Event,
+        exit: &Event,
+        name: Name,
+    ) -> Result<(), CompileError>
+        requires here { slice_get input.events.now index ≡ Some event }
+        requires after { slice_get input.events.now (suc index) ≡ Some exit.now }
+        requires leaf { IsLeaf event exit.now }
+        requires named { event.name ≡ name }
+        requires before { HasRead input.bytes.now (name_table input.names.now) input.events.now index self.old }
+        ensures read { OnOk result
+            (HasRead input.entry.bytes.now (name_table input.entry.names.now) input.entry.events.now
+            (suc (suc index)) self.new) }
+        ensures refused { IfErr result
+            (IsRefusal (handed input.entry.events.now input.entry.bytes.now input.entry.names.now)) }
+    {
+        self.walk.leaf(input, index, name)?;
+        self.pass.leaf(input.alloc, name)?;
         note_ending(&mut self.first_ending, input.events, index + 1);
         Ok(())
     }
@@ -149,7 +184,8 @@ fn own_exit<'a>(events: &'a [Event], index: usize, event: &Event) -> Option<&'a 
     if matches!(event.kind, Kind::Exit) {
         return None;
     }
-    let exit = events.get(index + 1)?;
+    // After those before this one, so that where it lies is computed once.
+    let exit = events.get(index..)?.get(1)?;
     if is_exit_of(exit, event) {
         Some(exit)
     } else {

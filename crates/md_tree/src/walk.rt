@@ -170,6 +170,7 @@ impl Walk {
     ///
     /// Those of `step`: with this index where the entry is refused, and with the next one where the
     /// exit is.
+    #[inline(always)]
     pub fn leaf(&mut self, input: Input, index: usize, name: Name) -> Result<(), CompileError>
         requires { index + 1 < length input.events.now }
         ensures ok { OnOk result

@@ -1,13 +1,15 @@
 -- As in `read`, of two events at once, an entry and its own exit; and the exit's index doesn't overflow, as an event
 -- is there. The search doesn't go through the first event to the second: `LeafRuns` does.
-use Rattle.std.proofs.Common.{rules, suc, ◌<◌, add-one, ap, ◌∙◌, length}
+use Rattle.std.proofs.Common.{rules, ◌≡◌, suc, ◌<◌, add-one, sym, ap, subst, ◌∙◌, length}
 use Rattle.std.proofs.lemmas.Option.{slice_get_within}
 use Rattle.std.proofs.lemmas.Result.{err_from_is_err_and}
+use Rattle.md_base.specs.Reference.{name_table}
 use Rattle.md_infer.specs.Ending.{ending_after}
+use Rattle.md_infer.specs.Facts.{passed_entry, passed_exit}
 use Rattle.md_tree.specs.Grammar.{handed}
-use Rattle.md_tree.specs.Walk.{course_of}
+use Rattle.md_tree.specs.Walk.{point_at, course_of, Passes, Unbroken, IsStopAtLeaf}
 use Rattle.md_tree.proofs.LeafRuns.{Runs-leaf, IsRefusal-leaf, passed-leaf_more, first_index-leaf}
-use Rattle.md_tree.proofs.reader.Reader.read_leaf.Goals as goal
+use Rattle.md_tree.proofs.reader.Reader.read_named.Goals as goal
 
 pub returns-in_err-leaf-clause-refused : goal.returns-in_err-leaf-clause-refused
 returns-in_err-leaf-clause-refused c =
@@ -17,7 +19,10 @@ returns-in_err-leaf-clause-refused c =
     (IsRefusal-leaf (handed events c.args.input.bytes.now c.args.input.names.now) c.args.index c.args.event
     c.args.exit.now c.requires.leaf c.requires.here c.requires.after
     (course_of events c.args.index c.args.self.now.walk) c.requires.before.walked c.in_err-leaf.field-0.0
-    c.in_err-leaf.ensures.refused)
+    (subst (λ name. IsStopAtLeaf c.args.input.bytes.now (name_table c.args.input.names.now) c.args.index name
+    (point_at events c.args.index) (point_at events (suc c.args.index))
+    (course_of events c.args.index c.args.self.now.walk) c.in_err-leaf.field-0.0) (sym c.requires.named)
+    c.in_err-leaf.ensures.refused))
 
 pub overflow_add-index : goal.overflow_add-index
 overflow_add-index c =
@@ -36,9 +41,14 @@ returns-clause-read c =
     record {
       walked = Runs-leaf given index entry exit c.requires.leaf c.requires.here c.requires.after
           (course_of events index self.walk) c.requires.before.walked
-          (course_of events (suc (suc index)) c.leaf.new.self) c.in_ok-leaf.ensures.ok;
+          (course_of events (suc (suc index)) c.leaf.new.self)
+          (subst (λ name. Passes (Unbroken c.args.input.bytes.now (name_table c.args.input.names.now)) name
+          (point_at events index) (point_at events (suc index)) (course_of events index self.walk)
+          (course_of events (suc (suc index)) c.leaf.new.self)) (sym c.requires.named) c.in_ok-leaf.ensures.ok);
       passed = passed-leaf_more given index entry exit c.requires.leaf c.requires.here c.requires.after self.pass
-          c.leaf-2.new.self c.requires.before.passed c.in_ok-leaf-2.ensures;
+          c.leaf-2.new.self c.requires.before.passed
+          (subst (λ name. c.leaf-2.new.self ≡ passed_exit name (passed_entry name self.pass)) (sym c.requires.named)
+          c.in_ok-leaf-2.ensures);
       first_ending = c.note_ending.ensures exit (rw (add-one index) c.requires.after)
           ∙ ap (λ n. ending_after self.first_ending n exit) (add-one index)
           ∙ first_index-leaf given index entry exit c.requires.leaf c.requires.here c.requires.after self.first_ending
