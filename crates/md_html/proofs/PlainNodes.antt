@@ -1,19 +1,23 @@
 -- Nodes that are entered or passed with little: what the machine does for them is no more.
-use Rattle.std.proofs.Common.{◌≡◌, Bool, true, false, List, [], Option, Some, None, refl, ap, sym, ◌∙◌}
+use Rattle.std.proofs.Common.{◌≡◌, ℕ, Bool, true, false, not, List, [], ◌∷◌, Option, Some, None, codes, refl, ap, sym, ◌∙◌}
 use Rattle.std.proofs.lemmas.List.{append-nil}
+use Rattle.md_meaning.specs.declared.context.Surroundings.{Surroundings}
+use Rattle.md_meaning.specs.Places.{Left}
+use Rattle.std.specs.Prelude.{if◌then◌else◌}
 use Rattle.md_base.proofs.Lies.{lie}
 use Rattle.md_base.specs.declared.event.Name.{Name}
 use Rattle.md_base.specs.declared.event.Name.TheVariants.{HeadingAtx, ListOrdered, ListUnordered, GfmTable, Link, Image, GfmFootnoteCall, Definition, GfmFootnoteDefinition, Data, CharacterEscapeValue, CodeTextData, MathTextData, Emphasis, Strong, GfmStrikethrough, GfmTaskListItemCheck, BlockQuote, ListItem, Paragraph, ThematicBreak, HeadingSetextUnderlineSequence, CodeIndented, CodeFenced, MathFlow, CodeFencedFence, MathFlowFence, CodeFencedFenceInfo, CodeFlowChunk, MathFlowChunk, HtmlFlow, AutolinkEmail, AutolinkProtocol, GfmAutolinkLiteralEmail, GfmAutolinkLiteralMailto, GfmAutolinkLiteralProtocol, GfmAutolinkLiteralWww, GfmAutolinkLiteralXmpp, GfmTableHead, GfmTableBody, GfmTableRow, CodeText, MathText, HeadingSetextText, CodeFencedFenceMeta, MathFlowFenceMeta, Frontmatter, DefinitionLabelString, DefinitionDestinationString, DefinitionTitleString, GfmFootnoteDefinitionLabelString, Resource, ResourceDestinationString, ResourceTitleString, ReferenceString, GfmTableCell, GfmTableDelimiterRow, LineEnding, BlankLineEnding, CharacterReferenceValue, HtmlFlowData, HtmlTextData, HardBreakEscape, HardBreakTrailing, GfmTaskListItemValueChecked, BlockQuotePrefix, SpaceOrTab, Other}
 use Rattle.md_base.specs.declared.event.AlignKind.{AlignKind}
 use Rattle.md_base.specs.declared.event.Point.{Point}
-use Rattle.md_base.specs.NameTests.{is_table}
+use Rattle.md_base.specs.NameTests.{is_table, is_paragraph}
 use Rattle.md_base.specs.Tree.{Forest}
 use Rattle.md_around.specs.Manners.{manner_of, is_quiet as passes_quietly, is_through as passes_through, is_aside as passes_aside}
 use Rattle.md_meaning.specs.declared.context.Ahead.{Ahead}
-use Rattle.md_meaning.specs.Given.{Supply}
+use Rattle.md_meaning.specs.Given.{Supply, text_of}
 use Rattle.md_meaning.specs.Piece.{Stroke, blank}
 use Rattle.md_meaning.specs.Printed.{opening, closing, is_captured}
-use Rattle.md_meaning.specs.Texts.{data_pieces}
+use Rattle.md_meaning.specs.Blocks.{paragraph_closing, tight_in, where_so}
+use Rattle.md_meaning.specs.Texts.{saying, data_pieces, line_ending_pieces, drops_ending}
 use Rattle.md_print.specs.declared.groups.Group.{Group}
 use Rattle.md_print.specs.declared.groups.Group.TheVariants.{Silent}
 use Rattle.md_print.specs.Closings.{group_of, in_group, is_captured_group, is_light, prints_place}
@@ -21,7 +25,7 @@ use Rattle.md_print.proofs.Closings.{At, closing-group, captured-group, text, bl
 use Rattle.md_around.specs.Steps.{first_or}
 use Rattle.md_printer.specs.Machine.{Printer, document_frame, left_in, printing, capturing, opening_frame, entering_table, leaving_table, entered, exited, leaving, logging, closing_in, ahead_by, ahead_told, loose_told, columns_told}
 use Rattle.md_html.proofs.Groups.{unseen}
-use Rattle.md_html.specs.Plain.{tells_ahead, is_silent, leaf_kind, is_text, is_quiet, is_through, is_aside, is_heavy}
+use Rattle.md_html.specs.Plain.{tells_ahead, is_silent, leaf_kind, is_text, is_ending, is_quiet, is_through, is_aside, is_heavy}
 
 -- nothing is told ahead
 untold-ahead : (name : Name) (told : Option Forest) → tells_ahead name ≡ false → ahead_by None ≡ ahead_told name told
@@ -545,3 +549,109 @@ light BlockQuotePrefix h = refl
 light SpaceOrTab h = refl
 light (Other number) h = refl
 light _ h = refl
+
+-- a line ending that isn't blank, and what it prints
+pub ending-name : (name : Name) → is_ending (leaf_kind name) ≡ true → name ≡ LineEnding
+ending-name LineEnding h = refl
+ending-name Emphasis h = lie h
+ending-name Strong h = lie h
+ending-name GfmStrikethrough h = lie h
+ending-name GfmTaskListItemCheck h = lie h
+ending-name BlockQuote h = lie h
+ending-name ListOrdered h = lie h
+ending-name ListUnordered h = lie h
+ending-name ListItem h = lie h
+ending-name Paragraph h = lie h
+ending-name ThematicBreak h = lie h
+ending-name HeadingAtx h = lie h
+ending-name HeadingSetextUnderlineSequence h = lie h
+ending-name CodeIndented h = lie h
+ending-name CodeFenced h = lie h
+ending-name MathFlow h = lie h
+ending-name CodeFencedFence h = lie h
+ending-name MathFlowFence h = lie h
+ending-name CodeFencedFenceInfo h = lie h
+ending-name CodeFlowChunk h = lie h
+ending-name MathFlowChunk h = lie h
+ending-name HtmlFlow h = lie h
+ending-name AutolinkEmail h = lie h
+ending-name AutolinkProtocol h = lie h
+ending-name GfmAutolinkLiteralEmail h = lie h
+ending-name GfmAutolinkLiteralMailto h = lie h
+ending-name GfmAutolinkLiteralProtocol h = lie h
+ending-name GfmAutolinkLiteralWww h = lie h
+ending-name GfmAutolinkLiteralXmpp h = lie h
+ending-name GfmTable h = lie h
+ending-name GfmTableHead h = lie h
+ending-name GfmTableBody h = lie h
+ending-name GfmTableRow h = lie h
+ending-name CodeText h = lie h
+ending-name MathText h = lie h
+ending-name HeadingSetextText h = lie h
+ending-name CodeFencedFenceMeta h = lie h
+ending-name MathFlowFenceMeta h = lie h
+ending-name Frontmatter h = lie h
+ending-name Definition h = lie h
+ending-name DefinitionLabelString h = lie h
+ending-name DefinitionDestinationString h = lie h
+ending-name DefinitionTitleString h = lie h
+ending-name GfmFootnoteDefinition h = lie h
+ending-name GfmFootnoteDefinitionLabelString h = lie h
+ending-name Link h = lie h
+ending-name Image h = lie h
+ending-name Resource h = lie h
+ending-name ResourceDestinationString h = lie h
+ending-name ResourceTitleString h = lie h
+ending-name ReferenceString h = lie h
+ending-name GfmFootnoteCall h = lie h
+ending-name GfmTableCell h = lie h
+ending-name GfmTableDelimiterRow h = lie h
+ending-name Data h = lie h
+ending-name CharacterEscapeValue h = lie h
+ending-name CodeTextData h = lie h
+ending-name MathTextData h = lie h
+ending-name BlankLineEnding h = lie h
+ending-name CharacterReferenceValue h = lie h
+ending-name HtmlFlowData h = lie h
+ending-name HtmlTextData h = lie h
+ending-name HardBreakEscape h = lie h
+ending-name HardBreakTrailing h = lie h
+ending-name GfmTaskListItemValueChecked h = lie h
+ending-name BlockQuotePrefix h = lie h
+ending-name SpaceOrTab h = lie h
+ending-name (Other number) h = lie h
+ending-name _ h = lie h
+
+-- how lines end makes no difference to what it prints
+ending-chosen : (ending : List ℕ) (in_code dropped : Bool) (own : List ℕ) (state : Printer) →
+    printing [] (if in_code then saying (32 ∷ []) else (if dropped then [] else saying own)) state
+    ≡ printing ending (if in_code then saying (32 ∷ []) else (if dropped then [] else saying own)) state
+ending-chosen ending true dropped own state = refl
+ending-chosen ending false true own state = refl
+ending-chosen ending false false own state = refl
+
+pub ending-ends : (ending : List ℕ) (given : Supply) (around : Surroundings) (left : Left) (start end : Point)
+    (state : Printer) → printing [] (line_ending_pieces given around left start end) state
+    ≡ printing ending (line_ending_pieces given around left start end) state
+ending-ends ending given around left start end state =
+    ending-chosen ending around.in_code (drops_ending around left) (text_of given.bytes start end) state
+
+pub paragraph-name : (name : Name) → is_paragraph name ≡ true → name ≡ Paragraph
+paragraph-name Paragraph h = refl
+paragraph-name _ h = lie h
+
+pub ending-closing : (at : At) →
+    closing at.given at.around at.left at.ahead at.passed at.last at.start at.end at.inner LineEnding
+    ≡ line_ending_pieces at.given at.around at.left at.start at.end
+ending-closing at = append-nil (line_ending_pieces at.given at.around at.left at.start at.end)
+
+-- how lines end makes no difference to a paragraph's end
+tag-ends : (ending : List ℕ) (b : Bool) (pieces : List Stroke) (state : Printer) →
+    printing [] pieces state ≡ printing ending pieces state →
+    printing [] (where_so b pieces) state ≡ printing ending (where_so b pieces) state
+tag-ends ending true pieces state e = e
+tag-ends ending false pieces state e = refl
+
+pub closing-ends : (ending : List ℕ) (around : Surroundings) (state : Printer) →
+    printing [] (paragraph_closing around) state ≡ printing ending (paragraph_closing around) state
+closing-ends ending around state = tag-ends ending (not (tight_in around.container)) (saying (codes "</p>")) state refl

@@ -3,7 +3,7 @@ use Rattle.std.specs.Prelude.{Bool, true, false}
 use Rattle.md_base.specs.declared.event.Name.{Name}
 use Rattle.md_base.specs.declared.event.Name.TheVariants.{Emphasis, Strong, GfmStrikethrough, GfmTaskListItemCheck, BlockQuote, ListOrdered, ListUnordered, ListItem, Paragraph, ThematicBreak, HeadingAtx, HeadingSetextUnderlineSequence, CodeIndented, CodeFenced, MathFlow, CodeFencedFence, MathFlowFence, CodeFencedFenceInfo, CodeFlowChunk, MathFlowChunk, HtmlFlow, AutolinkEmail, AutolinkProtocol, GfmAutolinkLiteralEmail, GfmAutolinkLiteralMailto, GfmAutolinkLiteralProtocol, GfmAutolinkLiteralWww, GfmAutolinkLiteralXmpp, GfmTable, GfmTableHead, GfmTableBody, GfmTableRow, CodeText, MathText, HeadingSetextText, CodeFencedFenceMeta, MathFlowFenceMeta, Frontmatter, Definition, DefinitionLabelString, DefinitionDestinationString, DefinitionTitleString, GfmFootnoteDefinition, GfmFootnoteDefinitionLabelString, Link, Image, Resource, ResourceDestinationString, ResourceTitleString, ReferenceString, GfmFootnoteCall, GfmTableCell, GfmTableDelimiterRow, Data, CharacterEscapeValue, CodeTextData, MathTextData, LineEnding, BlankLineEnding, CharacterReferenceValue, HtmlFlowData, HtmlTextData, HardBreakEscape, HardBreakTrailing, GfmTaskListItemValueChecked, BlockQuotePrefix, SpaceOrTab, Other}
 use Rattle.md_html.specs.declared.leaf_kinds.LeafKind.{LeafKind}
-use Rattle.md_html.specs.declared.leaf_kinds.LeafKind.TheVariants.{Text, Quiet, Through, Aside, Printing, Heavy}
+use Rattle.md_html.specs.declared.leaf_kinds.LeafKind.TheVariants.{Text, Ending, Quiet, Through, Aside, Printing, Heavy}
 use Rattle.md_print.specs.declared.groups.Group.{Group}
 use Rattle.md_print.specs.declared.groups.Group.TheVariants.{Silent}
 
@@ -36,7 +36,7 @@ leaf_kind MathTextData = Text
 leaf_kind (Other number) = Through
 leaf_kind BlockQuotePrefix = Aside
 leaf_kind SpaceOrTab = Aside
-leaf_kind LineEnding = Printing
+leaf_kind LineEnding = Ending
 leaf_kind BlankLineEnding = Printing
 leaf_kind CharacterReferenceValue = Printing
 leaf_kind HtmlFlowData = Printing
@@ -101,6 +101,9 @@ leaf_kind _ = Quiet
 
 abbrev pub is_text : LeafKind → Bool
 is_text kind = elim kind [ Text ↦ true | _ ↦ false ]
+
+abbrev pub is_ending : LeafKind → Bool
+is_ending kind = elim kind [ Ending ↦ true | _ ↦ false ]
 
 abbrev pub is_quiet : LeafKind → Bool
 is_quiet kind = elim kind [ Quiet ↦ true | _ ↦ false ]

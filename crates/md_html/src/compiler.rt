@@ -4,7 +4,7 @@ ghost use Rattle.std.specs.Prelude.{◌≡◌, ◌∷◌, ◌+◌, ◌≤◌, �
 ghost use Rattle.md_base.specs.Reference.{name_table};
 ghost use Rattle.md_base.specs.Tree.{Forest, flatten};
 ghost use Rattle.md_base.specs.declared.event.Kind.TheVariants.{Enter};
-ghost use Rattle.md_base.specs.declared.event.Name.TheVariants.{GfmFootnoteCall, GfmFootnoteDefinition, Definition};
+ghost use Rattle.md_base.specs.declared.event.Name.TheVariants.{GfmFootnoteCall, GfmFootnoteDefinition, Definition, Paragraph};
 ghost use Rattle.md_tree.specs.Grammar.{IsChecked, handed};
 ghost use Rattle.md_tree.specs.Texts.{EntersAt};
 ghost use Rattle.md_tree.specs.Reads.{is_reader};
@@ -27,20 +27,23 @@ ghost use Rattle.md_meaning.specs.declared.context.Ahead.{Ahead};
 ghost use Rattle.md_print.specs.Closings.{group_of, is_light, reads_text, read_pieces};
 ghost use Rattle.md_html.specs.Leaf.{IsLightLeaf};
 ghost use Rattle.md_html.specs.Plain as plain;
-ghost use Rattle.md_printer.specs.Given.{leaf_in};
+ghost use Rattle.md_printer.specs.Given.{leaf_in, left_of_leaf};
 ghost use Rattle.md_meaning.specs.Piece.{blank};
-ghost use Rattle.md_meaning.specs.Texts.{data_pieces};
+ghost use Rattle.md_meaning.specs.Texts.{data_pieces, line_ending_pieces};
+ghost use Rattle.md_meaning.specs.Blocks.{paragraph_closing};
+ghost use Rattle.md_meaning.specs.Given.{Supply};
+ghost use Rattle.md_base.specs.declared.event.Point.{Point as PointInside};
 ghost use Rattle.std.specs.Bool.{OnTrue};
 ghost use Rattle.md_base.specs.declared.event.AlignKind.{AlignKind};
 
 use crate::leaf_kinds::{LeafKind, leaf_kind};
 use crate::own_events::definitions_at;
 use md_around::captured::is_captured;
-use md_base::name_tests::is_table;
+use md_base::name_tests::{is_paragraph, is_table};
 use md_base::{AlignKind, Event, Kind, Name, Point, Position, is_same_name};
 use md_print::close::{close, close_captured, close_with};
 use md_print::groups::{Group, group_of};
-use md_print::open::{open, open_plain};
+use md_print::open::{is_tight, open, open_plain};
 use md_printer::escape::put_encoded;
 use md_printer::frames::{Exit, Inner, Lookahead};
 use md_printer::given::{Given, identifier_at, text_of};
@@ -416,6 +419,30 @@ fn exit_captured(
     Ok(())
 }
 
+/// Exits a paragraph.
+#[inline(always)]
+fn exit_paragraph(printer: &mut Printer) -> Result<(), AllocError>
+    ensures { OnOk result ((given : Supply) (last : Bool) (end : PointInside) → printer.new
+        ≡ machine.exited given last false Paragraph end printer.old) }
+{
+    close_paragraph(printer)?;
+    printer.leave_paragraph();
+    Ok(())
+}
+
+/// Prints a paragraph's end tag, unless it is in a tight list.
+#[inline(always)]
+fn close_paragraph(printer: &mut Printer) -> Result<(), AllocError>
+    ensures { OnOk result (printer.new ≡ machine.printing []
+        (paragraph_closing (steps.first_or machine.document_frame printer.old.frames).around) printer.old) }
+{
+    if is_tight(printer.around_outer().container) {
+        Ok(())
+    } else {
+        printer.put("</p>")
+    }
+}
+
 /// Exits a node that prints its children's text, and nothing else of them.
 fn exit_with_text(
     printer: &mut Printer,
@@ -489,6 +516,8 @@ fn exit(
     if is_silent(name) {
         printer.leave(name);
         Ok(())
+    } else if is_paragraph(name) {
+        exit_paragraph(printer)
     } else if reads_text(name) {
         exit_with_text(printer, given, is_last, name, end)
     } else if is_captured(name) {
@@ -644,6 +673,10 @@ fn leaf(
             put_text(printer, given, entry.point, end)?;
             printer.pass_quiet(entry.name);
         }
+        LeafKind::Ending => {
+            put_ending(printer, given, entry.point, end)?;
+            printer.pass_ending();
+        }
         LeafKind::Quiet => printer.pass_quiet(entry.name),
         LeafKind::Through => printer.pass_through(entry.name),
         LeafKind::Aside => printer.pass_aside(entry.name),
@@ -668,6 +701,27 @@ fn put_text(
 {
     let escaping = printer.around().is_escaping;
     put_encoded(printer, text_of(given.bytes, start, end), escaping)
+}
+
+/// Prints a line ending: a space in code, else its own text unless it is dropped.
+#[inline(always)]
+fn put_ending(
+    printer: &mut Printer,
+    given: &Given,
+    start: Point,
+    end: Point,
+) -> Result<(), AllocError>
+    ensures { OnOk result (printer.new ≡ machine.printing []
+        (line_ending_pieces (given_of given.now) printer.old.frame.around (left_of_leaf printer.old) start end)
+        printer.old) }
+{
+    if printer.around().in_code {
+        printer.put(" ")
+    } else if printer.drops_ending() {
+        Ok(())
+    } else {
+        printer.put(text_of(given.bytes, start, end))
+    }
 }
 
 /// Prints what a node without children prints at its exit.

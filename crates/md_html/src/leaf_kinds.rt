@@ -10,6 +10,8 @@ use md_base::Name;
 pub(crate) enum LeafKind {
     /// Its text is printed as it stands, escaped where its surroundings say so.
     Text,
+    /// A line ending that isn't blank.
+    Ending,
     /// It prints nothing, and is passed quietly.
     Quiet,
     /// It prints nothing; patterns look through it, and an item's end looks at it.
@@ -32,8 +34,8 @@ pub(crate) fn leaf_kind(name: Name) -> LeafKind
             LeafKind::Text,
         Name::Other(_) => LeafKind::Through,
         Name::BlockQuotePrefix | Name::SpaceOrTab => LeafKind::Aside,
-        Name::LineEnding
-        | Name::BlankLineEnding
+        Name::LineEnding => LeafKind::Ending,
+        Name::BlankLineEnding
         | Name::CharacterReferenceValue
         | Name::HtmlFlowData
         | Name::HtmlTextData

@@ -26,7 +26,7 @@ use md_pieces::tables::{close_cell, close_cell_with, close_row};
 use md_pieces::texts::{data, html, line_ending, reference};
 use md_printer::escape::put_encoded;
 use md_printer::frames::{Exit, Inner};
-use md_printer::given::{Given, serialized_of};
+use md_printer::given::{Given, serialized_of, text_of};
 use md_printer::lines::on_own_line;
 use md_printer::printer::Printer;
 use md_sheet::Sheet;
@@ -449,6 +449,10 @@ fn chunk(printer: &mut Printer, given: &Given, exit: &Exit) -> Result<(), AllocE
     ensures { OnOk result (printer.new
         ≡ printing [] (blocks.chunk_pieces (given_of given.now) exit.now.start exit.now.end) printer.old) }
 {
+    // Few lines of code begin or end in a tab that is cut.
+    if exit.start.vs == 0 && exit.end.vs == 0 {
+        return put_encoded(printer, text_of(given.bytes, exit.start, exit.end), true);
+    }
     let text = serialized_of(given.alloc, given.bytes, exit.start, exit.end)?;
     put_encoded(printer, text.as_str(), true)
 }

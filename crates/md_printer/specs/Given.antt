@@ -1,5 +1,5 @@
 -- What the compiler has of a document and of a node that is exited, as the definitions name it.
-use Rattle.std.specs.Prelude.{◌≡◌, ℕ, Bool, List, Option, Some, slice_get}
+use Rattle.std.specs.Prelude.{◌≡◌, ℕ, Bool, List, [], Option, Some, slice_get}
 use Rattle.md_base.specs.Reference.{name_table}
 use Rattle.md_base.specs.Tree.{Forest, flatten}
 use Rattle.md_tree.specs.Grammar.{Handed}
@@ -52,6 +52,16 @@ leaf_in start last end state = record {
   is_slurping = state.is_slurping;
   is_last = last;
   end = end;
+}
+
+-- what a node without children learns from what stands before it, of what line endings ask
+abbrev pub left_of_leaf : Printer → Left
+left_of_leaf state = record {
+  called = [];
+  is_slurping = state.is_slurping;
+  previous = state.frame.passed.last;
+  spine = state.frame.passed.spine;
+  columns = [];
 }
 
 -- what a node learns from what stands before it

@@ -7,6 +7,7 @@ pub mod frames;
 pub mod given;
 pub mod lines;
 mod nodes;
+mod passing;
 pub mod printer;
 pub mod section;
 mod sheets;

@@ -10,15 +10,20 @@ ghost use Rattle.md_meaning.specs.Footnotes.{section_pieces};
 ghost use Rattle.md_sheet.specs.Seen.{counted, noted};
 ghost use Rattle.md_meaning.specs.Texts.{saying};
 ghost use Rattle.md_text.specs.Encode.{encoded};
+ghost use Rattle.md_meaning.specs.Texts.{drops_ending};
+ghost use Rattle.md_printer.specs.Given.{left_of_leaf};
+ghost use Rattle.md_base.specs.declared.event.Name.TheVariants.{LineEnding, Paragraph};
 ghost use Rattle.md_meaning.specs.declared.context.Spine.{Spine};
 ghost use Rattle.md_around.specs.Manners.{is_quiet, is_through, is_aside, manner_of};
 
 use crate::frames::{Exit, Lookahead};
 use crate::nodes::{DOCUMENT, Node, begin, innermost, keep_place, leave, place_of};
+use crate::passing::{pass_ending, pass_paragraph, slurps_after_ending, slurps_after_paragraph};
 use crate::section::{Settings, lay_section};
 use crate::sheets::{Below, begin_notes, drop_notes, take_notes, take_spare, take_text};
 use md_around::manners::{Manner, manner_of, pass_aside, pass_quietly, pass_through};
 use md_around::surroundings::{NO_SPINE, pass, slurps_after};
+use md_base::name_tests::is_definition;
 use md_base::{AlignKind, Name, Point, Position};
 use md_meaning::{Passed, Spine, Surroundings};
 use md_sheet::{Calls, Defined, Footnotes, Notes, Rope, Sheet, Target};
@@ -370,6 +375,15 @@ impl Printer {
         innermost(&self.nodes).around
     }
 
+    /// A line ending that stands here isn't printed: it is slurped, or stands after a definition.
+    #[inline(always)]
+    pub fn drops_ending(&self) -> bool
+        ensures { result ≡ drops_ending self.now.frame.around (left_of_leaf self.now) }
+    {
+        let after_definition = self.node.passed.last.is_some_and(is_definition);
+        !self.node.around.in_definition && self.is_slurping || after_definition
+    }
+
     /// The place that the innermost node that is open reads in its children.
     pub fn place(&self) -> Option<Position>
         ensures { machine.ahead_by result ≡ self.now.frame.ahead }
@@ -540,6 +554,33 @@ impl Printer {
             Manner::Aside => pass_aside(&mut self.node.passed, name, inner),
             Manner::Telling => self.pass_telling(name, inner),
         }
+    }
+
+    /// Passes a line ending, which isn't blank.
+    #[inline(always)]
+    pub fn pass_ending(&mut self)
+        ensures { self.new ≡ machine.passing_leaf LineEnding self.old }
+    {
+        self.is_slurping = slurps_after_ending(self.node.around, self.is_slurping);
+        pass_ending(&mut self.node.passed);
+    }
+
+    /// Leaves a paragraph.
+    #[inline(always)]
+    pub fn leave_paragraph(&mut self)
+        ensures { self.new ≡ machine.leaving Paragraph self.old }
+    {
+        leave(&mut self.node, &mut self.nodes, &mut self.places);
+        self.pass_paragraph();
+    }
+
+    /// Passes a paragraph.
+    #[inline(always)]
+    fn pass_paragraph(&mut self)
+        ensures { (inner : Spine) → self.new ≡ machine.passing_child Paragraph inner self.old }
+    {
+        self.is_slurping = slurps_after_paragraph(self.node.around, self.is_slurping);
+        pass_paragraph(&mut self.node.passed);
     }
 
     /// Passes a quiet child.

@@ -3,21 +3,23 @@ use Rattle.std.proofs.Common.{◌≡◌, true, false, Bool, List, [], ap, sym, �
 use Rattle.std.specs.Prelude.{if◌then◌else◌}
 use Rattle.md_base.specs.declared.event.AlignKind.{AlignKind}
 use Rattle.md_base.specs.declared.event.Name.{Name}
+use Rattle.md_base.specs.declared.event.Name.TheVariants.{LineEnding}
 use Rattle.md_base.specs.declared.event.Point.{Point}
 use Rattle.md_base.specs.NameTests.{is_transparent}
 use Rattle.md_meaning.specs.declared.context.Ahead.{Ahead}
 use Rattle.md_meaning.specs.declared.context.Spine.{Spine}
 use Rattle.md_meaning.specs.Given.{Supply}
 use Rattle.md_meaning.specs.Piece.{Stroke, blank}
-use Rattle.md_printer.specs.Given.{given_of}
+use Rattle.md_meaning.specs.Printed.{closing}
+use Rattle.md_printer.specs.Given.{given_of, left_of_leaf}
 use Rattle.md_printer.specs.Machine as machine
 use Rattle.md_printer.specs.Machine.{Printer}
 use Rattle.md_around.specs.Steps.{first_or, no_spine}
 use Rattle.md_print.specs.Closings.{group_of, is_light}
 use Rattle.md_print.proofs.Closings.{At}
-use Rattle.md_html.specs.Plain.{is_text, is_quiet, is_through, is_aside, is_silent}
+use Rattle.md_html.specs.Plain.{is_text, is_ending, is_quiet, is_through, is_aside, is_silent}
 use Rattle.md_html.proofs.Leaves.{leaf-steps}
-use Rattle.md_html.proofs.PlainNodes.{text-closing, text-quiet, quiet-quiet, through-through, aside-aside, silent-closing}
+use Rattle.md_html.proofs.PlainNodes.{text-closing, text-quiet, ending-name, ending-ends, ending-closing, quiet-quiet, through-through, aside-aside, silent-closing}
 use Rattle.md_html.proofs.compiler.leaf.Goals as goal
 
 -- where a node without children stands
@@ -72,6 +74,27 @@ returns-in_ok-put_text-in-Text c =
     (sym (text-closing (at_leaf given c.args.is_last start c.args.end before) name (ap is_text (sym c.in-Text.ensures))))
     ∙ leaf-steps given ahead before.frame.ahead before.frame.passed loose columns c.args.is_last name start c.args.end
     before c.requires
+
+pub returns-in_ok-put_ending-in-Ending : goal.returns-in_ok-put_ending-in-Ending
+returns-in_ok-put_ending-in-Ending c =
+    let given = given_of c.args.given.now in
+    let before : Printer = c.args.printer.now in
+    let name = c.args.entry.now.name in
+    let start = c.args.entry.now.point in
+    let last = c.args.is_last in
+    let end = c.args.end in
+    let same : name ≡ LineEnding = ending-name name (ap is_ending (sym c.in-Ending.ensures)) in
+    λ ahead loose columns.
+    c.pass_ending.ensures
+    ∙ ap (λ s. machine.passing_leaf LineEnding s) c.in_ok-put_ending-in-Ending.ensures
+    ∙ ap (λ s. machine.passing_leaf LineEnding s)
+    (ending-ends given.ending given before.frame.around (left_of_leaf before) start end before)
+    ∙ ap (λ (pieces : List Stroke). machine.passing_leaf LineEnding (machine.printing given.ending pieces before))
+    (sym (ending-closing (at_leaf given last start end before)))
+    ∙ ap (λ n. machine.passing_leaf n (machine.printing given.ending
+    (closing given before.frame.around (at_leaf given last start end before).left before.frame.ahead
+    before.frame.passed last start end blank n) before)) (sym same)
+    ∙ leaf-steps given ahead before.frame.ahead before.frame.passed loose columns last name start end before c.requires
 
 pub pass_quiet-requires-in-Quiet : goal.pass_quiet-requires-in-Quiet
 pass_quiet-requires-in-Quiet c = (quiet-quiet c.args.entry.now.name (ap is_quiet (sym c.in-Quiet.ensures))).0
