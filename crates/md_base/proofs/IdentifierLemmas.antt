@@ -68,14 +68,14 @@ word_onto : (b : ℕ) (parts : List (List ℕ)) → word_on (onto_first b parts)
 word_onto b [] = refl
 word_onto b (first ∷ parts) = refl
 
-collapsed-black : (b : ℕ) (text : List ℕ) → is_white b ≡ false → collapsed (b ∷ text) ≡ b ∷ in_word text
+pub collapsed-black : (b : ℕ) (text : List ℕ) → is_white b ≡ false → collapsed (b ∷ text) ≡ b ∷ in_word text
 collapsed-black b text black = ap (λ parts. join_with_byte 32 (filter is_nonempty parts)) (black_split b text black)
     ∙ join_onto b (slice_split is_white text)
 
-in_word-black : (b : ℕ) (text : List ℕ) → is_white b ≡ false → in_word (b ∷ text) ≡ b ∷ in_word text
+pub in_word-black : (b : ℕ) (text : List ℕ) → is_white b ≡ false → in_word (b ∷ text) ≡ b ∷ in_word text
 in_word-black b text black = ap word_on (black_split b text black) ∙ word_onto b (slice_split is_white text)
 
-after_word-black : (b : ℕ) (text : List ℕ) → is_white b ≡ false → after_word (b ∷ text) ≡ 32 ∷ b ∷ in_word text
+pub after_word-black : (b : ℕ) (text : List ℕ) → is_white b ≡ false → after_word (b ∷ text) ≡ 32 ∷ b ∷ in_word text
 after_word-black b text black = ap (λ parts. spaced (filter is_nonempty parts)) (black_split b text black)
     ∙ spaced_onto b (slice_split is_white text)
 

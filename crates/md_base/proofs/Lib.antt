@@ -2,6 +2,8 @@
 -- some.
 pub mod EnumLemmas
 pub mod IdentifierLemmas
+pub mod CollapsedLemmas
+pub mod FoldLemmas
 pub mod ReferenceLemmas
 pub mod SpaceLemmas
 pub mod AsciiLemmas

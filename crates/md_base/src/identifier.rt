@@ -1,10 +1,14 @@
 //! Identifiers in the form in which they are compared.
 
-ghost use Rattle.std.specs.Prelude.{◌≡◌, ◌++◌, [], ◌∷◌, if◌then◌else◌, encode_utf8, string_bytes, IfOk, OnOk};
+ghost use Rattle.std.specs.Prelude.{◌≡◌, ◌++◌, [], ◌∷◌, if◌then◌else◌, encode_utf8, string_bytes, IfOk, OnOk, chars, encode_utf8_all};
+ghost use Rattle.caseless.specs.Caseless.{default_case_fold};
+ghost use Rattle.ucd_case.specs.CaseFolding.{full_fold};
 ghost use Rattle.md_base.specs.Identifier.{is_white, collapsed, normalized};
 
-use caseless::default_case_fold_str;
+use crate::collapsed::is_collapsed;
+use crate::text::is_ascii;
 use std::alloc::{AllocError, Global};
+use ucd_case::full_folding;
 
 /// The form in which identifiers are compared: each run of white space is one space, none is left
 /// at the ends, and case is folded.
@@ -22,14 +26,70 @@ use std::alloc::{AllocError, Global};
 pub fn normalize_identifier(alloc: Global, value: &str) -> Result<String, AllocError>
     ensures { IfOk result (λ text. string_bytes text ≡ normalized value.now) }
 {
+    if is_collapsed(value.as_bytes()) {
+        return fold_case(alloc, value);
+    }
     let text = collapse_white_space(alloc, value)?;
-    default_case_fold_str(alloc, text.as_str())
+    fold_case(alloc, text.as_str())
 }
 
+/// The text with case folded. Most identifiers are ASCII, which takes one copy.
+#[tactic(auto, using(crate::proofs::FoldLemmas::fold_ascii))]
+#[inline(always)]
+fn fold_case(alloc: Global, text: &str) -> Result<String, AllocError>
+    ensures { IfOk result (λ folded. string_bytes folded ≡ encode_utf8_all (default_case_fold (chars text.now))) }
+{
+    if is_ascii(text.as_bytes()) {
+        text.to_ascii_lowercase(alloc)
+    } else {
+        fold_wide_case(alloc, text)
+    }
+}
+
+/// The same, where most folded texts have the room of the text.
+#[inline(never)]
+fn fold_wide_case(alloc: Global, text: &str) -> Result<String, AllocError>
+    ensures { IfOk result (λ folded. string_bytes folded ≡ encode_utf8_all (default_case_fold (chars text.now))) }
+{
+    let mut folded = String::with_capacity(alloc, text.len())?;
+    for character in text.chars() {
+        push_folded(&mut folded, character)?;
+    }
+    Ok(folded)
+}
+
+/// The folding of a character, which is itself where there is none.
+#[tactic(auto, using(crate::proofs::FoldLemmas::lowered_folds))]
+#[inline(always)]
+fn push_folded(text: &mut String, character: char) -> Result<(), AllocError>
+    ensures { OnOk result (string_bytes text.new ≡ string_bytes text.old ++ encode_utf8_all (full_fold character)) }
+{
+    if character.is_ascii() {
+        return text.push(character.to_ascii_lowercase());
+    }
+    match full_folding(character) {
+        [] => text.push(character),
+        [folding] => text.push(*folding),
+        folding => push_characters(text, folding),
+    }
+}
+
+#[inline(never)]
+fn push_characters(text: &mut String, characters: &[char]) -> Result<(), AllocError>
+    ensures { OnOk result (string_bytes text.new ≡ string_bytes text.old ++ encode_utf8_all characters.now) }
+{
+    for character in characters {
+        text.push(*character)?;
+    }
+    Ok(())
+}
+
+/// The text with each run of white space as one space, and none at the ends.
+#[inline(never)]
 fn collapse_white_space(alloc: Global, value: &str) -> Result<String, AllocError>
     ensures { IfOk result (λ text. string_bytes text ≡ collapsed value.now) }
 {
-    let mut text = String::new(alloc);
+    let mut text = String::with_capacity(alloc, value.len())?;
     let mut is_gap = false;
     for character in value.chars() {
         if is_white_space(character) {

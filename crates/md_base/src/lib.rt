@@ -2,6 +2,7 @@
 //! identifiers and character references.
 #![tactic(auto)]
 
+mod collapsed;
 mod event;
 mod event_names;
 mod identifier;

@@ -44,7 +44,7 @@ fn is_text(bytes: &[u8]) -> bool
 
 /// Whether the bytes are ASCII. Two loads, which may overlap, cover what is shorter than a block.
 #[inline(always)]
-fn is_ascii(bytes: &[u8]) -> bool
+pub(crate) fn is_ascii(bytes: &[u8]) -> bool
     ensures { IsTrue result → IsAscii bytes.now }
 {
     let length = bytes.len();
