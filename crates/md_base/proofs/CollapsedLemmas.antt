@@ -55,7 +55,8 @@ pub collapsed-single : (text : List ℕ) → 33 ≤ get_or text 0 0 → EndsBlac
 collapsed-single [] first ends singles = refl
 collapsed-single (b ∷ text) first ends singles =
     let black = above_is_black b first in
-    collapsed-black b text black ∙ sym (in_word-black b text black) ∙ in_word-single (b ∷ text) (as_singles (b ∷ text) singles) ends
+    collapsed-black b text black ∙ sym (in_word-black b text black)
+    ∙ in_word-single (b ∷ text) (as_singles (b ∷ text) singles) ends
 
 -- ---- what a load tells
 
@@ -102,7 +103,8 @@ module _ (text : List ℕ) (at n : ℕ) (room : at + n < length text) (few : n �
   length-compared : (test : ℕ → ℕ → Bool) (bytes : List ℕ) (limit : ℕ) → length bytes ≡ n →
       length (compared test bytes limit) ≡ n
   length-compared test bytes limit long =
-      length-zip2 (λ a b. cond {A = ℕ} (test a b) 255 0) bytes (replicate n limit) (long ∙ sym (length-replicate n limit))
+      length-zip2 (λ a b. cond {A = ℕ} (test a b) 255 0) bytes (replicate n limit)
+      (long ∙ sym (length-replicate n limit))
       ∙ long
 
   compared-at : (test : ℕ → ℕ → Bool) (bytes : List ℕ) (limit k : ℕ) → length bytes ≡ n → k < n →

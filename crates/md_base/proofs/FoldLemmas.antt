@@ -1,21 +1,25 @@
 -- Case folding of ASCII, and of a text by its characters.
-use Rattle.std.proofs.Common.{◌≡◌, ℕ, ◌<◌, List, [], ◌++◌, map, length, get_or, encode_utf8, encode_utf8_all, chars, IsAscii, IsUtf8, sym, ap, ◌∙◌, arith, inl, inr}
+use Rattle.std.proofs.Common.{◌≡◌, ℕ, zero, suc, ◌<◌, ◌≤◌, List, [], ◌∷◌, ◌++◌, map, length, get_or, encode_utf8, encode_utf8_all, chars, IsAscii, IsUtf8, refl, sym, ap, ap₂, ◌∙◌, arith, inl, inr}
 use Rattle.std.proofs.lemmas.Bool.{cases_lt}
 use Rattle.std.proofs.lemmas.Bool.Decides.{nat_tests}
-use Rattle.std.proofs.lemmas.List.{append_assoc, append-nil, get_or-map, get_or_past, length-map}
-use Rattle.std.proofs.lemmas.Str.{chars-IsAscii, encodes-IsAscii, encodes-append, chars_past_char, chars-nil}
+use Rattle.std.proofs.lemmas.List.{append_assoc, append-nil, get_or-map, get_or_past, length-map, map-append}
+use Rattle.std.proofs.lemmas.Str.{chars-IsAscii, encodes-IsAscii, encodes-append, chars_past_char, chars-nil, encode_ascii, inside_one}
 use Rattle.std.specs.Char.{to_ascii_lowercase}
-use Rattle.ucd_case.specs.CaseFolding.{full_fold}
+use Rattle.ucd_case.specs.CaseFolding.{full_fold, full_folding}
 use Rattle.ucd_case.proofs.CaseFoldingLemmas.{full_fold-ascii}
 use Rattle.caseless.specs.Caseless.{default_case_fold}
-use Rattle.caseless.proofs.CaselessLemmas.{default_case_fold-cons, default_case_fold-nil, default_case_fold-ascii, All-chars}
+use Rattle.caseless.proofs.CaselessLemmas.{default_case_fold-cons, default_case_fold-nil, default_case_fold-ascii, All-chars, full_fold-none}
 
 lower_ascii : (c : ℕ) → c < 128 → to_ascii_lowercase c < 128
 lower_ascii c narrow = grind (arith, nat_tests)
 
 lowered_ascii : (bytes : List ℕ) → IsAscii bytes → IsAscii (map to_ascii_lowercase bytes)
 lowered_ascii bytes ascii k = elim (cases_lt k (length bytes)) [
-  | inl inside ↦ omega (arith, get_or-map to_ascii_lowercase bytes k 0 0 inside, lower_ascii (get_or bytes k 0) (ascii k))
+  | inl inside ↦ omega (
+    arith,
+    get_or-map to_ascii_lowercase bytes k 0 0 inside,
+    lower_ascii (get_or bytes k 0) (ascii k),
+  )
   | inr past ↦ omega (
     arith,
     get_or_past (map to_ascii_lowercase bytes) k 0
@@ -44,4 +48,53 @@ pub fold_end : encode_utf8_all (default_case_fold (chars [])) ≡ []
 fold_end = ap (λ cs. encode_utf8_all (default_case_fold cs)) chars-nil ∙ ap encode_utf8_all default_case_fold-nil
 
 pub lowered_folds : (c : ℕ) → c < 128 → encode_utf8 (to_ascii_lowercase c) ≡ encode_utf8_all (full_fold c)
-lowered_folds c narrow = sym (ap encode_utf8_all (full_fold-ascii c narrow) ∙ append-nil (encode_utf8 (to_ascii_lowercase c)))
+lowered_folds c narrow =
+    sym (ap encode_utf8_all (full_fold-ascii c narrow) ∙ append-nil (encode_utf8 (to_ascii_lowercase c)))
+
+-- ---- where to fold is to lower ASCII letters
+
+lower_wide : (b : ℕ) → 128 ≤ b → to_ascii_lowercase b ≡ b
+lower_wide b wide = grind (arith, nat_tests)
+
+lower_all_wide : (bytes : List ℕ) → ((k : ℕ) → k < length bytes → 128 ≤ get_or bytes k 0) →
+    map to_ascii_lowercase bytes ≡ bytes
+lower_all_wide [] wide = refl
+lower_all_wide (b ∷ bytes) wide =
+    ap₂ ◌∷◌ (lower_wide b (wide zero (omega arith)))
+    (lower_all_wide bytes (λ k inside. wide (suc k) (omega (arith, inside))))
+
+wide_bytes : (c : ℕ) → 128 ≤ c → (k : ℕ) → k < length (encode_utf8 c) → 128 ≤ get_or (encode_utf8 c) k 0
+wide_bytes c wide k inside =
+    elim (cases_lt (get_or (encode_utf8 c) k 0) 128) [
+      | inl narrow ↦ omega (
+        arith,
+        narrow,
+        wide,
+        inside_one c [] (encode_utf8 c) k (sym (append-nil (encode_utf8 c))) inside narrow,
+      )
+      | inr holds ↦ holds
+    ]
+
+pub lowered_character : (c : ℕ) → c < 128 → map to_ascii_lowercase (encode_utf8 c) ≡ encode_utf8_all (full_fold c)
+lowered_character c narrow =
+    ap (map to_ascii_lowercase) (encode_ascii c narrow)
+    ∙ sym (encode_ascii (to_ascii_lowercase c) (lower_ascii c narrow)) ∙ lowered_folds c narrow
+
+pub kept_character : (c : ℕ) (table : List ℕ) → 128 ≤ c → table ≡ full_folding c → length table < 1 →
+    map to_ascii_lowercase (encode_utf8 c) ≡ encode_utf8_all (full_fold c)
+kept_character c table wide same none =
+    lower_all_wide (encode_utf8 c) (wide_bytes c wide)
+    ∙ sym (ap encode_utf8_all (full_fold-none c table same none) ∙ append-nil (encode_utf8 c))
+
+-- to fold these bytes is to lower ASCII letters
+abbrev pub IsLowered : List ℕ → Type 0
+IsLowered bytes = map to_ascii_lowercase bytes ≡ encode_utf8_all (default_case_fold (chars bytes))
+
+pub lowered_end : IsLowered []
+lowered_end = sym fold_end
+
+pub lowered_step : (old rest : List ℕ) (c : ℕ) → IsUtf8 old → old ≡ encode_utf8 c ++ rest →
+    map to_ascii_lowercase (encode_utf8 c) ≡ encode_utf8_all (full_fold c) → IsLowered rest → IsLowered old
+lowered_step old rest c text e first later =
+    ap (map to_ascii_lowercase) e ∙ map-append to_ascii_lowercase (encode_utf8 c) rest
+    ∙ ap₂ ◌++◌ first later ∙ fold_step [] rest old c text e

@@ -1,6 +1,7 @@
 //! Identifiers in the form in which they are compared.
 
-ghost use Rattle.std.specs.Prelude.{◌≡◌, ◌++◌, [], ◌∷◌, if◌then◌else◌, encode_utf8, string_bytes, IfOk, OnOk, chars, encode_utf8_all};
+ghost use Rattle.std.specs.Prelude.{◌≡◌, ◌++◌, [], ◌∷◌, if◌then◌else◌, encode_utf8, string_bytes, IfOk, OnOk, chars, encode_utf8_all, map, IsTrue};
+ghost use Rattle.std.specs.Char.{to_ascii_lowercase};
 ghost use Rattle.caseless.specs.Caseless.{default_case_fold};
 ghost use Rattle.ucd_case.specs.CaseFolding.{full_fold};
 ghost use Rattle.md_base.specs.Identifier.{is_white, collapsed, normalized};
@@ -33,20 +34,55 @@ pub fn normalize_identifier(alloc: Global, value: &str) -> Result<String, AllocE
     fold_case(alloc, text.as_str())
 }
 
-/// The text with case folded. Most identifiers are ASCII, which takes one copy.
-#[tactic(auto, using(crate::proofs::FoldLemmas::fold_ascii))]
+/// The text with case folded. Most identifiers have no capital letter past ASCII, and take one copy.
 #[inline(always)]
 fn fold_case(alloc: Global, text: &str) -> Result<String, AllocError>
     ensures { IfOk result (λ folded. string_bytes folded ≡ encode_utf8_all (default_case_fold (chars text.now))) }
 {
-    if is_ascii(text.as_bytes()) {
+    if is_lowered(text) {
         text.to_ascii_lowercase(alloc)
     } else {
         fold_wide_case(alloc, text)
     }
 }
 
-/// The same, where most folded texts have the room of the text.
+/// Whether to fold the text is to lower its ASCII letters.
+#[tactic(auto, using(crate::proofs::FoldLemmas::fold_ascii))]
+#[inline(always)]
+fn is_lowered(text: &str) -> bool
+    ensures { IsTrue result → map to_ascii_lowercase text.now ≡ encode_utf8_all (default_case_fold (chars text.now)) }
+{
+    if is_ascii(text.as_bytes()) {
+        return true;
+    }
+    is_wide_lowered(text)
+}
+
+/// The same, of a text that isn't ASCII.
+#[inline(never)]
+fn is_wide_lowered(text: &str) -> bool
+    ensures { IsTrue result → map to_ascii_lowercase text.now ≡ encode_utf8_all (default_case_fold (chars text.now)) }
+{
+    for character in text.chars() {
+        if !is_character_lowered(character) {
+            return false;
+        }
+    }
+    true
+}
+
+/// The same, of a character.
+#[inline(always)]
+fn is_character_lowered(character: char) -> bool
+    ensures { IsTrue result → map to_ascii_lowercase (encode_utf8 character) ≡ encode_utf8_all (full_fold character) }
+{
+    if character.is_ascii() {
+        return true;
+    }
+    full_folding(character).is_empty()
+}
+
+/// The text with case folded. Most folded texts have the room of the text.
 #[inline(never)]
 fn fold_wide_case(alloc: Global, text: &str) -> Result<String, AllocError>
     ensures { IfOk result (λ folded. string_bytes folded ≡ encode_utf8_all (default_case_fold (chars text.now))) }
