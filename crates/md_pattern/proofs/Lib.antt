@@ -1,2 +1,3 @@
 -- The lemmas on places in a pattern: each fits a byte, and which patterns let a spine be empty.
 pub mod Positions
+pub mod PlaceLemmas

@@ -5,3 +5,4 @@ pub mod Pattern
 pub mod Spine
 pub mod Shape
 pub mod Steps
+pub mod Places

@@ -73,7 +73,7 @@ pub fn role_for(around: Role, before: Option<Symbol>, usual: Role) -> Role
 
 /// Whether a name with this usual role has another one in some places.
 #[inline(always)]
-fn goes_by_place(usual: Role) -> bool
+pub(crate) fn goes_by_place(usual: Role) -> bool
     ensures { result ≡ false → (around : Role) (before : Option Symbol) → role_for around before usual ≡ usual }
 {
     matches!(

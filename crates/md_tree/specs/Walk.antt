@@ -1,5 +1,5 @@
 -- How a walk over events stands, and why it stops.
-use Rattle.std.specs.Prelude.{◌≡◌, ◌⊎◌, ℕ, suc, false, Option, Some, None, List, [], ◌∷◌, map, option_map, reverse, slice_get, IsTrue}
+use Rattle.std.specs.Prelude.{◌≡◌, ◌⊎◌, ℕ, suc, Bool, true, false, ◌&&◌, if◌then◌else◌, Option, Some, None, List, [], ◌∷◌, reverse, slice_get, IsTrue}
 use Rattle.md_base.specs.declared.event.Point.{Point}
 use Rattle.md_base.specs.declared.event.Position.{Position}
 use Rattle.md_base.specs.declared.event.Name.{Name}
@@ -18,11 +18,12 @@ use Rattle.md_tree.specs.declared.open_nodes.Aim.{Aim}
 use Rattle.md_tree.specs.declared.open_nodes.Aim.TheVariants as aim
 use Rattle.md_tree.specs.declared.open_nodes.Open.{Open as KeptOpen}
 use Rattle.md_tree.specs.declared.open_nodes.Outer.{Outer as KeptOuter}
-use Rattle.md_tree.specs.declared.open_nodes.Entry.{Entry as KeptEntry}
+use Rattle.md_pattern.specs.declared.kinds.Role.{Role}
 use Rattle.md_tree.specs.declared.walk.Walk.{Walk}
 use Rattle.md_pattern.specs.Standing.{standing_of}
 use Rattle.md_tree.specs.Rules.{place, broken_rule}
-use Rattle.md_pattern.specs.Steps.{is_complete}
+use Rattle.md_pattern.specs.Steps.{is_complete, start_of}
+use Rattle.md_pattern.specs.Places.{state_of}
 use Rattle.md_tree.specs.Machine.{Reads, Outer, Open, Entry, Course, Enters, Exits}
 
 -- the point of the event at an index
@@ -43,41 +44,63 @@ target_seen events aim.Missing = Missing
 target_seen events aim.Resource = Resource
 target_seen events (aim.Label entry exit) = Label (place_at events entry exit)
 
-abbrev pub outer_seen : List Event → KeptOuter → Outer
-outer_seen events outer =
+-- what waits for the end of a node around which this target was found so far
+abbrev pub outer_seen : List Event → Aim → KeptOuter → Outer
+outer_seen events target outer =
     record {
-      state = outer.state;
+      state = state_of outer.place outer.last;
       before = outer.before;
-      target = target_seen events outer.target;
+      target = target_seen events target;
       reading = outer.reading;
     }
 
-abbrev pub open_seen : List Event → KeptOpen → Open
-open_seen events open_node =
+-- the target that was put aside where a node was entered, if there was one; of those put aside the innermost comes first
+abbrev pub target_of : Bool → List Aim → Aim
+target_of true (target ∷ targets) = target
+target_of true [] = aim.Missing
+target_of false targets = aim.Missing
+
+-- those put aside where the nodes around it were entered
+abbrev pub targets_around : Bool → List Aim → List Aim
+targets_around true (target ∷ targets) = targets
+targets_around true [] = []
+targets_around false targets = targets
+
+-- the spine around an open node has a target that was put aside
+abbrev pub is_aimed : KeptOpen → Bool
+is_aimed open_node = open_node.stands && open_node.aimed
+
+abbrev pub outer_of : List Event → List Aim → KeptOpen → Outer
+outer_of events targets open_node = outer_seen events (target_of open_node.aimed targets) open_node.outer
+
+abbrev pub open_seen : List Event → List Aim → KeptOpen → Open
+open_seen events targets open_node =
     record {
       name = open_node.name;
       start = point_at events open_node.entry;
-      outer = option_map (λ outer. outer_seen events outer) open_node.outer;
+      outer = if open_node.stands then Some (outer_of events targets open_node) else None;
     }
 
-abbrev pub entry_seen : List Event → KeptEntry → Entry
-entry_seen events entry =
-    record {
-      state = entry.state;
-      target = target_seen events entry.target;
-      outer = option_map (λ outer. outer_seen events outer) entry.outer;
-    }
+-- open nodes, the innermost first
+abbrev pub opens_at : List Event → List Aim → List KeptOpen → List Open
+opens_at events targets [] = []
+opens_at events targets (open_node ∷ open_nodes) =
+    open_seen events targets open_node ∷ opens_at events (targets_around (is_aimed open_node) targets) open_nodes
 
 -- the open nodes, of which the vector has the innermost last
-abbrev pub opens_seen : List Event → List KeptOpen → List Open
-opens_seen events open_nodes = reverse (map (λ open_node. open_seen events open_node) open_nodes)
+abbrev pub opens_seen : List Event → List Aim → List KeptOpen → List Open
+opens_seen events targets open_nodes = opens_at events targets (reverse open_nodes)
+
+-- where the children of a node of this role begin
+abbrev pub entered_at : Role → Outer → Entry
+entered_at role outer = record { state = start_of role; target = Missing; outer = Some outer }
 
 -- the course of a walk over so many of the events
 abbrev pub course_of : List Event → ℕ → Walk → Course
 course_of events count walk = record {
-  state = walk.state;
+  state = state_of walk.place walk.before;
   target = target_seen events walk.target;
-  open_nodes = opens_seen events walk.open_nodes.items;
+  open_nodes = opens_seen events (reverse walk.targets.items) walk.open_nodes.items;
   count = count;
   mentions = walk.mentions.items;
 }

@@ -6,6 +6,7 @@ ghost use Rattle.md_infer.specs.Ending.{first_index};
 ghost use Rattle.md_tree.specs.Grammar.{handed, IsChecked};
 ghost use Rattle.md_tree.specs.Refusal.{IsOrder, IsMdx, IsOfNode, IsLost, IsOutside, IsRefusal};
 ghost use Rattle.md_pattern.specs.Steps.{is_complete};
+ghost use Rattle.md_pattern.specs.Places.{state_of};
 ghost use Rattle.md_tree.specs.Machine.{Runs, beginning};
 ghost use Rattle.md_tree.specs.Walk.{course_of, Unbroken};
 ghost use Rattle.md_infer.specs.Facts.{facts_at, tables_at, definitions_at};
@@ -19,7 +20,6 @@ use crate::texts::Texts;
 use crate::walk::Walk;
 use md_base::Event;
 use md_infer::Facts;
-use md_pattern::is_complete;
 use std::alloc::Global;
 
 /// Checks that events are the flattening of a document of the grammar over the document's bytes
@@ -157,8 +157,8 @@ fn read_events(input: Input) -> Result<Read, CompileError>
 
 /// Whether all nodes have ended, and the document's spine may end.
 fn is_done(walk: &Walk) -> bool
-    ensures done { result ≡ true → (walk.now.open_nodes.items ≡ []) × (is_complete walk.now.state ≡ true) }
-    ensures undone { result ≡ false → walk.now.open_nodes.items ≡ [] → is_complete walk.now.state ≡ false }
+    ensures done { result ≡ true → (walk.now.open_nodes.items ≡ []) × (is_complete (state_of walk.now.place walk.now.before) ≡ true) }
+    ensures undone { result ≡ false → walk.now.open_nodes.items ≡ [] → is_complete (state_of walk.now.place walk.now.before) ≡ false }
 {
-    walk.open_nodes.is_empty() && is_complete(walk.state)
+    walk.open_nodes.is_empty() && walk.place.may_end()
 }

@@ -1,9 +1,10 @@
 //! The rules that are judged where a node ends.
 
-ghost use Rattle.std.specs.Prelude.{◌≡◌, ◌&&◌, List, length, nat_lt, nat_le, is_some, option_copied, IfOk, if◌then◌else◌};
+ghost use Rattle.std.specs.Prelude.{◌≡◌, ◌&&◌, None, List, length, nat_lt, nat_le, is_some, option_copied, IfOk, if◌then◌else◌};
 ghost use Rattle.md_base.specs.Place.{fits, text_between, label_between};
 ghost use Rattle.md_base.specs.Reference.{name_table, is_number, decoded};
 ghost use Rattle.md_tree.specs.Rules.{is_line_ending, is_decodable, is_list_number, is_rank, marker_after, columns, unless, broken_by, broken_by_target, broken_rule, target_at};
+ghost use Rattle.md_pattern.specs.Places.{state_of};
 ghost use Rattle.md_tree.specs.Mentions.{mention_of};
 ghost use Rattle.md_tree.specs.Walk.{point_at, place_at, target_seen};
 ghost use Rattle.md_base.specs.declared.event.Event.{Event};
@@ -15,7 +16,7 @@ use crate::mention::Mention;
 use crate::open_nodes::Aim;
 use crate::rule::Rule;
 use md_base::{Point, Position, Slice, decode_character_reference};
-use md_pattern::{Reading, Role, Symbol};
+use md_pattern::{Place, Reading, Role, Symbol};
 use md_text::LineEnding;
 use std::alloc::AllocError;
 
@@ -212,8 +213,8 @@ pub fn mention_of(reading: Reading, label: Position) -> Mention
 /// Where a node stands, and what is read of it.
 #[derive(Clone, Copy)]
 pub struct Spot {
-    /// The role around it.
-    pub around: Role,
+    /// The spine around it.
+    pub around: Place,
     /// The symbol before it.
     pub before: Option<Symbol>,
     /// What is read of it.
@@ -239,7 +240,36 @@ pub fn read_node(
 ) -> Result<Option<Rule>, AllocError>
     ensures broken { IfOk result
         (λ broken. broken ≡ broken_rule input.entry.bytes.now (name_table input.entry.names.now)
-        spot.reading spot.around spot.before (point_at input.entry.events.now spot.entry)
+        spot.reading (state_of spot.around None).role spot.before (point_at input.entry.events.now spot.entry)
+        (point_at input.entry.events.now spot.exit) (target_seen input.entry.events.now inner)) }
+    ensures target { (events : List Event)
+        → target_seen events target.new ≡ target_at spot.reading (target_seen events target.old)
+        (target_seen events inner) (place_at events spot.entry spot.exit) }
+{
+    // Most nodes are read in one of these ways; the others are read by a call.
+    match spot.reading {
+        Reading::Free => Ok(None),
+        Reading::Text => Ok(broken_text(text_of(input, spot.entry, spot.exit))),
+        Reading::LineEnding => Ok(broken_ending(text_of(input, spot.entry, spot.exit))),
+        _ => read_other(input, spot, inner, target),
+    }
+}
+
+/// The same of any node.
+///
+/// # Errors
+///
+/// `AllocError`, only where memory runs out.
+#[inline(never)]
+fn read_other(
+    input: Input,
+    spot: Spot,
+    inner: Aim,
+    target: &mut Aim,
+) -> Result<Option<Rule>, AllocError>
+    ensures broken { IfOk result
+        (λ broken. broken ≡ broken_rule input.entry.bytes.now (name_table input.entry.names.now)
+        spot.reading (state_of spot.around None).role spot.before (point_at input.entry.events.now spot.entry)
         (point_at input.entry.events.now spot.exit) (target_seen input.entry.events.now inner)) }
     ensures target { (events : List Event)
         → target_seen events target.new ≡ target_at spot.reading (target_seen events target.old)
@@ -256,9 +286,9 @@ pub fn read_node(
     let rule = match reading {
         Reading::Text => broken_text(text_of(input, entry, exit)),
         Reading::LineEnding => broken_ending(text_of(input, entry, exit)),
-        Reading::Number => broken_number(around, before, text_of(input, entry, exit)),
+        Reading::Number => broken_number(around.role(), before, text_of(input, entry, exit)),
         Reading::Value => broken_value(input, before, text_of(input, entry, exit))?,
-        Reading::Mark => broken_mark(input, around, before, entry, exit),
+        Reading::Mark => broken_mark(input, around.role(), before, entry, exit),
         Reading::Underline => broken_underline(bytes, point_at(input.events, entry)),
         Reading::Identifier => {
             *target = Aim::Label(entry, exit);

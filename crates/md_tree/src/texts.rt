@@ -165,12 +165,14 @@ fn runs<'a>(alloc: Global, bytes: &'a [u8]) -> Result<Vec<Run<'a>>, AllocError>
     }
 }
 
-/// The one run of bytes that are a text.
+/// The one run of bytes that are a text, or none where there are no bytes.
 fn whole_run(alloc: Global, text: &str) -> Result<Vec<Run<'_>>, AllocError>
     ensures { IfOk result (λ runs. AreRuns text.now runs.items) }
 {
     let mut runs = Vec::new(alloc);
-    runs.push(Run { start: 0, text })?;
+    if !text.is_empty() {
+        runs.push(Run { start: 0, text })?;
+    }
     Ok(runs)
 }
 

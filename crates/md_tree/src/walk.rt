@@ -1,54 +1,61 @@
 //! The walk over the events, which enters and exits nodes and refuses an event that breaks a rule.
 
-ghost use Rattle.std.specs.Prelude.{◌≡◌, Err, OnOk};
+ghost use Rattle.std.specs.Prelude.{◌≡◌, true, false, Err, OnOk, IfOk, reverse};
+ghost use Rattle.md_pattern.specs.declared.kinds.Reading.TheVariants.{Free};
+ghost use Rattle.md_tree.specs.declared.open_nodes.Aim.TheVariants.{Missing};
 ghost use Rattle.md_tree.specs.declared.rule.CompileError.TheVariants as error;
 ghost use Rattle.md_tree.specs.Mentions.{mention_of, mentions_with};
-ghost use Rattle.md_tree.specs.Walk.{target_seen, misplaced};
+ghost use Rattle.md_tree.specs.Walk.{target_seen, target_of, targets_around, misplaced};
 
 use crate::input::{Input, place_at};
 use crate::judge::{Spot, mention_of, read_node};
 use crate::mention::{Mention, Mentioned};
-use crate::open_nodes::{Aim, Entry, Open, Outer};
+use crate::open_nodes::{Aim, Open, Outer};
 use crate::rule::{CompileError, Rule};
 use md_base::{Event, Kind, Name, is_same_name};
-use md_pattern::{
-    Reading, Role, Standing, State, advance, can_be_leaf, is_complete, may_hold, role_for,
-    standing_of, start_of,
-};
+use md_pattern::{Place, Reading, Role, Standing, Symbol, standing_of};
 use std::alloc::{AllocError, Global};
 
 /// How far events have been read.
 #[derive(Drop)]
 pub struct Walk {
-    /// The spine on which the next event stands.
-    pub state: State,
+    /// How far the spine has been read on which the next event stands.
+    pub place: Place,
+    /// Its last symbol.
+    pub before: Option<Symbol>,
     /// Its target so far.
     pub target: Aim,
     /// The nodes that are open, the innermost last.
     pub open_nodes: Vec<Open>,
+    /// The targets of the spines around them that have one, that of the innermost last.
+    pub targets: Vec<Aim>,
     /// What the nodes mention that have ended.
     pub mentions: Vec<Mentioned>,
 }
 
 impl Walk {
-    ghost use Rattle.std.specs.Prelude.{◌≡◌, ◌<◌, ◌+◌, List, suc, [], Some, length, IfOk, IfErr, OnOk};
+    ghost use Rattle.std.specs.Prelude.{◌≡◌, ◌<◌, ◌+◌, List, suc, true, None, Some, length, reverse, IfOk, IfErr, OnOk};
     ghost use Rattle.md_base.specs.Reference.{name_table};
     ghost use Rattle.md_base.specs.declared.event.Event.{Event};
     ghost use Rattle.md_base.specs.declared.event.Kind.TheVariants as kind;
-    ghost use Rattle.md_pattern.specs.Steps.{start_of};
+    ghost use Rattle.md_pattern.specs.Steps.{is_complete};
+    ghost use Rattle.md_pattern.specs.Places.{state_of};
+    ghost use Rattle.md_tree.specs.Rules.{broken_rule, target_at};
     ghost use Rattle.md_tree.specs.Machine.{Steps, Enters, Exits, ExitsWhere, after_entry, beginning};
     ghost use Rattle.md_tree.specs.declared.open_nodes.Aim.TheVariants.{Missing};
     ghost use Rattle.md_tree.specs.declared.rule.CompileError.TheVariants.{Memory};
-    ghost use Rattle.md_tree.specs.Walk.{point_at, place_at, outer_seen, opens_seen, entry_seen, course_of, Passes, Unbroken, IsStop, IsStopAtLeaf, IsStopInside};
+    ghost use Rattle.md_tree.specs.Walk.{point_at, place_at, outer_seen, outer_of, opens_seen, target_of, targets_around, course_of, entered_at, Passes, Unbroken, IsStop, IsStopAtLeaf, IsStopInside};
 
     /// Before any event.
     pub fn new(alloc: Global) -> Walk
         ensures { (events : List Event) → course_of events 0 result ≡ beginning }
     {
         Walk {
-            state: start_of(Role::Flow),
+            place: Place::start(Role::Flow),
+            before: None,
             target: Aim::Missing,
             open_nodes: Vec::new(alloc),
+            targets: Vec::new(alloc),
             mentions: Vec::new(alloc),
         }
     }
@@ -85,57 +92,48 @@ impl Walk {
             (IsStop input.entry.bytes.now (name_table input.entry.names.now) index kind.Enter name
             (point_at input.entry.events.now index) (course_of input.entry.events.now index self.old)) }
     {
-        if !may_hold(self.state.role) {
+        if !self.place.may_hold() {
             return refuse(index, misplaced(name));
         }
         match standing_of(name) {
             Standing::Mdx => refuse(index, Rule::Mdx),
             Standing::Through => {
                 self.open_nodes.push(Open {
-                    name,
                     entry: index,
-                    outer: None,
+                    name,
+                    outer: Outer {
+                        place: self.place,
+                        last: None,
+                        before: None,
+                        reading: Reading::Free,
+                    },
+                    stands: false,
+                    aimed: false,
                 })?;
                 Ok(())
             }
             Standing::Space => {
-                let entry = self.inside(Role::Childless, self.state, Reading::Free);
-                self.open(input, index, name, entry)
+                let outer = Outer {
+                    place: self.place,
+                    last: self.before,
+                    before: self.before,
+                    reading: Reading::Free,
+                };
+                self.open(input, index, name, Role::Childless, outer)
             }
             Standing::Solid(symbol, usual, reading) => {
-                let Some(around) = advance(self.state, symbol) else {
+                let Some(place) = self.place.after(symbol) else {
                     return refuse(index, Rule::Order);
                 };
-                let role = role_for(self.state.role, self.state.before, usual);
-                let entry = self.inside(role, around, reading);
-                self.open(input, index, name, entry)
+                let role = self.place.role_inside(self.before, usual);
+                let outer = Outer {
+                    place,
+                    last: Some(symbol),
+                    before: self.before,
+                    reading,
+                };
+                self.open(input, index, name, role, outer)
             }
-        }
-    }
-
-    /// Where the children of a node of this role begin, by the spine around it with the node.
-    #[inline(always)]
-    fn inside(&self, role: Role, around: State, reading: Reading) -> Entry
-        ensures { result ≡ record {
-          state = start_of role;
-          target = Missing;
-          outer = Some (record {
-            state = around;
-            before = self.now.state.before;
-            target = self.now.target;
-            reading = reading;
-          });
-        } }
-    {
-        Entry {
-            state: start_of(role),
-            target: Aim::Missing,
-            outer: Some(Outer {
-                state: around,
-                before: self.state.before,
-                target: self.target,
-                reading,
-            }),
         }
     }
 
@@ -146,21 +144,25 @@ impl Walk {
         input: Input,
         index: usize,
         name: Name,
-        entry: Entry,
+        role: Role,
+        outer: Outer,
     ) -> Result<(), CompileError>
         ensures ok { OnOk result
             (course_of input.entry.events.now (suc index) self.new
-            ≡ after_entry (entry_seen input.entry.events.now entry) name (point_at input.entry.events.now index)
-            (course_of input.entry.events.now index self.old)) }
+            ≡ after_entry (entered_at role (outer_seen input.entry.events.now self.old.target outer)) name
+            (point_at input.entry.events.now index) (course_of input.entry.events.now index self.old)) }
         ensures memory { IfErr result (λ error. error ≡ Memory) }
     {
+        let aimed = put_aside(&mut self.target, &mut self.targets)?;
         self.open_nodes.push(Open {
-            name,
             entry: index,
-            outer: entry.outer,
+            name,
+            outer,
+            stands: true,
+            aimed,
         })?;
-        self.state = entry.state;
-        self.target = entry.target;
+        self.place = Place::start(role);
+        self.before = None;
         Ok(())
     }
 
@@ -183,22 +185,22 @@ impl Walk {
             (point_at input.entry.events.now index) (point_at input.entry.events.now (suc index))
             (course_of input.entry.events.now index self.old)) }
     {
-        if !may_hold(self.state.role) {
+        if !self.place.may_hold() {
             return refuse(index, misplaced(name));
         }
         match standing_of(name) {
             Standing::Mdx => refuse(index, misplaced(name)),
             Standing::Through | Standing::Space => Ok(()),
             Standing::Solid(symbol, usual, reading) => {
-                let Some(state) = advance(self.state, symbol) else {
+                let Some(place) = self.place.after(symbol) else {
                     return refuse(index, Rule::Order);
                 };
-                if !can_be_leaf(self.state.role, self.state.before, usual) {
+                if !self.place.can_hold_empty(self.before, usual) {
                     return refuse(index + 1, Rule::Order);
                 }
                 let spot = Spot {
-                    around: state.role,
-                    before: self.state.before,
+                    around: place,
+                    before: self.before,
                     reading,
                     entry: index,
                     exit: index + 1,
@@ -206,7 +208,8 @@ impl Walk {
                 if let Some(rule) = read_node(input, spot, Aim::Missing, &mut self.target)? {
                     return refuse(index + 1, rule);
                 }
-                self.state = state;
+                self.place = place;
+                self.before = Some(symbol);
                 Ok(())
             }
         }
@@ -216,7 +219,7 @@ impl Walk {
     fn exit(&mut self, input: Input, index: usize, name: Name) -> Result<(), CompileError>
         ensures ok { OnOk result
             (Exits (Unbroken input.entry.bytes.now (name_table input.entry.names.now))
-            (opens_seen input.entry.events.now self.old.open_nodes.items) name (point_at input.entry.events.now index)
+            (course_of input.entry.events.now index self.old).open_nodes name (point_at input.entry.events.now index)
             (course_of input.entry.events.now index self.old) (course_of input.entry.events.now (suc index) self.new)) }
         ensures refused { IfErr result
             (IsStop input.entry.bytes.now (name_table input.entry.names.now) index kind.Exit name
@@ -228,55 +231,122 @@ impl Walk {
         if !is_same_name(open_node.name, name) {
             return refuse(index, Rule::Order);
         }
-        match open_node.outer {
-            None => Ok(()),
-            Some(outer) => self.leave(input, index, open_node.entry, outer),
+        if open_node.stands {
+            self.leave(input, index, &open_node)
+        } else {
+            Ok(())
         }
     }
 
-    /// Leaves a node that was entered at an index, and has a spine of its own, which was read so far.
+    /// Leaves a node that has a spine of its own, which was read so far.
     #[inline(always)]
-    fn leave(
-        &mut self,
-        input: Input,
-        index: usize,
-        entry: usize,
-        outer: Outer,
-    ) -> Result<(), CompileError>
+    fn leave(&mut self, input: Input, index: usize, open_node: &Open) -> Result<(), CompileError>
         ensures ok { OnOk result
             (ExitsWhere (Unbroken input.entry.bytes.now (name_table input.entry.names.now))
-            (Some (outer_seen input.entry.events.now outer)) (point_at input.entry.events.now entry)
-            (point_at input.entry.events.now index) (opens_seen input.entry.events.now self.old.open_nodes.items)
+            (Some (outer_of input.entry.events.now (reverse self.old.targets.items) open_node.entry.now))
+            (point_at input.entry.events.now open_node.entry.now.entry) (point_at input.entry.events.now index)
+            (opens_seen input.entry.events.now
+            (targets_around open_node.entry.now.aimed (reverse self.old.targets.items)) self.old.open_nodes.items)
             (course_of input.entry.events.now index self.old) (course_of input.entry.events.now (suc index) self.new)) }
         ensures refused { IfErr result
             (IsStopInside input.entry.bytes.now (name_table input.entry.names.now) index
-            (outer_seen input.entry.events.now outer) (place_at input.entry.events.now entry index)
+            (outer_of input.entry.events.now (reverse self.old.targets.items) open_node.entry.now)
+            (place_at input.entry.events.now open_node.entry.now.entry index)
             (course_of input.entry.events.now index self.old)) }
     {
-        if !is_complete(self.state) {
+        if !self.place.may_end() {
             return refuse(index, Rule::Order);
         }
+        if is_plain(open_node, self.target) {
+            self.place = open_node.outer.place;
+            self.before = open_node.outer.last;
+            return Ok(());
+        }
+        self.leave_read(input, index, open_node)
+    }
+
+    /// The same where something is read of the node, or it or the spine around it has a target.
+    fn leave_read(
+        &mut self,
+        input: Input,
+        index: usize,
+        open_node: &Open,
+    ) -> Result<(), CompileError>
+        requires { is_complete (state_of self.now.place self.now.before) ≡ true }
+        ensures ok { OnOk result
+            (ExitsWhere (Unbroken input.entry.bytes.now (name_table input.entry.names.now))
+            (Some (outer_of input.entry.events.now (reverse self.old.targets.items) open_node.entry.now))
+            (point_at input.entry.events.now open_node.entry.now.entry) (point_at input.entry.events.now index)
+            (opens_seen input.entry.events.now
+            (targets_around open_node.entry.now.aimed (reverse self.old.targets.items)) self.old.open_nodes.items)
+            (course_of input.entry.events.now index self.old) (course_of input.entry.events.now (suc index) self.new)) }
+        ensures refused { IfErr result
+            (IsStopInside input.entry.bytes.now (name_table input.entry.names.now) index
+            (outer_of input.entry.events.now (reverse self.old.targets.items) open_node.entry.now)
+            (place_at input.entry.events.now open_node.entry.now.entry index)
+            (course_of input.entry.events.now index self.old)) }
+    {
+        let Outer {
+            place,
+            last,
+            before,
+            reading,
+        } = open_node.outer;
         let spot = Spot {
-            around: outer.state.role,
-            before: outer.before,
-            reading: outer.reading,
-            entry,
+            around: place,
+            before,
+            reading,
+            entry: open_node.entry,
             exit: index,
         };
         let inner = self.target;
-        self.target = outer.target;
+        self.target = take_back(open_node.aimed, &mut self.targets);
         if let Some(rule) = read_node(input, spot, inner, &mut self.target)? {
             return refuse(index, rule);
         }
-        keep(
-            &mut self.mentions,
-            input.events,
-            index,
-            outer.reading,
-            inner,
-        )?;
-        self.state = outer.state;
+        keep(&mut self.mentions, input.events, index, reading, inner)?;
+        self.place = place;
+        self.before = last;
         Ok(())
+    }
+}
+
+/// Whether nothing is read of a node, and neither it nor the spine around it has a target.
+#[inline(always)]
+fn is_plain(open_node: &Open, target: Aim) -> bool
+    ensures { result ≡ true → (open_node.now.outer.reading ≡ Free) × (open_node.now.aimed ≡ false) × (target ≡ Missing) }
+{
+    matches!(open_node.outer.reading, Reading::Free)
+        && !open_node.aimed
+        && matches!(target, Aim::Missing)
+}
+
+/// Puts aside the target of the spine around a node that is entered, if it has one; answers whether it has.
+#[inline(always)]
+fn put_aside(target: &mut Aim, targets: &mut Vec<Aim>) -> Result<bool, AllocError>
+    ensures begins { OnOk result (target.new ≡ Missing) }
+    ensures aside { IfOk result (λ aimed. target_of aimed (reverse targets.new.items) ≡ target.old) }
+    ensures around { IfOk result (λ aimed. targets_around aimed (reverse targets.new.items) ≡ reverse targets.old.items) }
+{
+    if matches!(*target, Aim::Missing) {
+        return Ok(false);
+    }
+    targets.push(*target)?;
+    *target = Aim::Missing;
+    Ok(true)
+}
+
+/// The target of the spine around a node that ends, if it was put aside.
+fn take_back(aimed: bool, targets: &mut Vec<Aim>) -> Aim
+    ensures target { result ≡ target_of aimed (reverse targets.old.items) }
+    ensures around { reverse targets.new.items ≡ targets_around aimed (reverse targets.old.items) }
+{
+    if !aimed {
+        return Aim::Missing;
+    }
+    match targets.pop() {
+        Some(target) => target,
+        None => Aim::Missing,
     }
 }
 

@@ -1,35 +1,38 @@
 -- What `find` says where the walk isn't done, where a mention leads nowhere, and where all is well. The search can't
 -- go from how a walk ends to what holds of the events: `Checking` does.
 use Rattle.std.proofs.Common.{◌≡◌, [], ◌∷◌, refl, sym, ap, ◌∙◌, subst, length, List}
-use Rattle.std.specs.Prelude.{map, reverse}
+use Rattle.std.specs.Prelude.{reverse}
 use Rattle.md_base.specs.declared.event.Event.{Event}
 use Rattle.std.specs.List.{All}
 use Rattle.std.proofs.lemmas.List.{reverse-reverse}
 use Rattle.std.proofs.lemmas.Result.{err_from_is_err_and}
+use Rattle.md_tree.specs.declared.open_nodes.Aim.{Aim}
 use Rattle.md_tree.specs.declared.open_nodes.Open.{Open}
 use Rattle.md_tree.specs.Mentions.{mentions_among, IsResolved}
 use Rattle.md_tree.specs.Resolve.{IsUnresolved}
 use Rattle.md_tree.specs.Grammar.{handed}
-use Rattle.md_tree.specs.Walk.{open_seen, opens_seen, course_of}
+use Rattle.md_tree.specs.Walk.{opens_at, opens_seen, course_of}
 use Rattle.md_tree.proofs.Endings.{IsWalked, IsWalked-done}
 use Rattle.md_tree.proofs.Checking.{IsRefusal-undone, IsRefusal-lost, IsChecked-walked}
 use Rattle.md_tree.proofs.grammar.find.Goals as goal
 
 -- no node of a course is open, and so none of a walk
-none_mapped : (events : List Event) (opens : List Open) → map (λ open_node. open_seen events open_node) opens ≡ [] →
+none_at : (events : List Event) (targets : List Aim) (opens : List Open) → opens_at events targets opens ≡ [] →
     opens ≡ []
-none_mapped events [] e = refl
-none_mapped events (open_node ∷ opens) e = cc
+none_at events targets [] e = refl
+none_at events targets (open_node ∷ opens) e = cc
 
-none_open : (events : List Event) (opens : List Open) → opens_seen events opens ≡ [] → opens ≡ []
-none_open events opens e = none_mapped events opens (sym (reverse-reverse _) ∙ ap reverse e)
+none_open : (events : List Event) (targets : List Aim) (opens : List Open) → opens_seen events targets opens ≡ [] →
+    opens ≡ []
+none_open events targets opens e = sym (reverse-reverse opens) ∙ ap reverse (none_at events targets (reverse opens) e)
 
 pub returns-then-not-is_done-clause-refused : goal.returns-then-not-is_done-clause-refused
 returns-then-not-is_done-clause-refused c =
     IsRefusal-undone (handed c.args.events.now c.args.bytes.now c.args.names.now)
     (course_of c.args.events.now (length c.args.events.now) c.in_ok-read.read.walk) c.in_ok-read.ensures.walked
     (λ e. c.is_done.ensures.undone c.if-not-is_done.true
-    (none_open c.args.events.now c.in_ok-read.read.walk.open_nodes.items e))
+    (none_open c.args.events.now (reverse c.in_ok-read.read.walk.targets.items)
+    c.in_ok-read.read.walk.open_nodes.items e))
 
 pub returns-in_err-resolve-clause-refused : goal.returns-in_err-resolve-clause-refused
 returns-in_err-resolve-clause-refused c =
@@ -39,7 +42,7 @@ returns-in_err-resolve-clause-refused c =
     let done = c.is_done.ensures.done c.if-not-is_done.false in
     let walked : IsWalked given mentions = IsWalked-done given
     (course_of c.args.events.now (length c.args.events.now) c.in_ok-read.read.walk) c.in_ok-read.ensures.walked
-    (ap (opens_seen c.args.events.now) done.0) done.1 in
+    (ap (λ opens. opens_seen c.args.events.now (reverse c.in_ok-read.read.walk.targets.items) opens) done.0) done.1 in
     rw (p.1, p.2)
     (IsRefusal-lost given mentions c.in_err-resolve.field-0.0 walked
     (subst (λ ms. IsUnresolved c.args.bytes.now ms c.in_err-resolve.field-0.0) c.deref.ensures.value
@@ -52,6 +55,6 @@ returns-clause-grammatical c =
     let done = c.is_done.ensures.done c.if-not-is_done.false in
     let walked : IsWalked given mentions = IsWalked-done given
     (course_of c.args.events.now (length c.args.events.now) c.in_ok-read.read.walk) c.in_ok-read.ensures.walked
-    (ap (opens_seen c.args.events.now) done.0) done.1 in
+    (ap (λ opens. opens_seen c.args.events.now (reverse c.in_ok-read.read.walk.targets.items) opens) done.0) done.1 in
     IsChecked-walked given mentions walked (subst (λ ms. All (IsResolved c.args.bytes.now (mentions_among ms))
     (mentions_among ms)) c.deref.ensures.value c.in_ok-resolve.ensures.ok)

@@ -1,18 +1,19 @@
 -- A node whose spine may end, but which breaks a rule, stops the walk. The search doesn't go through the rules: one
 -- that is broken here is never that of the order.
 use Rattle.std.proofs.Common.{refl, sym, ◌∙◌}
+use Rattle.std.specs.Prelude.{reverse}
 use Rattle.md_base.specs.Reference.{name_table}
-use Rattle.md_tree.specs.Walk.{point_at, outer_seen, course_of}
+use Rattle.md_tree.specs.Walk.{point_at, outer_of, course_of}
 use Rattle.md_tree.proofs.Breaks.{StopsInside-broken}
-use Rattle.md_tree.proofs.walk.Walk.leave.Goals as goal
+use Rattle.md_tree.proofs.walk.Walk.leave_read.Goals as goal
 
 pub returns-in-Some-clause-refused : goal.returns-in-Some-clause-refused
 returns-in-Some-clause-refused c =
     let events = c.args.input.events.now in
-    rw c.refuse-in-Some.ensures (
+    rw c.refuse.ensures (
       refl,
       StopsInside-broken c.args.input.bytes.now (name_table c.args.input.names.now) c.in-Some.rule
-          (outer_seen events c.args.outer) (point_at events c.args.entry) (point_at events c.args.index)
-          (course_of events c.args.index c.args.self.now) (sym c.is_complete.ensures
-          ∙ c.if-not-is_complete.false) (sym c.in_ok-rule.ensures.broken ∙ c.in-Some.is),
+          (outer_of events (reverse c.args.self.now.targets.items) c.args.open_node.now)
+          (point_at events c.args.open_node.now.entry) (point_at events c.args.index)
+          (course_of events c.args.index c.args.self.now) c.requires (sym c.in_ok-rule.ensures.broken ∙ c.in-Some.is),
     )
