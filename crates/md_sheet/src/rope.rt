@@ -7,6 +7,11 @@ use md_text::push_encoded;
 use std::alloc::{AllocError, Global};
 use std::marker::Model;
 
+/// A text up to this length is copied even behind a shorter one: a part of its own, which is copied at the end, would
+/// cost more. No more than this is copied for each text that is put, so the cost stays in proportion to their number
+/// and to what is kept.
+const COPIED_LENGTH: usize = 512;
+
 /// A text in parts, after which another is put without copying the longer of the two: so a text that is put after
 /// others, and they after others, is not copied each time.
 #[derive(Drop)]
@@ -70,7 +75,14 @@ impl Rope {
         push_encoded(&mut self.last, text, escaping)
     }
 
-    /// Adds another rope's text: the shorter of the two is copied.
+    /// Makes room for a text of a length, where there is memory for it.
+    pub fn reserve(&mut self, length: usize)
+        ensures { self.new ≡ self.old }
+    {
+        let _ = self.last.reserve(length);
+    }
+
+    /// Adds another rope's text: the shorter of the two is copied, or the other one where it is short.
     ///
     /// # Errors
     ///
@@ -78,11 +90,29 @@ impl Rope {
     pub fn append(&mut self, alloc: Global, other: Rope) -> Result<(), AllocError>
         ensures { OnOk result (self.new ≡ self.old ++ other) }
     {
-        if self.length() < other.length() {
+        self.append_emptied(alloc, other)?;
+        Ok(())
+    }
+
+    /// Adds another rope's text as [`Rope::append`] does, and gives the room of what was copied.
+    ///
+    /// # Errors
+    ///
+    /// Only where memory runs out.
+    pub fn append_emptied(&mut self, alloc: Global, other: Rope) -> Result<String, AllocError>
+        ensures added { OnOk result (self.new ≡ self.old ++ other) }
+        ensures emptied { IfOk result (λ room. string_bytes room ≡ []) }
+    {
+        let length = other.length();
+        if length > COPIED_LENGTH && self.length() < length {
             let before = std::mem::replace(self, other);
-            self.put_before(before.into_string(alloc)?)
+            self.put_before(before.into_string(alloc)?)?;
+            Ok(String::new(alloc))
         } else {
-            self.push_str(other.into_string(alloc)?.as_str())
+            let mut text = other.into_string(alloc)?;
+            self.push_str(text.as_str())?;
+            text.clear();
+            Ok(text)
         }
     }
 
