@@ -31,6 +31,9 @@ use md_text::CompileOptions;
 use std::alloc::{AllocError, Global};
 use std::marker::Model;
 
+/// The most bytes for which room is made before anything is printed.
+const FIRST_ROOM: usize = 4096;
+
 /// The text so far and the nodes that are open.
 #[derive(Drop)]
 pub struct Printer {
@@ -117,7 +120,8 @@ impl Printer {
         self.text.push_encoded(text, escaping)
     }
 
-    /// Prints a text in parts, without copying the longer of it and the sheet.
+    /// Prints a text in parts, without copying the longer of it and the sheet unless it is short. The room of what is
+    /// copied is kept.
     ///
     /// # Errors
     ///
@@ -125,7 +129,28 @@ impl Printer {
     pub fn append(&mut self, alloc: Global, text: Rope) -> Result<(), AllocError>
         ensures { OnOk result (self.new ≡ machine.printing [] (saying text) self.old) }
     {
-        self.text.append(alloc, text)
+        let room = self.text.append_emptied(alloc, text)?;
+        self.keep_room(room);
+        Ok(())
+    }
+
+    /// Keeps a text that isn't used any more for its room, if it has any and fewer are kept than nodes are open: more
+    /// texts are never open at once.
+    #[inline(always)]
+    fn keep_room(&mut self, text: String)
+        ensures { self.new ≡ self.old }
+    {
+        if text.capacity() > 0 && self.spare.len() <= self.nodes.len() {
+            let _ = self.spare.push(text);
+        }
+    }
+
+    /// Makes room for the text of a document of this length, where there is memory for it: at most for
+    /// [`FIRST_ROOM`] bytes, after which room that grows by doubling costs little.
+    pub fn reserve(&mut self, length: usize)
+        ensures { self.new ≡ self.old }
+    {
+        self.text.reserve(length.min(FIRST_ROOM));
     }
 
     /// Prints a line ending, unless a line starts here.
