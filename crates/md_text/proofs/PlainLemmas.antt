@@ -1,14 +1,15 @@
 -- What a URL is made of: runs of plain bytes, percent triples, and bytes that become one.
-use Rattle.std.proofs.Common.{◌≡◌, ◌≢◌, ℕ, ◌+◌, ◌<◌, ◌/◌, ◌%◌, Bool, true, false, not, ◌&&◌, ◌||◌, cond, eqb, List, [], ◌∷◌, ◌++◌, get_or, take, drop, Fits, w8, refl, sym, ap, ap₂, subst, ◌∙◌, arith, append-nil, suc, inl, inr}
+use Rattle.std.proofs.Common.{◌≡◌, ◌≢◌, ℕ, ◌+◌, ◌<◌, ◌≤◌, ◌/◌, ◌%◌, Bool, true, false, not, ◌&&◌, cond, eqb, List, [], ◌∷◌, ◌++◌, length, get_or, take, drop, Fits, w8, refl, sym, ap, ap₂, subst, ◌∙◌, arith, append-nil, suc, inl, inr, lit<}
+use Rattle.std.proofs.lemmas.List.Elements.{All-nil, All-cons, All-head, All-from_recursion}
 use Rattle.std.proofs.lemmas.Bool.{agree_below_at, and_parts, or_left, or_cases, not-true, eqb-true, eqb-false, both_ways, and_from, ne_eqb}
 use Rattle.std.specs.List.{prefix_len}
-use Rattle.md_base.proofs.Lies.{lie}
 use Rattle.md_text.specs.Encode.{encoded, encoded_byte}
 use Rattle.md_text.specs.Kept.{is_kept, is_plain}
-use Rattle.md_text.specs.Url.{stays_anywhere, stays, completes_triple, is_triple_byte, hex_digit, percent, normalized_byte, normalized_url, sanitized}
+use Rattle.md_text.specs.Url.{stays_anywhere, stays, completes_triple, hex_digit, percent, normalized_byte, normalized_url, sanitized}
 use Rattle.md_text.proofs.EncodeLemmas.{encoded-append}
 use Rattle.md_text.proofs.KeptLemmas.{kept-stays}
-use Rattle.md_text.proofs.UrlLemmas.{encoded_byte-stays}
+use Rattle.md_text.specs.Laws.{AreAscii}
+use Rattle.md_text.proofs.UrlLemmas.{encoded_byte-stays, stays-ascii, stays-high}
 use Rattle.md_text.proofs.UrlLaws.{high_digit, low_digit}
 
 -- the first byte of a URL and the others
@@ -60,28 +61,63 @@ sanitized-percent b rest l gone =
     ∙ sym (ap (λ t. encoded true (cond t (b ∷ []) (percent b)) ++ sanitized rest) gone)
     ∙ sym (sanitized-first b rest)
 
--- a percent triple
-triple-plain : (b : ℕ) → b < 256 → is_triple_byte b ≡ true → is_plain b ≡ true
-triple-plain b l t = sym (ap (λ x. not x || is_plain b) t)
-    ∙ agree_below_at (λ b. not (is_triple_byte b) || is_plain b) (λ b. true) 256 b refl l
+-- four bytes that become triples, one after another
+sanitized-four : (a b c d : ℕ) (rest : List ℕ) → 128 ≤ a → 128 ≤ b → 128 ≤ c → 128 ≤ d → a < 256 → b < 256 →
+    c < 256 → d < 256 →
+    (percent a ++ (percent b ++ (percent c ++ percent d))) ++ sanitized rest ≡ sanitized (a ∷ b ∷ c ∷ d ∷ rest)
+sanitized-four a b c d rest ha hb hc hd la lb lc ld =
+    ap (λ x. percent a ++ (percent b ++ (percent c ++ x))) (sanitized-percent d rest ld (stays-high d rest hd))
+    ∙ ap (λ x. percent a ++ (percent b ++ x)) (sanitized-percent c (d ∷ rest) lc (stays-high c (d ∷ rest) hc))
+    ∙ ap (λ x. percent a ++ x) (sanitized-percent b (c ∷ d ∷ rest) lb (stays-high b (c ∷ d ∷ rest) hb))
+    ∙ sanitized-percent a (b ∷ c ∷ d ∷ rest) la (stays-high a (b ∷ c ∷ d ∷ rest) ha)
 
-triple-after : (rest : List ℕ) → ((k : ℕ) → Fits w8 (get_or rest k 0)) → completes_triple rest ≡ true →
-    (37 ∷ get_or rest 0 0 ∷ get_or rest 1 0 ∷ []) ++ sanitized (drop 2 rest) ≡ sanitized (37 ∷ rest)
-triple-after [] fits c = lie c
-triple-after (x ∷ []) fits c = lie c
-triple-after (x ∷ y ∷ rest) fits c =
-    let both = and_parts (is_triple_byte x) (is_triple_byte y) c in
-    ap (λ r. 37 ∷ x ∷ r) (sym (sanitized-plain y rest (triple-plain y (fits 1).fits both.1)))
-    ∙ ap (λ r. 37 ∷ r) (sym (sanitized-plain x (y ∷ rest) (triple-plain x (fits 0).fits both.0)))
-    ∙ sym (sanitized-stays 37 (x ∷ y ∷ rest) c (λ e. omega arith))
+pub sanitized-four-of : (a : ℕ) (rest : List ℕ) → 3 ≤ length rest → ((k : ℕ) → Fits w8 (get_or rest k 0)) → a < 256 →
+    128 ≤ a → 128 ≤ get_or rest 0 0 → 128 ≤ get_or rest 1 0 → 128 ≤ get_or rest 2 0 →
+    (percent a ++ (percent (get_or rest 0 0) ++ (percent (get_or rest 1 0) ++ percent (get_or rest 2 0))))
+    ++ sanitized (drop 3 rest) ≡ sanitized (a ∷ rest)
+sanitized-four-of a [] l fits la ha hb hc hd = absurd (omega arith)
+sanitized-four-of a (b ∷ []) l fits la ha hb hc hd = absurd (omega arith)
+sanitized-four-of a (b ∷ c ∷ []) l fits la ha hb hc hd = absurd (omega arith)
+sanitized-four-of a (b ∷ c ∷ d ∷ rest) l fits la ha hb hc hd =
+    sanitized-four a b c d rest ha hb hc hd la (fits 0).fits (fits 1).fits (fits 2).fits
 
-pub sanitized-triple : (b : ℕ) (rest : List ℕ) → ((k : ℕ) → Fits w8 (get_or rest k 0)) → is_plain b ≡ false →
-    b ≢ 38 → stays b rest ≡ true →
-    (b ∷ get_or rest 0 0 ∷ get_or rest 1 0 ∷ []) ++ sanitized (drop 2 rest) ≡ sanitized (b ∷ rest)
-sanitized-triple b rest fits p ne s = elim (or_cases (stays_anywhere b) (eqb b 37 && completes_triple rest) s) [
+-- the `%` of a triple, which stays as it is
+pub sanitized-mark : (b : ℕ) (rest : List ℕ) → is_plain b ≡ false → b ≢ 38 → stays b rest ≡ true →
+    37 ∷ sanitized rest ≡ sanitized (b ∷ rest)
+sanitized-mark b rest p ne s = elim (or_cases (stays_anywhere b) (eqb b 37 && completes_triple rest) s) [
   | inl anywhere ↦ absurd (both_ways (is_plain b) p
       (and_from (stays_anywhere b) (not (eqb b 38)) anywhere (ap not (ne_eqb b 38 ne))))
   | inr triple ↦ (let both = and_parts (eqb b 37) (completes_triple rest) triple in
-      subst (λ b. (b ∷ get_or rest 0 0 ∷ get_or rest 1 0 ∷ []) ++ sanitized (drop 2 rest) ≡ sanitized (b ∷ rest))
-      (sym (eqb-true b 37 both.0)) (triple-after rest fits both.1))
+      subst (λ n. n ∷ sanitized rest ≡ sanitized (b ∷ rest)) (eqb-true b 37 both.0)
+      (sym (sanitized-stays b rest s ne)))
 ]
+
+abbrev IsAsciiByte : ℕ → Type 0
+IsAsciiByte b = b < 128
+
+-- the run of plain bytes at the front is ASCII
+plain-ascii : (b : ℕ) → is_plain b ≡ true → b < 128
+plain-ascii b p =
+    let parts = and_parts (stays_anywhere b) (not (eqb b 38)) p in
+    stays-ascii b [] (or_left (stays_anywhere b) (eqb b 37 && completes_triple []) parts.0)
+
+pub run-ascii : (bs : List ℕ) → AreAscii (take (prefix_len is_plain bs) bs)
+run-ascii [] = All-nil IsAsciiByte
+run-ascii (b ∷ bs) = by_first (is_plain b) refl (run-ascii bs)
+  where
+    by_first : (t : Bool) → is_plain b ≡ t → AreAscii (take (prefix_len is_plain bs) bs) →
+        AreAscii (take (cond t (1 + prefix_len is_plain bs) 0) (b ∷ bs))
+    by_first true e rest = subst (λ n. AreAscii (take n (b ∷ bs))) (next (prefix_len is_plain bs))
+        (All-cons IsAsciiByte b (take (prefix_len is_plain bs) bs) (plain-ascii b e) rest)
+    by_first false e rest = All-nil IsAsciiByte
+
+-- triples are ASCII
+pub triple-ascii : (high low : ℕ) → high < 128 → low < 128 → AreAscii (37 ∷ high ∷ low ∷ [])
+triple-ascii high low h l = All-from_recursion IsAsciiByte (37 ∷ high ∷ low ∷ []) (lit< tt, (h, (l, tt)))
+
+-- the byte at which a text ends that another one is added to
+pub first-added : (before more : List ℕ) → AreAscii more → length before < length (before ++ more) →
+    get_or (before ++ more) (length before) 0 < 128
+first-added [] [] ascii l = absurd (omega arith)
+first-added [] (b ∷ more) ascii l = All-head IsAsciiByte b more ascii
+first-added (b ∷ before) more ascii l = first-added before more ascii (omega arith)

@@ -15,4 +15,4 @@ pub use escape::{encode, first_replaced, push_encoded};
 pub use filter::gfm_tagfilter;
 pub use line_ending::{LineEnding, LineEndingError};
 pub use options::CompileOptions;
-pub use url::{sanitize, sanitize_with_protocols};
+pub use url::{push_sanitized, push_sanitized_with_protocols, sanitize, sanitize_with_protocols};

@@ -4,6 +4,7 @@ ghost use Rattle.std.specs.Prelude.{◌≡◌, ◌≤◌, ◌<◌, ◌++◌, ◌
 ghost use Rattle.std.specs.String.{string_bytes};
 ghost use Rattle.std.specs.List.{prefix_len};
 ghost use Rattle.md_text.specs.Kept.{is_plain};
+ghost use Rattle.md_text.specs.Laws.{AreAscii};
 ghost use Rattle.md_text.specs.Url.{stays_anywhere, stays, hex_digit, percent};
 ghost use Rattle.md_text.specs.Url.{is_triple_byte, completes_triple};
 ghost use Rattle.md_text.specs.Url.{sanitized, sanitized_with};
@@ -36,16 +37,40 @@ const HEX_DIGITS: [u8; 16] = *b"0123456789ABCDEF";
 pub fn sanitize(alloc: Global, value: &str) -> Result<String, AllocError>
     ensures { IfOk result (λ url. string_bytes url ≡ sanitized value.now) }
 {
+    let mut url = String::new(alloc);
+    push_sanitized(&mut url, value)?;
+    Ok(url)
+}
+
+/// Adds a URL that may stand in HTML, as [`sanitize`] makes it. Where memory runs out a part of it may be added.
+///
+/// # Errors
+///
+/// Only where memory runs out.
+///
+/// # Examples
+///
+/// ```
+/// let mut out = String::from_str(alloc, "href=")?;
+/// push_sanitized(&mut out, "%%41")?;
+/// assert_eq!(out.as_str(), "href=%25%41");
+/// ```
+pub fn push_sanitized(out: &mut String, value: &str) -> Result<(), AllocError>
+    ensures { OnOk result (string_bytes out.new ≡ string_bytes out.old ++ sanitized value.now) }
+{
     let mut rest = value.as_bytes();
-    let mut url = Vec::with_capacity(alloc, rest.len())?;
+    out.reserve(rest.len())?;
     while let Some((byte, after)) = rest.split_first() {
         rest = if is_plain(*byte) {
-            push_run(&mut url, rest)?
+            push_run(out, rest)?
+        } else if *byte >= 0x80 {
+            push_high(out, *byte, after)?
         } else {
-            push_changed(&mut url, *byte, after)?
+            push_changed(out, *byte, after)?;
+            after
         };
     }
-    Ok(unsafe { String::from_utf8_unchecked(url) })
+    Ok(())
 }
 
 /// Makes a URL that may stand in HTML, and drops it where it has a protocol that isn't among
@@ -75,60 +100,141 @@ pub fn sanitize_with_protocols(
     ensures { IfOk result (λ url. string_bytes url
         ≡ sanitized_with (map (λ protocol. protocol.now) protocols.now) value.now) }
 {
-    let mut url = sanitize(alloc, value)?;
-    if !has_permitted_protocol(url.as_bytes(), protocols) {
-        url.clear();
-    }
+    let mut url = String::new(alloc);
+    push_sanitized_with_protocols(&mut url, value, protocols)?;
     Ok(url)
+}
+
+/// Adds a URL that may stand in HTML, or nothing where it has a protocol that isn't among `protocols`, as
+/// [`sanitize_with_protocols`] makes it. Where memory runs out a part of it may be added.
+///
+/// # Errors
+///
+/// Only where memory runs out.
+///
+/// # Examples
+///
+/// ```
+/// let mut out = String::from_str(alloc, "href=")?;
+/// push_sanitized_with_protocols(&mut out, "a&b:c", &["http"])?;
+/// assert_eq!(out.as_str(), "href=");
+/// ```
+pub fn push_sanitized_with_protocols(
+    out: &mut String,
+    value: &str,
+    protocols: &[&str],
+) -> Result<(), AllocError>
+    ensures { OnOk result (string_bytes out.new
+        ≡ string_bytes out.old ++ sanitized_with (map (λ protocol. protocol.now) protocols.now) value.now) }
+{
+    let start = out.len();
+    push_sanitized(out, value)?;
+    if !has_permitted_protocol(&out.as_bytes()[start..], protocols) {
+        out.truncate(start);
+    }
+    Ok(())
+}
+
+/// Writes bytes that are ASCII.
+#[inline(always)]
+fn push_ascii(out: &mut String, bytes: &[u8]) -> Result<(), AllocError>
+    requires { AreAscii bytes.now }
+    ensures { OnOk result (string_bytes out.new ≡ string_bytes out.old ++ bytes.now) }
+{
+    out.push_str(unsafe { str::from_utf8_unchecked(bytes) })
 }
 
 /// Writes the plain bytes that a URL begins with, and gives what is left.
 #[inline(always)]
-fn push_run<'a>(url: &mut Vec<u8>, rest: &'a [u8]) -> Result<&'a [u8], AllocError>
+fn push_run<'a>(out: &mut String, rest: &'a [u8]) -> Result<&'a [u8], AllocError>
     ensures value { IfOk result
-        (λ left. url.new.items ++ sanitized left.now ≡ url.old.items ++ sanitized rest.now) }
+        (λ left. string_bytes out.new ++ sanitized left.now ≡ string_bytes out.old ++ sanitized rest.now) }
     ensures left { IfOk result
         (λ left. length left.now + prefix_len is_plain rest.now ≡ length rest.now) }
 {
     let (run, left) = rest.split_at(run_length(Plain, rest));
-    url.extend_from_slice(run)?;
+    push_ascii(out, run)?;
     Ok(left)
 }
 
-/// Writes what becomes of a byte that isn't plain, with the two digits of a percent triple that it begins, and gives
-/// what is left.
+/// Writes what becomes of a byte past ASCII, and of the three after it where they are so too, and gives what is left.
 #[inline(always)]
-fn push_changed<'a>(url: &mut Vec<u8>, byte: u8, rest: &'a [u8]) -> Result<&'a [u8], AllocError>
-    requires { is_plain byte ≡ false }
+fn push_high<'a>(out: &mut String, byte: u8, rest: &'a [u8]) -> Result<&'a [u8], AllocError>
+    requires { 128 ≤ byte }
     ensures value { IfOk result
-        (λ left. url.new.items ++ sanitized left.now ≡ url.old.items ++ sanitized (byte ∷ rest.now)) }
+        (λ left. string_bytes out.new ++ sanitized left.now ≡ string_bytes out.old ++ sanitized (byte ∷ rest.now)) }
     ensures left { IfOk result (λ left. length left.now ≤ length rest.now) }
 {
+    match rest {
+        [b, c, d, left @ ..] if *b >= 0x80 && *c >= 0x80 && *d >= 0x80 => {
+            push_four(out, byte, *b, *c, *d)?;
+            Ok(left)
+        }
+        _ => {
+            push_percent(out, byte)?;
+            Ok(rest)
+        }
+    }
+}
+
+/// Writes what becomes of a byte that isn't plain: as it is before two digits, with which the next run begins.
+#[inline(always)]
+fn push_changed(out: &mut String, byte: u8, rest: &[u8]) -> Result<(), AllocError>
+    requires { is_plain byte ≡ false }
+    ensures { OnOk result
+        (string_bytes out.new ++ sanitized rest.now ≡ string_bytes out.old ++ sanitized (byte ∷ rest.now)) }
+{
     if !stays(byte, rest) {
-        push_percent(url, byte)?;
-        Ok(rest)
+        push_percent(out, byte)?;
+        Ok(())
     } else if byte == b'&' {
-        url.extend_from_slice(b"&amp;")?;
-        Ok(rest)
+        out.push_str("&amp;")?;
+        Ok(())
     } else {
-        url.extend_from_slice(&[byte, rest[0], rest[1]])?;
-        Ok(&rest[2..])
+        out.push_str("%")?;
+        Ok(())
     }
 }
 
 /// Writes `%` and a byte in two hexadecimal digits.
 #[inline(always)]
-fn push_percent(url: &mut Vec<u8>, byte: u8) -> Result<(), AllocError>
-    ensures { OnOk result (url.new.items ≡ url.old.items ++ percent byte) }
+fn push_percent(out: &mut String, byte: u8) -> Result<(), AllocError>
+    ensures { OnOk result (string_bytes out.new ≡ string_bytes out.old ++ percent byte) }
 {
-    url.extend_from_slice(&[b'%', hex_digit(byte / 16), hex_digit(byte % 16)])
+    push_ascii(out, &[b'%', hex_digit(byte / 16), hex_digit(byte % 16)])
+}
+
+/// The same of four bytes, which are added as one.
+#[inline(always)]
+fn push_four(out: &mut String, a: u8, b: u8, c: u8, d: u8) -> Result<(), AllocError>
+    ensures { OnOk result (string_bytes out.new
+        ≡ string_bytes out.old ++ (percent a ++ (percent b ++ (percent c ++ percent d)))) }
+{
+    push_ascii(
+        out,
+        &[
+            b'%',
+            hex_digit(a / 16),
+            hex_digit(a % 16),
+            b'%',
+            hex_digit(b / 16),
+            hex_digit(b % 16),
+            b'%',
+            hex_digit(c / 16),
+            hex_digit(c % 16),
+            b'%',
+            hex_digit(d / 16),
+            hex_digit(d % 16),
+        ],
+    )
 }
 
 /// A hexadecimal digit, in upper case.
 #[inline(always)]
 fn hex_digit(digit: u8) -> u8
     requires { digit < 16 }
-    ensures { result ≡ hex_digit digit }
+    ensures digit { result ≡ hex_digit digit }
+    ensures ascii { result < 128 }
 {
     HEX_DIGITS[usize::from(digit)]
 }
@@ -139,6 +245,7 @@ struct Plain;
 
 impl ByteTest for Plain {
     ghost use Rattle.md_text.specs.Kept.{is_plain};
+    ghost use Rattle.md_text.specs.Laws.{AreAscii};
 
     ghost passes = { λ _. is_plain };
 
