@@ -1,9 +1,10 @@
 //! A text in parts, after which another is put without copying the longer of the two.
 
-ghost use Rattle.std.specs.Prelude.{◌≡◌, [], ◌++◌, ◌-◌, OnOk, IfOk, IfSome, string_bytes, slice_get, length};
+ghost use Rattle.std.specs.Prelude.{◌≡◌, [], ◌++◌, ◌-◌, OnOk, IfOk, IfSome, string_bytes, slice_get, length, map};
 ghost use Rattle.md_text.specs.Encode.{encoded};
+ghost use Rattle.md_text.specs.Url.{sanitized, sanitized_with};
 
-use md_text::push_encoded;
+use md_text::{push_encoded, push_sanitized, push_sanitized_with_protocols};
 use std::alloc::{AllocError, Global};
 use std::marker::Model;
 
@@ -73,6 +74,34 @@ impl Rope {
         ensures { OnOk result (self.new ≡ self.old ++ encoded escaping text.now) }
     {
         push_encoded(&mut self.last, text, escaping)
+    }
+
+    /// Adds a URL that may stand in HTML, as [`md_text::sanitize`] makes it.
+    ///
+    /// # Errors
+    ///
+    /// Only where memory runs out.
+    pub fn push_sanitized(&mut self, url: &str) -> Result<(), AllocError>
+        ensures { OnOk result (self.new ≡ self.old ++ sanitized url.now) }
+    {
+        push_sanitized(&mut self.last, url)
+    }
+
+    /// Adds a URL that may stand in HTML, or nothing where its protocol isn't among `protocols`, as
+    /// [`md_text::sanitize_with_protocols`] makes it.
+    ///
+    /// # Errors
+    ///
+    /// Only where memory runs out.
+    pub fn push_sanitized_with_protocols(
+        &mut self,
+        url: &str,
+        protocols: &[&str],
+    ) -> Result<(), AllocError>
+        ensures { OnOk result (self.new
+            ≡ self.old ++ sanitized_with (map (λ protocol. protocol.now) protocols.now) url.now) }
+    {
+        push_sanitized_with_protocols(&mut self.last, url, protocols)
     }
 
     /// Makes room for a text of a length, where there is memory for it.
