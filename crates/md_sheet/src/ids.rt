@@ -5,7 +5,7 @@ ghost use Rattle.std.specs.Fmt.{decimal};
 ghost use Rattle.md_meaning.specs.Footnotes as notes;
 ghost use Rattle.md_sheet.specs.Ids.{choosing};
 
-use md_text::{encode, sanitize};
+use md_text::{push_encoded, push_sanitized};
 use std::alloc::{AllocError, Global};
 
 /// A footnote that is called, with its number.
@@ -39,35 +39,59 @@ pub fn escaped_option(
     ensures { IfOk result (λ text. string_bytes text
         ≡ notes.escaped_option (option_map string_bytes given.now) default.now) }
 {
+    let mut text = String::new(alloc);
+    push_escaped_option(&mut text, given, default)?;
+    Ok(text)
+}
+
+/// Adds a text that an option gives, escaped, or what stands where it gives none.
+///
+/// # Errors
+///
+/// Only where memory runs out.
+pub fn push_escaped_option(
+    out: &mut String,
+    given: &Option<String>,
+    default: &str,
+) -> Result<(), AllocError>
+    ensures { OnOk result (string_bytes out.new
+        ≡ string_bytes out.old ++ notes.escaped_option (option_map string_bytes given.now) default.now) }
+{
     match given {
-        Some(text) => encode(alloc, text.as_str(), true),
-        None => String::from_str(alloc, default),
+        Some(text) => push_encoded(out, text.as_str(), true),
+        None => out.push_str(default),
     }
 }
 
-/// `fn-` or `fnref-` after the prefix, and the identifier as a URL.
-fn id_of(alloc: Global, ids: &IdOptions, kind: &str, identifier: &str) -> Result<String, AllocError>
-    ensures { IfOk result (λ id. string_bytes id ≡ notes.id_by_name (choosing ids.now) kind.now identifier.now) }
+/// Adds `fn-` or `fnref-` after the prefix, and the identifier as a URL.
+fn push_id(
+    out: &mut String,
+    ids: &IdOptions,
+    kind: &str,
+    identifier: &str,
+) -> Result<(), AllocError>
+    ensures { OnOk result (string_bytes out.new
+        ≡ string_bytes out.old ++ notes.id_by_name (choosing ids.now) kind.now identifier.now) }
 {
-    let mut id = escaped_option(alloc, ids.prefix, "user-content-")?;
-    id.push_str(kind)?;
-    id.push_str(sanitize(alloc, identifier)?.as_str())?;
-    Ok(id)
+    push_escaped_option(out, ids.prefix, "user-content-")?;
+    out.push_str(kind)?;
+    push_sanitized(out, identifier)
 }
 
-/// `fn-` or `fnref-` after the prefix, and the number.
-fn numbered_id_of(
+/// Adds `fn-` or `fnref-` after the prefix, and the number.
+fn push_numbered_id(
     alloc: Global,
+    out: &mut String,
     ids: &IdOptions,
     kind: &str,
     number: usize,
-) -> Result<String, AllocError>
-    ensures { IfOk result (λ id. string_bytes id ≡ notes.numbered_id_of (choosing ids.now) kind.now number) }
+) -> Result<(), AllocError>
+    ensures { OnOk result (string_bytes out.new
+        ≡ string_bytes out.old ++ notes.numbered_id_of (choosing ids.now) kind.now number) }
 {
-    let mut id = escaped_option(alloc, ids.prefix, "user-content-")?;
-    id.push_str(kind)?;
-    id.push_str(number.to_string(alloc)?.as_str())?;
-    Ok(id)
+    push_escaped_option(out, ids.prefix, "user-content-")?;
+    out.push_str(kind)?;
+    out.push_str(number.to_string(alloc)?.as_str())
 }
 
 /// The id of a footnote: it has the number where ids go by number, else the identifier.
@@ -83,10 +107,29 @@ pub fn footnote_id(
     ensures { IfOk result (λ id. string_bytes id
         ≡ notes.footnote_id (choosing ids.now) footnote.now.identifier.now footnote.now.number) }
 {
+    let mut id = String::new(alloc);
+    push_footnote_id(alloc, &mut id, ids, footnote)?;
+    Ok(id)
+}
+
+/// Adds the id of a footnote, as [`footnote_id`] makes it.
+///
+/// # Errors
+///
+/// Only where memory runs out.
+pub fn push_footnote_id(
+    alloc: Global,
+    out: &mut String,
+    ids: &IdOptions,
+    footnote: &NumberedFootnote,
+) -> Result<(), AllocError>
+    ensures { OnOk result (string_bytes out.new ≡ string_bytes out.old
+        ++ notes.footnote_id (choosing ids.now) footnote.now.identifier.now footnote.now.number) }
+{
     if ids.by_number {
-        numbered_id_of(alloc, ids, "fn-", footnote.number)
+        push_numbered_id(alloc, out, ids, "fn-", footnote.number)
     } else {
-        id_of(alloc, ids, "fn-", footnote.identifier)
+        push_id(out, ids, "fn-", footnote.identifier)
     }
 }
 
@@ -123,13 +166,31 @@ pub fn call_id(
     ensures { IfOk result (λ id. string_bytes id
         ≡ notes.id_of_call (choosing ids.now) footnote.now.identifier.now footnote.now.number occurrence) }
 {
+    let mut id = String::new(alloc);
+    push_call_id(alloc, &mut id, ids, footnote, occurrence)?;
+    Ok(id)
+}
+
+/// Adds the id of one of a footnote's calls, as [`call_id`] makes it.
+///
+/// # Errors
+///
+/// Only where memory runs out.
+pub fn push_call_id(
+    alloc: Global,
+    out: &mut String,
+    ids: &IdOptions,
+    footnote: &NumberedFootnote,
+    occurrence: usize,
+) -> Result<(), AllocError>
+    ensures { OnOk result (string_bytes out.new ≡ string_bytes out.old
+        ++ notes.id_of_call (choosing ids.now) footnote.now.identifier.now footnote.now.number occurrence) }
+{
     if ids.by_number {
-        let mut id = numbered_id_of(alloc, ids, "fnref-", footnote.number)?;
-        push_occurrence(alloc, &mut id, occurrence)?;
-        Ok(id)
+        push_numbered_id(alloc, out, ids, "fnref-", footnote.number)?;
+        push_occurrence(alloc, out, occurrence)
     } else {
-        let mut id = id_of(alloc, ids, "fnref-", footnote.identifier)?;
-        push_suffix(alloc, &mut id, occurrence)?;
-        Ok(id)
+        push_id(out, ids, "fnref-", footnote.identifier)?;
+        push_suffix(alloc, out, occurrence)
     }
 }

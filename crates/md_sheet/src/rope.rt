@@ -2,8 +2,11 @@
 
 ghost use Rattle.std.specs.Prelude.{◌≡◌, [], ◌++◌, ◌-◌, OnOk, IfOk, IfSome, string_bytes, slice_get, length, map};
 ghost use Rattle.md_text.specs.Encode.{encoded};
+ghost use Rattle.md_meaning.specs.Footnotes as notes;
+ghost use Rattle.md_sheet.specs.Ids.{choosing};
 ghost use Rattle.md_text.specs.Url.{sanitized, sanitized_with};
 
+use crate::ids::{IdOptions, NumberedFootnote, push_call_id, push_footnote_id};
 use md_text::{push_encoded, push_sanitized, push_sanitized_with_protocols};
 use std::alloc::{AllocError, Global};
 use std::marker::Model;
@@ -102,6 +105,41 @@ impl Rope {
             ≡ self.old ++ sanitized_with (map (λ protocol. protocol.now) protocols.now) url.now) }
     {
         push_sanitized_with_protocols(&mut self.last, url, protocols)
+    }
+
+    /// Adds the id of a footnote, as [`crate::footnote_id`] makes it.
+    ///
+    /// # Errors
+    ///
+    /// Only where memory runs out.
+    pub fn push_footnote_id(
+        &mut self,
+        alloc: Global,
+        ids: &IdOptions,
+        footnote: &NumberedFootnote,
+    ) -> Result<(), AllocError>
+        ensures { OnOk result (self.new ≡ self.old
+            ++ notes.footnote_id (choosing ids.now) footnote.now.identifier.now footnote.now.number) }
+    {
+        push_footnote_id(alloc, &mut self.last, ids, footnote)
+    }
+
+    /// Adds the id of one of a footnote's calls, as [`crate::call_id`] makes it.
+    ///
+    /// # Errors
+    ///
+    /// Only where memory runs out.
+    pub fn push_call_id(
+        &mut self,
+        alloc: Global,
+        ids: &IdOptions,
+        footnote: &NumberedFootnote,
+        occurrence: usize,
+    ) -> Result<(), AllocError>
+        ensures { OnOk result (self.new ≡ self.old
+            ++ notes.id_of_call (choosing ids.now) footnote.now.identifier.now footnote.now.number occurrence) }
+    {
+        push_call_id(alloc, &mut self.last, ids, footnote, occurrence)
     }
 
     /// Makes room for a text of a length, where there is memory for it.
