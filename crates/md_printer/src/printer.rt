@@ -1,15 +1,18 @@
 //! The compiler's state: the text so far, and the nodes that are open.
 
-ghost use Rattle.std.specs.Prelude.{◌≡◌, ◌∷◌, ◌++◌, ◌+◌, ◌<◌, ◌^◌, slice_get, IfOk, IfSome, OnOk, string_bytes, [], true, if◌then◌else◌, false};
+ghost use Rattle.std.specs.Prelude.{◌≡◌, ◌∷◌, ◌++◌, ◌+◌, ◌<◌, ◌^◌, slice_get, IfOk, IfSome, OnOk, string_bytes, [], true, if◌then◌else◌, false, map};
 ghost use Rattle.md_printer.specs.Machine as machine;
 ghost use Rattle.md_around.specs.Steps as steps;
 ghost use Rattle.md_meaning.specs.Piece as piece;
 ghost use Rattle.md_meaning.specs.Piece.{Text, Needed, Forced, Noted, Recalled, blank, lay};
 ghost use Rattle.md_meaning.specs.Calls.{number_among, count_among};
+ghost use Rattle.md_meaning.specs.Footnotes as footnotes;
 ghost use Rattle.md_meaning.specs.Footnotes.{section_pieces};
+ghost use Rattle.md_sheet.specs.Ids.{choosing};
 ghost use Rattle.md_sheet.specs.Seen.{counted, noted};
 ghost use Rattle.md_meaning.specs.Texts.{saying};
 ghost use Rattle.md_text.specs.Encode.{encoded};
+ghost use Rattle.md_text.specs.Url.{sanitized, sanitized_with};
 ghost use Rattle.md_meaning.specs.Texts.{drops_ending};
 ghost use Rattle.md_printer.specs.Given.{left_of_leaf};
 ghost use Rattle.md_base.specs.declared.event.Name.TheVariants.{LineEnding, Paragraph};
@@ -26,7 +29,7 @@ use md_around::surroundings::{NO_SPINE, pass, slurps_after};
 use md_base::name_tests::is_definition;
 use md_base::{AlignKind, Name, Point, Position};
 use md_meaning::{Passed, Spine, Surroundings};
-use md_sheet::{Calls, Defined, Footnotes, Notes, Rope, Sheet, Target};
+use md_sheet::{Calls, Defined, Footnotes, IdOptions, Notes, NumberedFootnote, Rope, Sheet, Target};
 use md_text::CompileOptions;
 use std::alloc::{AllocError, Global};
 use std::marker::Model;
@@ -118,6 +121,69 @@ impl Printer {
         ensures { OnOk result (self.new ≡ machine.printing [] (saying (encoded escaping text.now)) self.old) }
     {
         self.text.push_encoded(text, escaping)
+    }
+
+    /// Prints a URL, as [`md_text::sanitize`] makes it.
+    ///
+    /// # Errors
+    ///
+    /// `AllocError`, only where memory runs out.
+    pub fn put_sanitized(&mut self, url: &str) -> Result<(), AllocError>
+        ensures { OnOk result (self.new ≡ machine.printing [] (saying (sanitized url.now)) self.old) }
+    {
+        self.text.push_sanitized(url)
+    }
+
+    /// Prints a URL, or nothing where its protocol isn't among `protocols`, as [`md_text::sanitize_with_protocols`]
+    /// makes it.
+    ///
+    /// # Errors
+    ///
+    /// `AllocError`, only where memory runs out.
+    pub fn put_sanitized_with_protocols(
+        &mut self,
+        url: &str,
+        protocols: &[&str],
+    ) -> Result<(), AllocError>
+        ensures { OnOk result (self.new ≡ machine.printing []
+            (saying (sanitized_with (map (λ protocol. protocol.now) protocols.now) url.now)) self.old) }
+    {
+        self.text.push_sanitized_with_protocols(url, protocols)
+    }
+
+    /// Prints the id of a footnote.
+    ///
+    /// # Errors
+    ///
+    /// `AllocError`, only where memory runs out.
+    pub fn put_footnote_id(
+        &mut self,
+        alloc: Global,
+        ids: &IdOptions,
+        footnote: &NumberedFootnote,
+    ) -> Result<(), AllocError>
+        ensures { OnOk result (self.new ≡ machine.printing [] (saying (footnotes.footnote_id (choosing ids.now)
+            footnote.now.identifier.now footnote.now.number)) self.old) }
+    {
+        self.text.push_footnote_id(alloc, ids, footnote)
+    }
+
+    /// Prints the id of one of a footnote's calls.
+    ///
+    /// # Errors
+    ///
+    /// `AllocError`, only where memory runs out.
+    pub fn put_call_id(
+        &mut self,
+        alloc: Global,
+        ids: &IdOptions,
+        footnote: &NumberedFootnote,
+        occurrence: usize,
+    ) -> Result<(), AllocError>
+        ensures { OnOk result (self.new ≡ machine.printing [] (saying (footnotes.id_of_call (choosing ids.now)
+            footnote.now.identifier.now footnote.now.number occurrence)) self.old) }
+    {
+        self.text.push_call_id(alloc, ids, footnote, occurrence)
     }
 
     /// Prints a text in parts, without copying the longer of it and the sheet unless it is short. The room of what is

@@ -4,7 +4,7 @@ ghost use Rattle.std.specs.Prelude.{◌≡◌, ◌∷◌, [], ◌++◌, ◌==◌
 ghost use Rattle.md_meaning.specs.Footnotes as notes;
 
 use crate::given::ids_by;
-use md_sheet::{NumberedFootnote, call_id, escaped_option};
+use md_sheet::{NumberedFootnote, push_call_id, push_escaped_option};
 use md_text::CompileOptions;
 use std::alloc::{AllocError, Global};
 
@@ -33,18 +33,16 @@ fn push_href(
         ++ (notes.id_of_call options.now footnote.now.identifier.now footnote.now.number occurrence
         ++ codes "\" data-footnote-backref=\"\" aria-label=\""))) }
 {
-    let id = call_id(alloc, &ids_by(options), footnote, occurrence)?;
     text.push_str("<a href=\"#")?;
-    text.push_str(id.as_str())?;
+    push_call_id(alloc, text, &ids_by(options), footnote, occurrence)?;
     text.push_str("\" data-footnote-backref=\"\" aria-label=\"")
 }
 
 /// Adds the label of a way back.
-fn push_label(alloc: Global, text: &mut String, options: &CompileOptions) -> Result<(), AllocError>
+fn push_label(text: &mut String, options: &CompileOptions) -> Result<(), AllocError>
     ensures { OnOk result (string_bytes text.new ≡ string_bytes text.old ++ notes.back_label_of options.now) }
 {
-    let label = escaped_option(alloc, &options.gfm_footnote_back_label, "Back to content")?;
-    text.push_str(label.as_str())
+    push_escaped_option(text, &options.gfm_footnote_back_label, "Back to content")
 }
 
 /// Adds the rest of a way back, from the end of its label on.
@@ -71,7 +69,7 @@ fn push_backreference(
         ++ notes.return_link options.now footnote.now.identifier.now footnote.now.number occurrence) }
 {
     push_href(alloc, text, options, footnote, occurrence)?;
-    push_label(alloc, text, options)?;
+    push_label(text, options)?;
     push_arrow(alloc, text, occurrence)
 }
 
