@@ -11,7 +11,7 @@ use md_base::Position;
 use md_printer::frames::Exit;
 use md_printer::given::{Given, identifier_at, ids_by};
 use md_printer::printer::Printer;
-use md_sheet::{NumberedFootnote, call_id, footnote_id};
+use md_sheet::NumberedFootnote;
 use md_text::CompileOptions;
 use std::alloc::{AllocError, Global};
 
@@ -27,24 +27,38 @@ fn tags(
         ≡ printing [] (footnotes.call_tags options.now footnote.now.identifier.now footnote.now.number occurrence)
         printer.old) }
 {
-    let ids = ids_by(options);
-    let target = footnote_id(alloc, &ids, footnote)?;
-    let id = call_id(alloc, &ids, footnote, occurrence)?;
+    tags_start(alloc, printer, options, footnote, occurrence)?;
     let number = footnote.number.to_string(alloc)?;
-    put_tags(printer, target.as_str(), id.as_str(), number.as_str())
+    tags_end(printer, number.as_str())
 }
 
-/// Prints the tags of a call around its number.
-fn put_tags(printer: &mut Printer, footnote: &str, id: &str, number: &str) -> Result<(), AllocError>
-    ensures { OnOk result (printer.new ≡ printing [] (Text (codes "<sup><a href=\"#") ∷ Text footnote.now
-        ∷ Text (codes "\" id=\"") ∷ Text id.now
-        ∷ Text (codes "\" data-footnote-ref=\"\" aria-describedby=\"footnote-label\">") ∷ Text number.now
+/// Prints the beginning of a call's tags, with its ids.
+fn tags_start(
+    alloc: Global,
+    printer: &mut Printer,
+    options: &CompileOptions,
+    footnote: &NumberedFootnote,
+    occurrence: usize,
+) -> Result<(), AllocError>
+    ensures { OnOk result (printer.new ≡ printing [] (Text (codes "<sup><a href=\"#")
+        ∷ Text (footnotes.footnote_id options.now footnote.now.identifier.now footnote.now.number)
+        ∷ Text (codes "\" id=\"")
+        ∷ Text (footnotes.id_of_call options.now footnote.now.identifier.now footnote.now.number occurrence) ∷ [])
+        printer.old) }
+{
+    let ids = ids_by(options);
+    printer.put("<sup><a href=\"#")?;
+    printer.put_footnote_id(alloc, &ids, footnote)?;
+    printer.put("\" id=\"")?;
+    printer.put_call_id(alloc, &ids, footnote, occurrence)
+}
+
+/// Prints the rest of a call's tags, around its number.
+fn tags_end(printer: &mut Printer, number: &str) -> Result<(), AllocError>
+    ensures { OnOk result (printer.new ≡ printing []
+        (Text (codes "\" data-footnote-ref=\"\" aria-describedby=\"footnote-label\">") ∷ Text number.now
         ∷ Text (codes "</a></sup>") ∷ []) printer.old) }
 {
-    printer.put("<sup><a href=\"#")?;
-    printer.put(footnote)?;
-    printer.put("\" id=\"")?;
-    printer.put(id)?;
     printer.put("\" data-footnote-ref=\"\" aria-describedby=\"footnote-label\">")?;
     printer.put(number)?;
     printer.put("</a></sup>")
