@@ -1,12 +1,13 @@
 //! What links, images and autolinks print.
 
-ghost use Rattle.std.specs.Prelude.{◌≡◌, ◌∷◌, [], ◌++◌, ◌||◌, OnOk, IfOk, unwrap_or, codes, string_bytes, option_copied, option_map};
+ghost use Rattle.std.specs.Prelude.{◌≡◌, ◌∷◌, [], ◌++◌, ◌||◌, true, OnOk, IfOk, unwrap_or, codes, string_bytes, option_copied, option_map};
 ghost use Rattle.md_printer.specs.Machine.{printing, ahead_by};
 ghost use Rattle.md_meaning.specs.Media as media;
 ghost use Rattle.md_meaning.specs.Piece.{Text, nowhere};
 ghost use Rattle.md_meaning.specs.Texts.{saying};
 ghost use Rattle.md_meaning.specs.Places.{identifier_at};
 ghost use Rattle.md_printer.specs.Given.{given_of};
+ghost use Rattle.md_text.specs.Encode.{encoded};
 
 use md_base::{Position, SAFE_PROTOCOL_HREF, SAFE_PROTOCOL_SRC};
 use md_meaning::Surroundings;
@@ -14,7 +15,7 @@ use md_printer::frames::{Exit, Inner};
 use md_printer::given::{Given, identifier_at, text_of};
 use md_printer::printer::Printer;
 use md_sheet::{Definitions, Notes, Rope, Target};
-use md_text::{CompileOptions, encode, sanitize, sanitize_with_protocols};
+use md_text::{CompileOptions, sanitize, sanitize_with_protocols};
 use std::alloc::{AllocError, Global};
 
 /// A link's destination as it is written.
@@ -36,14 +37,31 @@ pub fn href_of(
     }
 }
 
-/// An image's destination as it is written.
-fn src_of(alloc: Global, options: &CompileOptions, destination: &str) -> Result<String, AllocError>
-    ensures { IfOk result (λ url. string_bytes url ≡ media.src_of options.now destination.now) }
+/// Prints a link's destination.
+fn href(
+    printer: &mut Printer,
+    options: &CompileOptions,
+    destination: &str,
+) -> Result<(), AllocError>
+    ensures { OnOk result (printer.new
+        ≡ printing [] (saying (media.href_of options.now destination.now)) printer.old) }
+{
+    if !options.allow_dangerous_protocol {
+        printer.put_sanitized_with_protocols(destination, &SAFE_PROTOCOL_HREF)
+    } else {
+        printer.put_sanitized(destination)
+    }
+}
+
+/// Prints an image's destination.
+fn src(printer: &mut Printer, options: &CompileOptions, destination: &str) -> Result<(), AllocError>
+    ensures { OnOk result (printer.new
+        ≡ printing [] (saying (media.src_of options.now destination.now)) printer.old) }
 {
     if options.allow_dangerous_protocol || options.allow_any_img_src {
-        sanitize(alloc, destination)
+        printer.put_sanitized(destination)
     } else {
-        sanitize_with_protocols(alloc, destination, &SAFE_PROTOCOL_SRC)
+        printer.put_sanitized_with_protocols(destination, &SAFE_PROTOCOL_SRC)
     }
 }
 
@@ -108,16 +126,14 @@ fn title(printer: &mut Printer, title: Option<&str>) -> Result<(), AllocError>
 
 /// Prints the beginning of a link, up to its title.
 fn link_start(
-    alloc: Global,
     printer: &mut Printer,
     options: &CompileOptions,
     destination: &str,
 ) -> Result<(), AllocError>
     ensures { OnOk result (printer.new ≡ printing [] (media.link_start options.now destination.now) printer.old) }
 {
-    let url = href_of(alloc, options, destination)?;
     printer.put("<a href=\"")?;
-    printer.put(url.as_str())?;
+    href(printer, options, destination)?;
     printer.put("\"")
 }
 
@@ -142,7 +158,7 @@ fn link_head(
         media.link_start given.now.options.now target.destination ++ media.title_pieces target.title) printer.old) }
 {
     let target = target_of(given.alloc, given.bytes, given.definitions, place, notes)?;
-    link_start(given.alloc, printer, given.options, destination_of(target))?;
+    link_start(printer, given.options, destination_of(target))?;
     title(printer, title_of(target))
 }
 
@@ -188,7 +204,6 @@ pub fn link(
 
 /// Prints the beginning of an image, up to its alternative text.
 fn image_start(
-    alloc: Global,
     printer: &mut Printer,
     options: &CompileOptions,
     destination: &str,
@@ -196,9 +211,8 @@ fn image_start(
     ensures { OnOk result (printer.new ≡ printing [] (Text (codes "<img src=\"")
         ∷ Text (media.src_of options.now destination.now) ∷ Text (codes "\" alt=\"") ∷ []) printer.old) }
 {
-    let url = src_of(alloc, options, destination)?;
     printer.put("<img src=\"")?;
-    printer.put(url.as_str())?;
+    src(printer, options, destination)?;
     printer.put("\" alt=\"")
 }
 
@@ -223,7 +237,7 @@ fn image_of(
     ensures { OnOk result (printer.new
         ≡ printing [] (media.image_of options.now (unwrap_or (option_copied target.entry) nowhere) label) printer.old) }
 {
-    image_start(alloc, printer, options, destination_of(target))?;
+    image_start(printer, options, destination_of(target))?;
     printer.append(alloc, label)?;
     image_end(printer, title_of(target))
 }
@@ -272,9 +286,37 @@ pub fn image(
 fn joined(alloc: Global, prefix: &str, text: &str) -> Result<String, AllocError>
     ensures { IfOk result (λ all. string_bytes all ≡ prefix.now ++ text.now) }
 {
-    let mut all = String::from_str(alloc, prefix)?;
+    let mut all = String::with_capacity(alloc, prefix.len().saturating_add(text.len()))?;
+    all.push_str(prefix)?;
     all.push_str(text)?;
     Ok(all)
+}
+
+/// Prints the beginning of an autolink, which leads to a prefix and its text.
+fn autolink_start(
+    alloc: Global,
+    printer: &mut Printer,
+    options: &CompileOptions,
+    prefix: &str,
+    text: &str,
+) -> Result<(), AllocError>
+    ensures { OnOk result (printer.new
+        ≡ printing [] (media.link_start options.now (prefix.now ++ text.now)) printer.old) }
+{
+    if prefix.is_empty() {
+        return link_start(printer, options, text);
+    }
+    let destination = joined(alloc, prefix, text)?;
+    link_start(printer, options, destination.as_str())
+}
+
+/// Prints the rest of an autolink: its text and its end.
+fn autolink_end(printer: &mut Printer, text: &str) -> Result<(), AllocError>
+    ensures { OnOk result (printer.new ≡ printing [] (media.link_end (encoded true text.now)) printer.old) }
+{
+    printer.put(">")?;
+    printer.put_encoded(text, true)?;
+    printer.put("</a>")
 }
 
 /// Prints an autolink: its text, in a link to a prefix and its text unless it is plain.
@@ -294,15 +336,9 @@ pub fn autolink(
         printer.old) }
 {
     let text = text_of(given.bytes, exit.start, exit.end);
-    let encoded = encode(given.alloc, text, true)?;
     if plain {
-        return printer.put(encoded.as_str());
+        return printer.put_encoded(text, true);
     }
-    let destination = joined(given.alloc, prefix, text)?;
-    link_start(given.alloc, printer, given.options, destination.as_str())?;
-    link_end(
-        given.alloc,
-        printer,
-        Rope::from_string(given.alloc, encoded),
-    )
+    autolink_start(given.alloc, printer, given.options, prefix, text)?;
+    autolink_end(printer, text)
 }
