@@ -29,7 +29,9 @@ use md_around::surroundings::{NO_SPINE, pass, slurps_after};
 use md_base::name_tests::is_definition;
 use md_base::{AlignKind, Name, Point, Position};
 use md_meaning::{Passed, Spine, Surroundings};
-use md_sheet::{Calls, Defined, Footnotes, IdOptions, Notes, NumberedFootnote, Rope, Sheet, Target};
+use md_sheet::{
+    Calls, Defined, Footnotes, IdOptions, Notes, NumberedFootnote, Rope, Sheet, Target,
+};
 use md_text::CompileOptions;
 use std::alloc::{AllocError, Global};
 use std::marker::Model;

@@ -16,8 +16,8 @@ pub use calls::Calls;
 pub use definitions::Definitions;
 pub use footnotes::Footnotes;
 pub use ids::{
-    IdOptions, NumberedFootnote, call_id, escaped_option, footnote_id, push_call_id, push_escaped_option,
-    push_footnote_id,
+    IdOptions, NumberedFootnote, call_id, escaped_option, footnote_id, push_call_id,
+    push_escaped_option, push_footnote_id,
 };
 pub use notes::{Defined, Notes, Target};
 pub use rope::Rope;
