@@ -1,5 +1,5 @@
 -- A node without children that prints only at its exit: its entry and its exit in one step.
-use Rattle.std.proofs.Common.{◌≡◌, ℕ, ◌+◌, Bool, true, false, List, [], ◌∷◌, Option, Some, None, slice_get, get_or, drop, refl, sym, ap, ◌∙◌, arith}
+use Rattle.std.proofs.Common.{◌≡◌, ℕ, ◌+◌, Bool, true, false, List, [], ◌∷◌, ◌++◌, Option, Some, None, slice_get, get_or, drop, refl, sym, ap, ◌∙◌, arith}
 use Rattle.std.proofs.lemmas.Bool.{false≢true}
 use Rattle.md_base.specs.declared.event.AlignKind.{AlignKind}
 use Rattle.md_base.specs.declared.event.Name.{Name}
@@ -136,24 +136,25 @@ leaf-steps given ahead other_ahead passed loose columns last name start end stat
     ∙ ap (λ pieces. whole false pieces) (sym (opens-nothing given state.frame.around ahead name light))
     ∙ ap (λ b. whole b opened) (sym (no-table name light))
 
--- the two events of such a node, in one step
+-- the two events of such a node, in one step, where other events may stand after those that are run
 pub run-leaf : (given : Supply) (document : Forest) (events : List Event) (index : ℕ) (entry exit : Event)
-    (beyond : List Event) (state after : Printer) →
-    flatten document ≡ events → entry ∷ exit ∷ beyond ≡ drop index events → IsLightLeaf entry exit →
+    (beyond more : List Event) (state after : Printer) →
+    flatten document ≡ events → entry ∷ exit ∷ (beyond ++ more) ≡ drop index events → IsLightLeaf entry exit →
     ((ahead : Ahead) (loose : Bool) (columns : List AlignKind) →
     after ≡ exited given (is_nil beyond) false entry.name exit.point
     (entered given ahead loose columns false entry.name entry.point state)) →
     run given beyond (drop (index + 2) (children_of document)) after
     ≡ run given (entry ∷ exit ∷ beyond) (drop index (children_of document)) state
-run-leaf given document events index entry exit beyond state after flat split leaf stepped_over =
+run-leaf given document events index entry exit beyond more state after flat split leaf stepped_over =
     let nodes : List (Option Forest) = children_of document in
-    let later : exit ∷ beyond ≡ drop (index + 1) events = drop-later events index entry (exit ∷ beyond) split in
+    let whole : List Event = exit ∷ (beyond ++ more) in
+    let later : whole ≡ drop (index + 1) events = drop-later events index entry whole split in
     let told : Option Forest = get_or nodes index None in
     let other : Option Forest = get_or nodes (index + 1) None in
     let there : slice_get nodes index ≡ Some told = told-at document events index entry flat
-    (drop-first events index entry (exit ∷ beyond) split) in
+    (drop-first events index entry whole split) in
     let beside : slice_get nodes (index + 1) ≡ Some other =
-    told-at document events (index + 1) exit flat (drop-first events (index + 1) exit beyond later) in
+    told-at document events (index + 1) exit flat (drop-first events (index + 1) exit (beyond ++ more) later) in
     let enter : Bool → Printer = λ captured. entered given (ahead_told entry.name told) (loose_told entry.name told)
     (columns_told entry.name told) captured entry.name entry.point state in
     let last : Bool = is_nil beyond in

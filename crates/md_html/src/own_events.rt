@@ -12,7 +12,7 @@ ghost use Rattle.md_printer.specs.Given.{given_of};
 ghost use Rattle.md_html.specs.OwnDefinitions.{own_definitions, events_at};
 ghost use Rattle.md_infer.specs.Partners.{definition_entries as entries_of};
 
-use crate::compiler::{Visit, step};
+use crate::running::run_part;
 use md_base::Event;
 use md_printer::given::Given;
 use md_printer::printer::Printer;
@@ -70,19 +70,9 @@ fn run_node(
         (drop entry (children_of document)) printer.old) }
 {
     let events = checked.events();
-    let mut rest = node_events(events, entry, checked.partner(entry));
-    let mut index = entry;
-    // Each turn visits an event, which `visits_at` counts.
-    while let Some((event, later)) = rest.split_first() {
-        let visit = Visit {
-            index,
-            event,
-            later,
-        };
-        step(printer, given, checked, visit)?;
-        rest = later;
-        index += 1;
-    }
+    // Each event is visited once, which `visits_at` counts.
+    let part = node_events(events, entry, checked.partner(entry));
+    run_part(printer, given, checked, part, entry)?;
     Ok(())
 }
 

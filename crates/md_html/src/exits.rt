@@ -1,0 +1,231 @@
+//! Exiting nodes.
+
+ghost use Rattle.std.specs.Prelude.{◌≡◌, Bool, [], OnOk, true, false};
+ghost use Rattle.md_base.specs.declared.event.Name.TheVariants.{GfmFootnoteCall, GfmFootnoteDefinition, Definition, Paragraph};
+ghost use Rattle.md_printer.specs.Given.{closing_at, given_of};
+ghost use Rattle.md_printer.specs.Machine as machine;
+ghost use Rattle.md_around.specs.Steps as steps;
+ghost use Rattle.md_meaning.specs.Printed.{is_captured};
+ghost use Rattle.md_print.specs.Closings.{group_of, reads_text, read_pieces};
+ghost use Rattle.md_html.specs.Plain as plain;
+ghost use Rattle.md_meaning.specs.Blocks.{paragraph_closing};
+ghost use Rattle.md_meaning.specs.Given.{Supply};
+ghost use Rattle.md_base.specs.declared.event.Point.{Point as PointInside};
+
+use md_around::captured::is_captured;
+use md_base::name_tests::{is_paragraph, is_table};
+use md_base::{Event, Name};
+use md_print::close::{close, close_captured, close_with};
+use md_print::groups::{Group, group_of};
+use md_print::open::is_tight;
+use md_printer::frames::{Exit, Inner};
+use md_printer::given::{Given, identifier_at};
+use md_printer::printer::Printer;
+use md_sheet::{Defined, Rope};
+use std::alloc::AllocError;
+
+/// Exits a node; `is_last` says that nothing follows in the document.
+#[inline(always)]
+pub(crate) fn exit(
+    printer: &mut Printer,
+    given: &Given,
+    is_last: bool,
+    event: &Event,
+) -> Result<(), AllocError>
+    ensures { OnOk result (printer.new ≡ machine.exited (given_of given.now) is_last
+        (is_captured event.now.name) event.now.name event.now.point printer.old) }
+{
+    let name = event.name;
+    if is_silent(name) {
+        printer.leave(name);
+        Ok(())
+    } else if is_paragraph(name) {
+        exit_paragraph(printer)
+    } else if reads_text(name) {
+        exit_with_text(printer, given, is_last, event)
+    } else if is_captured(name) {
+        exit_captured(printer, given, is_last, event)
+    } else {
+        exit_streamed(printer, given, is_last, event)
+    }
+}
+
+/// A name that prints nothing by itself.
+#[inline(always)]
+fn is_silent(name: Name) -> bool
+    ensures { result ≡ plain.is_silent (group_of name) }
+{
+    matches!(group_of(name), Group::Silent)
+}
+
+/// A name that prints its children's text, and nothing else of them.
+#[inline(always)]
+fn reads_text(name: Name) -> bool
+    ensures { result ≡ reads_text name }
+{
+    matches!(name, Name::CodeText | Name::MathText | Name::GfmTableCell)
+}
+
+/// Exits a paragraph.
+#[inline(always)]
+fn exit_paragraph(printer: &mut Printer) -> Result<(), AllocError>
+    ensures { OnOk result ((given : Supply) (last : Bool) (end : PointInside) → printer.new
+        ≡ machine.exited given last false Paragraph end printer.old) }
+{
+    close_paragraph(printer)?;
+    printer.leave_paragraph();
+    Ok(())
+}
+
+/// Prints a paragraph's end tag, unless it is in a tight list.
+#[inline(always)]
+fn close_paragraph(printer: &mut Printer) -> Result<(), AllocError>
+    ensures { OnOk result (printer.new ≡ machine.printing []
+        (paragraph_closing (steps.first_or machine.document_frame printer.old.frames).around) printer.old) }
+{
+    if is_tight(printer.around_outer().container) {
+        Ok(())
+    } else {
+        printer.put("</p>")
+    }
+}
+
+/// Exits a node that prints its children's text, and nothing else of them.
+fn exit_with_text(
+    printer: &mut Printer,
+    given: &Given,
+    is_last: bool,
+    event: &Event,
+) -> Result<(), AllocError>
+    requires { reads_text event.now.name ≡ true }
+    ensures { OnOk result (printer.new
+        ≡ machine.exited (given_of given.now) is_last true event.now.name event.now.point printer.old) }
+{
+    let name = event.name;
+    let exit = printer.exit(is_last, event.point);
+    let inner = printer.release_text(given.alloc);
+    close_with_rope(printer, given, &exit, &inner, name)?;
+    printer.reuse(inner);
+    printer.leave(name);
+    Ok(())
+}
+
+/// Prints a node with its children's text, which mostly is in one piece.
+fn close_with_rope(
+    printer: &mut Printer,
+    given: &Given,
+    exit: &Exit,
+    inner: &Rope,
+    name: Name,
+) -> Result<(), AllocError>
+    ensures { OnOk result (printer.new ≡ machine.printing given.now.ending.now
+        (read_pieces exit.now (steps.first_or [] printer.old.tables) name inner.now) printer.old) }
+{
+    match inner.whole() {
+        Some(text) => close_with(printer, given, exit, text, name),
+        None => {
+            let text = inner.to_string(given.alloc)?;
+            close_with(printer, given, exit, text.as_str(), name)
+        }
+    }
+}
+
+/// Exits a node whose children aren't captured.
+#[inline(never)]
+fn exit_streamed(
+    printer: &mut Printer,
+    given: &Given,
+    is_last: bool,
+    event: &Event,
+) -> Result<(), AllocError>
+    requires { is_captured event.now.name ≡ false }
+    ensures { OnOk result (printer.new
+        ≡ machine.exited (given_of given.now) is_last false event.now.name event.now.point printer.old) }
+{
+    let name = event.name;
+    let exit = printer.exit(is_last, event.point);
+    printer.leave_table_if(is_table(name));
+    close(printer, given, &exit, name)?;
+    printer.leave(name);
+    Ok(())
+}
+
+/// Exits a node whose children are captured.
+#[inline(never)]
+fn exit_captured(
+    printer: &mut Printer,
+    given: &Given,
+    is_last: bool,
+    event: &Event,
+) -> Result<(), AllocError>
+    requires { is_captured event.now.name ≡ true }
+    ensures { OnOk result (printer.new
+        ≡ machine.exited (given_of given.now) is_last true event.now.name event.now.point printer.old) }
+{
+    let name = event.name;
+    let exit = printer.exit(is_last, event.point);
+    let place = printer.place();
+    let sheet = printer.release(given.alloc);
+    close_and_log(printer, given, &exit, Inner { place, sheet }, name)?;
+    printer.leave(name);
+    Ok(())
+}
+
+/// Prints what a node whose children are captured prints after them, and logs what it is seen for.
+fn close_and_log(
+    printer: &mut Printer,
+    given: &Given,
+    exit: &Exit,
+    inner: Inner,
+    name: Name,
+) -> Result<(), AllocError>
+    requires { is_captured name ≡ true }
+    ensures { OnOk result (printer.new ≡ machine.printing given.now.ending.now
+        (closing_at (given_of given.now) exit.now printer.old.log.called (steps.first_or [] printer.old.tables)
+        (machine.ahead_by inner.place) printer.old.frame.passed inner.sheet name)
+        (machine.logging given.now.bytes.now (machine.ahead_by inner.place) name inner.sheet printer.old)) }
+{
+    match name {
+        Name::GfmFootnoteCall => close_call(printer, given, exit, inner),
+        Name::GfmFootnoteDefinition => keep_footnote(printer, given, inner),
+        Name::Definition => keep_definition(printer, given, inner),
+        _ => close_captured(printer, given, exit, inner, name),
+    }
+}
+
+/// Prints a call of a footnote, and logs it.
+fn close_call(
+    printer: &mut Printer,
+    given: &Given,
+    exit: &Exit,
+    inner: Inner,
+) -> Result<(), AllocError>
+    ensures { OnOk result (printer.new ≡ machine.printing given.now.ending.now
+        (closing_at (given_of given.now) exit.now printer.old.log.called (steps.first_or [] printer.old.tables)
+        (machine.ahead_by inner.place) printer.old.frame.passed inner.sheet GfmFootnoteCall)
+        (machine.logging given.now.bytes.now (machine.ahead_by inner.place) GfmFootnoteCall inner.sheet printer.old)) }
+{
+    let place = inner.place;
+    close_captured(printer, given, exit, inner, Name::GfmFootnoteCall)?;
+    printer.log_call(identifier_at(given.alloc, given.bytes, place)?)
+}
+
+/// Logs a footnote, which prints nothing where it stands.
+fn keep_footnote(printer: &mut Printer, given: &Given, inner: Inner) -> Result<(), AllocError>
+    ensures { OnOk result (printer.new ≡ machine.logging given.now.bytes.now
+        (machine.ahead_by inner.place) GfmFootnoteDefinition inner.sheet printer.old) }
+{
+    let text = inner.sheet.into_text(given.alloc)?;
+    let identifier = identifier_at(given.alloc, given.bytes, inner.place)?;
+    printer.log_footnote(identifier, text)
+}
+
+/// Logs a definition, which prints nothing where it stands.
+fn keep_definition(printer: &mut Printer, given: &Given, inner: Inner) -> Result<(), AllocError>
+    ensures { OnOk result (printer.new ≡ machine.logging given.now.bytes.now
+        (machine.ahead_by inner.place) Definition inner.sheet printer.old) }
+{
+    let target = inner.sheet.into_target();
+    let identifier = identifier_at(given.alloc, given.bytes, inner.place)?;
+    printer.log_definition(Defined { identifier, target })
+}
