@@ -4,3 +4,4 @@ pub mod SafeHtml
 pub mod OwnDefinitions
 pub mod Leaf
 pub mod Plain
+pub mod Noting

@@ -1,12 +1,13 @@
 //! Exiting nodes.
 
-ghost use Rattle.std.specs.Prelude.{◌≡◌, Bool, [], OnOk, true, false};
+ghost use Rattle.std.specs.Prelude.{◌≡◌, Bool, [], OnOk, string_bytes, true, false};
 ghost use Rattle.md_base.specs.declared.event.Name.TheVariants.{GfmFootnoteCall, GfmFootnoteDefinition, Definition, Paragraph};
 ghost use Rattle.md_printer.specs.Given.{closing_at, given_of};
 ghost use Rattle.md_printer.specs.Machine as machine;
 ghost use Rattle.md_around.specs.Steps as steps;
 ghost use Rattle.md_meaning.specs.Printed.{is_captured};
 ghost use Rattle.md_print.specs.Closings.{group_of, reads_text, read_pieces};
+ghost use Rattle.md_html.specs.Noting as noting;
 ghost use Rattle.md_html.specs.Plain as plain;
 ghost use Rattle.md_meaning.specs.Blocks.{paragraph_closing};
 ghost use Rattle.md_meaning.specs.Given.{Supply};
@@ -22,7 +23,7 @@ use md_printer::frames::{Exit, Inner};
 use md_printer::given::{Given, identifier_at};
 use md_printer::printer::Printer;
 use md_sheet::{Defined, Rope};
-use std::alloc::AllocError;
+use std::alloc::{AllocError, Global};
 
 /// Exits a node; `is_last` says that nothing follows in the document.
 #[inline(always)]
@@ -43,6 +44,11 @@ pub(crate) fn exit(
         exit_paragraph(printer)
     } else if reads_text(name) {
         exit_with_text(printer, given, is_last, event)
+    } else if drops_children(name) {
+        exit_dropped(printer, given.alloc, name);
+        Ok(())
+    } else if notes_text(name) {
+        exit_noting(printer, given.alloc, name)
     } else if is_captured(name) {
         exit_captured(printer, given, is_last, event)
     } else {
@@ -64,6 +70,38 @@ fn reads_text(name: Name) -> bool
     ensures { result ≡ reads_text name }
 {
     matches!(name, Name::CodeText | Name::MathText | Name::GfmTableCell)
+}
+
+/// A name that prints and notes nothing, and whose children are captured.
+#[inline(always)]
+fn drops_children(name: Name) -> bool
+    ensures { result ≡ noting.drops_children name }
+{
+    matches!(
+        name,
+        Name::CodeFencedFenceMeta
+            | Name::MathFlowFenceMeta
+            | Name::Frontmatter
+            | Name::DefinitionLabelString
+            | Name::GfmFootnoteDefinitionLabelString
+            | Name::ReferenceString
+            | Name::GfmTableDelimiterRow
+    )
+}
+
+/// A name that notes its children's text, and prints nothing.
+#[inline(always)]
+fn notes_text(name: Name) -> bool
+    ensures { result ≡ noting.notes_text name }
+{
+    matches!(
+        name,
+        Name::HeadingSetextText
+            | Name::DefinitionDestinationString
+            | Name::DefinitionTitleString
+            | Name::ResourceDestinationString
+            | Name::ResourceTitleString
+    )
 }
 
 /// Exits a paragraph.
@@ -127,6 +165,47 @@ fn close_with_rope(
             let text = inner.to_string(given.alloc)?;
             close_with(printer, given, exit, text.as_str(), name)
         }
+    }
+}
+
+/// Exits a node of whose children nothing is used.
+#[inline(never)]
+fn exit_dropped(printer: &mut Printer, alloc: Global, name: Name)
+    requires { noting.drops_children name ≡ true }
+    ensures { (given : Supply) (last : Bool) (end : PointInside) → printer.new
+        ≡ machine.exited given last true name end printer.old }
+{
+    let inner = printer.release_text(alloc);
+    printer.reuse(inner);
+    printer.leave(name);
+}
+
+/// Exits a node that notes its children's text.
+#[inline(never)]
+fn exit_noting(printer: &mut Printer, alloc: Global, name: Name) -> Result<(), AllocError>
+    requires { noting.notes_text name ≡ true }
+    ensures { OnOk result ((given : Supply) (last : Bool) (end : PointInside) → printer.new
+        ≡ machine.exited given last true name end printer.old) }
+{
+    let inner = printer.release_text(alloc);
+    let text = inner.into_string(alloc)?;
+    note_text(printer, text, name);
+    printer.leave(name);
+    Ok(())
+}
+
+/// Notes a text as what a name says that it is.
+#[inline(always)]
+fn note_text(printer: &mut Printer, text: String, name: Name)
+    ensures { printer.new ≡ machine.printing [] (noting.noted_as name (string_bytes text)) printer.old }
+{
+    match name {
+        Name::HeadingSetextText => printer.note_heading(text),
+        Name::DefinitionDestinationString | Name::ResourceDestinationString => {
+            printer.note_destination(text)
+        }
+        Name::DefinitionTitleString | Name::ResourceTitleString => printer.note_title(text),
+        _ => {}
     }
 }
 

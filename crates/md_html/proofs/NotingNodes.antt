@@ -1,0 +1,52 @@
+-- A node of whose captured children nothing is used, or the text alone, is exited with no more than that.
+use Rattle.std.proofs.Common.{◌≡◌, Bool, true, [], refl}
+use Rattle.md_base.proofs.Lies.{lie}
+use Rattle.md_base.specs.declared.event.Name.{Name}
+use Rattle.md_base.specs.declared.event.Name.TheVariants.{HeadingSetextText, CodeFencedFenceMeta, MathFlowFenceMeta, Frontmatter, DefinitionLabelString, DefinitionDestinationString, DefinitionTitleString, GfmFootnoteDefinitionLabelString, ResourceDestinationString, ResourceTitleString, ReferenceString, GfmTableDelimiterRow}
+use Rattle.md_base.specs.declared.event.Point.{Point}
+use Rattle.md_meaning.specs.Given.{Supply}
+use Rattle.md_meaning.specs.Printed.{is_captured}
+use Rattle.md_printer.specs.Machine.{Printer, printing, releasing, leaving, exited}
+use Rattle.md_html.specs.Noting.{drops_children, notes_text, noted_as}
+
+pub dropped-captured : (name : Name) → drops_children name ≡ true → is_captured name ≡ true
+dropped-captured CodeFencedFenceMeta h = refl
+dropped-captured MathFlowFenceMeta h = refl
+dropped-captured Frontmatter h = refl
+dropped-captured DefinitionLabelString h = refl
+dropped-captured GfmFootnoteDefinitionLabelString h = refl
+dropped-captured ReferenceString h = refl
+dropped-captured GfmTableDelimiterRow h = refl
+dropped-captured _ h = lie h
+
+pub noting-captured : (name : Name) → notes_text name ≡ true → is_captured name ≡ true
+noting-captured HeadingSetextText h = refl
+noting-captured DefinitionDestinationString h = refl
+noting-captured DefinitionTitleString h = refl
+noting-captured ResourceDestinationString h = refl
+noting-captured ResourceTitleString h = refl
+noting-captured _ h = lie h
+
+-- it prints nothing, is seen for nothing, and is no table
+pub dropped-exited : (given : Supply) (last : Bool) (name : Name) (end : Point) (state : Printer) →
+    drops_children name ≡ true → leaving name (releasing true state) ≡ exited given last true name end state
+dropped-exited given last CodeFencedFenceMeta end state h = refl
+dropped-exited given last MathFlowFenceMeta end state h = refl
+dropped-exited given last Frontmatter end state h = refl
+dropped-exited given last DefinitionLabelString end state h = refl
+dropped-exited given last GfmFootnoteDefinitionLabelString end state h = refl
+dropped-exited given last ReferenceString end state h = refl
+dropped-exited given last GfmTableDelimiterRow end state h = refl
+dropped-exited given last _ end state h = lie h
+
+-- it notes the text, and which line ending is used makes no difference
+pub noting-exited : (given : Supply) (last : Bool) (name : Name) (end : Point) (state : Printer) →
+    notes_text name ≡ true →
+    leaving name (printing [] (noted_as name state.sheet.text) (releasing true state))
+    ≡ exited given last true name end state
+noting-exited given last HeadingSetextText end state h = refl
+noting-exited given last DefinitionDestinationString end state h = refl
+noting-exited given last DefinitionTitleString end state h = refl
+noting-exited given last ResourceDestinationString end state h = refl
+noting-exited given last ResourceTitleString end state h = refl
+noting-exited given last _ end state h = lie h
