@@ -1,13 +1,14 @@
 -- A node of whose captured children nothing is used, or the text alone, is exited with no more than that.
-use Rattle.std.proofs.Common.{◌≡◌, Bool, true, [], refl}
+use Rattle.std.proofs.Common.{◌≡◌, Bool, true, [], ◌∷◌, refl}
 use Rattle.md_base.proofs.Lies.{lie}
 use Rattle.md_base.specs.declared.event.Name.{Name}
-use Rattle.md_base.specs.declared.event.Name.TheVariants.{HeadingSetextText, CodeFencedFenceMeta, MathFlowFenceMeta, Frontmatter, DefinitionLabelString, DefinitionDestinationString, DefinitionTitleString, GfmFootnoteDefinitionLabelString, ResourceDestinationString, ResourceTitleString, ReferenceString, GfmTableDelimiterRow}
+use Rattle.md_base.specs.declared.event.Name.TheVariants.{HeadingSetextText, CodeFencedFenceMeta, MathFlowFenceMeta, Frontmatter, DefinitionLabelString, DefinitionDestinationString, DefinitionTitleString, GfmFootnoteDefinitionLabelString, Resource, ResourceDestinationString, ResourceTitleString, ReferenceString, GfmTableDelimiterRow}
 use Rattle.md_base.specs.declared.event.Point.{Point}
 use Rattle.md_meaning.specs.Given.{Supply}
+use Rattle.md_meaning.specs.Piece.{Noted, Resource as noted_resource}
 use Rattle.md_meaning.specs.Printed.{is_captured}
 use Rattle.md_printer.specs.Machine.{Printer, printing, releasing, leaving, exited}
-use Rattle.md_html.specs.Noting.{drops_children, notes_text, noted_as}
+use Rattle.md_html.specs.Noting.{drops_children, notes_text, noted_as, is_resource}
 
 pub dropped-captured : (name : Name) → drops_children name ≡ true → is_captured name ≡ true
 dropped-captured CodeFencedFenceMeta h = refl
@@ -50,3 +51,13 @@ noting-exited given last DefinitionTitleString end state h = refl
 noting-exited given last ResourceDestinationString end state h = refl
 noting-exited given last ResourceTitleString end state h = refl
 noting-exited given last _ end state h = lie h
+
+pub resource-name : (name : Name) → is_resource name ≡ true → name ≡ Resource
+resource-name Resource h = refl
+resource-name _ h = lie h
+
+-- a resource notes what its children note
+pub resource-exited : (given : Supply) (last : Bool) (end : Point) (state : Printer) →
+    leaving Resource (printing [] (Noted (noted_resource state.sheet.notes.target) ∷ []) (releasing true state))
+    ≡ exited given last true Resource end state
+resource-exited given last end state = refl

@@ -1,8 +1,8 @@
--- Names of whose captured children nothing is used, or the text alone, which is noted. Only contracts of private functions
--- speak of them.
+-- Names of whose captured children nothing is used, or one part alone, which is noted. Only contracts of private
+-- functions speak of them.
 use Rattle.std.specs.Prelude.{Bool, true, false, List, [], ◌∷◌, ℕ}
 use Rattle.md_base.specs.declared.event.Name.{Name}
-use Rattle.md_base.specs.declared.event.Name.TheVariants.{HeadingSetextText, CodeFencedFenceMeta, MathFlowFenceMeta, Frontmatter, DefinitionLabelString, DefinitionDestinationString, DefinitionTitleString, GfmFootnoteDefinitionLabelString, ResourceDestinationString, ResourceTitleString, ReferenceString, GfmTableDelimiterRow}
+use Rattle.md_base.specs.declared.event.Name.TheVariants.{HeadingSetextText, CodeFencedFenceMeta, MathFlowFenceMeta, Frontmatter, DefinitionLabelString, DefinitionDestinationString, DefinitionTitleString, GfmFootnoteDefinitionLabelString, Resource, ResourceDestinationString, ResourceTitleString, ReferenceString, GfmTableDelimiterRow}
 use Rattle.md_meaning.specs.Piece.{Stroke, Noted, Heading, Destination, Title}
 
 -- a name that prints and notes nothing, and whose children are captured
@@ -39,3 +39,7 @@ noted_as DefinitionTitleString text = Noted (Title text) ∷ []
 noted_as ResourceDestinationString text = Noted (Destination text) ∷ []
 noted_as ResourceTitleString text = Noted (Title text) ∷ []
 noted_as _ text = []
+
+-- a resource
+abbrev pub is_resource : Name → Bool
+is_resource name = elim name [ Resource ↦ true | _ ↦ false ]

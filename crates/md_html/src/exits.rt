@@ -1,7 +1,7 @@
 //! Exiting nodes.
 
 ghost use Rattle.std.specs.Prelude.{◌≡◌, Bool, [], OnOk, string_bytes, true, false};
-ghost use Rattle.md_base.specs.declared.event.Name.TheVariants.{GfmFootnoteCall, GfmFootnoteDefinition, Definition, Paragraph};
+ghost use Rattle.md_base.specs.declared.event.Name.TheVariants.{GfmFootnoteCall, GfmFootnoteDefinition, Definition, Paragraph, Resource};
 ghost use Rattle.md_printer.specs.Given.{closing_at, given_of};
 ghost use Rattle.md_printer.specs.Machine as machine;
 ghost use Rattle.md_around.specs.Steps as steps;
@@ -49,6 +49,9 @@ pub(crate) fn exit(
         Ok(())
     } else if notes_text(name) {
         exit_noting(printer, given.alloc, name)
+    } else if is_resource(name) {
+        exit_resource(printer, given.alloc);
+        Ok(())
     } else if is_captured(name) {
         exit_captured(printer, given, is_last, event)
     } else {
@@ -102,6 +105,14 @@ fn notes_text(name: Name) -> bool
             | Name::ResourceDestinationString
             | Name::ResourceTitleString
     )
+}
+
+/// A resource, which notes what its children note.
+#[inline(always)]
+fn is_resource(name: Name) -> bool
+    ensures { result ≡ noting.is_resource name }
+{
+    matches!(name, Name::Resource)
 }
 
 /// Exits a paragraph.
@@ -209,6 +220,17 @@ fn note_text(printer: &mut Printer, text: String, name: Name)
     }
 }
 
+/// Exits a resource.
+#[inline(never)]
+fn exit_resource(printer: &mut Printer, alloc: Global)
+    ensures { (given : Supply) (last : Bool) (end : PointInside) → printer.new
+        ≡ machine.exited given last true Resource end printer.old }
+{
+    let sheet = printer.release(alloc);
+    printer.note_resource(sheet.into_target());
+    printer.leave(Name::Resource);
+}
+
 /// Exits a node whose children aren't captured.
 #[inline(never)]
 fn exit_streamed(
@@ -243,9 +265,11 @@ fn exit_captured(
 {
     let name = event.name;
     let exit = printer.exit(is_last, event.point);
-    let place = printer.place();
-    let sheet = printer.release(given.alloc);
-    close_and_log(printer, given, &exit, Inner { place, sheet }, name)?;
+    let inner = Inner {
+        place: printer.place(),
+        sheet: printer.release(given.alloc),
+    };
+    close_and_log(printer, given, &exit, inner, name)?;
     printer.leave(name);
     Ok(())
 }

@@ -6,8 +6,10 @@ use Rattle.md_meaning.specs.Given.{Supply}
 use Rattle.md_meaning.specs.Printed.{is_captured}
 use Rattle.md_printer.specs.Given.{given_of}
 use Rattle.md_printer.specs.Machine as machine
-use Rattle.md_html.proofs.PlainNodes.{paragraph-name}
-use Rattle.md_html.proofs.NotingNodes.{dropped-captured, noting-captured}
+use Rattle.md_printer.specs.Machine.{Printer}
+use Rattle.md_html.proofs.PlainNodes.{paragraph-name, silent-exited}
+use Rattle.md_html.proofs.NotingNodes.{dropped-captured, noting-captured, resource-name}
+use Rattle.md_html.proofs.ReadNodes.{read-captured}
 use Rattle.md_html.proofs.Walks.{on_answer}
 use Rattle.md_html.proofs.exits.exit.Goals as goal
 
@@ -49,3 +51,44 @@ returns-then-notes_text c =
     ∙ ap (λ b. machine.exited given last b name end before)
     (sym (noting-captured name (sym c.if-notes_text.ensures))))
     c.exit_noting.result c.exit_noting.ensures
+
+pub returns-then-is_resource : goal.returns-then-is_resource
+returns-then-is_resource c =
+    let given = given_of c.args.given.now in
+    let end = c.args.event.now.point in
+    c.exit_resource.ensures given c.args.is_last end
+    ∙ ap (λ n. machine.exited given c.args.is_last (is_captured n) n end c.args.printer.now)
+    (sym (resource-name c.args.event.now.name (sym c.if-is_resource.ensures)))
+
+pub returns-then-is_silent : goal.returns-then-is_silent
+returns-then-is_silent c =
+    c.leave.ensures
+    ∙ silent-exited (given_of c.args.given.now) c.args.is_last c.args.event.now.name c.args.event.now.point
+    c.args.printer.now (sym c.if-is_silent.ensures)
+
+pub returns-then-reads_text : goal.returns-then-reads_text
+returns-then-reads_text c =
+    let name = c.args.event.now.name in
+    let at : Bool → Printer = λ captured.
+    machine.exited (given_of c.args.given.now) c.args.is_last captured name c.args.event.now.point c.args.printer.now in
+    on_answer (λ _. c.exit_with_text.new.printer ≡ at true) (λ _. c.exit_with_text.new.printer ≡ at (is_captured name))
+    (λ _ exited. exited ∙ ap at (sym (read-captured name (sym c.if-reads_text.ensures))))
+    c.exit_with_text.result c.exit_with_text.ensures
+
+pub returns-then-is_captured : goal.returns-then-is_captured
+returns-then-is_captured c =
+    let name = c.args.event.now.name in
+    let at : Bool → Printer = λ captured.
+    machine.exited (given_of c.args.given.now) c.args.is_last captured name c.args.event.now.point c.args.printer.now in
+    on_answer (λ _. c.exit_captured.new.printer ≡ at true) (λ _. c.exit_captured.new.printer ≡ at (is_captured name))
+    (λ _ exited. exited ∙ ap at c.if-is_captured.ensures)
+    c.exit_captured.result c.exit_captured.ensures
+
+pub returns-else-is_captured : goal.returns-else-is_captured
+returns-else-is_captured c =
+    let name = c.args.event.now.name in
+    let at : Bool → Printer = λ captured.
+    machine.exited (given_of c.args.given.now) c.args.is_last captured name c.args.event.now.point c.args.printer.now in
+    on_answer (λ _. c.exit_streamed.new.printer ≡ at false) (λ _. c.exit_streamed.new.printer ≡ at (is_captured name))
+    (λ _ exited. exited ∙ ap at c.if-is_captured.ensures)
+    c.exit_streamed.result c.exit_streamed.ensures

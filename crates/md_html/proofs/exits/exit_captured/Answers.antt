@@ -30,12 +30,12 @@ returns c =
     (machine.leaving_table b (machine.releasing true start)))) in
     let whole : machine.leaving name c.close_and_log.new.printer ≡ machine.exited given last true name end start =
     ap (λ s. machine.leaving name s) c.in_ok-close_and_log.ensures
-    ∙ ap (λ exit. after exit (machine.ahead_by c.place-place.result) c.release-sheet.result c.release-sheet.new.self)
+    ∙ ap (λ exit. after exit (machine.ahead_by c.place.result) c.release.result c.release.new.self)
     c.exit-exit.ensures
-    ∙ ap (λ ahead. after (exit_in last end start) ahead c.release-sheet.result c.release-sheet.new.self)
-    c.place-place.ensures
-    ∙ ap (λ inner. after (exit_in last end start) start.frame.ahead inner c.release-sheet.new.self)
-    c.release-sheet.ensures.sheet
-    ∙ ap (λ s. after (exit_in last end start) start.frame.ahead start.sheet s) c.release-sheet.ensures.state
+    ∙ ap (λ ahead. after (exit_in last end start) ahead c.release.result c.release.new.self)
+    c.place.ensures
+    ∙ ap (λ inner. after (exit_in last end start) start.frame.ahead inner c.release.new.self)
+    c.release.ensures.sheet
+    ∙ ap (λ s. after (exit_in last end start) start.frame.ahead start.sheet s) c.release.ensures.state
     ∙ sym (ap (λ b. tabled b) (no_table name c.requires)) in
     c.leave.ensures ∙ whole

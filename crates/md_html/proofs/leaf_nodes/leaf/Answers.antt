@@ -118,7 +118,8 @@ returns-in-Through c =
     λ ahead loose columns.
     c.pass_through.ensures
     ∙ silent (given_of c.args.given.now) c.args.is_last name c.args.entry.now.point c.args.exit.now.point
-    c.args.printer.now ahead loose columns (through-through name (ap is_through (sym c.in-Through.ensures))).1 c.requires
+    c.args.printer.now ahead loose columns
+    (through-through name (ap is_through (sym c.in-Through.ensures))).1 c.requires
 
 pub pass_aside-requires : goal.pass_aside-requires
 pass_aside-requires c = (aside-aside c.args.entry.now.name (ap is_aside (sym c.in-Aside.ensures))).0
@@ -129,4 +130,5 @@ returns-in-Aside c =
     λ ahead loose columns.
     c.pass_aside.ensures
     ∙ silent (given_of c.args.given.now) c.args.is_last name c.args.entry.now.point c.args.exit.now.point
-    c.args.printer.now ahead loose columns (aside-aside name (ap is_aside (sym c.in-Aside.ensures))).1 c.requires
+    c.args.printer.now ahead loose columns
+    (aside-aside name (ap is_aside (sym c.in-Aside.ensures))).1 c.requires
