@@ -248,6 +248,7 @@ fn print(given: &Given, checked: &Checked) -> Result<Counted, AllocError>
     ensures fits { OnOk result (length checked.now.events < 2 ^ 63) }
 {
     let mut printer = Printer::new(given.alloc);
+    printer.reserve(given.bytes.len());
     let ran = run(&mut printer, given, checked);
     // The printer is used up before the run's error is answered, so that no path has its many parts to drop.
     let text = printer.into_text(given.alloc, given.options, given.ending)?;

@@ -11,4 +11,4 @@ returns-clause-text c = λ document flat.
     let given = given_of c.args.given.now in
     c.in_ok-text.ensures
     ∙ ap (λ s. (finished given s).text) (c.in_ok-ran.ensures.printed document flat
-    ∙ ap (λ s. run given c.args.checked.now.events (children_of document) s) c.new-printer.ensures)
+    ∙ ap (λ s. run given c.args.checked.now.events (children_of document) s) (c.reserve.ensures ∙ c.new-printer.ensures))
