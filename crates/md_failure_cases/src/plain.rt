@@ -143,4 +143,12 @@ fn link_answers(checked: &Checked) -> bool
         && checked.definitions() == [14, 26].as_slice()
         && checked.text(5) == "a"
         && checked.identifier(6) == "a"
+        && text_by_points(checked) == Some("a")
+}
+
+/// The text of the node that the fifth event enters and the sixth exits, by their points.
+fn text_by_points<'a>(checked: &Checked<'a>) -> Option<&'a str> {
+    let entry = checked.events().get(4)?;
+    let exit = checked.events().get(5)?;
+    checked.text_between(entry.point, exit.point)
 }

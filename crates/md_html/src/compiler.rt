@@ -241,6 +241,7 @@ fn ending_of<'a>(checked: &Checked<'a>, options: &'a CompileOptions) -> &'a str
 
 /// The text of the events and of the footnotes' section, and how many events were visited for it.
 fn print(given: &Given, checked: &Checked) -> Result<Counted, AllocError>
+    requires bytes { given.now.bytes.now ≡ checked.now.bytes }
     ensures text { IfOk result (λ counted. (document : Forest) → flatten document ≡ checked.now.events
         → string_bytes counted.text ≡ (machine.finished (given_of given.now)
         (machine.run (given_of given.now) checked.now.events (children_of document) machine.beginning)).text) }

@@ -62,6 +62,7 @@ fn run_node(
     checked: &Checked,
     entry: usize,
 ) -> Result<(), AllocError>
+    requires bytes { given.now.bytes.now ≡ checked.now.bytes }
     ensures grammatical { IsChecked checked.now }
     ensures fits { length checked.now.events < 2 ^ 63 }
     ensures printed { OnOk result ((document : Forest) → flatten document ≡ checked.now.events
@@ -78,6 +79,7 @@ fn run_node(
 
 /// What the definition whose entry is at an index defines.
 fn defined_at(given: &Given, checked: &Checked, entry: usize) -> Result<Option<Defined>, AllocError>
+    requires bytes { given.now.bytes.now ≡ checked.now.bytes }
     ensures { IfOk result (λ defined. (document : Forest) → flatten document ≡ checked.now.events → (place : ℕ)
         → slice_get (entries_of 0 document) place ≡ Some entry
         → defined ≡ slice_get (own_definitions (given_of given.now) document) place) }
@@ -125,6 +127,7 @@ pub(crate) fn definitions_at(
     checked: &Checked,
     entries: &[usize],
 ) -> Result<Own, AllocError>
+    requires bytes { given.now.bytes.now ≡ checked.now.bytes }
     ensures definitions { IfOk result (λ own. (document : Forest) → flatten document ≡ checked.now.events
         → entries.now ≡ entries_of 0 document
         → own.definitions.items ≡ own_definitions (given_of given.now) document) }

@@ -33,6 +33,7 @@ pub(crate) fn run(
     given: &Given,
     checked: &Checked,
 ) -> Result<usize, AllocError>
+    requires bytes { given.now.bytes.now ≡ checked.now.bytes }
     ensures printed { OnOk result ((document : Forest) → flatten document ≡ checked.now.events
         → printer.new ≡ machine.run (given_of given.now) checked.now.events (children_of document) printer.old) }
     ensures visits { IfOk result (λ visits. visits ≡ length checked.now.events) }
@@ -50,6 +51,7 @@ pub(crate) fn run_part(
     part: &[Event],
     start: usize,
 ) -> Result<usize, AllocError>
+    requires bytes { given.now.bytes.now ≡ checked.now.bytes }
     requires part { (more : List Event) × (drop start checked.now.events ≡ part.now ++ more) }
     requires fits { length checked.now.events < 2 ^ 63 }
     ensures printed { OnOk result ((document : Forest) → flatten document ≡ checked.now.events
@@ -85,7 +87,8 @@ fn advance(
     checked: &Checked,
     visit: Visit,
 ) -> Result<usize, AllocError>
-    requires { (more : List Event)
+    requires bytes { given.now.bytes.now ≡ checked.now.bytes }
+    requires here { (more : List Event)
         × (visit.event.now ∷ (visit.later.now ++ more) ≡ drop visit.index checked.now.events) }
     ensures within { IfOk result (λ more. more ≤ length visit.entry.later.now) }
     ensures runs { IfOk result (λ more. (document : Forest) → flatten document ≡ checked.now.events
@@ -98,7 +101,7 @@ fn advance(
     if let Some((exit, beyond)) = visit.later.split_first() {
         if is_light_leaf(entry, exit) {
             let is_last = beyond.is_empty();
-            leaf(printer, given, is_last, entry, exit)?;
+            leaf(printer, given, checked, is_last, entry, exit)?;
             return Ok(1);
         }
     }

@@ -1,5 +1,6 @@
 -- How far spines have been read, by the numbers of a table's rows.
-use Rattle.std.specs.Prelude.{◌≡◌, ℕ, ◌+◌, ◌-◌, Bool, true, ◌==◌, ◌&&◌, ◌||◌, nat_le, if◌then◌else◌, Option, Some, None, option_map, List, [], ◌∷◌, map, drop}
+use Rattle.std.specs.Prelude.{◌≡◌, ℕ, ◌+◌, ◌-◌, Bool, true, ◌==◌, ◌&&◌, ◌||◌, nat_le, if◌then◌else◌}
+use Rattle.std.specs.Prelude.{Option, Some, None, option_map, List, [], ◌∷◌, map, drop}
 use Rattle.std.specs.List.{list_all}
 use Rattle.std.specs.Prelude.{get_or}
 use Rattle.md_pattern.specs.declared.kinds.Symbol.{Symbol}

@@ -7,7 +7,7 @@ use Rattle.md_infer.specs.Facts.{facts_at, tables_at, definitions_at}
 
 -- what was handed in
 abbrev pub handed_of : Inside → Handed
-handed_of inside = handed inside.events.now inside.bytes.now inside.names.now
+handed_of inside = handed inside.events.now inside.texts inside.names.now
 
 -- the events are a document's of the grammar, each has what is found at it, the tables, the definitions and the
 -- first line ending are theirs, and each was visited once

@@ -1,13 +1,14 @@
 //! Events that have passed a check, and what is found at them.
 
-ghost use Rattle.std.specs.Prelude.{◌≡◌, ◌↔◌, ◌<◌, Some, length, map, option_map, slice_get, IsTrue};
+ghost use Rattle.std.specs.Prelude.{◌≡◌, ◌↔◌, ◌<◌, Some, length, map, option_copied, option_map, slice_get, IsTrue};
+ghost use Rattle.md_base.specs.Place.{text_between};
 ghost use Rattle.md_base.specs.declared.event.Event.{Event};
 ghost use Rattle.md_infer.specs.declared.facts.Fact.{Fact};
 ghost use Rattle.md_tree.specs.Found.{index_if, position_at, position_there, position_ended};
 ghost use Rattle.md_tree.specs.Texts.{IsEventAt};
 
-use crate::input::{label_at, text_at};
-use md_base::{AlignKind, Event, Kind, Name, Position, is_same_name};
+use crate::texts::Texts;
+use md_base::{AlignKind, Event, Kind, Name, Point, Position, is_same_name};
 use md_infer::{Fact, Facts};
 use std::marker::Model;
 
@@ -16,7 +17,8 @@ use std::marker::Model;
 #[derive(Drop)]
 pub struct Checked<'a> {
     events: &'a [Event],
-    bytes: &'a [u8],
+    /// The document's bytes, of which the texts are found.
+    texts: Texts<'a>,
     names: &'a [(&'a str, &'a str)],
     facts: Vec<Fact>,
     /// The alignments of each table.
@@ -61,17 +63,17 @@ impl<'a> Checked<'a> {
     /// What has passed a check, with what is found at its events.
     pub(crate) fn new(
         events: &'a [Event],
-        bytes: &'a [u8],
+        texts: Texts<'a>,
         names: &'a [(&'a str, &'a str)],
         found: Facts,
     ) -> Checked<'a>
-        requires grammatical { IsChecked (handed events.now bytes.now names.now) }
+        requires grammatical { IsChecked (handed events.now texts names.now) }
         requires facts { found.facts.items ≡ facts_at events.now }
         requires tables { map (λ t. t.items) found.tables.items ≡ tables_at events.now }
         requires definitions { found.definitions.items ≡ definitions_at events.now }
         requires first_ending { found.first_ending ≡ first_index events.now }
         requires visits { found.visits ≡ length events.now }
-        ensures { result ≡ handed events.entry.now bytes.entry.now names.entry.now }
+        ensures { result ≡ handed events.entry.now texts.entry names.entry.now }
     {
         let Facts {
             facts,
@@ -82,7 +84,7 @@ impl<'a> Checked<'a> {
         } = found;
         Checked {
             events,
-            bytes,
+            texts,
             names,
             facts,
             tables,
@@ -118,7 +120,7 @@ impl<'a> Checked<'a> {
     pub fn bytes(&self) -> &'a [u8]
         ensures { result.now ≡ self.now.bytes }
     {
-        self.bytes
+        self.texts.bytes()
     }
 
     /// The names of character references, each with its text.
@@ -302,7 +304,7 @@ impl<'a> Checked<'a> {
         ensures { IsTextAt self.now index result.now }
     {
         let position = position_ended(self.events, &self.facts, index).unwrap();
-        text_at(self.bytes, &position).unwrap()
+        self.texts.text_at(&position).unwrap()
     }
 
     /// The label of the node that ends with the event at the index, as it is written (`normalize_identifier` makes an
@@ -319,7 +321,24 @@ impl<'a> Checked<'a> {
         ensures { IsIdentifierAt self.now index result.now }
     {
         let position = position_ended(self.events, &self.facts, index).unwrap();
-        label_at(self.bytes, &position).unwrap()
+        self.texts.label_at(&position).unwrap()
+    }
+
+    /// The text between two points, without the spaces of tabs that are cut there; None where the points don't fit the
+    /// bytes, or these aren't UTF-8.
+    ///
+    /// # Examples
+    ///
+    /// ```
+    /// // Of `a`, where 1 enters its data, and 2 exits the data:
+    /// let events = checked.events();
+    /// assert_eq!(checked.text_between(events[1].point, events[2].point), Some("a"));
+    /// ```
+    #[inline(always)]
+    pub fn text_between(&self, start: Point, end: Point) -> Option<&'a str>
+        ensures { option_copied result ≡ text_between self.now.bytes start end }
+    {
+        self.texts.text_at(&Position { start, end })
     }
 }
 

@@ -62,58 +62,30 @@ pub fn check<'a>(
     ensures lost { IfErr result (IsLost (handed events.now bytes.now names.now)) }
 {
     let found = find(alloc, events, bytes, names)?;
-    Ok(Checked::new(events, bytes, names, found))
+    Ok(Checked::new(events, found.texts, names, found.facts))
 }
 
-/// What is found at the events of a document of the grammar.
-fn find(
-    alloc: Global,
-    events: &[Event],
-    bytes: &[u8],
-    names: &[(&str, &str)],
-) -> Result<Facts, CompileError>
-    ensures grammatical { OnOk result (IsChecked (handed events.now bytes.now names.now)) }
-    ensures facts { IfOk result (λ found. found.facts.items ≡ facts_at events.now) }
-    ensures tables { IfOk result (λ found. map (λ t. t.items) found.tables.items ≡ tables_at events.now) }
-    ensures definitions { IfOk result (λ found. found.definitions.items ≡ definitions_at events.now) }
-    ensures first_ending { IfOk result (λ found. found.first_ending ≡ first_index events.now) }
-    ensures visits { IfOk result (λ found. found.visits ≡ length events.now) }
-    ensures refused { IfErr result (IsRefusal (handed events.now bytes.now names.now)) }
-{
-    let read = read_document(alloc, events, bytes, names)?;
-    if !is_done(&read.walk) {
-        return Err(CompileError::Event {
-            index: events.len(),
-            rule: Rule::Order,
-        });
-    }
-    let Read { walk, found } = read;
-    resolve(alloc, bytes, &walk.mentions)?;
-    Ok(found)
-}
-
-/// What is known of events that have been read.
+/// What is found of a document of the grammar.
 #[derive(Drop)]
-struct Read {
-    walk: Walk,
-    found: Facts,
+struct Found<'a> {
+    texts: Texts<'a>,
+    facts: Facts,
 }
 
-/// Reads all events of a document, of which the texts are found first.
-fn read_document(
+/// What is found of the document, and at its events, which are of the grammar.
+fn find<'a>(
     alloc: Global,
     events: &[Event],
-    bytes: &[u8],
+    bytes: &'a [u8],
     names: &[(&str, &str)],
-) -> Result<Read, CompileError>
-    ensures walked { IfOk result
-        (λ read. Runs (Unbroken bytes.now (name_table names.now)) events.now beginning
-        (course_of events.now (length events.now) read.walk)) }
-    ensures facts { IfOk result (λ read. read.found.facts.items ≡ facts_at events.now) }
-    ensures tables { IfOk result (λ read. map (λ t. t.items) read.found.tables.items ≡ tables_at events.now) }
-    ensures definitions { IfOk result (λ read. read.found.definitions.items ≡ definitions_at events.now) }
-    ensures first_ending { IfOk result (λ read. read.found.first_ending ≡ first_index events.now) }
-    ensures visits { IfOk result (λ read. read.found.visits ≡ length events.now) }
+) -> Result<Found<'a>, CompileError>
+    ensures grammatical { OnOk result (IsChecked (handed events.now bytes.now names.now)) }
+    ensures texts { IfOk result (λ found. found.texts ≡ bytes.now) }
+    ensures facts { IfOk result (λ found. found.facts.facts.items ≡ facts_at events.now) }
+    ensures tables { IfOk result (λ found. map (λ t. t.items) found.facts.tables.items ≡ tables_at events.now) }
+    ensures definitions { IfOk result (λ found. found.facts.definitions.items ≡ definitions_at events.now) }
+    ensures first_ending { IfOk result (λ found. found.facts.first_ending ≡ first_index events.now) }
+    ensures visits { IfOk result (λ found. found.facts.visits ≡ length events.now) }
     ensures refused { IfErr result (IsRefusal (handed events.now bytes.now names.now)) }
 {
     let texts = Texts::new(alloc, bytes)?;
@@ -123,7 +95,40 @@ fn read_document(
         bytes: &texts,
         names,
     };
-    read_events(input)
+    let facts = find_facts(input)?;
+    Ok(Found { texts, facts })
+}
+
+/// What is found at events that are of the grammar.
+fn find_facts(input: Input) -> Result<Facts, CompileError>
+    ensures grammatical { OnOk result
+        (IsChecked (handed input.entry.events.now input.entry.bytes.now input.entry.names.now)) }
+    ensures facts { IfOk result (λ found. found.facts.items ≡ facts_at input.entry.events.now) }
+    ensures tables { IfOk result (λ found. map (λ t. t.items) found.tables.items
+        ≡ tables_at input.entry.events.now) }
+    ensures definitions { IfOk result (λ found. found.definitions.items ≡ definitions_at input.entry.events.now) }
+    ensures first_ending { IfOk result (λ found. found.first_ending ≡ first_index input.entry.events.now) }
+    ensures visits { IfOk result (λ found. found.visits ≡ length input.entry.events.now) }
+    ensures refused { IfErr result
+        (IsRefusal (handed input.entry.events.now input.entry.bytes.now input.entry.names.now)) }
+{
+    let read = read_events(input)?;
+    if !is_done(&read.walk) {
+        return Err(CompileError::Event {
+            index: input.events.len(),
+            rule: Rule::Order,
+        });
+    }
+    let Read { walk, found } = read;
+    resolve(input.alloc, input.bytes, &walk.mentions)?;
+    Ok(found)
+}
+
+/// What is known of events that have been read.
+#[derive(Drop)]
+struct Read {
+    walk: Walk,
+    found: Facts,
 }
 
 /// Reads all events, each by the walk and by the pass that finds what is read or inferred.

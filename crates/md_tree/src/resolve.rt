@@ -6,10 +6,10 @@ ghost use Rattle.md_tree.specs.Mentions.{identifier_at, defined, footnoted, ment
 ghost use Rattle.md_tree.specs.Resolve.{IsUnresolved, identifiers_of, HaveSame, IsJudged, IsMentionJudged};
 ghost use Rattle.md_tree.specs.declared.rule.Rule.TheVariants as rule;
 
-use crate::input::label_at;
 use crate::judge::rule_unless;
 use crate::mention::{Mention, Mentioned};
 use crate::rule::{CompileError, Rule};
+use crate::texts::Texts;
 use md_base::{Position, normalize_identifier};
 use std::alloc::{AllocError, Global};
 use std::collections::BTreeSet;
@@ -18,10 +18,10 @@ use std::collections::BTreeSet;
 type Identifiers = BTreeSet<Option<String>>;
 
 /// The identifier at a label's place, where it is a text.
-fn identifier(alloc: Global, bytes: &[u8], label: Position) -> Result<Option<String>, AllocError>
+fn identifier(alloc: Global, bytes: &Texts, label: Position) -> Result<Option<String>, AllocError>
     ensures { IfOk result (λ text. option_map string_bytes text ≡ identifier_at bytes.now label) }
 {
-    match label_at(bytes, &label) {
+    match bytes.label_at(&label) {
         None => Ok(None),
         Some(text) => Ok(Some(normalize_identifier(alloc, text)?)),
     }
@@ -30,7 +30,7 @@ fn identifier(alloc: Global, bytes: &[u8], label: Position) -> Result<Option<Str
 /// The identifiers of the definitions.
 fn definitions(
     alloc: Global,
-    bytes: &[u8],
+    bytes: &Texts,
     mentions: &[Mentioned],
 ) -> Result<Identifiers, AllocError>
     ensures { IfOk result
@@ -46,7 +46,11 @@ fn definitions(
 }
 
 /// The identifiers of the footnote definitions.
-fn footnotes(alloc: Global, bytes: &[u8], mentions: &[Mentioned]) -> Result<Identifiers, AllocError>
+fn footnotes(
+    alloc: Global,
+    bytes: &Texts,
+    mentions: &[Mentioned],
+) -> Result<Identifiers, AllocError>
     ensures { IfOk result
         (λ found. HaveSame (identifiers_of found) (footnoted bytes.now (mentions_among mentions.now))) }
 {
@@ -73,7 +77,7 @@ fn is_among(found: &Identifiers, wanted: &Option<String>) -> bool
 /// `CompileError::Memory` where memory runs out, and `CompileError::Event` with the index at which
 /// what leads nowhere exits: with `Rule::Definition` for a link or an image, and with
 /// `Rule::Footnote` for a footnote call.
-pub fn resolve(alloc: Global, bytes: &[u8], mentions: &[Mentioned]) -> Result<(), CompileError>
+pub fn resolve(alloc: Global, bytes: &Texts, mentions: &[Mentioned]) -> Result<(), CompileError>
     ensures ok { OnOk result (All (IsResolved bytes.now (mentions_among mentions.now)) (mentions_among mentions.now)) }
     ensures refused { IfErr result (IsUnresolved bytes.now mentions.now) }
 {
@@ -93,7 +97,7 @@ pub fn resolve(alloc: Global, bytes: &[u8], mentions: &[Mentioned]) -> Result<()
 /// The rule that a mention breaks whose identifier isn't among those defined.
 fn unresolved(
     alloc: Global,
-    bytes: &[u8],
+    bytes: &Texts,
     mention: Mention,
     definitions: &Identifiers,
     footnotes: &Identifiers,
@@ -112,7 +116,7 @@ fn unresolved(
 /// The rule that a link or an image breaks whose definition isn't among these.
 fn broken_reference(
     alloc: Global,
-    bytes: &[u8],
+    bytes: &Texts,
     label: Position,
     definitions: &Identifiers,
 ) -> Result<Option<Rule>, AllocError>
@@ -127,7 +131,7 @@ fn broken_reference(
 /// The rule that a footnote call breaks whose footnote definition isn't among these.
 fn broken_call(
     alloc: Global,
-    bytes: &[u8],
+    bytes: &Texts,
     label: Position,
     footnotes: &Identifiers,
 ) -> Result<Option<Rule>, AllocError>
@@ -142,7 +146,7 @@ fn broken_call(
 /// Whether the identifier at a label's place is among these.
 fn is_found(
     alloc: Global,
-    bytes: &[u8],
+    bytes: &Texts,
     label: Position,
     among: &Identifiers,
 ) -> Result<bool, AllocError>

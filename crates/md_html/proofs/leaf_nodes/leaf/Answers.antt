@@ -74,7 +74,7 @@ returns-in_ok-put_text-in-Text c =
     ∙ ap (λ (pieces : List Stroke). machine.passing_leaf name (machine.printing given.ending pieces before))
     (sym (text-closing (at_leaf given c.args.is_last start end before) name (ap is_text (sym c.in-Text.ensures))))
     ∙ leaf-steps given ahead before.frame.ahead before.frame.passed loose columns c.args.is_last name start end before
-    c.requires
+    c.requires.light
 
 pub returns-in_ok-put_ending-in-Ending : goal.returns-in_ok-put_ending-in-Ending
 returns-in_ok-put_ending-in-Ending c =
@@ -95,7 +95,8 @@ returns-in_ok-put_ending-in-Ending c =
     ∙ ap (λ n. machine.passing_leaf n (machine.printing given.ending
     (closing given before.frame.around (at_leaf given last start end before).left before.frame.ahead
     before.frame.passed last start end blank n) before)) (sym same)
-    ∙ leaf-steps given ahead before.frame.ahead before.frame.passed loose columns last name start end before c.requires
+    ∙ leaf-steps given ahead before.frame.ahead before.frame.passed loose columns last name start end before
+    c.requires.light
 
 pub pass_quiet-requires-in-Quiet : goal.pass_quiet-requires-in-Quiet
 pass_quiet-requires-in-Quiet c = (quiet-quiet c.args.entry.now.name (ap is_quiet (sym c.in-Quiet.ensures))).0
@@ -107,7 +108,7 @@ returns-in-Quiet c =
     λ ahead loose columns.
     c.pass_quiet-in-Quiet.ensures (spine_of name before)
     ∙ silent (given_of c.args.given.now) c.args.is_last name c.args.entry.now.point c.args.exit.now.point before ahead
-    loose columns (quiet-quiet name (ap is_quiet (sym c.in-Quiet.ensures))).1 c.requires
+    loose columns (quiet-quiet name (ap is_quiet (sym c.in-Quiet.ensures))).1 c.requires.light
 
 pub pass_through-requires : goal.pass_through-requires
 pass_through-requires c = (through-through c.args.entry.now.name (ap is_through (sym c.in-Through.ensures))).0
@@ -119,7 +120,7 @@ returns-in-Through c =
     c.pass_through.ensures
     ∙ silent (given_of c.args.given.now) c.args.is_last name c.args.entry.now.point c.args.exit.now.point
     c.args.printer.now ahead loose columns
-    (through-through name (ap is_through (sym c.in-Through.ensures))).1 c.requires
+    (through-through name (ap is_through (sym c.in-Through.ensures))).1 c.requires.light
 
 pub pass_aside-requires : goal.pass_aside-requires
 pass_aside-requires c = (aside-aside c.args.entry.now.name (ap is_aside (sym c.in-Aside.ensures))).0
@@ -131,4 +132,4 @@ returns-in-Aside c =
     c.pass_aside.ensures
     ∙ silent (given_of c.args.given.now) c.args.is_last name c.args.entry.now.point c.args.exit.now.point
     c.args.printer.now ahead loose columns
-    (aside-aside name (ap is_aside (sym c.in-Aside.ensures))).1 c.requires
+    (aside-aside name (ap is_aside (sym c.in-Aside.ensures))).1 c.requires.light

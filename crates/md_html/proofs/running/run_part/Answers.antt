@@ -9,8 +9,8 @@ use Rattle.md_printer.specs.Machine as machine
 use Rattle.md_html.proofs.Walks.{drop-later}
 use Rattle.md_html.proofs.running.run_part.Goals as goal
 
-pub advance-requires : goal.advance-requires
-advance-requires c =
+pub advance-requires-clause-here : goal.advance-requires-clause-here
+advance-requires-clause-here c =
     let more : List Event = c.loop-event.invariant.0.0 in
     (more, sym (c.loop-event.invariant.0.1 ∙ ap (λ r. r ++ more) c.in-Some.ensures.cases.0))
 
