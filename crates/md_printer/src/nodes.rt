@@ -1,6 +1,6 @@
 //! The nodes that are open.
 
-ghost use Rattle.std.specs.Prelude.{◌≡◌, reverse, OnOk, IfOk, if◌then◌else◌};
+ghost use Rattle.std.specs.Prelude.{◌≡◌, ◌∷◌, ◌++◌, [], reverse, OnOk, IfOk, if◌then◌else◌};
 ghost use Rattle.md_meaning.specs.Surroundings as surroundings;
 ghost use Rattle.md_base.specs.NameTests.{is_transparent};
 ghost use Rattle.md_around.specs.Frames.{document_frame};
@@ -175,6 +175,18 @@ fn drop_place(places: &mut Vec<Position>, reads: bool)
     if reads {
         places.pop();
     }
+}
+
+/// Puts a node on those that are open. Room is made first, so that the node is copied once.
+#[inline(always)]
+pub(crate) fn push_node(nodes: &mut Vec<Node>, node: &Node) -> Result<(), AllocError>
+    ensures { OnOk result (nodes.new.items ≡ nodes.old.items ++ node.now ∷ []) }
+{
+    if nodes.len() == nodes.capacity() {
+        nodes.reserve(1)?;
+    }
+    nodes.push_reserved(*node);
+    Ok(())
 }
 
 /// Leaves the innermost node that is open, which is kept apart from those around it: the node around it, or else the

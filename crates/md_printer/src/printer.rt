@@ -20,7 +20,7 @@ ghost use Rattle.md_meaning.specs.declared.context.Spine.{Spine};
 ghost use Rattle.md_around.specs.Manners.{is_quiet, is_through, is_aside, manner_of};
 
 use crate::frames::{Exit, Lookahead};
-use crate::nodes::{DOCUMENT, Node, begin, innermost, keep_place, leave, place_of};
+use crate::nodes::{DOCUMENT, Node, begin, innermost, keep_place, leave, place_of, push_node};
 use crate::passing::{pass_ending, pass_paragraph, slurps_after_ending, slurps_after_paragraph};
 use crate::section::{Settings, lay_section};
 use crate::sheets::{Below, begin_notes, drop_notes, take_notes, take_spare, take_text};
@@ -213,8 +213,8 @@ impl Printer {
         }
     }
 
-    /// Makes room for the text of a document of this length, where there is memory for it: at most for
-    /// [`FIRST_ROOM`] bytes, after which room that grows by doubling costs little.
+    /// Makes room for the text of a document of this length, where there is memory for it: at most for 4,096 bytes,
+    /// after which room that grows by doubling costs little.
     pub fn reserve(&mut self, length: usize)
         ensures { self.new ≡ self.old }
     {
@@ -553,7 +553,7 @@ impl Printer {
             lookahead.now.loose name start self.old) }
     {
         let reads = keep_place(&mut self.places, lookahead.place)?;
-        self.nodes.push(self.node)?;
+        push_node(&mut self.nodes, &self.node)?;
         begin(
             &mut self.node,
             options.allow_dangerous_html,
@@ -581,7 +581,7 @@ impl Printer {
         ensures { OnOk result (self.new ≡ machine.opening_frame options.now (machine.ahead_by None) false name start
             self.old) }
     {
-        self.nodes.push(self.node)?;
+        push_node(&mut self.nodes, &self.node)?;
         begin(
             &mut self.node,
             options.allow_dangerous_html,
@@ -676,7 +676,8 @@ impl Printer {
         pass_paragraph(&mut self.node.passed);
     }
 
-    /// Passes a quiet child.
+    /// Passes a child that leaves no mark, and of which a spine keeps no more than that it came last, as
+    /// [`Manner::Quiet`] says.
     #[inline(always)]
     pub fn pass_quiet(&mut self, name: Name)
         requires { is_quiet (manner_of name) ≡ true }

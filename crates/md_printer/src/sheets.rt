@@ -8,6 +8,9 @@ ghost use Rattle.md_printer.specs.Sheets as spec;
 use md_sheet::{Notes, Rope};
 use std::alloc::{AllocError, Global};
 
+/// For how many bytes room is made at once: most labels, destinations and titles have no more.
+const FIRST_ROOM: usize = 64;
+
 /// A sheet below the one that is laid out. What was noted on it stands apart, since on few sheets anything is noted, and
 /// the others are kept with less.
 #[derive(Drop)]
@@ -18,7 +21,8 @@ pub(crate) struct Below {
     pub(crate) noted: bool,
 }
 
-/// A text with nothing in it, in the room of one that isn't used any more, if there is one.
+/// A text with nothing in it, in the room of one that isn't used any more, if there is one; else in room of its own,
+/// where there is memory for it.
 #[inline(always)]
 pub(crate) fn take_spare(alloc: Global, spare: &mut Vec<String>) -> String
     ensures { string_bytes result ≡ [] }
@@ -28,7 +32,11 @@ pub(crate) fn take_spare(alloc: Global, spare: &mut Vec<String>) -> String
             text.clear();
             text
         }
-        None => String::new(alloc),
+        None => {
+            let mut text = String::new(alloc);
+            let _ = text.reserve(FIRST_ROOM);
+            text
+        }
     }
 }
 
