@@ -1,14 +1,19 @@
 -- A node of whose captured children nothing is used, or the text alone, is exited with no more than that.
-use Rattle.std.proofs.Common.{◌≡◌, Bool, true, [], ◌∷◌, refl}
+use Rattle.std.proofs.Common.{◌≡◌, Bool, true, [], ◌∷◌, refl, ap}
 use Rattle.md_base.proofs.Lies.{lie}
 use Rattle.md_base.specs.declared.event.Name.{Name}
-use Rattle.md_base.specs.declared.event.Name.TheVariants.{HeadingSetextText, CodeFencedFenceMeta, MathFlowFenceMeta, Frontmatter, DefinitionLabelString, DefinitionDestinationString, DefinitionTitleString, GfmFootnoteDefinitionLabelString, Resource, ResourceDestinationString, ResourceTitleString, ReferenceString, GfmTableDelimiterRow}
+use Rattle.md_base.specs.declared.event.Name.TheVariants.{HeadingSetextText, CodeFencedFenceMeta, MathFlowFenceMeta, Frontmatter, Definition, Link, DefinitionLabelString, DefinitionDestinationString, DefinitionTitleString, GfmFootnoteDefinitionLabelString, Resource, ResourceDestinationString, ResourceTitleString, ReferenceString, GfmTableDelimiterRow}
 use Rattle.md_base.specs.declared.event.Point.{Point}
 use Rattle.md_meaning.specs.Given.{Supply}
 use Rattle.md_meaning.specs.Piece.{Noted, Resource as noted_resource}
+use Rattle.md_meaning.specs.Media.{link_pieces}
 use Rattle.md_meaning.specs.Printed.{is_captured}
-use Rattle.md_printer.specs.Machine.{Printer, printing, releasing, leaving, exited}
-use Rattle.md_html.specs.Noting.{drops_children, notes_text, noted_as, is_resource}
+use Rattle.md_around.specs.Steps.{first_or}
+use Rattle.md_base.specs.NameTests.{is_link_definition}
+use Rattle.md_print.proofs.Closings.{alone}
+use Rattle.md_print.proofs.Endings.{link_ending}
+use Rattle.md_printer.specs.Machine.{Printer, document_frame, printing, releasing, leaving, exited}
+use Rattle.md_html.specs.Noting.{drops_children, notes_text, noted_as, is_link, is_resource}
 
 pub dropped-captured : (name : Name) → drops_children name ≡ true → is_captured name ≡ true
 dropped-captured CodeFencedFenceMeta h = refl
@@ -61,3 +66,22 @@ pub resource-exited : (given : Supply) (last : Bool) (end : Point) (state : Prin
     leaving Resource (printing [] (Noted (noted_resource state.sheet.notes.target) ∷ []) (releasing true state))
     ≡ exited given last true Resource end state
 resource-exited given last end state = refl
+
+pub link-name : (name : Name) → is_link name ≡ true → name ≡ Link
+link-name Link h = refl
+link-name _ h = lie h
+
+-- a link prints nothing but texts, with its label and what is noted on its sheet
+pub link-exited : (given : Supply) (last : Bool) (end : Point) (state : Printer) →
+    leaving Link
+    (printing [] (link_pieces given (first_or document_frame state.frames).around state.frame.ahead state.sheet)
+    (releasing true state)) ≡ exited given last true Link end state
+link-exited given last end state =
+    let around = (first_or document_frame state.frames).around in
+    ap (λ s. leaving Link s)
+    (alone given.ending (link_pieces given around state.frame.ahead state.sheet) (releasing true state)
+    (link_ending given.ending given around state.frame.ahead state.sheet (releasing true state)))
+
+pub definition-name : (name : Name) → is_link_definition name ≡ true → name ≡ Definition
+definition-name Definition h = refl
+definition-name _ h = lie h

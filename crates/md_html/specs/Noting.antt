@@ -2,7 +2,7 @@
 -- functions speak of them.
 use Rattle.std.specs.Prelude.{Bool, true, false, List, [], ◌∷◌, ℕ}
 use Rattle.md_base.specs.declared.event.Name.{Name}
-use Rattle.md_base.specs.declared.event.Name.TheVariants.{HeadingSetextText, CodeFencedFenceMeta, MathFlowFenceMeta, Frontmatter, DefinitionLabelString, DefinitionDestinationString, DefinitionTitleString, GfmFootnoteDefinitionLabelString, Resource, ResourceDestinationString, ResourceTitleString, ReferenceString, GfmTableDelimiterRow}
+use Rattle.md_base.specs.declared.event.Name.TheVariants.{HeadingSetextText, CodeFencedFenceMeta, MathFlowFenceMeta, Frontmatter, DefinitionLabelString, DefinitionDestinationString, DefinitionTitleString, GfmFootnoteDefinitionLabelString, Link, Resource, ResourceDestinationString, ResourceTitleString, ReferenceString, GfmTableDelimiterRow}
 use Rattle.md_meaning.specs.Piece.{Stroke, Noted, Heading, Destination, Title}
 
 -- a name that prints and notes nothing, and whose children are captured
@@ -39,6 +39,10 @@ noted_as DefinitionTitleString text = Noted (Title text) ∷ []
 noted_as ResourceDestinationString text = Noted (Destination text) ∷ []
 noted_as ResourceTitleString text = Noted (Title text) ∷ []
 noted_as _ text = []
+
+-- a link
+abbrev pub is_link : Name → Bool
+is_link name = elim name [ Link ↦ true | _ ↦ false ]
 
 -- a resource
 abbrev pub is_resource : Name → Bool

@@ -1,7 +1,7 @@
 //! Exiting nodes.
 
 ghost use Rattle.std.specs.Prelude.{◌≡◌, Bool, [], OnOk, string_bytes, true, false};
-ghost use Rattle.md_base.specs.declared.event.Name.TheVariants.{GfmFootnoteCall, GfmFootnoteDefinition, Definition, Paragraph, Resource};
+ghost use Rattle.md_base.specs.declared.event.Name.TheVariants.{GfmFootnoteCall, GfmFootnoteDefinition, Definition, Link, Paragraph, Resource};
 ghost use Rattle.md_printer.specs.Given.{closing_at, given_of};
 ghost use Rattle.md_printer.specs.Machine as machine;
 ghost use Rattle.md_around.specs.Steps as steps;
@@ -11,18 +11,20 @@ ghost use Rattle.md_html.specs.Noting as noting;
 ghost use Rattle.md_html.specs.Plain as plain;
 ghost use Rattle.md_meaning.specs.Blocks.{paragraph_closing};
 ghost use Rattle.md_meaning.specs.Given.{Supply};
+ghost use Rattle.md_meaning.specs.Piece.{Sheet as SheetInside};
 ghost use Rattle.md_base.specs.declared.event.Point.{Point as PointInside};
 
 use md_around::captured::is_captured;
-use md_base::name_tests::{is_paragraph, is_table};
-use md_base::{Event, Name};
+use md_base::name_tests::{is_link_definition, is_paragraph, is_table};
+use md_base::{Event, Name, Position};
+use md_pieces::media::link_with_label;
 use md_print::close::{close, close_captured, close_with};
 use md_print::groups::{Group, group_of};
 use md_print::open::is_tight;
 use md_printer::frames::{Exit, Inner};
 use md_printer::given::{Given, identifier_at};
 use md_printer::printer::Printer;
-use md_sheet::{Defined, Rope};
+use md_sheet::{Defined, Rope, Target};
 use std::alloc::{AllocError, Global};
 
 /// Exits a node; `is_last` says that nothing follows in the document.
@@ -52,6 +54,10 @@ pub(crate) fn exit(
     } else if is_resource(name) {
         exit_resource(printer, given.alloc);
         Ok(())
+    } else if is_link(name) {
+        exit_link(printer, given)
+    } else if is_link_definition(name) {
+        exit_definition(printer, given)
     } else if is_captured(name) {
         exit_captured(printer, given, is_last, event)
     } else {
@@ -105,6 +111,14 @@ fn notes_text(name: Name) -> bool
             | Name::ResourceDestinationString
             | Name::ResourceTitleString
     )
+}
+
+/// A link.
+#[inline(always)]
+fn is_link(name: Name) -> bool
+    ensures { result ≡ noting.is_link name }
+{
+    matches!(name, Name::Link)
 }
 
 /// A resource, which notes what its children note.
@@ -226,9 +240,36 @@ fn exit_resource(printer: &mut Printer, alloc: Global)
     ensures { (given : Supply) (last : Bool) (end : PointInside) → printer.new
         ≡ machine.exited given last true Resource end printer.old }
 {
-    let sheet = printer.release(alloc);
-    printer.note_resource(sheet.into_target());
+    let target = printer.release_target(alloc);
+    printer.note_resource(target);
     printer.leave(Name::Resource);
+}
+
+/// Exits a link.
+#[inline(never)]
+fn exit_link(printer: &mut Printer, given: &Given) -> Result<(), AllocError>
+    ensures { OnOk result ((last : Bool) (end : PointInside) → printer.new
+        ≡ machine.exited (given_of given.now) last true Link end printer.old) }
+{
+    let around = printer.around_outer();
+    let place = printer.place();
+    let (label, resource) = printer.release_resource(given.alloc);
+    link_with_label(printer, given, around, place, resource.as_ref(), label)?;
+    printer.leave(Name::Link);
+    Ok(())
+}
+
+/// Exits a definition.
+#[inline(never)]
+fn exit_definition(printer: &mut Printer, given: &Given) -> Result<(), AllocError>
+    ensures { OnOk result ((last : Bool) (end : PointInside) → printer.new
+        ≡ machine.exited (given_of given.now) last true Definition end printer.old) }
+{
+    let place = printer.place();
+    let target = printer.release_target(given.alloc);
+    keep_definition(printer, given, place, target)?;
+    printer.leave(Name::Definition);
+    Ok(())
 }
 
 /// Exits a node whose children aren't captured.
@@ -291,7 +332,7 @@ fn close_and_log(
     match name {
         Name::GfmFootnoteCall => close_call(printer, given, exit, inner),
         Name::GfmFootnoteDefinition => keep_footnote(printer, given, inner),
-        Name::Definition => keep_definition(printer, given, inner),
+        Name::Definition => keep_definition(printer, given, inner.place, inner.sheet.into_target()),
         _ => close_captured(printer, given, exit, inner, name),
     }
 }
@@ -324,11 +365,15 @@ fn keep_footnote(printer: &mut Printer, given: &Given, inner: Inner) -> Result<(
 }
 
 /// Logs a definition, which prints nothing where it stands.
-fn keep_definition(printer: &mut Printer, given: &Given, inner: Inner) -> Result<(), AllocError>
-    ensures { OnOk result (printer.new ≡ machine.logging given.now.bytes.now
-        (machine.ahead_by inner.place) Definition inner.sheet printer.old) }
+fn keep_definition(
+    printer: &mut Printer,
+    given: &Given,
+    place: Option<Position>,
+    target: Target,
+) -> Result<(), AllocError>
+    ensures { OnOk result ((inner : SheetInside) → inner.notes.target ≡ target → printer.new
+        ≡ machine.logging given.now.bytes.now (machine.ahead_by place) Definition inner printer.old) }
 {
-    let target = inner.sheet.into_target();
-    let identifier = identifier_at(given.alloc, given.bytes, inner.place)?;
+    let identifier = identifier_at(given.alloc, given.bytes, place)?;
     printer.log_definition(Defined { identifier, target })
 }

@@ -3,7 +3,7 @@
 ghost use Rattle.std.specs.Prelude.{◌≡◌, ◌∷◌, [], ◌++◌, ◌||◌, true, OnOk, IfOk, unwrap_or, codes, string_bytes, option_copied, option_map};
 ghost use Rattle.md_printer.specs.Machine.{printing, ahead_by};
 ghost use Rattle.md_meaning.specs.Media as media;
-ghost use Rattle.md_meaning.specs.Piece.{Text, nowhere};
+ghost use Rattle.md_meaning.specs.Piece.{Text, nowhere, Notes as TheNotes};
 ghost use Rattle.md_meaning.specs.Texts.{saying};
 ghost use Rattle.md_meaning.specs.Places.{identifier_at};
 ghost use Rattle.md_printer.specs.Given.{given_of};
@@ -78,12 +78,13 @@ fn target_of<'a>(
     bytes: &[u8],
     definitions: &'a Definitions,
     place: Option<Position>,
-    notes: &'a Notes,
+    resource: Option<&'a Target>,
 ) -> Result<Option<&'a Target>, AllocError>
     ensures { IfOk result (λ target. unwrap_or (option_copied target) nowhere
-        ≡ unwrap_or notes.now.resource (media.defined_target definitions.now (identifier_at bytes.now place))) }
+        ≡ unwrap_or (option_copied resource.entry)
+        (media.defined_target definitions.now (identifier_at bytes.now place))) }
 {
-    if let Some(target) = notes.resource() {
+    if let Some(target) = resource {
         return Ok(Some(target));
     }
     let identifier = identifier_at(alloc, bytes, place)?;
@@ -151,34 +152,39 @@ fn link_head(
     printer: &mut Printer,
     given: &Given,
     place: Option<Position>,
-    notes: &Notes,
+    resource: Option<&Target>,
 ) -> Result<(), AllocError>
-    ensures { OnOk result (printer.new ≡ printing []
-        (let target = media.target_of (given_of given.now) (ahead_by place) notes.now in
+    ensures { OnOk result ((notes : TheNotes) → notes.resource ≡ option_copied resource.entry → printer.new ≡ printing []
+        (let target = media.target_of (given_of given.now) (ahead_by place) notes in
         media.link_start given.now.options.now target.destination ++ media.title_pieces target.title) printer.old) }
 {
-    let target = target_of(given.alloc, given.bytes, given.definitions, place, notes)?;
+    let target = target_of(given.alloc, given.bytes, given.definitions, place, resource)?;
     link_start(printer, given.options, destination_of(target))?;
     title(printer, title_of(target))
 }
 
-/// Prints a link with a label: in an image only its label.
-fn link_with_label(
+/// Prints a link with a label, which leads where its resource says, else by the label or reference at a place: in an
+/// image only its label.
+///
+/// # Errors
+///
+/// `AllocError`, only where memory runs out.
+pub fn link_with_label(
     printer: &mut Printer,
     given: &Given,
     around: Surroundings,
     place: Option<Position>,
-    notes: &Notes,
+    resource: Option<&Target>,
     label: Rope,
 ) -> Result<(), AllocError>
-    ensures { OnOk result (printer.new
+    ensures { OnOk result ((notes : TheNotes) → notes.resource ≡ option_copied resource.entry → printer.new
         ≡ printing [] (media.link_pieces (given_of given.now) around (ahead_by place)
-        (record { text = label; notes = notes.now })) printer.old) }
+        (record { text = label; notes = notes })) printer.old) }
 {
     if around.in_image {
         return printer.append(given.alloc, label);
     }
-    link_head(printer, given, place, notes)?;
+    link_head(printer, given, place, resource)?;
     link_end(given.alloc, printer, label)
 }
 
@@ -199,7 +205,7 @@ pub fn link(
 {
     let Inner { place, sheet } = inner;
     let (label, notes) = sheet.into_parts();
-    link_with_label(printer, given, exit.around, place, &notes, label)
+    link_with_label(printer, given, exit.around, place, notes.resource(), label)
 }
 
 /// Prints the beginning of an image, up to its alternative text.
@@ -258,7 +264,13 @@ fn image_with_label(
     if around.in_image {
         return printer.append(given.alloc, label);
     }
-    let target = target_of(given.alloc, given.bytes, given.definitions, place, notes)?;
+    let target = target_of(
+        given.alloc,
+        given.bytes,
+        given.definitions,
+        place,
+        notes.resource(),
+    )?;
     image_of(given.alloc, printer, given.options, target, label)
 }
 

@@ -30,7 +30,7 @@ use md_base::name_tests::is_definition;
 use md_base::{AlignKind, Name, Point, Position};
 use md_meaning::{Passed, Spine, Surroundings};
 use md_sheet::{
-    Calls, Defined, Footnotes, IdOptions, Notes, NumberedFootnote, Rope, Sheet, Target,
+    Calls, Defined, Footnotes, IdOptions, Notes, NumberedFootnote, Rope, Sheet, Target, nowhere,
 };
 use md_text::CompileOptions;
 use std::alloc::{AllocError, Global};
@@ -443,6 +443,39 @@ impl Printer {
         drop_notes(alloc, &mut self.notes, self.noted, noted, &mut self.kept);
         self.noted = noted;
         text
+    }
+
+    /// Ends the sheet that was captured last, of which the text and the resource are used, and goes on with the one
+    /// below.
+    #[inline(always)]
+    pub fn release_resource(&mut self, alloc: Global) -> (Rope, Option<Target>)
+        ensures text { result.0 ≡ self.old.sheet.text }
+        ensures resource { result.1 ≡ self.old.sheet.notes.resource }
+        ensures state { self.new ≡ machine.releasing true self.old }
+    {
+        let resource = if self.noted {
+            self.notes.take_resource()
+        } else {
+            None
+        };
+        (self.release_text(alloc), resource)
+    }
+
+    /// Ends the sheet that was captured last, of which the destination and the title are used, and goes on with the one
+    /// below.
+    #[inline(always)]
+    pub fn release_target(&mut self, alloc: Global) -> Target
+        ensures target { result ≡ self.old.sheet.notes.target }
+        ensures state { self.new ≡ machine.releasing true self.old }
+    {
+        let target = if self.noted {
+            self.notes.take_target(alloc)
+        } else {
+            nowhere(alloc)
+        };
+        let text = self.release_text(alloc);
+        self.reuse(text);
+        target
     }
 
     /// Keeps the room of a text that isn't used any more.

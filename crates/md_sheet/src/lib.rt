@@ -19,6 +19,6 @@ pub use ids::{
     IdOptions, NumberedFootnote, call_id, escaped_option, footnote_id, push_call_id,
     push_escaped_option, push_footnote_id,
 };
-pub use notes::{Defined, Notes, Target};
+pub use notes::{Defined, Notes, Target, nowhere};
 pub use rope::Rope;
 pub use sheet::Sheet;

@@ -1,6 +1,6 @@
 //! Texts that are noted where they stand, to be printed by another node.
 
-ghost use Rattle.std.specs.Prelude.{◌≡◌, string_bytes, Some, option_copied};
+ghost use Rattle.std.specs.Prelude.{◌≡◌, string_bytes, Some, None, option_copied};
 ghost use Rattle.md_meaning.specs.Piece as piece;
 ghost use Rattle.md_meaning.specs.Piece.{with_note, no_notes, nowhere};
 
@@ -127,6 +127,22 @@ impl Notes {
             resource: _,
         } = self;
         target
+    }
+
+    /// The destination and the title that were noted last, which are noted no more.
+    pub fn take_target(&mut self, alloc: Global) -> Target
+        ensures target { result ≡ self.old.target }
+        ensures others { self.new ≡ record self.old { target = nowhere } }
+    {
+        std::mem::replace(&mut self.target, nowhere(alloc))
+    }
+
+    /// The resource that was noted last, which is noted no more.
+    pub fn take_resource(&mut self) -> Option<Target>
+        ensures resource { result ≡ self.old.resource }
+        ensures others { self.new ≡ record self.old { resource = None } }
+    {
+        self.resource.take()
     }
 
     /// The resource that was noted last.

@@ -1,6 +1,6 @@
 -- A paragraph is exited as any node of that name, and what is captured as the machine exits it.
 use Rattle.std.proofs.Common.{◌≡◌, Bool, true, false, ap, sym, ◌∙◌}
-use Rattle.md_base.specs.declared.event.Name.TheVariants.{Paragraph}
+use Rattle.md_base.specs.declared.event.Name.TheVariants.{Definition, Link, Paragraph}
 use Rattle.md_base.specs.declared.event.Point.{Point}
 use Rattle.md_meaning.specs.Given.{Supply}
 use Rattle.md_meaning.specs.Printed.{is_captured}
@@ -8,7 +8,7 @@ use Rattle.md_printer.specs.Given.{given_of}
 use Rattle.md_printer.specs.Machine as machine
 use Rattle.md_printer.specs.Machine.{Printer}
 use Rattle.md_html.proofs.PlainNodes.{paragraph-name, silent-exited}
-use Rattle.md_html.proofs.NotingNodes.{dropped-captured, noting-captured, resource-name}
+use Rattle.md_html.proofs.NotingNodes.{dropped-captured, noting-captured, resource-name, link-name, definition-name}
 use Rattle.md_html.proofs.ReadNodes.{read-captured}
 use Rattle.md_html.proofs.Walks.{on_answer}
 use Rattle.md_html.proofs.exits.exit.Goals as goal
@@ -59,6 +59,36 @@ returns-then-is_resource c =
     c.exit_resource.ensures given c.args.is_last end
     ∙ ap (λ n. machine.exited given c.args.is_last (is_captured n) n end c.args.printer.now)
     (sym (resource-name c.args.event.now.name (sym c.if-is_resource.ensures)))
+
+pub returns-then-is_link : goal.returns-then-is_link
+returns-then-is_link c =
+    let given = given_of c.args.given.now in
+    let last = c.args.is_last in
+    let end = c.args.event.now.point in
+    let before = c.args.printer.now in
+    on_answer (λ _. (last : Bool) (end : Point) →
+    c.exit_link.new.printer ≡ machine.exited given last true Link end before)
+    (λ _. c.exit_link.new.printer
+    ≡ machine.exited given last (is_captured c.args.event.now.name) c.args.event.now.name end before)
+    (λ _ exited. exited last end
+    ∙ ap (λ n. machine.exited given last (is_captured n) n end before)
+    (sym (link-name c.args.event.now.name (sym c.if-is_link.ensures))))
+    c.exit_link.result c.exit_link.ensures
+
+pub returns-then-is_link_definition : goal.returns-then-is_link_definition
+returns-then-is_link_definition c =
+    let given = given_of c.args.given.now in
+    let last = c.args.is_last in
+    let end = c.args.event.now.point in
+    let before = c.args.printer.now in
+    on_answer (λ _. (last : Bool) (end : Point) →
+    c.exit_definition.new.printer ≡ machine.exited given last true Definition end before)
+    (λ _. c.exit_definition.new.printer
+    ≡ machine.exited given last (is_captured c.args.event.now.name) c.args.event.now.name end before)
+    (λ _ exited. exited last end
+    ∙ ap (λ n. machine.exited given last (is_captured n) n end before)
+    (sym (definition-name c.args.event.now.name (sym c.if-is_link_definition.ensures))))
+    c.exit_definition.result c.exit_definition.ensures
 
 pub returns-then-is_silent : goal.returns-then-is_silent
 returns-then-is_silent c =
