@@ -1,4 +1,4 @@
--- How children are passed, by what their names tell. Only contracts of private functions speak of it.
+-- How children are passed, by what their names tell. Only the printer's contracts speak of it.
 use Rattle.std.specs.Prelude.{Bool, true, false}
 use Rattle.md_base.specs.declared.event.Name.{Name}
 use Rattle.md_base.specs.declared.event.Name.TheVariants.{CodeFencedFence, MathFlowFence, HeadingSetextText, Frontmatter, Paragraph, LineEnding, BlankLineEnding, BlockQuote, CodeIndented, CodeFenced, MathFlow, ListItem, CodeFlowChunk, MathFlowChunk, GfmTableCell, Definition, GfmFootnoteDefinition, BlockQuotePrefix, SpaceOrTab, Other}

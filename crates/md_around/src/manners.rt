@@ -50,7 +50,8 @@ pub fn manner_of(name: Name) -> Manner
     }
 }
 
-/// Passes a quiet child.
+/// Passes a child that leaves no mark, and of which a spine keeps no more than that it came last, as
+/// [`Manner::Quiet`] says.
 #[inline(always)]
 pub fn pass_quietly(passed: &mut Passed, name: Name)
     requires { manners.is_quiet (manners.manner_of name) ≡ true }

@@ -32,7 +32,8 @@ pub fn read_plain_line(input: &[u8]) -> Option<(Event, &[u8])>
 /// How many bytes the longest index has with its line feed.
 const INDEX_SIZE: usize = 10;
 
-/// The same, in fewer steps, of lines as most are. Nothing also where fewer than sixteen bytes follow the sign or fewer
+/// The event of a line that gives an index and nothing else, and what follows the line, as [`read_plain_line`] tells
+/// them, in fewer steps, of lines as most are. Nothing also where fewer than sixteen bytes follow the sign or fewer
 /// than ten the name, and of names of more than thirty-one bytes.
 #[inline(always)]
 pub fn read_common_line(input: &[u8]) -> Option<(Event, &[u8])>

@@ -33,7 +33,7 @@ moved_from place seen =
 abbrev pub at : Role → ℕ → Stage → At
 at role position stage = record { role = role; position = position; stage = stage }
 
--- What follows is the table: only the contracts of private functions speak of it.
+-- What follows is the table: public contracts speak of it only by `state_of`.
 
 -- the places to which spines come, in the order of their rows
 unfoldable pub places : List At

@@ -15,7 +15,8 @@ use crate::shape::{goes_by_place, role_for};
 /// follow doesn't go by the last symbol, so clauses name the state with none.
 #[derive(Clone, Copy)]
 pub struct Place {
-    number: u8,
+    /// The number of a row of the table. Past its rows it stands for the spine of a node that has no children.
+    pub number: u8,
 }
 
 impl Place {
@@ -85,7 +86,8 @@ impl Place {
         }
     }
 
-    /// Whether the spine of such a node may end where it begins.
+    /// Whether the spine of a node with this usual role that stands here, after this last symbol, may end where it
+    /// begins.
     #[inline(always)]
     pub fn can_hold_empty(self, before: Option<Symbol>, usual: Role) -> bool
         ensures { result ≡ is_complete (start_of (role_for (state_of self None).role before usual)) }

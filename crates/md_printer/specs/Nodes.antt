@@ -1,5 +1,5 @@
 -- The nodes that are open, as the printer keeps them: few of them read a place in their children, so the places stand
--- apart. Only the printer's own view speaks of it.
+-- apart. Only the printer's own view and private contracts speak of it.
 use Rattle.std.specs.Prelude.{Bool, true, false, if◌then◌else◌, List, [], ◌∷◌, Option, Some, None}
 use Rattle.md_base.specs.declared.event.Position.{Position}
 use Rattle.md_around.specs.Frames.{Frame, ahead_by}

@@ -1,5 +1,5 @@
 -- The sheets below the innermost one, as the printer keeps them: on few of them is anything noted, so the notes stand
--- apart. Only the printer's own view speaks of it.
+-- apart. Only the printer's own view and private contracts speak of it.
 use Rattle.std.specs.Prelude.{ℕ, Bool, true, false, List, [], ◌∷◌}
 use Rattle.md_around.specs.Steps.{others_of}
 use Rattle.md_meaning.specs.Piece.{Notes, Sheet, no_notes}

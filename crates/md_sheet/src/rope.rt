@@ -1,4 +1,4 @@
-//! A text in parts, after which another is put without copying the longer of the two.
+//! A text in parts, after which another is put without copying the longer of the two, unless it is short.
 
 ghost use Rattle.std.specs.Prelude.{◌≡◌, [], ◌++◌, ◌-◌, OnOk, IfOk, IfSome, string_bytes, slice_get, length, map};
 ghost use Rattle.md_text.specs.Encode.{encoded};
@@ -16,8 +16,8 @@ use std::marker::Model;
 /// and to what is kept.
 const COPIED_LENGTH: usize = 512;
 
-/// A text in parts, after which another is put without copying the longer of the two: so a text that is put after
-/// others, and they after others, is not copied each time.
+/// A text in parts, after which another is put without copying the longer of the two, unless it is short: so a long text
+/// that is put after others, and they after others, is not copied each time.
 #[derive(Drop)]
 pub struct Rope {
     /// The parts before the last one, the last of them first.

@@ -100,7 +100,7 @@ impl Sheet {
         self.text.push_str(self.notes.heading())
     }
 
-    /// Lays a text in parts, without copying the longer of it and what is laid out.
+    /// Lays a text in parts, without copying the longer of it and what is laid out, unless it is short.
     ///
     /// # Errors
     ///
