@@ -14,9 +14,19 @@ use md_line::{
     split_at_first,
 };
 use std::alloc::{AllocError, Global};
+use std::simd::prelude::*;
 
 /// The line that ends a script.
 const END_LINE: &[u8] = b"--";
+
+/// From how many bytes on room for a script's events is made before they are read.
+const LONG_SCRIPT: usize = 4096;
+
+/// How many bytes the shortest line of an event has, with its line feed.
+const SHORTEST_LINE: usize = 8;
+
+/// How many bytes are looked at together.
+const BLOCK_SIZE: usize = 16;
 
 /// What a script stands for.
 #[derive(Drop)]
@@ -33,6 +43,10 @@ pub(crate) fn read_script(alloc: Global, input: &[u8]) -> Result<Script<'_>, Run
     ensures err { IfErr result (λ error. Explains input.now error) }
 {
     let mut events = Vec::new(alloc);
+    // A short script's events come to their room in few steps, and so do others where there is no memory for so many.
+    if input.len() >= LONG_SCRIPT {
+        let _ = events.reserve(likely_events(input));
+    }
     let mut settings = Vec::new(alloc);
     let mut read_lines = 0;
     let mut rest = input;
@@ -68,6 +82,25 @@ pub(crate) fn read_script(alloc: Global, input: &[u8]) -> Result<Script<'_>, Run
         };
         rest = following;
     }
+}
+
+/// How many events a script has, if each of its lines is one: the document's lines are counted too, as room that isn't
+/// filled costs nothing, but no more than have room in the script.
+fn likely_events(input: &[u8]) -> usize {
+    line_feeds(input).min(input.len() / SHORTEST_LINE)
+}
+
+/// How many line feeds there are, but for those among the last few bytes.
+fn line_feeds(input: &[u8]) -> usize {
+    let mut count: usize = 0;
+    let mut at = 0;
+    while input.len() - at >= BLOCK_SIZE {
+        let block = Simd::<u8, BLOCK_SIZE>::from_slice(&input[at..]);
+        let found = block.simd_eq(Simd::splat(b'\n')).to_bitmask();
+        count = count.wrapping_add(found.count_ones() as usize);
+        at += BLOCK_SIZE;
+    }
+    count
 }
 
 /// Adds an event to those before it.
