@@ -125,7 +125,7 @@ fn push_characters(text: &mut String, characters: &[char]) -> Result<(), AllocEr
 fn collapse_white_space(alloc: Global, value: &str) -> Result<String, AllocError>
     ensures { IfOk result (λ text. string_bytes text ≡ collapsed value.now) }
 {
-    let mut text = String::with_capacity(alloc, value.len())?;
+    let mut text = String::new(alloc);
     let mut is_gap = false;
     for character in value.chars() {
         if is_white_space(character) {

@@ -4,7 +4,6 @@ ghost use Rattle.std.specs.Prelude.{◌≡◌, ◌+◌, ◌≤◌, ◌<◌, ◌�
 ghost use Rattle.std.specs.Str.{IsAscii, IsUtf8};
 ghost use Rattle.md_base.specs.Place.{text_when};
 
-use simdutf8::is_utf8;
 use std::simd::prelude::*;
 
 /// How many bytes are looked at together.
@@ -28,7 +27,7 @@ pub(crate) fn as_text(bytes: &[u8]) -> Option<&str>
     }
 }
 
-/// Whether the bytes are UTF-8. Most are ASCII; `is_utf8` looks at sixty-four at once, which few bytes don't repay.
+/// Whether the bytes are UTF-8. Most are ASCII; what isn't is read as far as its first fault.
 #[inline(never)]
 fn is_text(bytes: &[u8]) -> bool
     ensures { IsTrue result ↔ IsUtf8 bytes.now }
@@ -36,10 +35,7 @@ fn is_text(bytes: &[u8]) -> bool
     if is_ascii(bytes) {
         return true;
     }
-    if bytes.len() < BLOCK_SIZE {
-        return std::str::from_utf8(bytes).is_ok();
-    }
-    is_utf8(bytes)
+    std::str::from_utf8(bytes).is_ok()
 }
 
 /// Whether the bytes are ASCII. Two loads, which may overlap, cover what is shorter than a block.

@@ -8,7 +8,7 @@ use Rattle.md_base.proofs.identifier.collapse_white_space.Goals as goal
 
 pub loop-character-init : goal.loop-character-init
 loop-character-init c = record {
-  whole = still_start _ _ _ c.in_ok-text.ensures.bytes (ap chars_rest
+  whole = still_start _ _ _ c.new-text.ensures.bytes (ap chars_rest
       c.into_iter-character-iterator.ensures.into_iter_gives ∙ c.chars-character-items.ensures.rest);
   owed = λ owes. absurd (false≢true owes);
 }
