@@ -100,8 +100,10 @@ pub fn sanitize_with_protocols(
     ensures { IfOk result (λ url. string_bytes url
         ≡ sanitized_with (map (λ protocol. protocol.now) protocols.now) value.now) }
 {
-    let mut url = String::new(alloc);
-    push_sanitized_with_protocols(&mut url, value, protocols)?;
+    let mut url = sanitize(alloc, value)?;
+    if !has_permitted_protocol(url.as_bytes(), protocols) {
+        url.clear();
+    }
     Ok(url)
 }
 
@@ -128,9 +130,12 @@ pub fn push_sanitized_with_protocols(
         ≡ string_bytes out.old ++ sanitized_with (map (λ protocol. protocol.now) protocols.now) value.now) }
 {
     let start = out.len();
+    let room = out.capacity();
     push_sanitized(out, value)?;
     if !has_permitted_protocol(&out.as_bytes()[start..], protocols) {
         out.truncate(start);
+        // What isn't added leaves no more room than there was, or than a text has that grows by doubling.
+        out.shrink_to(room.max(start.saturating_mul(2)));
     }
     Ok(())
 }
