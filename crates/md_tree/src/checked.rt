@@ -17,7 +17,7 @@ use std::marker::Model;
 #[derive(Drop)]
 pub struct Checked<'a> {
     events: &'a [Event],
-    /// The document's bytes, of which the texts are found.
+    /// The document's bytes, of which the text is found that they begin with.
     texts: Texts<'a>,
     names: &'a [(&'a str, &'a str)],
     facts: Vec<Fact>,

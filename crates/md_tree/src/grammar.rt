@@ -96,6 +96,7 @@ fn find<'a>(
         names,
     };
     let facts = find_facts(input)?;
+    let texts = texts.with_front_alone(alloc);
     Ok(Found { texts, facts })
 }
 

@@ -83,6 +83,23 @@ impl<'a> Texts<'a> {
         })
     }
 
+    /// The same bytes with only the text that they begin with: mostly all of them. Other texts are read each time that
+    /// they are asked for, so that nothing is kept of them.
+    pub fn with_front_alone(self, alloc: Global) -> Texts<'a>
+        ensures { result ≡ self.entry }
+    {
+        let Texts {
+            bytes,
+            front,
+            runs: _,
+        } = self;
+        Texts {
+            bytes,
+            front,
+            runs: Vec::new(alloc),
+        }
+    }
+
     /// All bytes.
     pub fn bytes(&self) -> &'a [u8]
         ensures { result.now ≡ self.now }
@@ -92,7 +109,7 @@ impl<'a> Texts<'a> {
 
     /// The text of a node, where its place fits the bytes and is one.
     ///
-    /// A text is not read again, however long it is, unless it begins or ends in a tab.
+    /// A text that was found is not read again, however long it is, unless it begins or ends in a tab.
     #[inline(always)]
     pub fn text_at(&self, position: &Position) -> Option<&'a str>
         ensures { option_copied result ≡ text_between self.now position.now.start position.now.end }
@@ -108,7 +125,7 @@ impl<'a> Texts<'a> {
 
     /// The text between the indices of a node's points, where they fit the bytes and it is one.
     ///
-    /// A text is not read again, however long it is.
+    /// A text that was found is not read again, however long it is.
     pub fn label_at(&self, position: &Position) -> Option<&'a str>
         ensures { option_copied result ≡ label_between self.now position.now.start position.now.end }
     {
