@@ -46,3 +46,14 @@ counted_up-append own rest n h =
   where
     capped : (o r : ℕ) → min (min r (2 ^ 64 - 1) + o) (2 ^ 64 - 1) ≡ min (o + r) (2 ^ 64 - 1)
     capped o r = omega arith
+
+-- the same of what is added at the end
+pub counted_up-added : (rest own : List ℕ) (n : ℕ) → n ≡ counted_up rest →
+    min (n + length own) (2 ^ 64 - 1) ≡ counted_up (rest ++ own)
+counted_up-added rest own n h =
+    ap (λ m. min (m + length own) (2 ^ 64 - 1)) h
+    ∙ capped (length own) (length rest)
+    ∙ ap (λ m. min m (2 ^ 64 - 1)) (sym (length-append rest own))
+  where
+    capped : (o r : ℕ) → min (min r (2 ^ 64 - 1) + o) (2 ^ 64 - 1) ≡ min (r + o) (2 ^ 64 - 1)
+    capped o r = omega arith

@@ -44,7 +44,8 @@ pub fn escaped_option(
     Ok(text)
 }
 
-/// Adds a text that an option gives, escaped, or what stands where it gives none.
+/// Adds a text that an option gives, escaped, or what stands where it gives none. Where memory runs out a part of it may
+/// be added.
 ///
 /// # Errors
 ///
@@ -112,7 +113,7 @@ pub fn footnote_id(
     Ok(id)
 }
 
-/// Adds the id of a footnote, as [`footnote_id`] makes it.
+/// Adds the id of a footnote, as [`footnote_id`] makes it. Where memory runs out a part of it may be added.
 ///
 /// # Errors
 ///
@@ -171,7 +172,7 @@ pub fn call_id(
     Ok(id)
 }
 
-/// Adds the id of one of a footnote's calls, as [`call_id`] makes it.
+/// Adds the id of one of a footnote's calls, as [`call_id`] makes it. Where memory runs out a part of it may be added.
 ///
 /// # Errors
 ///

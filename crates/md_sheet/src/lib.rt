@@ -8,6 +8,7 @@ mod footnotes;
 mod ids;
 mod notes;
 mod places;
+mod room;
 mod rope;
 mod sheet;
 
@@ -20,5 +21,6 @@ pub use ids::{
     push_escaped_option, push_footnote_id,
 };
 pub use notes::{Defined, Notes, Target, nowhere};
+pub use room::{give_room_back, give_target_room_back};
 pub use rope::Rope;
 pub use sheet::Sheet;

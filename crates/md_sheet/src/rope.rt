@@ -39,6 +39,8 @@ impl Model for Rope {
 }
 
 impl Rope {
+    ghost use Rattle.md_sheet.specs.Ropes.{counted_up};
+
     /// No text.
     pub fn new(alloc: Global) -> Rope
         ensures { result ≡ [] }
@@ -183,8 +185,10 @@ impl Rope {
         }
     }
 
-    /// How long the text is, as far as a `usize` counts: which of two is copied goes by it, and nothing else.
-    fn length(&self) -> usize {
+    /// How long the text is, as far as a `usize` counts.
+    fn length(&self) -> usize
+        ensures { result ≡ counted_up self.now }
+    {
         self.front_length.saturating_add(self.last.len())
     }
 
