@@ -1,6 +1,7 @@
 //! The nodes that are open.
 
-ghost use Rattle.std.specs.Prelude.{◌≡◌, ◌∷◌, ◌++◌, [], reverse, OnOk, IfOk, if◌then◌else◌};
+ghost use Rattle.std.specs.Prelude.{◌≡◌, ◌<◌, ◌∷◌, ◌++◌, [], reverse, vec_len, OnOk, OnErr, IfOk, if◌then◌else◌};
+ghost use Rattle.std.specs.Vec.{vec_capacity};
 ghost use Rattle.md_meaning.specs.Surroundings as surroundings;
 ghost use Rattle.md_base.specs.NameTests.{is_transparent};
 ghost use Rattle.md_around.specs.Frames.{document_frame};
@@ -157,6 +158,7 @@ pub(crate) fn keep_place(
     ensures place { IfOk result (λ reads. spec.place_of reads (reverse places.new.items) ≡ place) }
     ensures around { IfOk result (λ reads. spec.places_around reads (reverse places.new.items)
         ≡ reverse places.old.items) }
+    ensures refused { OnErr result (places.new.items ≡ places.old.items) }
 {
     match place {
         Some(place) => {
@@ -177,14 +179,25 @@ fn drop_place(places: &mut Vec<Position>, reads: bool)
     }
 }
 
-/// Puts a node on those that are open. Room is made first, so that the node is copied once.
+/// Makes room for one more node.
 #[inline(always)]
-pub(crate) fn push_node(nodes: &mut Vec<Node>, node: &Node) -> Result<(), AllocError>
-    ensures { OnOk result (nodes.new.items ≡ nodes.old.items ++ node.now ∷ []) }
+pub(crate) fn make_room(nodes: &mut Vec<Node>) -> Result<(), AllocError>
+    ensures nodes { nodes.new.items ≡ nodes.old.items }
+    ensures room { OnOk result (vec_len nodes.new < vec_capacity nodes.new) }
 {
     if nodes.len() == nodes.capacity() {
         nodes.reserve(1)?;
     }
+    Ok(())
+}
+
+/// Puts a node on those that are open. Room is made first, so that the node is copied once.
+#[inline(always)]
+pub(crate) fn push_node(nodes: &mut Vec<Node>, node: &Node) -> Result<(), AllocError>
+    ensures pushed { OnOk result (nodes.new.items ≡ nodes.old.items ++ node.now ∷ []) }
+    ensures refused { OnErr result (nodes.new.items ≡ nodes.old.items) }
+{
+    make_room(nodes)?;
     nodes.push_reserved(*node);
     Ok(())
 }

@@ -1,6 +1,6 @@
 //! The compiler's state: the text so far, and the nodes that are open.
 
-ghost use Rattle.std.specs.Prelude.{◌≡◌, ◌∷◌, ◌++◌, ◌+◌, ◌<◌, ◌^◌, slice_get, IfOk, IfSome, OnOk, string_bytes, [], true, if◌then◌else◌, false, map};
+ghost use Rattle.std.specs.Prelude.{◌≡◌, ◌∷◌, ◌++◌, ◌+◌, ◌<◌, ◌^◌, slice_get, IfOk, IfSome, OnOk, OnErr, string_bytes, [], true, if◌then◌else◌, false, map};
 ghost use Rattle.md_printer.specs.Machine as machine;
 ghost use Rattle.md_around.specs.Steps as steps;
 ghost use Rattle.md_meaning.specs.Piece as piece;
@@ -15,22 +15,23 @@ ghost use Rattle.md_text.specs.Encode.{encoded};
 ghost use Rattle.md_text.specs.Url.{sanitized, sanitized_with};
 ghost use Rattle.md_meaning.specs.Texts.{drops_ending};
 ghost use Rattle.md_printer.specs.Given.{left_of_leaf};
-ghost use Rattle.md_base.specs.declared.event.Name.TheVariants.{LineEnding, Paragraph};
-ghost use Rattle.md_meaning.specs.declared.context.Spine.{Spine};
-ghost use Rattle.md_around.specs.Manners.{is_quiet, is_through, is_aside, manner_of};
+
+mod children;
 
 use crate::frames::{Exit, Lookahead};
-use crate::nodes::{DOCUMENT, Node, begin, innermost, keep_place, leave, place_of, push_node};
-use crate::passing::{pass_ending, pass_paragraph, slurps_after_ending, slurps_after_paragraph};
+use crate::nodes::{
+    DOCUMENT, Node, begin, innermost, keep_place, make_room as make_node_room, place_of, push_node,
+};
 use crate::section::{Settings, lay_section};
-use crate::sheets::{Below, begin_notes, drop_notes, take_notes, take_spare, take_text};
-use md_around::manners::{Manner, manner_of, pass_aside, pass_quietly, pass_through};
-use md_around::surroundings::{NO_SPINE, pass, slurps_after};
+use crate::sheets::{
+    Below, begin_notes, drop_notes, keep_spare, make_room, take_notes, take_spare, take_text,
+};
 use md_base::name_tests::is_definition;
 use md_base::{AlignKind, Name, Point, Position};
-use md_meaning::{Passed, Spine, Surroundings};
+use md_meaning::{Passed, Surroundings};
 use md_sheet::{
-    Calls, Defined, Footnotes, IdOptions, Notes, NumberedFootnote, Rope, Sheet, Target, nowhere,
+    Calls, Defined, Footnotes, IdOptions, Notes, NumberedFootnote, Rope, Sheet, Target,
+    give_room_back, nowhere,
 };
 use md_text::CompileOptions;
 use std::alloc::{AllocError, Global};
@@ -189,7 +190,7 @@ impl Printer {
     }
 
     /// Prints a text in parts, without copying the longer of it and the sheet unless it is short. The room of what is
-    /// copied is kept.
+    /// copied is kept, if it is small.
     ///
     /// # Errors
     ///
@@ -198,19 +199,8 @@ impl Printer {
         ensures { OnOk result (self.new ≡ machine.printing [] (saying text) self.old) }
     {
         let room = self.text.append_emptied(alloc, text)?;
-        self.keep_room(room);
+        keep_spare(&mut self.spare, room);
         Ok(())
-    }
-
-    /// Keeps a text that isn't used any more for its room, if it has any and fewer are kept than nodes are open: more
-    /// texts are never open at once.
-    #[inline(always)]
-    fn keep_room(&mut self, text: String)
-        ensures { self.new ≡ self.old }
-    {
-        if text.capacity() > 0 && self.spare.len() <= self.nodes.len() {
-            let _ = self.spare.push(text);
-        }
     }
 
     /// Makes room for the text of a document of this length, where there is memory for it: at most for 4,096 bytes,
@@ -409,14 +399,16 @@ impl Printer {
     /// `AllocError`, only where memory runs out.
     #[cold]
     pub fn capture(&mut self, alloc: Global) -> Result<(), AllocError>
-        ensures { OnOk result (self.new ≡ machine.capturing true self.old) }
+        ensures captured { OnOk result (self.new ≡ machine.capturing true self.old) }
+        ensures refused { OnErr result (self.new ≡ self.old) }
     {
+        make_room(&mut self.below)?;
         begin_notes(alloc, &mut self.notes, self.noted, &mut self.kept)?;
         let inner = Rope::from_string(alloc, take_spare(alloc, &mut self.spare));
         let text = std::mem::replace(&mut self.text, inner);
         let noted = self.noted;
         self.noted = false;
-        self.below.push(Below { text, noted })?;
+        self.below.push_reserved(Below { text, noted });
         Ok(())
     }
 
@@ -478,12 +470,12 @@ impl Printer {
         target
     }
 
-    /// Keeps the room of a text that isn't used any more.
+    /// Keeps the room of a text that isn't used any more, unless it is large or some are kept.
     #[inline(always)]
     pub fn reuse(&mut self, text: Rope)
         ensures { self.new ≡ self.old }
     {
-        let _ = self.spare.push(text.emptied());
+        keep_spare(&mut self.spare, text.emptied());
     }
 
     /// The surroundings of the children of the innermost node that is open.
@@ -582,11 +574,13 @@ impl Printer {
         name: Name,
         start: Point,
     ) -> Result<(), AllocError>
-        ensures { OnOk result (self.new ≡ machine.opening_frame options.now (machine.ahead_by lookahead.now.place)
-            lookahead.now.loose name start self.old) }
+        ensures opened { OnOk result (self.new ≡ machine.opening_frame options.now
+            (machine.ahead_by lookahead.now.place) lookahead.now.loose name start self.old) }
+        ensures refused { OnErr result (self.new ≡ self.old) }
     {
+        make_node_room(&mut self.nodes)?;
         let reads = keep_place(&mut self.places, lookahead.place)?;
-        push_node(&mut self.nodes, &self.node)?;
+        self.nodes.push_reserved(self.node);
         begin(
             &mut self.node,
             options.allow_dangerous_html,
@@ -611,8 +605,9 @@ impl Printer {
         name: Name,
         start: Point,
     ) -> Result<(), AllocError>
-        ensures { OnOk result (self.new ≡ machine.opening_frame options.now (machine.ahead_by None) false name start
-            self.old) }
+        ensures opened { OnOk result (self.new ≡ machine.opening_frame options.now (machine.ahead_by None) false name
+            start self.old) }
+        ensures refused { OnErr result (self.new ≡ self.old) }
     {
         push_node(&mut self.nodes, &self.node)?;
         begin(
@@ -625,112 +620,6 @@ impl Printer {
             start,
         );
         Ok(())
-    }
-
-    /// Leaves the innermost node that is open.
-    pub fn leave(&mut self, name: Name)
-        ensures { self.new ≡ machine.leaving name self.old }
-    {
-        let inner = self.node.passed.spine;
-        leave(&mut self.node, &mut self.nodes, &mut self.places);
-        self.pass_child(name, inner);
-    }
-
-    /// Passes a node without children.
-    #[inline(always)]
-    pub fn pass(&mut self, name: Name)
-        ensures { self.new ≡ machine.passing_leaf name self.old }
-    {
-        match manner_of(name) {
-            Manner::Quiet => self.pass_quiet(name),
-            Manner::Through => self.pass_through(name),
-            Manner::Aside => self.pass_aside(name),
-            Manner::Telling => self.pass_telling(name, NO_SPINE),
-        }
-    }
-
-    /// Passes a node without children that patterns look through.
-    #[inline(always)]
-    pub fn pass_through(&mut self, name: Name)
-        requires { is_through (manner_of name) ≡ true }
-        ensures { self.new ≡ machine.passing_leaf name self.old }
-    {
-        let spine = self.node.passed.spine;
-        pass_through(&mut self.node.passed, name, spine);
-    }
-
-    /// Passes a node without children that patterns and the ends of items look through.
-    #[inline(always)]
-    pub fn pass_aside(&mut self, name: Name)
-        requires { is_aside (manner_of name) ≡ true }
-        ensures { self.new ≡ machine.passing_leaf name self.old }
-    {
-        let spine = self.node.passed.spine;
-        pass_aside(&mut self.node.passed, name, spine);
-    }
-
-    /// Passes a child of the innermost node, which has passed its own children.
-    #[inline(always)]
-    fn pass_child(&mut self, name: Name, inner: Spine)
-        ensures { self.new ≡ machine.passing_child name inner self.old }
-    {
-        match manner_of(name) {
-            Manner::Quiet => self.pass_quiet(name),
-            Manner::Through => pass_through(&mut self.node.passed, name, inner),
-            Manner::Aside => pass_aside(&mut self.node.passed, name, inner),
-            Manner::Telling => self.pass_telling(name, inner),
-        }
-    }
-
-    /// Passes a line ending, which isn't blank.
-    #[inline(always)]
-    pub fn pass_ending(&mut self)
-        ensures { self.new ≡ machine.passing_leaf LineEnding self.old }
-    {
-        self.is_slurping = slurps_after_ending(self.node.around, self.is_slurping);
-        pass_ending(&mut self.node.passed);
-    }
-
-    /// Leaves a paragraph.
-    #[inline(always)]
-    pub fn leave_paragraph(&mut self)
-        ensures { self.new ≡ machine.leaving Paragraph self.old }
-    {
-        leave(&mut self.node, &mut self.nodes, &mut self.places);
-        self.pass_paragraph();
-    }
-
-    /// Passes a paragraph.
-    #[inline(always)]
-    fn pass_paragraph(&mut self)
-        ensures { (inner : Spine) → self.new ≡ machine.passing_child Paragraph inner self.old }
-    {
-        self.is_slurping = slurps_after_paragraph(self.node.around, self.is_slurping);
-        pass_paragraph(&mut self.node.passed);
-    }
-
-    /// Passes a child that leaves no mark, and of which a spine keeps no more than that it came last, as
-    /// [`Manner::Quiet`] says.
-    #[inline(always)]
-    pub fn pass_quiet(&mut self, name: Name)
-        requires { is_quiet (manner_of name) ≡ true }
-        ensures { (inner : Spine) → self.new ≡ machine.passing_child name inner self.old }
-    {
-        pass_quietly(&mut self.node.passed, name);
-    }
-
-    /// As [`pass_child`], with all that any name tells.
-    #[inline(never)]
-    fn pass_telling(&mut self, name: Name, inner: Spine)
-        ensures { self.new ≡ machine.passing_child name inner self.old }
-    {
-        self.is_slurping = slurps_after(
-            self.node.around,
-            self.node.passed.spine,
-            name,
-            self.is_slurping,
-        );
-        pass(&mut self.node.passed, name, inner);
     }
 
     /// The definitions that were seen.
@@ -793,7 +682,9 @@ impl Printer {
             ending,
         };
         lay_section(&settings, &mut sheet, &calls, &footnotes)?;
-        sheet.into_text(alloc)
+        let mut text = sheet.into_text(alloc)?;
+        give_room_back(&mut text);
+        Ok(text)
     }
 
     /// A printer that has printed nothing, and in which no node is open.

@@ -1,6 +1,7 @@
-//! The sheets below the one that is laid out.
+//! The sheets below the one that is laid out, and texts that are kept for their room.
 
-ghost use Rattle.std.specs.Prelude.{◌≡◌, ◌∷◌, [], ◌++◌, false, reverse, OnOk, string_bytes};
+ghost use Rattle.std.specs.Prelude.{◌≡◌, ◌<◌, ◌∷◌, [], ◌++◌, false, reverse, vec_len, OnOk, OnErr, string_bytes};
+ghost use Rattle.std.specs.Vec.{vec_capacity};
 ghost use Rattle.md_around.specs.Steps.{others_of};
 ghost use Rattle.md_meaning.specs.Piece.{no_notes};
 ghost use Rattle.md_printer.specs.Sheets as spec;
@@ -19,6 +20,34 @@ pub(crate) struct Below {
     pub(crate) text: Rope,
     /// Something was noted on it.
     pub(crate) noted: bool,
+}
+
+/// The most bytes for which a text that isn't used any more has room, if it is kept for that room.
+const LARGEST_SPARE: usize = 256;
+
+/// How many such texts are kept at most: few captured nodes stand in one another.
+const MOST_SPARES: usize = 4;
+
+/// Makes room for one more sheet.
+#[inline(always)]
+pub(crate) fn make_room(below: &mut Vec<Below>) -> Result<(), AllocError>
+    ensures sheets { below.new.items ≡ below.old.items }
+    ensures room { OnOk result (vec_len below.new < vec_capacity below.new) }
+{
+    if below.len() == below.capacity() {
+        below.reserve(1)?;
+    }
+    Ok(())
+}
+
+/// Keeps a text that isn't used any more for its room, unless that is large or some are kept: what is kept doesn't grow
+/// with what is printed.
+#[inline(always)]
+pub(crate) fn keep_spare(spare: &mut Vec<String>, text: String) {
+    let room = text.capacity();
+    if 0 < room && room <= LARGEST_SPARE && spare.len() < MOST_SPARES {
+        let _ = spare.push(text);
+    }
 }
 
 /// A text with nothing in it, in the room of one that isn't used any more, if there is one; else in room of its own,
@@ -53,10 +82,15 @@ pub(crate) fn begin_notes(
     ensures blank { OnOk result (notes.new ≡ no_notes) }
     ensures own { OnOk result (spec.notes_of noted (reverse kept.new.items) ≡ notes.old) }
     ensures others { OnOk result (spec.notes_below noted (reverse kept.new.items) ≡ reverse kept.old.items) }
+    ensures refused { OnErr result (notes.new ≡ notes.old) }
+    ensures kept { OnErr result (kept.new.items ≡ kept.old.items) }
 {
     if noted {
+        if kept.len() == kept.capacity() {
+            kept.reserve(1)?;
+        }
         let outer = std::mem::replace(notes, Notes::new(alloc));
-        kept.push(outer)?;
+        kept.push_reserved(outer);
     }
     Ok(())
 }
