@@ -74,6 +74,10 @@ pub fn close_cell(
         (tables.cell_in exit.now.around.in_head (slice_get (first_or [] printer.old.tables) exit.now.spine.cells)
         inner.now.text) printer.old) }
 {
+    // Past the table's columns nothing is printed, so no text is made.
+    if printer.column(exit.spine.cells).is_none() {
+        return Ok(());
+    }
     let text = inner.to_text(alloc)?;
     close_cell_with(printer, ending, exit, text.as_str())
 }
