@@ -24,7 +24,7 @@ use md_print::open::is_tight;
 use md_printer::frames::{Exit, Inner};
 use md_printer::given::{Given, identifier_at};
 use md_printer::printer::Printer;
-use md_sheet::{Defined, Rope, Target};
+use md_sheet::{Defined, Rope, Target, give_room_back, give_target_room_back};
 use std::alloc::{AllocError, Global};
 
 /// Exits a node; `is_last` says that nothing follows in the document.
@@ -186,11 +186,27 @@ fn close_with_rope(
 {
     match inner.whole() {
         Some(text) => close_with(printer, given, exit, text, name),
-        None => {
-            let text = inner.to_string(given.alloc)?;
-            close_with(printer, given, exit, text.as_str(), name)
-        }
+        None => close_with_parts(printer, given, exit, inner, name),
     }
+}
+
+/// The same of a text in several pieces, which are put together unless it is that of a cell that prints nothing.
+#[inline(never)]
+fn close_with_parts(
+    printer: &mut Printer,
+    given: &Given,
+    exit: &Exit,
+    inner: &Rope,
+    name: Name,
+) -> Result<(), AllocError>
+    ensures { OnOk result (printer.new ≡ machine.printing given.now.ending.now
+        (read_pieces exit.now (steps.first_or [] printer.old.tables) name inner.now) printer.old) }
+{
+    if matches!(name, Name::GfmTableCell) && printer.column(exit.spine.cells).is_none() {
+        return Ok(());
+    }
+    let text = inner.to_string(given.alloc)?;
+    close_with(printer, given, exit, text.as_str(), name)
 }
 
 /// Exits a node of whose children nothing is used.
@@ -359,7 +375,8 @@ fn keep_footnote(printer: &mut Printer, given: &Given, inner: Inner) -> Result<(
     ensures { OnOk result (printer.new ≡ machine.logging given.now.bytes.now
         (machine.ahead_by inner.place) GfmFootnoteDefinition inner.sheet printer.old) }
 {
-    let text = inner.sheet.into_text(given.alloc)?;
+    let mut text = inner.sheet.into_text(given.alloc)?;
+    give_room_back(&mut text);
     let identifier = identifier_at(given.alloc, given.bytes, inner.place)?;
     printer.log_footnote(identifier, text)
 }
@@ -374,6 +391,8 @@ fn keep_definition(
     ensures { OnOk result ((inner : SheetInside) → inner.notes.target ≡ target → printer.new
         ≡ machine.logging given.now.bytes.now (machine.ahead_by place) Definition inner printer.old) }
 {
+    let mut target = target;
+    give_target_room_back(&mut target);
     let identifier = identifier_at(given.alloc, given.bytes, place)?;
     printer.log_definition(Defined { identifier, target })
 }

@@ -55,13 +55,13 @@ fn node_events(events: &[Event], entry: usize, partner: Option<usize>) -> &[Even
     }
 }
 
-/// Prints the events of the node that is entered at an index, and no others.
+/// Prints the events of the node that is entered at an index, and no others; says how many were visited.
 fn run_node(
     printer: &mut Printer,
     given: &Given,
     checked: &Checked,
     entry: usize,
-) -> Result<(), AllocError>
+) -> Result<usize, AllocError>
     requires bytes { given.now.bytes.now ≡ checked.now.bytes }
     ensures grammatical { IsChecked checked.now }
     ensures fits { length checked.now.events < 2 ^ 63 }
@@ -69,27 +69,40 @@ fn run_node(
         → printer.new ≡ machine.run (given_of given.now)
         (events_at checked.now.events entry (slice_get (partners_of 0 document) entry))
         (drop entry (children_of document)) printer.old) }
+    ensures visits { IfOk result (λ visits. (document : Forest) → flatten document ≡ checked.now.events
+        → visits ≡ length (events_at checked.now.events entry (slice_get (partners_of 0 document) entry))) }
 {
     let events = checked.events();
-    // Each event is visited once, which `visits_at` counts.
     let part = node_events(events, entry, checked.partner(entry));
-    run_part(printer, given, checked, part, entry)?;
-    Ok(())
+    let after = run_part(printer, given, checked, part, entry)?;
+    Ok(after - entry)
+}
+
+/// What a definition defines, and how many events were visited for it.
+#[derive(Drop)]
+struct Alone {
+    defined: Option<Defined>,
+    visits: usize,
 }
 
 /// What the definition whose entry is at an index defines.
-fn defined_at(given: &Given, checked: &Checked, entry: usize) -> Result<Option<Defined>, AllocError>
+fn defined_at(given: &Given, checked: &Checked, entry: usize) -> Result<Alone, AllocError>
     requires bytes { given.now.bytes.now ≡ checked.now.bytes }
-    ensures { IfOk result (λ defined. (document : Forest) → flatten document ≡ checked.now.events → (place : ℕ)
+    ensures defined { IfOk result (λ alone. (document : Forest) → flatten document ≡ checked.now.events → (place : ℕ)
         → slice_get (entries_of 0 document) place ≡ Some entry
-        → defined ≡ slice_get (own_definitions (given_of given.now) document) place) }
+        → alone.defined ≡ slice_get (own_definitions (given_of given.now) document) place) }
+    ensures visits { IfOk result (λ alone. (document : Forest) → flatten document ≡ checked.now.events
+        → alone.visits ≡ length (events_at checked.now.events entry (slice_get (partners_of 0 document) entry))) }
 {
     let mut printer = Printer::new(given.alloc);
     // The printer is used up before an error is answered, so that no path has its many parts to drop.
     let ran = run_node(&mut printer, given, checked, entry);
     let mut logged = printer.into_definitions();
-    ran?;
-    Ok(logged.pop())
+    let visits = ran?;
+    Ok(Alone {
+        defined: logged.pop(),
+        visits,
+    })
 }
 
 /// One more at the end, where there is one.
@@ -100,14 +113,6 @@ fn push_found(found: &mut Vec<Defined>, defined: Option<Defined>) -> Result<(), 
         found.push(defined)?;
     }
     Ok(())
-}
-
-/// How many events the node has that is entered at an index, each of which [`run_node`] visits once.
-fn visits_at(checked: &Checked, entry: usize) -> usize
-    ensures { (document : Forest) → flatten document ≡ checked.now.events
-        → result ≡ length (events_at checked.now.events entry (slice_get (partners_of 0 document) entry)) }
-{
-    node_events(checked.events(), entry, checked.partner(entry)).len()
 }
 
 /// What a document's definitions define, and how many events were visited for it.
@@ -137,10 +142,9 @@ pub(crate) fn definitions_at(
     let mut definitions = Vec::new(given.alloc);
     let mut visits: usize = 0;
     for entry in entries {
-        // Each event of the definition is visited once.
-        visits = visits.saturating_add(visits_at(checked, *entry));
-        let defined = defined_at(given, checked, *entry)?;
-        push_found(&mut definitions, defined)?;
+        let alone = defined_at(given, checked, *entry)?;
+        visits = visits.saturating_add(alone.visits);
+        push_found(&mut definitions, alone.defined)?;
     }
     Ok(Own {
         definitions,

@@ -16,8 +16,8 @@ use Rattle.md_html.specs.OwnDefinitions.{events_at}
 use Rattle.md_html.proofs.OwnNodes.{own-run}
 use Rattle.md_html.proofs.own_events.defined_at.Goals as goal
 
-pub returns : goal.returns
-returns c = λ document flat place there.
+pub returns-clause-defined : goal.returns-clause-defined
+returns-clause-defined c = λ document flat place there.
     let given : Supply = given_of c.args.given.now in
     let read = c.run_node-ran.ensures.grammatical in
     let shaped : IsShaped document =
@@ -29,7 +29,7 @@ returns c = λ document flat place there.
     c.run_node-ran.ensures.fits) shaped there in
     let logged : c.into_definitions-logged.result.items ≡ own.0 ∷ [] =
     c.into_definitions-logged.ensures
-    ∙ ap (λ (s : Printer). s.log.definitions) (c.in_ok-ran.ensures.printed document flat
+    ∙ ap (λ (s : Printer). s.log.definitions) (c.in_ok-visits.ensures.printed document flat
     ∙ ap (λ s. machine.run given (events_at c.args.checked.now.events c.args.entry
     (slice_get (partners_of 0 document) c.args.entry)) (drop c.args.entry (children_of document)) s)
     c.new-printer.ensures)

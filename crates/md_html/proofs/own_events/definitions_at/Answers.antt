@@ -24,16 +24,16 @@ loop-entry-preserved c =
       λ document flat are.
           let own : List Defined = own_definitions (given_of c.args.given.now) document in
           c.in_ok-push_found.ensures
-          ∙ ap (λ ds. ds ++ option_to_list c.in_ok-defined.defined) (c.loop-entry.invariant.0 document flat are)
+          ∙ ap (λ ds. ds ++ option_to_list c.in_ok-alone.alone.defined) (c.loop-entry.invariant.0 document flat are)
           ∙ ap (λ o. take index own ++ option_to_list o)
-          (c.in_ok-defined.ensures document flat index (ap (λ es. slice_get es index) (sym are)
+          (c.in_ok-alone.ensures.defined document flat index (ap (λ es. slice_get es index) (sym are)
           ∙ slice_get-get_or c.args.entries.now index _ c.loop-entry-test.true))
           ∙ take-next own index,
       λ document shaped flat are.
           let added = c.saturating_add-visits.ensures in
-          total-next (own_sizes document) index c.visits_at.result c.loop-entry.visits c.saturating_add-visits.result
-          (size-found document c.args.checked.now.events index _ c.visits_at.result shaped flat
-          (c.visits_at.ensures document flat)
+          total-next (own_sizes document) index c.in_ok-alone.alone.visits c.loop-entry.visits c.saturating_add-visits.result
+          (size-found document c.args.checked.now.events index _ c.in_ok-alone.alone.visits shaped flat
+          (c.in_ok-alone.ensures.visits document flat)
           (ap (λ es. slice_get es index) (sym are) ∙ slice_get-get_or c.args.entries.now index _
           c.loop-entry-test.true))
           (c.loop-entry.invariant.1 document shaped flat are)
