@@ -1,6 +1,7 @@
 //! Reads a script: its events, its options and its document.
 
-ghost use Rattle.std.specs.Prelude.{◌≡◌, bytes_eq, ◌+◌, ◌&&◌, ◌||◌, [], ◌∷◌, ◌++◌, true, if◌then◌else◌, is_some, option_to_list, length, MatchOption, IfOk, OnOk, IfErr};
+ghost use Rattle.std.specs.Prelude.{◌≡◌, bytes_eq, ◌+◌, ◌<◌, vec_len, ◌&&◌, ◌||◌, [], ◌∷◌, ◌++◌, true, if◌then◌else◌, is_some, option_to_list, length, MatchOption, IfOk, OnOk, IfErr};
+ghost use Rattle.std.specs.Vec.{vec_capacity};
 ghost use Rattle.md_line.specs.Line.{lines_of, event_of};
 ghost use Rattle.md_line.specs.Setting.{texts_of, is_setting, option_name, is_new};
 ghost use Rattle.md_script.specs.Script.{Explains};
@@ -14,19 +15,12 @@ use md_line::{
     split_at_first,
 };
 use std::alloc::{AllocError, Global};
-use std::simd::prelude::*;
 
 /// The line that ends a script.
 const END_LINE: &[u8] = b"--";
 
-/// From how many bytes on room for a script's events is made before they are read.
-const LONG_SCRIPT: usize = 4096;
-
-/// How many bytes the shortest line of an event has, with its line feed.
-const SHORTEST_LINE: usize = 8;
-
-/// How many bytes are looked at together.
-const BLOCK_SIZE: usize = 16;
+/// From how many events on room is made for three times as many more at once.
+const MANY_EVENTS: usize = 128;
 
 /// What a script stands for.
 #[derive(Drop)]
@@ -43,10 +37,6 @@ pub(crate) fn read_script(alloc: Global, input: &[u8]) -> Result<Script<'_>, Run
     ensures err { IfErr result (λ error. Explains input.now error) }
 {
     let mut events = Vec::new(alloc);
-    // A short script's events come to their room in few steps, and so do others where there is no memory for so many.
-    if input.len() >= LONG_SCRIPT {
-        let _ = events.reserve(likely_events(input));
-    }
     let mut settings = Vec::new(alloc);
     let mut read_lines = 0;
     let mut rest = input;
@@ -84,31 +74,29 @@ pub(crate) fn read_script(alloc: Global, input: &[u8]) -> Result<Script<'_>, Run
     }
 }
 
-/// How many events a script has, if each of its lines is one: the document's lines are counted too, as room that isn't
-/// filled costs nothing, but no more than have room in the script.
-fn likely_events(input: &[u8]) -> usize {
-    line_feeds(input).min(input.len() / SHORTEST_LINE)
-}
-
-/// How many line feeds there are, but for those among the last few bytes.
-fn line_feeds(input: &[u8]) -> usize {
-    let mut count: usize = 0;
-    let mut at = 0;
-    while input.len() - at >= BLOCK_SIZE {
-        let block = Simd::<u8, BLOCK_SIZE>::from_slice(&input[at..]);
-        let found = block.simd_eq(Simd::splat(b'\n')).to_bitmask();
-        count = count.wrapping_add(found.count_ones() as usize);
-        at += BLOCK_SIZE;
-    }
-    count
-}
-
 /// Adds an event to those before it.
 fn keep(events: &mut Vec<Event>, event: Event) -> Result<(), AllocError>
     ensures { OnOk result (events.new.items ≡ events.old.items ++ event ∷ []) }
 {
-    events.push(event)?;
+    if events.len() == events.capacity() {
+        make_room(events)?;
+    }
+    events.push_reserved(event);
     Ok(())
+}
+
+/// Makes room for an event more; of many events for three times as many more, if there is memory for them, so that they
+/// are copied less often than where room grows by doubling.
+#[inline(never)]
+fn make_room(events: &mut Vec<Event>) -> Result<(), AllocError>
+    ensures events { events.new.items ≡ events.old.items }
+    ensures room { OnOk result (vec_len events.new < vec_capacity events.new) }
+{
+    let count = events.len();
+    if count >= MANY_EVENTS && events.reserve(count.saturating_mul(3)).is_ok() {
+        return Ok(());
+    }
+    events.reserve(1)
 }
 
 /// Takes a line's event, or the line itself where it sets an option; whether it could be read.
