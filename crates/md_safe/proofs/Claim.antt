@@ -7,12 +7,9 @@ use Rattle.md_text.specs.Html.{Attribute, HasReadingWith, is_tag, elements, writ
 use Rattle.md_text.proofs.HtmlJoin.{join, element}
 use Rattle.md_text.proofs.HtmlPut.{paragraph_takes}
 
--- a claim about texts and one about the heading that is noted, with a test on the attributes of what stands beside a
--- text or around it
+-- a claim about texts, with a test on the attributes of what stands beside a text or around it
 pub record Claim : Type 1 where
   pub holds : List ℕ → Type 0
-  pub noted : List ℕ → Type 0
-  pub unnoted : noted []
   pub test : Attribute → Bool
   pub plain : (x : List ℕ) → HasReadingWith test x → holds x
   pub before : (x y : List ℕ) → HasReadingWith test x → holds y → holds (x ++ y)
@@ -24,12 +21,10 @@ pub record Claim : Type 1 where
       holds (before ++ codes "</p>" ++ endings) → HasReadingWith test inserted
       → holds (before ++ inserted ++ codes "</p>" ++ endings)
 
--- a reading in which each attribute passes the test, with any claim about the heading
-abbrev pub passing : (test : Attribute → Bool) (noted : List ℕ → Type 0) → noted [] → Claim
-passing test noted unnoted = record {
+-- a reading in which each attribute passes the test
+abbrev pub reading : (Attribute → Bool) → Claim
+reading test = record {
   holds = HasReadingWith test;
-  noted = noted;
-  unnoted = unnoted;
   test = test;
   plain = λ x h. h;
   before = join test;
@@ -38,10 +33,6 @@ passing test noted unnoted = record {
   takes = paragraph_takes test;
 }
 
--- a text with a reading alone, with the same claim about the heading
+-- a text with a reading alone
 abbrev pub plain_of : Claim → Claim
-plain_of p = passing p.test p.noted p.unnoted
-
--- a reading in which each attribute passes the test, with nothing claimed of the heading
-abbrev pub reading : (Attribute → Bool) → Claim
-reading test = passing test (λ _. Unit {0}) tt
+plain_of p = reading p.test

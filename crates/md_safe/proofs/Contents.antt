@@ -5,7 +5,7 @@ use Rattle.std.specs.List.{list_any}
 use Rattle.std.proofs.lemmas.Bool.{cond_both, or_left, or_right}
 use Rattle.md_base.proofs.Lies.{lie}
 use Rattle.md_base.specs.declared.event.Name.{Name}
-use Rattle.md_base.specs.declared.event.Name.TheVariants.{LineEnding, BlankLineEnding, HtmlFlow, HtmlText, Image, CodeText, MathText, DefinitionLabelString, DefinitionDestinationString, DefinitionTitleString, GfmFootnoteDefinitionLabelString, ResourceDestinationString, ResourceTitleString, ReferenceString, CodeFenced, CodeFencedFence, CodeFencedFenceInfo, CodeFencedFenceMeta, CodeFlowChunk, MathFlow, MathFlowFence, MathFlowFenceMeta, MathFlowChunk, GfmTaskListItemCheck, GfmTaskListItemValueChecked}
+use Rattle.md_base.specs.declared.event.Name.TheVariants.{LineEnding, BlankLineEnding, HtmlFlow, HtmlText, Image, Resource, Definition, GfmFootnoteDefinitionPrefix, CodeText, MathText, DefinitionLabelString, DefinitionDestinationString, DefinitionTitleString, GfmFootnoteDefinitionLabelString, ResourceDestinationString, ResourceTitleString, ReferenceString, CodeFenced, CodeFencedFence, CodeFencedFenceInfo, CodeFencedFenceMeta, CodeFlowChunk, MathFlow, MathFlowFence, MathFlowFenceMeta, MathFlowChunk, GfmTaskListItemCheck, GfmTaskListItemValueChecked}
 use Rattle.md_base.specs.declared.event.Point.{Point}
 use Rattle.md_text.proofs.HtmlJoin.{nothing}
 use Rattle.md_base.specs.Tree.{Forest, Empty, Node}
@@ -14,11 +14,15 @@ use Rattle.md_base.specs.NameTests.{is_fence as fence_name}
 use Rattle.md_base.specs.Children.{spine_names}
 use Rattle.md_text.specs.declared.options.CompileOptions.{CompileOptions}
 use Rattle.md_meaning.specs.declared.context.Surroundings.{Surroundings}
-use Rattle.md_meaning.specs.Surroundings.{inside, spine_after_node}
-use Rattle.md_shape.specs.Built.{Content, Blocks, Spans, Strings, FirstFence, FirstMathFence, Chunks, InfoAndMeta, MetaAlone, Done, Nothing, is_fence, is_line, is_info, is_code_fence, is_math_fence, may_stand, content_of, content_past, content_after, content_inside, content_after_node, IsBuilt, IsFit}
+use Rattle.md_meaning.specs.Meaning.Around.{inside}
+use Rattle.md_shape.specs.Built.{Content, Blocks, Spans, Strings, FirstFence, FirstMathFence, Chunks, InfoAndMeta, MetaAlone, Done, Nothing, Sources, is_fence, is_line, is_info, is_code_fence, is_math_fence, may_stand, content_of, content_past, content_after, content_inside, content_after_node, IsBuilt, IsFit}
 use Rattle.md_safe.proofs.Texts.{Escaped}
 use Rattle.md_safe.proofs.Claim.{Claim}
 use Rattle.md_safe.proofs.Elements.{IsRaw, IsInCode, IsDone, bare-in_code, code_tag, math_tag}
+
+-- the names on the spine after a node
+abbrev pub spine_after_node : Name → Forest → List Name → List Name
+spine_after_node name children spine = spine ++ cond (is_transparent name) (spine_names children) (name ∷ [])
 
 -- what holds of a text that stands as some content
 abbrev pub Holds : Claim → Bool → Bool → Content → List ℕ → Type 0
@@ -32,6 +36,7 @@ Holds p escaping in_image InfoAndMeta x = IsInCode p x
 Holds p escaping in_image MetaAlone x = x ≡ []
 Holds p escaping in_image Done x = IsDone in_image x
 Holds p escaping in_image Nothing x = x ≡ []
+Holds p escaping in_image Sources x = Unit {0}
 
 -- the surroundings in which a content may stand
 abbrev pub Suits : Bool → Bool → Content → Type 0
@@ -39,6 +44,7 @@ Suits escaping in_image Blocks = escaping ≡ true
 Suits escaping in_image Spans = (escaping ≡ true) × (in_image ≡ true)
 Suits escaping in_image FirstFence = escaping ≡ true
 Suits escaping in_image InfoAndMeta = escaping ≡ true
+Suits escaping in_image Sources = escaping ≡ true
 Suits escaping in_image _ = Unit {0}
 
 -- the names before a content: no fence before a first one, one before what follows it
@@ -66,6 +72,7 @@ holds-nothing p escaping in_image InfoAndMeta h = bare-in_code p
 holds-nothing p escaping in_image MetaAlone h = refl
 holds-nothing p escaping in_image Done h = inl refl
 holds-nothing p escaping in_image Nothing h = refl
+holds-nothing p escaping in_image Sources h = tt
 
 -- what stays after each name stays after nodes
 pub stays-after : (Q : Content → Type 0) →
@@ -90,6 +97,7 @@ suits-past escaping in_image InfoAndMeta name h = cond_both (is_info name) MetaA
 suits-past escaping in_image MetaAlone name h = tt
 suits-past escaping in_image Done name h = tt
 suits-past escaping in_image Nothing name h = tt
+suits-past escaping in_image Sources name h = h
 
 abbrev IsLater : Content → Type 0
 IsLater content = is_first content ≡ false
@@ -105,6 +113,7 @@ later-past InfoAndMeta name h = cond_both (is_info name) MetaAlone Nothing IsLat
 later-past MetaAlone name h = refl
 later-past Done name h = refl
 later-past Nothing name h = refl
+later-past Sources name h = refl
 
 pub suits-after-node : (escaping in_image : Bool) (content : Content) (name : Name) (children : Forest) →
     Suits escaping in_image content → Suits escaping in_image (content_after_node content name children)
@@ -161,6 +170,7 @@ follows-past InfoAndMeta name names h f = cond_both (is_info name) MetaAlone Not
 follows-past MetaAlone name names h f = tt
 follows-past Done name names h f = tt
 follows-past Nothing name names h f = tt
+follows-past Sources name names h f = tt
 
 -- one of two tests holds, and it isn't the first
 pub second : (a b : Bool) → a ≡ false → (a || b) ≡ true → b ≡ true
@@ -217,6 +227,7 @@ suits-escaping escaping escaped in_image InfoAndMeta e h = e
 suits-escaping escaping escaped in_image MetaAlone e h = tt
 suits-escaping escaping escaped in_image Done e h = tt
 suits-escaping escaping escaped in_image Nothing e h = tt
+suits-escaping escaping escaped in_image Sources e h = e
 
 -- where an image or code may stand, special characters are escaped
 pub suits-wide : (escaping in_image : Bool) (content : Content) →
@@ -231,6 +242,23 @@ suits-wide escaping in_image InfoAndMeta s h = h
 suits-wide escaping in_image MetaAlone s h = lie s
 suits-wide escaping in_image Done s h = lie s
 suits-wide escaping in_image Nothing s h = lie s
+suits-wide escaping in_image Sources s h = lie s
+
+-- where a resource or a definition may stand, special characters are escaped
+suits-led : (escaping in_image : Bool) (content : Content) →
+    (may_stand content Resource || may_stand content Definition) ≡ true → Suits escaping in_image content →
+    escaping ≡ true
+suits-led escaping in_image Blocks s h = h
+suits-led escaping in_image Spans s h = h.0
+suits-led escaping in_image Strings s h = lie s
+suits-led escaping in_image FirstFence s h = h
+suits-led escaping in_image FirstMathFence s h = lie s
+suits-led escaping in_image Chunks s h = lie s
+suits-led escaping in_image InfoAndMeta s h = h
+suits-led escaping in_image MetaAlone s h = lie s
+suits-led escaping in_image Done s h = lie s
+suits-led escaping in_image Nothing s h = lie s
+suits-led escaping in_image Sources s h = h
 
 suits-code_fence : (escaping in_image : Bool) (content : Content) → Suits escaping in_image content →
     Suits escaping in_image (content_of CodeFencedFence content)
@@ -241,6 +269,12 @@ suits-math_fence : (escaping in_image : Bool) (content : Content) →
     Suits escaping in_image (content_of MathFlowFence content)
 suits-math_fence escaping in_image FirstMathFence = tt
 suits-math_fence escaping in_image _ = tt
+
+-- a footnote's prefix may stand where a definition may
+same-as-definition : (content : Content) → may_stand content GfmFootnoteDefinitionPrefix ≡ true →
+    may_stand content Definition ≡ true
+same-as-definition Blocks s = refl
+same-as-definition _ s = lie s
 
 -- the surroundings of a node's children suit them
 pub suits-inside : (options : CompileOptions) → options.allow_dangerous_html ≡ false →
@@ -257,6 +291,15 @@ suits-inside options html loose around content Image s h = (
       (or_left (may_stand content Image) (may_stand content CodeFenced) s) h,
   refl,
 )
+suits-inside options html loose around content Resource s h =
+    suits-led around.is_escaping around.in_image content
+    (or_left (may_stand content Resource) (may_stand content Definition) s) h
+suits-inside options html loose around content Definition s h =
+    suits-led around.is_escaping around.in_image content
+    (or_right (may_stand content Resource) (may_stand content Definition) s) h
+suits-inside options html loose around content GfmFootnoteDefinitionPrefix s h =
+    suits-led around.is_escaping around.in_image content
+    (or_right (may_stand content Resource) (may_stand content Definition) (same-as-definition content s)) h
 suits-inside options html loose around content CodeText s h = tt
 suits-inside options html loose around content MathText s h = tt
 suits-inside options html loose around content DefinitionLabelString s h = tt
@@ -298,6 +341,7 @@ plain-follows InfoAndMeta name plain s = tt
 plain-follows MetaAlone name plain s = tt
 plain-follows Done name plain s = tt
 plain-follows Nothing name plain s = tt
+plain-follows Sources name plain s = tt
 
 follows-code_fence : (content : Content) → Follows (content_of CodeFencedFence content) []
 follows-code_fence FirstFence = tt
@@ -310,6 +354,9 @@ follows-math_fence _ = tt
 -- nothing stands before a node's first child
 pub follows-inside : (content : Content) (name : Name) → may_stand content name ≡ true →
     Follows (content_of name content) []
+follows-inside content Resource s = tt
+follows-inside content Definition s = tt
+follows-inside content GfmFootnoteDefinitionPrefix s = tt
 follows-inside content CodeText s = tt
 follows-inside content MathText s = tt
 follows-inside content DefinitionLabelString s = tt
@@ -348,6 +395,7 @@ plain-later InfoAndMeta name plain s = refl
 plain-later MetaAlone name plain s = refl
 plain-later Done name plain s = refl
 plain-later Nothing name plain s = refl
+plain-later Sources name plain s = refl
 
 later-code_fence : (content : Content) → IsLater (content_of CodeFencedFence content)
 later-code_fence FirstFence = refl
@@ -373,6 +421,7 @@ later-fenced InfoAndMeta names f h = refl
 later-fenced MetaAlone names f h = refl
 later-fenced Done names f h = refl
 later-fenced Nothing names f h = refl
+later-fenced Sources names f h = refl
 
 fenced-after : (bytes : List ℕ) (content : Content) (children : Forest) → IsBuilt bytes content children →
     Follows content [] → list_any is_fence (spine_names children) ≡ true → IsLater (content_after content children)
@@ -393,6 +442,9 @@ later-inside bytes content CodeFencedFence start end children s fit built =
     later-after (content_of CodeFencedFence content) children (later-code_fence content)
 later-inside bytes content MathFlowFence start end children s fit built =
     later-after (content_of MathFlowFence content) children (later-math_fence content)
+later-inside bytes content Resource start end children s fit built = later-after Sources children refl
+later-inside bytes content Definition start end children s fit built = later-after Sources children refl
+later-inside bytes content GfmFootnoteDefinitionPrefix start end children s fit built = later-after Sources children refl
 later-inside bytes content CodeText start end children s fit built = later-after Strings children refl
 later-inside bytes content MathText start end children s fit built = later-after Strings children refl
 later-inside bytes content DefinitionLabelString start end children s fit built = later-after Strings children refl
@@ -433,6 +485,9 @@ math_fence-blocks _ h = lie h
 
 -- blocks stand only in blocks
 of-blocks : (name : Name) (content : Content) → is_blocks (content_of name content) ≡ true → is_blocks content ≡ true
+of-blocks Resource content h = lie h
+of-blocks Definition content h = lie h
+of-blocks GfmFootnoteDefinitionPrefix content h = lie h
 of-blocks CodeText content h = lie h
 of-blocks MathText content h = lie h
 of-blocks DefinitionLabelString content h = lie h
@@ -477,6 +532,7 @@ past-blocks InfoAndMeta name h = cond_both (is_info name) MetaAlone Nothing
 past-blocks MetaAlone name h = h
 past-blocks Done name h = h
 past-blocks Nothing name h = h
+past-blocks Sources name h = h
 
 -- what is asked of blocks alone is asked after nodes of no more
 pub asked-after-node : (A : Type 0) (content : Content) (name : Name) (children : Forest) →

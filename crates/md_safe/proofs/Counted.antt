@@ -1,6 +1,5 @@
--- How often an id stands in what is printed: what is claimed of texts, of sheets and of footnotes, where the claim
--- changes from piece to piece.
-use Rattle.std.proofs.Common.{◌≡◌, ℕ, ◌+◌, ◌≤◌, Bool, true, false, not, ◌&&◌, List, [], ◌∷◌, ◌++◌, refl, sym, ap, ◌∙◌, subst, arith, append_assoc, codes}
+-- How often an id stands in what is printed: what is claimed of texts and of footnotes.
+use Rattle.std.proofs.Common.{◌≡◌, ℕ, ◌+◌, ◌≤◌, Bool, true, false, not, ◌&&◌, List, [], ◌∷◌, ◌++◌, refl, sym, subst, arith, codes}
 use Rattle.std.specs.Prelude.{bytes_eq}
 use Rattle.std.proofs.lemmas.Bool.{and_parts, true≢false}
 use Rattle.md_text.specs.References.{read_back}
@@ -10,21 +9,16 @@ use Rattle.md_text.proofs.HtmlWriting.{attributes_before, written_attributes-bef
 use Rattle.md_text.specs.Ids.{ids_in}
 use Rattle.md_text.proofs.HtmlIds.{occurs, is_without, none-attributes, Counts, counts-plain, counts-more, counts-join, counts-element, counts-takes}
 use Rattle.md_text.specs.declared.options.CompileOptions.{CompileOptions}
-use Rattle.md_meaning.specs.Piece.{Stroke, Sheet, lay}
-use Rattle.md_meaning.specs.Footnotes.{Footnote}
+use Rattle.md_meaning.specs.Meaning.At.{Footnote}
 use Rattle.md_safe.proofs.Claim.{Claim}
 use Rattle.md_safe.proofs.Texts.{Escaped}
-use Rattle.md_meaning.proofs.Lays.{lay-append}
-use Rattle.md_safe.proofs.Laid.{AreGood, Grows}
 use Rattle.md_safe.proofs.Tags.{IsTest, attribute}
 use Rattle.md_safe.proofs.Media.{a_call, call_text, call-regrouped}
 
 -- an id stands in a text at most so often
-abbrev pub counting : (w : List ℕ) (n : ℕ) (noted : List ℕ → Type 0) → noted [] → Claim
-counting w n noted unnoted = record {
+abbrev pub counting : List ℕ → ℕ → Claim
+counting w n = record {
   holds = Counts w n;
-  noted = noted;
-  unnoted = unnoted;
   test = is_without w;
   plain = λ x h. counts-more w 0 n x (omega arith) (counts-plain w x h);
   before = λ x y h g. counts-more w (0 + n) n (x ++ y) (omega arith) (counts-join w 0 n x y (counts-plain w x h) g);
@@ -65,46 +59,6 @@ Waiting w false n x = Unit {0}
 pub waiting-none : (w : List ℕ) (waits : Bool) (n : ℕ) → Waiting w waits n []
 waiting-none w true n = counts-more w 0 n [] (omega arith) (counts-plain w [] (nothing (is_without w)))
 waiting-none w false n = tt
-
--- pieces add a text of which something holds, where something holds of the heading before them, and after them
-abbrev pub Steps : List ℕ → (pre post holds : List ℕ → Type 0) → List Stroke → Type 0
-Steps ending pre post holds pieces = (sheet : Sheet) → AreGood pre sheet.notes →
-    Grows post holds sheet (lay ending sheet pieces)
-
-pub steps-append : (ending : List ℕ) (pre mid post f g h : List ℕ → Type 0) (xs ys : List Stroke) →
-    ((x y : List ℕ) → f x → g y → h (x ++ y)) → Steps ending pre mid f xs → Steps ending mid post g ys →
-    Steps ending pre post h (xs ++ ys)
-steps-append ending pre mid post f g h xs ys both a b sheet good =
-    let r = a sheet good in
-    let s = b (lay ending sheet xs) r.good in
-    subst (Grows post h sheet) (sym (lay-append ending sheet xs ys))
-    (record {
-      added = r.added ++ s.added;
-      grown = s.grown ∙ ap (λ t. t ++ s.added) r.grown ∙ append_assoc sheet.text r.added s.added;
-      it_holds = both r.added s.added r.it_holds s.it_holds;
-      good = s.good;
-    })
-
--- less is asked before, and less claimed after
-pub steps-weaker : (ending : List ℕ) (pre pre' post post' f g : List ℕ → Type 0) (pieces : List Stroke) →
-    ((x : List ℕ) → pre' x → pre x) → ((x : List ℕ) → post x → post' x) → ((x : List ℕ) → f x → g x) →
-    Steps ending pre post f pieces → Steps ending pre' post' g pieces
-steps-weaker ending pre pre' post post' f g pieces asked claimed weaker a sheet good =
-    let r = a sheet (record {
-      heading = asked sheet.notes.heading good.heading;
-      title = good.title;
-      resource = good.resource;
-    }) in
-    record {
-      added = r.added;
-      grown = r.grown;
-      it_holds = weaker r.added r.it_holds;
-      good = record {
-        heading = claimed (lay ending sheet pieces).notes.heading r.good.heading;
-        title = r.good.title;
-        resource = r.good.resource;
-      };
-    }
 
 -- an id stands in the texts of some footnotes at most so often
 abbrev pub TextsCount : List ℕ → ℕ → List Footnote → Type 0

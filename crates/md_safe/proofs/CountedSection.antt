@@ -1,39 +1,42 @@
 -- How often an id stands in the section of footnotes, and in a document: at most once.
-use Rattle.std.proofs.Common.{◌≡◌, ℕ, suc, ◌+◌, ◌≤◌, ◌<◌, ◌^◌, Bool, true, false, cond, List, [], ◌∷◌, ◌++◌, length, map, refl, sym, ap, ◌∙◌, subst, arith, append_assoc, codes, bytes_eq}
+use Rattle.std.proofs.Common.{◌≡◌, ℕ, ◌+◌, ◌≤◌, ◌<◌, ◌^◌, Bool, true, false, not, ◌==◌, cond, List, [], ◌∷◌, ◌++◌, length, refl, sym, ap, ◌∙◌, subst, arith, append_assoc, codes, bytes_eq}
 use Rattle.std.specs.Prelude.{Some, find}
 use Rattle.std.specs.Option.{option_map_or}
-use Rattle.std.proofs.lemmas.Bool.{or_parts}
+use Rattle.std.proofs.lemmas.Bool.{or_parts, cond_both}
+use Rattle.md_text.specs.Html.{any_attribute}
+use Rattle.md_text.proofs.HtmlJoin.{join}
 use Rattle.md_base.specs.Tree.{Forest}
 use Rattle.md_text.specs.References.{read_back}
 use Rattle.md_text.specs.Html.{opening_tag, closing_tag}
 use Rattle.md_text.proofs.HtmlIds.{occurs, occurs-append, Counts, counts-more, counts-join, counts-enclosed}
-use Rattle.md_meaning.specs.Piece.{blank, lay}
-use Rattle.md_meaning.specs.Surroundings.{outermost}
-use Rattle.md_meaning.specs.Calls.{Called, tally, distinct, count_of}
-use Rattle.md_meaning.specs.Places.{nothing_stood, calls_of}
-use Rattle.md_meaning.specs.Footnotes.{Footnote, footnote_id, heading_label_of, footnote_text, items_pieces, item_pieces, section_pieces}
-use Rattle.md_meaning.specs.Printed.{printed, footnotes_of}
+use Rattle.std.specs.List.{flat_map}
+use Rattle.md_meaning.specs.Meaning.Around.{outermost}
+use Rattle.md_meaning.specs.Meaning.At.{Footnote}
+use Rattle.md_meaning.specs.Meaning.Before.{nothing_before}
+use Rattle.md_meaning.specs.Meaning.Footnotes.{id_of, distinct, place_among, item, section_start, section}
+use Rattle.md_meaning.specs.Meaning.Layout.{Piece, layout}
+use Rattle.md_meaning.specs.Meaning.Nodes.{Outcome, outcome}
 use Rattle.md_shape.specs.Built.{Blocks, IsBuilt}
 use Rattle.md_shape.specs.Underlined.{waits_after, IsUnderlined}
 use Rattle.md_meaning.proofs.Identifiers.{is_in, Apart, same, distinct-apart, bytes_eq-sym}
 use Rattle.md_safe.specs.Options.{KeepsGrammar}
 use Rattle.md_safe.proofs.Texts.{Escaped}
 use Rattle.md_safe.proofs.Claim.{Claim}
-use Rattle.md_safe.proofs.Laid.{adds-append, adds-nothing, adds-blank}
+use Rattle.md_safe.proofs.Laid.{adds-append, adds-nothing, adds-alone}
 use Rattle.md_safe.proofs.Tags.{Turns, bracket-tag, attribute}
-use Rattle.md_safe.proofs.Media.{label-escaped, footnote_id-escaped}
+use Rattle.md_safe.proofs.Media.{label-escaped, id-escaped}
 use Rattle.md_safe.proofs.Spot.{Setting, Prints}
-use Rattle.md_safe.proofs.Section.{turn-after, li_id, item-prints, section-around}
-use Rattle.md_safe.proofs.Counted.{counting, counts-heading, Waiting, Steps, steps-append, steps-weaker, TextsCount}
-use Rattle.md_safe.proofs.CountedNodes.{Document, counted_in, counts-none, Spent}
-use Rattle.md_safe.proofs.CountedForest.{spent}
-use Rattle.md_safe.proofs.Distinct.{note_ids, label_id, document-once}
+use Rattle.md_safe.proofs.Section.{turn-after, li_id, item-prints, section-around, section_end, text_among, heading_label_of}
+use Rattle.md_safe.proofs.Counted.{counting, counts-heading, TextsCount}
+use Rattle.md_safe.proofs.BlockNodes.{holds-none}
+use Rattle.md_safe.proofs.CountedForest.{Document, counted_in, read_in, counts-none, Costs, spent}
+use Rattle.md_safe.proofs.Distinct.{ids_after, note_ids, label_id, document-once}
 
 -- the texts of the footnotes with some identifiers
 abbrev TextsFor : List ℕ → ℕ → List Footnote → List (List ℕ) → Type 0
 TextsFor w n footnotes [] = Unit {0}
 TextsFor w n footnotes (identifier ∷ others) =
-    (m : ℕ) × (k : ℕ) × (m + k ≤ n) × Counts w m (footnote_text footnotes identifier) × TextsFor w k footnotes others
+    (m : ℕ) × (k : ℕ) × (m + k ≤ n) × Counts w m (text_among footnotes identifier) × TextsFor w k footnotes others
 
 for-more : (w : List ℕ) (n m : ℕ) (footnotes : List Footnote) (identifiers : List (List ℕ)) → n ≤ m →
     TextsFor w n footnotes identifiers → TextsFor w m footnotes identifiers
@@ -99,7 +102,7 @@ texts-for w n (footnote ∷ footnotes) identifiers apart h =
 
 -- an item's tags around a text
 item-turn : (d : Document) (w : List ℕ) (n : ℕ) (v : List ℕ) → Escaped v →
-    Turns (counting w n (λ _. Unit {0}) tt) (counting w (occurs w (read_back v ∷ []) + n) (λ _. Unit {0}) tt)
+    Turns (counting w n) (counting w (occurs w (read_back v ∷ []) + n))
     (codes "<li id=\"" ++ (v ++ (codes "\">" ++ []))) (codes "</li>")
 item-turn d w n v h x held =
     let hit : ℕ = occurs w (read_back v ∷ []) in
@@ -112,47 +115,43 @@ item-turn d w n v h x held =
 occurs-first : (w x : List ℕ) (xs : List (List ℕ)) → occurs w (x ∷ xs) ≡ occurs w (x ∷ []) + occurs w xs
 occurs-first w x xs = occurs-append w (x ∷ []) xs
 
-abbrev plain_setting : Document → List ℕ → ℕ → Setting
-plain_setting d w n = counted_in d w n (λ _. Unit {0}) tt
-
 -- the items
-items-counted : (d : Document) (w : List ℕ) (footnotes : List Footnote) (number n : ℕ) (called : List Called) →
-    TextsFor w n footnotes (map (λ called. called.identifier) called)
-    → Prints (plain_setting d w 0) (Counts w (occurs w (note_ids d.given.options number called) + n))
-    (items_pieces d.given.options footnotes number called)
-items-counted d w footnotes number n [] texts =
-    adds-nothing (plain_setting d w 0).p d.given.ending (Counts w (0 + n)) (counts-more w 0 (0 + n) [] (omega arith)
-    (counts-none w))
-items-counted d w footnotes number n (called ∷ others) texts =
-    let id : List ℕ = footnote_id d.given.options called.identifier number in
+items-counted : (d : Document) (w : List ℕ) (footnotes : List Footnote) (n : ℕ) (identifiers : List (List ℕ)) →
+    TextsFor w n footnotes identifiers
+    → Prints (counted_in d w 0) (Counts w (occurs w (note_ids d.given.options d.given.calls identifiers) + n))
+    (flat_map (item d.given footnotes) identifiers)
+items-counted d w footnotes n [] texts =
+    adds-nothing d.given.ending (Counts w (0 + n)) (counts-more w 0 (0 + n) [] (omega arith) (counts-none w))
+items-counted d w footnotes n (identifier ∷ others) texts =
+    let number : ℕ = place_among (distinct d.given.calls) identifier in
+    let id : List ℕ = id_of d.given.options (codes "fn-") identifier number in
     let hit : ℕ = occurs w (read_back id ∷ []) in
-    let later : ℕ = occurs w (note_ids d.given.options (suc number) others) in
-    let total : ℕ = occurs w (note_ids d.given.options number (called ∷ others)) + n in
-    let text : List ℕ = footnote_text footnotes called.identifier in
-    adds-append (plain_setting d w 0).p d.given.ending (Counts w (hit + texts.0)) (Counts w (later + texts.1))
-    (Counts w total) (item_pieces d.given.options text called.identifier number called.count)
-    (items_pieces d.given.options footnotes (suc number) others)
+    let later : ℕ = occurs w (note_ids d.given.options d.given.calls others) in
+    let total : ℕ = occurs w (note_ids d.given.options d.given.calls (identifier ∷ others)) + n in
+    adds-append d.given.ending (Counts w (hit + texts.0)) (Counts w (later + texts.1))
+    (Counts w total) (item d.given footnotes identifier) (flat_map (item d.given footnotes) others)
     (λ x y a b. counts-more w ((hit + texts.0) + (later + texts.1)) total (x ++ y)
-    (omega (occurs-first w (read_back id) (note_ids d.given.options (suc number) others), texts.2, arith))
+    (omega (occurs-first w (read_back id) (note_ids d.given.options d.given.calls others), texts.2, arith))
     (counts-join w (hit + texts.0) (later + texts.1) x y a b))
-    (item-prints (plain_setting d w texts.0) (plain_setting d w (hit + texts.0)).p text called.identifier number
-    called.count (item-turn d w texts.0 id (footnote_id-escaped d.given.options called.identifier number)) texts.3)
-    (items-counted d w footnotes (suc number) texts.1 others texts.4)
+    (item-prints (counted_in d w texts.0) (counted_in d w (hit + texts.0)).p footnotes identifier
+    (item-turn d w texts.0 id (id-escaped d.given.options (codes "fn-") identifier number refl)) texts.3)
+    (items-counted d w footnotes texts.1 others texts.4)
 
 -- the heading, and the tags of the section around its items
-section-counted : (d : Document) (w : List ℕ) → KeepsGrammar d.given.options → (footnotes : List Footnote) (n : ℕ)
-    (called : List Called) → TextsFor w n footnotes (map (λ called. called.identifier) called)
-    → Prints (plain_setting d w 0)
-    (Counts w (occurs w label_id + (occurs w (note_ids d.given.options 1 called) + n)))
-    (section_pieces d.given.options footnotes called)
-section-counted d w keeps footnotes n [] texts =
-    adds-nothing (plain_setting d w 0).p d.given.ending (Counts w (occurs w label_id + (0 + n)))
-    (counts-more w 0 (occurs w label_id + (0 + n)) [] (omega arith) (counts-none w))
-section-counted d w keeps footnotes n (called ∷ others) texts =
-    let k : ℕ = occurs w (note_ids d.given.options 1 (called ∷ others)) + n in
-    let s : Setting = plain_setting d w k in
-    let q : Claim = (plain_setting d w (occurs w label_id + k)).p in
+section-counted : (d : Document) (w : List ℕ) → KeepsGrammar d.given.options → (footnotes : List Footnote) (n : ℕ) →
+    TextsFor w n footnotes (distinct d.given.calls)
+    → Prints (counted_in d w 0)
+    (Counts w (occurs w label_id + (occurs w (note_ids d.given.options d.given.calls (distinct d.given.calls)) + n)))
+    (section d.given footnotes)
+section-counted d w keeps footnotes n texts =
+    let k : ℕ = occurs w (note_ids d.given.options d.given.calls (distinct d.given.calls)) + n in
+    let s : Setting = counted_in d w k in
+    let q : Claim = (counted_in d w (occurs w label_id + k)).p in
     let label : List ℕ = heading_label_of d.given.options in
+    let items : List Piece = flat_map (item d.given footnotes) (distinct d.given.calls) in
+    cond_both (not (length d.given.calls == 0)) (section_start d.given.options ++ (items ++ section_end)) []
+    (Prints (counted_in d w 0) (Counts w (occurs w label_id + k)))
+    (λ _.
     section-around s q
     (turn-after s.p q (codes "<section data-footnotes=\"\" class=\"footnotes\">") (codes "</section>")
     (codes "<h2 id=\"footnote-label\" class=\"sr-only\">" ++ (label ++ codes "</h2>"))
@@ -161,50 +160,44 @@ section-counted d w keeps footnotes n (called ∷ others) texts =
     (λ x held. counts-join w (occurs w label_id) k
     (codes "<h2 id=\"footnote-label\" class=\"sr-only\">" ++ (label ++ codes "</h2>")) x
     (counts-heading w label (label-escaped d.given.options)) held))
-    keeps.usual_tag keeps.usual_attributes (items_pieces d.given.options footnotes 1 (called ∷ others))
-    (items-counted d w footnotes 1 n (called ∷ others) texts)
-
-identifiers-called : (calls : List (List ℕ)) → map (λ (called : Called). called.identifier) (tally calls)
-    ≡ distinct calls
-identifiers-called calls = by (count_of calls) (distinct calls)
-  where
-    by : (f : List ℕ → ℕ) (xs : List (List ℕ)) → map (λ (called : Called). called.identifier) (map (λ i. record {
-      identifier = i;
-      count = f i;
-    }) xs) ≡ xs
-    by f [] = refl
-    by f (x ∷ xs) = ap (λ xs. x ∷ xs) (by f xs)
+    keeps.usual_tag keeps.usual_attributes items
+    (items-counted d w footnotes n (distinct d.given.calls) texts))
+    (λ _. adds-nothing d.given.ending (Counts w (occurs w label_id + k))
+    (counts-more w 0 (occurs w label_id + k) [] (omega arith) (counts-none w)))
 
 -- each id stands in a document once at most
 pub document-counted : (d : Document) (w : List ℕ) (document : Forest) → KeepsGrammar d.given.options →
     d.given.options.gfm_footnote_number_ids ≡ true → IsBuilt d.given.bytes Blocks document →
-    IsUnderlined false document → length (calls_of d.given.bytes document) + 2 < 2 ^ 64
-    → Counts w 1 (lay d.given.ending blank (printed d.given outermost nothing_stood document
-    ++ section_pieces d.given.options (footnotes_of d.given outermost nothing_stood document)
-    (tally (calls_of d.given.bytes document)))).text
-document-counted d w document keeps on built underlined small =
-    let calls : List (List ℕ) = calls_of d.given.bytes document in
-    let footnotes : List Footnote = footnotes_of d.given outermost nothing_stood document in
-    let b : Spent d w outermost nothing_stood false 0 document =
-    spent d w document outermost nothing_stood false 0
-    (record { built = built; escaping = refl; underlined = underlined }) in
-    let rest : ℕ = occurs w label_id + (occurs w (note_ids d.given.options 1 (tally calls)) + b.notes) in
-    let section : Prints (plain_setting d w 0) (Counts w rest)
-    (section_pieces d.given.options footnotes (tally calls)) =
-    section-counted d w keeps footnotes b.notes (tally calls)
-    (subst (TextsFor w b.notes footnotes) (sym (identifiers-called calls))
-    (texts-for w b.notes footnotes (distinct calls) (distinct-apart calls) b.texts)) in
-    let all : Steps d.given.ending (λ _. Unit {0}) (λ _. Unit {0}) (Counts w (b.body + rest))
-    (printed d.given outermost nothing_stood document ++ section_pieces d.given.options footnotes (tally calls)) =
-    steps-append d.given.ending (λ _. Unit {0}) (λ _. Unit {0}) (λ _. Unit {0}) (Counts w b.body) (Counts w rest)
-    (Counts w (b.body + rest)) (printed d.given outermost nothing_stood document)
-    (section_pieces d.given.options footnotes (tally calls)) (counts-join w b.body rest)
-    (steps-weaker d.given.ending (λ _. Unit {0}) (λ _. Unit {0}) (Waiting w (waits_after false document) b.left)
-    (λ _. Unit {0}) (Counts w b.body) (Counts w b.body) (printed d.given outermost nothing_stood document) (λ x h. h)
-    (λ x h. tt) (λ x h. h) b.prints) section in
-    counts-more w (b.body + rest) 1 (lay d.given.ending blank (printed d.given outermost nothing_stood document
-    ++ section_pieces d.given.options footnotes (tally calls))).text
-    (omega (b.few, document-once d.given.options on w calls small, arith))
-    (adds-blank (plain_setting d w 0).p d.given.ending (Counts w (b.body + rest))
-    (printed d.given outermost nothing_stood document
-    ++ section_pieces d.given.options footnotes (tally calls)) all).0
+    IsUnderlined false document → length d.given.calls + 2 < 2 ^ 64 →
+    (outcome d.given outermost nothing_before document).calls ≡ d.given.calls
+    → Counts w 1 (layout d.given.ending ((outcome d.given outermost nothing_before document).pieces
+    ++ section d.given (outcome d.given outermost nothing_before document).footnotes))
+document-counted d w document keeps on built underlined small called =
+    let all : Outcome = outcome d.given outermost nothing_before document in
+    let b : Costs d w nothing_before 0 (waits_after false document) all =
+    spent d w document outermost nothing_before false 0
+    (record {
+      built = built;
+      ready = record {
+        suits = refl;
+        follows = tt;
+        whole = λ _. record { both = join any_attribute; ids = λ value. refl };
+        heading = λ _. holds-none (read_in d);
+      };
+      underlined = underlined;
+    }) tt in
+    let rest : ℕ = occurs w label_id
+    + (occurs w (note_ids d.given.options d.given.calls (distinct d.given.calls)) + b.notes) in
+    let last : Prints (counted_in d w 0) (Counts w rest) (section d.given all.footnotes) =
+    section-counted d w keeps all.footnotes b.notes
+    (texts-for w b.notes all.footnotes (distinct d.given.calls) (distinct-apart d.given.calls) b.texts) in
+    counts-more w (b.body + rest) 1 (layout d.given.ending (all.pieces ++ section d.given all.footnotes))
+    (omega (
+      b.few,
+      ap (λ calls. occurs w (ids_after d.given.options d.given.calls [] calls)) called,
+      document-once d.given.options on w d.given.calls small,
+      arith,
+    ))
+    (adds-alone d.given.ending (Counts w (b.body + rest)) (all.pieces ++ section d.given all.footnotes)
+    (adds-append d.given.ending (Counts w b.body) (Counts w rest) (Counts w (b.body + rest)) all.pieces
+    (section d.given all.footnotes) (counts-join w b.body rest) b.prints last))

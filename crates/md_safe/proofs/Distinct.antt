@@ -1,10 +1,10 @@
 -- No two ids by number are equal: the heading's, those of footnotes and those of their calls. So each is counted once.
-use Rattle.std.proofs.Common.{◌≡◌, ◌⊎◌, ℕ, ◌+◌, ◌≤◌, ◌<◌, ◌^◌, ◌==◌, ◌/◌, ◌%◌, zero, suc, Bool, true, false, not, ◌||◌, cond, List, [], ◌∷◌, ◌++◌, length, refl, sym, ap, ◌∙◌, subst, inl, inr, arith, append_assoc, codes, bytes_eq}
+use Rattle.std.proofs.Common.{◌≡◌, ◌⊎◌, ℕ, ◌+◌, ◌≤◌, ◌<◌, ◌^◌, ◌==◌, ◌/◌, ◌%◌, zero, suc, Bool, true, false, not, ◌&&◌, ◌||◌, cond, List, [], ◌∷◌, ◌++◌, length, refl, sym, ap, ◌∙◌, subst, inl, inr, arith, append_assoc, append-nil, codes, bytes_eq}
 use Rattle.std.specs.Prelude.{Option, Some, None, option_map, string_bytes, filter, map}
 use Rattle.std.specs.Option.{option_map_or}
 use Rattle.std.specs.List.{list_all}
 use Rattle.std.specs.Fmt.{decimal, digits, digits_onto, digit_glyph}
-use Rattle.std.proofs.lemmas.Bool.{and_parts, and_from, cond_both, agree_below_at}
+use Rattle.std.proofs.lemmas.Bool.{and_parts, or_parts, and_from, cond_both, agree_below_at}
 use Rattle.std.proofs.lemmas.Fmt.{decimal_injective}
 use Rattle.std.proofs.lemmas.List.{append_cancel_left, length-append}
 use Rattle.std.proofs.lemmas.List.Folds.{list_all-append}
@@ -15,14 +15,11 @@ use Rattle.md_text.proofs.EncodeLaws.{read_back-before, read_back-other}
 use Rattle.md_text.proofs.HtmlSplit.{split}
 use Rattle.md_text.proofs.HtmlIds.{occurs}
 use Rattle.md_text.specs.declared.options.CompileOptions.{CompileOptions}
-use Rattle.md_meaning.specs.Calls.{Called, distinct, count_of, tally, number_among, count_among}
-use Rattle.md_meaning.specs.Footnotes.{prefix_of, id_by_name, numbered_id_of, occurrence_suffix, footnote_id, id_of_call}
-use Rattle.md_meaning.specs.Meaning.Footnotes.{place_among}
+use Rattle.md_text.specs.Url.{sanitized}
+use Rattle.md_meaning.specs.Meaning.Footnotes.{distinct, place_among, count_of, option_or, id_of, call_id}
 use Rattle.md_shape.specs.Built.{is_digit}
-use Rattle.md_meaning.proofs.Identifiers.{is_in, same, itself, is_in-distinct}
-use Rattle.md_tie.proofs.Calls.{number-same, number-placed, count-same}
+use Rattle.md_meaning.proofs.Identifiers.{is_in, Apart, same, itself, is_in-distinct, distinct-apart}
 use Rattle.md_safe.proofs.Texts.{digit-plain}
-use Rattle.md_safe.proofs.CallIds.{id_after, ids_after}
 use Rattle.md_text.proofs.ProtocolLemmas.{no_and}
 
 -- ---- what decimal writes
@@ -106,7 +103,7 @@ abbrev back_prefix : CompileOptions → List ℕ
 back_prefix options = option_map_or (encoded false) (option_map string_bytes options.gfm_footnote_clobber_prefix)
     (codes "user-content-")
 
-prefix-back : (options : CompileOptions) (x : List ℕ) → read_back (prefix_of options ++ x)
+prefix-back : (options : CompileOptions) (x : List ℕ) → read_back (option_or (option_map string_bytes options.gfm_footnote_clobber_prefix) (codes "user-content-") ++ x)
     ≡ back_prefix options ++ read_back x
 prefix-back options x = by (option_map string_bytes options.gfm_footnote_clobber_prefix)
   where
@@ -125,22 +122,24 @@ abbrev call_tail : ℕ → ℕ → List ℕ
 call_tail number occurrence = codes "fnref-" ++ (decimal number ++ (45 ∷ decimal occurrence))
 
 note-back : (options : CompileOptions) → options.gfm_footnote_number_ids ≡ true → (identifier : List ℕ) (number : ℕ) →
-    read_back (footnote_id options identifier number) ≡ back_prefix options ++ note_tail number
+    read_back (id_of options (codes "fn-") identifier number) ≡ back_prefix options ++ note_tail number
 note-back options on identifier number =
-    ap (λ b. read_back (cond b (numbered_id_of options (codes "fn-") number)
-    (id_by_name options (codes "fn-") identifier)))
-    on
+    let prefix : List ℕ = option_or (option_map string_bytes options.gfm_footnote_clobber_prefix)
+    (codes "user-content-") in
+    ap (λ b. read_back (prefix ++ (codes "fn-" ++ cond b (decimal number) (sanitized identifier)))) on
     ∙ prefix-back options (note_tail number)
     ∙ ap (λ x. back_prefix options ++ x) (plain-back (note_tail number) (digits-no_and (decimal number)
     (decimal-digits number)))
 
 call-back : (options : CompileOptions) → options.gfm_footnote_number_ids ≡ true → (identifier : List ℕ)
-    (number occurrence : ℕ) → read_back (id_of_call options identifier number occurrence)
+    (number occurrence : ℕ) → read_back (call_id options identifier number occurrence)
     ≡ back_prefix options ++ call_tail number occurrence
 call-back options on identifier number occurrence =
-    ap (λ b. read_back (cond b (numbered_id_of options (codes "fnref-") number ++ (45 ∷ decimal occurrence))
-    (id_by_name options (codes "fnref-") identifier ++ occurrence_suffix occurrence))) on
-    ∙ ap read_back (append_assoc (prefix_of options) (codes "fnref-" ++ decimal number) (45 ∷ decimal occurrence))
+    let prefix : List ℕ = option_or (option_map string_bytes options.gfm_footnote_clobber_prefix)
+    (codes "user-content-") in
+    ap (λ b. read_back ((prefix ++ (codes "fnref-" ++ cond b (decimal number) (sanitized identifier)))
+    ++ cond (not b && occurrence == 1) [] (45 ∷ decimal occurrence))) on
+    ∙ ap read_back (append_assoc prefix (codes "fnref-" ++ decimal number) (45 ∷ decimal occurrence))
     ∙ prefix-back options (call_tail number occurrence)
     ∙ ap (λ x. back_prefix options ++ x) (plain-back (call_tail number occurrence)
     (no_and-append (decimal number) (45 ∷ decimal occurrence) (digits-no_and (decimal number) (decimal-digits number))
@@ -234,19 +233,13 @@ count-middle xs ys x = by (bytes_eq x x) (itself x) (count-append xs (x ∷ ys) 
     by false h e = lie h
 
 -- two calls have another number, or another occurrence
-calls-differ : (before mid : List (List ℕ)) (x y : List ℕ) →
-    number_among (tally before) x ≡ number_among (tally (before ++ x ∷ mid)) y →
-    suc (count_among (tally before) x) ≡ suc (count_among (tally (before ++ x ∷ mid)) y) → ⊥
-calls-differ before mid x y numbers occurrences =
-    let all : List (List ℕ) = before ++ x ∷ (mid ++ y ∷ []) in
-    let places : place_among (distinct all) x ≡ place_among (distinct all) y =
-    sym (number-same before (mid ++ y ∷ []) x) ∙ numbers ∙ number-same (before ++ x ∷ mid) [] y
-    ∙ ap (λ calls. place_among (distinct calls) y) (append_assoc before (x ∷ mid) (y ∷ [])) in
-    let one : x ≡ y = same-place (distinct all) x y (is_in-distinct all x ∙ is_in-middle before (mid ++ y ∷ []) x)
-    places in
+calls-differ : (all before mid : List (List ℕ)) (x y : List ℕ) → is_in x all ≡ true →
+    place_among (distinct all) x ≡ place_among (distinct all) y →
+    suc (count_of before x) ≡ suc (count_of (before ++ x ∷ mid) y) → ⊥
+calls-differ all before mid x y among numbers occurrences =
+    let one : x ≡ y = same-place (distinct all) x y (is_in-distinct all x ∙ among) numbers in
     let counted : count_of before x ≡ count_of (before ++ x ∷ mid) x =
-    sym (count-same before x) ∙ omega (occurrences, arith) ∙ count-same (before ++ x ∷ mid) y
-    ∙ ap (λ z. count_of (before ++ x ∷ mid) z) (sym one) in
+    omega (occurrences, arith) ∙ ap (λ z. count_of (before ++ x ∷ mid) z) (sym one) in
     omega (counted, count-middle before mid x, arith)
 
 -- numbers and occurrences are no greater than the calls are many, and one
@@ -280,48 +273,60 @@ distinct-fewer [] = omega arith
 distinct-fewer (call ∷ calls) =
     omega (filter-fewer (λ other. not (bytes_eq other call)) (distinct calls), distinct-fewer calls, arith)
 
-number-bound : (before : List (List ℕ)) (x : List ℕ) → number_among (tally before) x ≤ suc (length before)
-number-bound before x =
-    omega (
-      number-placed (count_of before) (distinct before) x,
-      place-last (distinct before) x,
-      distinct-fewer before,
-      arith,
-    )
+number-bound : (all : List (List ℕ)) (x : List ℕ) → place_among (distinct all) x ≤ suc (length all)
+number-bound all x = omega (place-last (distinct all) x, distinct-fewer all, arith)
 
-occurrence-bound : (before : List (List ℕ)) (x : List ℕ) → suc (count_among (tally before) x) ≤ suc (length before)
-occurrence-bound before x = omega (count-same before x, count-last before x, arith)
+-- the id of a call after others, its references read back; `all` are all calls
+abbrev pub id_after : CompileOptions → List (List ℕ) → List (List ℕ) → List ℕ → List ℕ
+id_after options all before identifier = read_back (call_id options identifier
+    (place_among (distinct all) identifier) (suc (count_of before identifier)))
+
+-- the ids of some calls after others
+abbrev pub ids_after : CompileOptions → List (List ℕ) → List (List ℕ) → List (List ℕ) → List (List ℕ)
+ids_after options all before [] = []
+ids_after options all before (identifier ∷ calls) =
+    id_after options all before identifier ∷ ids_after options all (before ++ (identifier ∷ [])) calls
+
+pub ids-append : (options : CompileOptions) (all before xs ys : List (List ℕ)) →
+    ids_after options all before (xs ++ ys)
+    ≡ ids_after options all before xs ++ ids_after options all (before ++ xs) ys
+ids-append options all before [] ys = ap (λ b. ids_after options all b ys) (sym (append-nil before))
+ids-append options all before (x ∷ xs) ys =
+    ap (λ ids. id_after options all before x ∷ ids) (ids-append options all (before ++ (x ∷ [])) xs ys
+    ∙ ap (λ b. ids_after options all (before ++ (x ∷ [])) xs ++ ids_after options all b ys)
+    (append_assoc before (x ∷ []) xs))
 
 -- a later call has another id
-ids-differ : (options : CompileOptions) → options.gfm_footnote_number_ids ≡ true → (before mid : List (List ℕ))
-    (x y : List ℕ) → length (before ++ x ∷ mid) + 1 < 2 ^ 64 →
-    id_after options (before ++ x ∷ mid) y ≡ id_after options before x → ⊥
-ids-differ options on before mid x y small e =
-    let n : ℕ = number_among (tally before) x in
-    let k : ℕ = suc (count_among (tally before) x) in
-    let m : ℕ = number_among (tally (before ++ x ∷ mid)) y in
-    let l : ℕ = suc (count_among (tally (before ++ x ∷ mid)) y) in
+ids-differ : (options : CompileOptions) → options.gfm_footnote_number_ids ≡ true → (all before mid : List (List ℕ))
+    (x y : List ℕ) → is_in x all ≡ true → length all + 1 < 2 ^ 64 → length (before ++ x ∷ mid) + 1 < 2 ^ 64 →
+    id_after options all (before ++ x ∷ mid) y ≡ id_after options all before x → ⊥
+ids-differ options on all before mid x y among few small e =
+    let n : ℕ = place_among (distinct all) x in
+    let k : ℕ = suc (count_of before x) in
+    let m : ℕ = place_among (distinct all) y in
+    let l : ℕ = suc (count_of (before ++ x ∷ mid) y) in
     let fewer : length before ≤ length (before ++ x ∷ mid) = omega (length-append before (x ∷ mid), arith) in
     let tails : back_prefix options ++ call_tail n k ≡ back_prefix options ++ call_tail m l =
     sym (call-back options on x n k) ∙ sym e ∙ call-back options on y m l in
-    let parts = same-call options n m k l (omega (number-bound before x, fewer, small, arith))
-    (omega (number-bound (before ++ x ∷ mid) y, small, arith))
-    (omega (occurrence-bound before x, fewer, small, arith))
-    (omega (occurrence-bound (before ++ x ∷ mid) y, small, arith)) tails in
-    calls-differ before mid x y parts.0 parts.1
+    let parts = same-call options n m k l (omega (number-bound all x, few, arith))
+    (omega (number-bound all y, few, arith))
+    (omega (count-last before x, fewer, small, arith))
+    (omega (count-last (before ++ x ∷ mid) y, small, arith)) tails in
+    calls-differ all before mid x y among parts.0 parts.1
 
 -- ---- how often an id is among those of a document
 
 -- no later call has the id of an earlier one
-none-later : (options : CompileOptions) → options.gfm_footnote_number_ids ≡ true → (before mid : List (List ℕ))
-    (x : List ℕ) (calls : List (List ℕ)) → length (before ++ x ∷ mid) + length calls + 1 < 2 ^ 64 →
-    occurs (id_after options before x) (ids_after options (before ++ x ∷ mid) calls) ≡ 0
-none-later options on before mid x [] small = refl
-none-later options on before mid x (y ∷ calls) small =
-    by (bytes_eq (id_after options (before ++ x ∷ mid) y) (id_after options before x)) refl
-    (subst (λ b. occurs (id_after options before x) (ids_after options b calls) ≡ 0)
+none-later : (options : CompileOptions) → options.gfm_footnote_number_ids ≡ true → (all before mid : List (List ℕ))
+    (x : List ℕ) (calls : List (List ℕ)) → is_in x all ≡ true → length all + 1 < 2 ^ 64 →
+    length (before ++ x ∷ mid) + length calls + 1 < 2 ^ 64 →
+    occurs (id_after options all before x) (ids_after options all (before ++ x ∷ mid) calls) ≡ 0
+none-later options on all before mid x [] among few small = refl
+none-later options on all before mid x (y ∷ calls) among few small =
+    by (bytes_eq (id_after options all (before ++ x ∷ mid) y) (id_after options all before x)) refl
+    (subst (λ b. occurs (id_after options all before x) (ids_after options all b calls) ≡ 0)
     (sym (append_assoc before (x ∷ mid) (y ∷ [])))
-    (none-later options on before (mid ++ y ∷ []) x calls
+    (none-later options on all before (mid ++ y ∷ []) x calls among few
     (omega (
       ap length (append_assoc before (x ∷ mid) (y ∷ [])),
       length-append (before ++ x ∷ mid) (y ∷ []),
@@ -329,102 +334,113 @@ none-later options on before mid x (y ∷ calls) small =
       arith,
     ))))
   where
-    by : (is : Bool) → bytes_eq (id_after options (before ++ x ∷ mid) y) (id_after options before x) ≡ is →
-        occurs (id_after options before x) (ids_after options ((before ++ x ∷ mid) ++ y ∷ []) calls) ≡ 0 →
-        cond is (suc (occurs (id_after options before x) (ids_after options ((before ++ x ∷ mid) ++ y ∷ []) calls)))
-        (occurs (id_after options before x) (ids_after options ((before ++ x ∷ mid) ++ y ∷ []) calls)) ≡ 0
-    by true e later = absurd (ids-differ options on before mid x y (omega (small, arith))
-        (same (id_after options (before ++ x ∷ mid) y) (id_after options before x) e))
+    by : (is : Bool) → bytes_eq (id_after options all (before ++ x ∷ mid) y) (id_after options all before x) ≡ is →
+        occurs (id_after options all before x) (ids_after options all ((before ++ x ∷ mid) ++ y ∷ []) calls) ≡ 0 →
+        cond is
+        (suc (occurs (id_after options all before x) (ids_after options all ((before ++ x ∷ mid) ++ y ∷ []) calls)))
+        (occurs (id_after options all before x) (ids_after options all ((before ++ x ∷ mid) ++ y ∷ []) calls)) ≡ 0
+    by true e later = absurd (ids-differ options on all before mid x y among few (omega (small, arith))
+        (same (id_after options all (before ++ x ∷ mid) y) (id_after options all before x) e))
     by false e later = later
 
 -- each id is that of one call at most
 calls-once : (options : CompileOptions) → options.gfm_footnote_number_ids ≡ true → (w : List ℕ)
-    (before calls : List (List ℕ)) → length before + length calls + 1 < 2 ^ 64 →
-    occurs w (ids_after options before calls) ≤ 1
-calls-once options on w before [] small = omega arith
-calls-once options on w before (x ∷ calls) small =
-    by (bytes_eq (id_after options before x) w) refl
-    (calls-once options on w (before ++ x ∷ []) calls (omega (length-append before (x ∷ []), small, arith)))
+    (all before calls : List (List ℕ)) → before ++ calls ≡ all → length all + 1 < 2 ^ 64 →
+    length before + length calls + 1 < 2 ^ 64 → occurs w (ids_after options all before calls) ≤ 1
+calls-once options on w all before [] whole few small = omega arith
+calls-once options on w all before (x ∷ calls) whole few small =
+    by (bytes_eq (id_after options all before x) w) refl
+    (calls-once options on w all (before ++ x ∷ []) calls (append_assoc before (x ∷ []) calls ∙ whole) few
+    (omega (length-append before (x ∷ []), small, arith)))
   where
-    by : (is : Bool) → bytes_eq (id_after options before x) w ≡ is →
-        occurs w (ids_after options (before ++ x ∷ []) calls) ≤ 1
-        → cond is (suc (occurs w (ids_after options (before ++ x ∷ []) calls)))
-        (occurs w (ids_after options (before ++ x ∷ []) calls)) ≤ 1
+    by : (is : Bool) → bytes_eq (id_after options all before x) w ≡ is →
+        occurs w (ids_after options all (before ++ x ∷ []) calls) ≤ 1
+        → cond is (suc (occurs w (ids_after options all (before ++ x ∷ []) calls)))
+        (occurs w (ids_after options all (before ++ x ∷ []) calls)) ≤ 1
     by true e later =
         omega (
-          ap (λ w. occurs w (ids_after options (before ++ x ∷ []) calls))
-              (sym (same (id_after options before x) w e)),
-          none-later options on before [] x calls (omega (length-append before (x ∷ []), small, arith)),
+          ap (λ w. occurs w (ids_after options all (before ++ x ∷ []) calls))
+              (sym (same (id_after options all before x) w e)),
+          none-later options on all before [] x calls (subst (λ all. is_in x all ≡ true) whole
+              (is_in-middle before calls x)) few (omega (length-append before (x ∷ []), small, arith)),
           arith,
         )
     by false e later = later
 
--- the ids of footnotes, numbered on
-abbrev pub note_ids : CompileOptions → ℕ → List Called → List (List ℕ)
-note_ids options number [] = []
-note_ids options number (called ∷ others) =
-    read_back (footnote_id options called.identifier number) ∷ note_ids options (suc number) others
+-- the ids of footnotes
+abbrev pub note_id : CompileOptions → List (List ℕ) → List ℕ → List ℕ
+note_id options all identifier =
+    read_back (id_of options (codes "fn-") identifier (place_among (distinct all) identifier))
 
-none-after : (options : CompileOptions) → options.gfm_footnote_number_ids ≡ true → (identifier : List ℕ)
-    (number more : ℕ) (called : List Called) → number + more + length called + 1 < 2 ^ 64 →
-    occurs (read_back (footnote_id options identifier number)) (note_ids options (suc (number + more)) called) ≡ 0
-none-after options on identifier number more [] small = refl
-none-after options on identifier number more (called ∷ others) small =
-    by (bytes_eq (read_back (footnote_id options called.identifier (suc (number + more))))
-    (read_back (footnote_id options identifier number))) refl
-    (subst (λ k. occurs (read_back (footnote_id options identifier number)) (note_ids options (suc k) others) ≡ 0)
-    (omega arith)
-    (none-after options on identifier number (suc more) others (omega (small, arith))))
+abbrev pub note_ids : CompileOptions → List (List ℕ) → List (List ℕ) → List (List ℕ)
+note_ids options all identifiers = map (note_id options all) identifiers
+
+-- each of some identifiers is among others
+abbrev AreIn : List (List ℕ) → List (List ℕ) → Type 0
+AreIn [] others = Unit {0}
+AreIn (x ∷ xs) others = (is_in x others ≡ true) × AreIn xs others
+
+notes-differ : (options : CompileOptions) → options.gfm_footnote_number_ids ≡ true → (all : List (List ℕ))
+    (x y : List ℕ) → length all + 1 < 2 ^ 64 → is_in y (distinct all) ≡ true →
+    note_id options all y ≡ note_id options all x → y ≡ x
+notes-differ options on all x y few among e =
+    let tails : back_prefix options ++ note_tail (place_among (distinct all) y)
+    ≡ back_prefix options ++ note_tail (place_among (distinct all) x) =
+    sym (note-back options on y (place_among (distinct all) y)) ∙ e
+    ∙ note-back options on x (place_among (distinct all) x) in
+    same-place (distinct all) y x among
+    (same-note options (place_among (distinct all) y) (place_among (distinct all) x)
+    (omega (number-bound all y, few, arith)) (omega (number-bound all x, few, arith)) tails)
+
+none-other : (options : CompileOptions) → options.gfm_footnote_number_ids ≡ true → (all : List (List ℕ))
+    (x : List ℕ) (identifiers : List (List ℕ)) → length all + 1 < 2 ^ 64 → AreIn identifiers (distinct all) →
+    is_in x identifiers ≡ false → occurs (note_id options all x) (note_ids options all identifiers) ≡ 0
+none-other options on all x [] few among none = refl
+none-other options on all x (y ∷ identifiers) few among none =
+    let parts = or_parts (bytes_eq y x) (is_in x identifiers) none in
+    by (bytes_eq (note_id options all y) (note_id options all x)) refl parts.0
+    (none-other options on all x identifiers few among.1 parts.1)
   where
-    by : (is : Bool) → bytes_eq (read_back (footnote_id options called.identifier (suc (number + more))))
-        (read_back (footnote_id options identifier number)) ≡ is
-        → occurs (read_back (footnote_id options identifier number))
-        (note_ids options (suc (suc (number + more))) others) ≡ 0
-        → cond is
-        (suc (occurs (read_back (footnote_id options identifier number))
-        (note_ids options (suc (suc (number + more))) others)))
-        (occurs (read_back (footnote_id options identifier number))
-        (note_ids options (suc (suc (number + more))) others)) ≡ 0
-    by true e later =
-        let tails : back_prefix options ++ note_tail (suc (number + more)) ≡ back_prefix options ++ note_tail number =
-        sym (note-back options on called.identifier (suc (number + more)))
-        ∙ same (read_back (footnote_id options called.identifier (suc (number + more))))
-        (read_back (footnote_id options identifier number)) e
-        ∙ note-back options on identifier number in
-        absurd (omega (
-          same-note options (suc (number + more)) number (omega (small, arith)) (omega (small, arith)) tails,
-          arith,
-        ))
-    by false e later = later
-
-none-next : (options : CompileOptions) → options.gfm_footnote_number_ids ≡ true → (identifier : List ℕ) (number : ℕ)
-    (called : List Called) → number + length called + 1 < 2 ^ 64 →
-    occurs (read_back (footnote_id options identifier number)) (note_ids options (suc number) called) ≡ 0
-none-next options on identifier number called small =
-    let same : number + 0 ≡ number = omega arith in
-    subst (λ k. occurs (read_back (footnote_id options identifier number)) (note_ids options (suc k) called) ≡ 0) same
-    (none-after options on identifier number 0 called (omega (small, arith)))
+    by : (is : Bool) → bytes_eq (note_id options all y) (note_id options all x) ≡ is → bytes_eq y x ≡ false →
+        occurs (note_id options all x) (note_ids options all identifiers) ≡ 0 →
+        cond is (suc (occurs (note_id options all x) (note_ids options all identifiers)))
+        (occurs (note_id options all x) (note_ids options all identifiers)) ≡ 0
+    by true e other later =
+        let one : y ≡ x = notes-differ options on all x y few among.0
+        (same (note_id options all y) (note_id options all x) e) in
+        lie (sym other ∙ ap (λ z. bytes_eq z x) one ∙ itself x)
+    by false e other later = later
 
 -- each id is that of one footnote at most
-notes-once : (options : CompileOptions) → options.gfm_footnote_number_ids ≡ true → (w : List ℕ) (number : ℕ)
-    (called : List Called) → number + length called + 1 < 2 ^ 64 → occurs w (note_ids options number called) ≤ 1
-notes-once options on w number [] small = omega arith
-notes-once options on w number (called ∷ others) small =
-    by (bytes_eq (read_back (footnote_id options called.identifier number)) w) refl
-    (notes-once options on w (suc number) others (omega (small, arith)))
+notes-once : (options : CompileOptions) → options.gfm_footnote_number_ids ≡ true → (w : List ℕ)
+    (all identifiers : List (List ℕ)) → length all + 1 < 2 ^ 64 → Apart identifiers →
+    AreIn identifiers (distinct all) → occurs w (note_ids options all identifiers) ≤ 1
+notes-once options on w all [] few apart among = omega arith
+notes-once options on w all (x ∷ identifiers) few apart among =
+    by (bytes_eq (note_id options all x) w) refl
+    (notes-once options on w all identifiers few apart.1 among.1)
   where
-    by : (is : Bool) → bytes_eq (read_back (footnote_id options called.identifier number)) w ≡ is →
-        occurs w (note_ids options (suc number) others) ≤ 1
-        → cond is (suc (occurs w (note_ids options (suc number) others)))
-        (occurs w (note_ids options (suc number) others)) ≤ 1
+    by : (is : Bool) → bytes_eq (note_id options all x) w ≡ is → occurs w (note_ids options all identifiers) ≤ 1
+        → cond is (suc (occurs w (note_ids options all identifiers))) (occurs w (note_ids options all identifiers)) ≤ 1
     by true e later =
         omega (
-          ap (λ w. occurs w (note_ids options (suc number) others))
-              (sym (same (read_back (footnote_id options called.identifier number)) w e)),
-          none-next options on called.identifier number others (omega (small, arith)),
+          ap (λ w. occurs w (note_ids options all identifiers)) (sym (same (note_id options all x) w e)),
+          none-other options on all x identifiers few among.1 apart.0,
           arith,
         )
     by false e later = later
+
+in-more : (x : List ℕ) (xs others : List (List ℕ)) → AreIn xs others → AreIn xs (x ∷ others)
+in-more x [] others h = tt
+in-more x (y ∷ ys) others h = (by (bytes_eq x y) h.0, in-more x ys others h.1)
+  where
+    by : (is : Bool) → is_in y others ≡ true → (is || is_in y others) ≡ true
+    by true h = refl
+    by false h = h
+
+in-itself : (xs : List (List ℕ)) → AreIn xs xs
+in-itself [] = tt
+in-itself (x ∷ xs) = (ap (λ b. b || is_in x xs) (itself x), in-more x xs xs (in-itself xs))
 
 -- of each of some ids something holds
 abbrev Each : (List ℕ → Type 0) → List (List ℕ) → Type 0
@@ -448,24 +464,24 @@ IsNote options w = (n : ℕ) × (w ≡ back_prefix options ++ note_tail n)
 abbrev IsCall : CompileOptions → List ℕ → Type 0
 IsCall options w = (n : ℕ) × (k : ℕ) × (w ≡ back_prefix options ++ call_tail n k)
 
-each-note : (options : CompileOptions) → options.gfm_footnote_number_ids ≡ true → (number : ℕ) (called : List Called) →
-    Each (IsNote options) (note_ids options number called)
-each-note options on number [] = tt
-each-note options on number (called ∷ others) = (
-  (number, note-back options on called.identifier number),
-  each-note options on (suc number) others,
+each-note : (options : CompileOptions) → options.gfm_footnote_number_ids ≡ true → (all identifiers : List (List ℕ)) →
+    Each (IsNote options) (note_ids options all identifiers)
+each-note options on all [] = tt
+each-note options on all (x ∷ identifiers) = (
+  (place_among (distinct all) x, note-back options on x (place_among (distinct all) x)),
+  each-note options on all identifiers,
 )
 
-each-call : (options : CompileOptions) → options.gfm_footnote_number_ids ≡ true → (before calls : List (List ℕ)) →
-    Each (IsCall options) (ids_after options before calls)
-each-call options on before [] = tt
-each-call options on before (x ∷ calls) = (
+each-call : (options : CompileOptions) → options.gfm_footnote_number_ids ≡ true → (all before calls : List (List ℕ)) →
+    Each (IsCall options) (ids_after options all before calls)
+each-call options on all before [] = tt
+each-call options on all before (x ∷ calls) = (
   (
-    number_among (tally before) x,
-    suc (count_among (tally before) x),
-    call-back options on x (number_among (tally before) x) (suc (count_among (tally before) x)),
+    place_among (distinct all) x,
+    suc (count_of before x),
+    call-back options on x (place_among (distinct all) x) (suc (count_of before x)),
   ),
-  each-call options on (before ++ x ∷ []) calls,
+  each-call options on all (before ++ x ∷ []) calls,
 )
 
 -- the id of the heading
@@ -479,27 +495,18 @@ label-alone options w ends = by (bytes_eq (codes "footnote-label") w) refl
     by true e = absurd (label-no_digit w (same (codes "footnote-label") w e) ends)
     by false e = refl
 
-tally-length : (calls : List (List ℕ)) → length (tally calls) ≡ length (distinct calls)
-tally-length calls = by (count_of calls) (distinct calls)
-  where
-    by : (f : List ℕ → ℕ) (xs : List (List ℕ)) → length (map {B = Called} (λ i. record {
-      identifier = i;
-      count = f i;
-    }) xs) ≡ length xs
-    by f [] = refl
-    by f (x ∷ xs) = ap suc (by f xs)
-
 -- each id is that of the heading, of one footnote or of one call, and of no two
 pub document-once : (options : CompileOptions) → options.gfm_footnote_number_ids ≡ true → (w : List ℕ)
     (calls : List (List ℕ)) → length calls + 2 < 2 ^ 64 →
-    occurs w label_id + occurs w (note_ids options 1 (tally calls)) + occurs w (ids_after options [] calls) ≤ 1
+    occurs w label_id + occurs w (note_ids options calls (distinct calls)) + occurs w (ids_after options calls [] calls)
+    ≤ 1
 document-once options on w calls small =
-    let few : length (tally calls) ≤ length calls = omega (tally-length calls, distinct-fewer calls, arith) in
-    let notes = notes-once options on w 1 (tally calls) (omega (few, small, arith)) in
-    let called = calls-once options on w [] calls (omega (small, arith)) in
-    by notes called (among-each (IsNote options) w (note_ids options 1 (tally calls))
-    (each-note options on 1 (tally calls)))
-    (among-each (IsCall options) w (ids_after options [] calls) (each-call options on [] calls))
+    let few : length calls + 1 < 2 ^ 64 = omega (small, arith) in
+    let notes = notes-once options on w calls (distinct calls) few (distinct-apart calls) (in-itself (distinct calls)) in
+    let called = calls-once options on w calls [] calls refl few (omega (small, arith)) in
+    by notes called (among-each (IsNote options) w (note_ids options calls (distinct calls))
+    (each-note options on calls (distinct calls)))
+    (among-each (IsCall options) w (ids_after options calls [] calls) (each-call options on calls [] calls))
   where
     heading : occurs w label_id ≤ 1
     heading = of (bytes_eq (codes "footnote-label") w)
@@ -508,10 +515,11 @@ document-once options on w calls small =
         of true = omega arith
         of false = omega arith
 
-    by : occurs w (note_ids options 1 (tally calls)) ≤ 1 → occurs w (ids_after options [] calls) ≤ 1
-        → (occurs w (note_ids options 1 (tally calls)) ≡ 0) ⊎ IsNote options w
-        → (occurs w (ids_after options [] calls) ≡ 0) ⊎ IsCall options w
-        → occurs w label_id + occurs w (note_ids options 1 (tally calls)) + occurs w (ids_after options [] calls) ≤ 1
+    by : occurs w (note_ids options calls (distinct calls)) ≤ 1 → occurs w (ids_after options calls [] calls) ≤ 1
+        → (occurs w (note_ids options calls (distinct calls)) ≡ 0) ⊎ IsNote options w
+        → (occurs w (ids_after options calls [] calls) ≡ 0) ⊎ IsCall options w
+        → occurs w label_id + occurs w (note_ids options calls (distinct calls))
+        + occurs w (ids_after options calls [] calls) ≤ 1
     by notes called (inl n) (inl c) = omega (heading, n, c, arith)
     by notes called (inl n) (inr c) =
         omega (label-alone options w (subst EndsInDigit (sym c.2) (call-ends options c.0 c.1)), n, called, arith)

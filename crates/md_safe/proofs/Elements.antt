@@ -3,33 +3,40 @@ use Rattle.std.proofs.Common.{◌≡◌, ◌≢◌, ◌⊎◌, ℕ, ◌≤◌, �
 use Rattle.std.specs.Prelude.{Option, Some, None, bytes_eq}
 use Rattle.std.specs.Option.{option_map_or}
 use Rattle.std.specs.List.{list_all}
+use Rattle.std.specs.Fmt.{decimal, digits}
 use Rattle.std.proofs.lemmas.Bool.{agree_below_at, not_from_false}
 use Rattle.md_base.specs.declared.event.Position.{Position}
 use Rattle.md_text.specs.Html.{opening_tag, closing_tag, is_tag, elements}
 use Rattle.md_text.proofs.HtmlJoin.{text, join}
 use Rattle.md_text.specs.declared.options.CompileOptions.{CompileOptions}
-use Rattle.md_meaning.specs.Piece.{Stroke, Text, Needed, Recalled}
-use Rattle.md_meaning.specs.Given.{text_of}
-use Rattle.md_meaning.specs.Places.{unpadded}
-use Rattle.md_meaning.specs.Blocks.{on_new_line, start_pieces, heading_name, heading_opening, heading_closing, code_closing}
-use Rattle.md_meaning.specs.Texts.{saying}
+use Rattle.md_meaning.specs.Meaning.Layout.{Piece, Text, Needed, said, on_own_line, when}
+use Rattle.md_meaning.specs.Meaning.At.{Given, At, text_in}
+use Rattle.md_meaning.specs.Meaning.Finds.{number_in_list}
+use Rattle.md_meaning.specs.Meaning.Blocks.{heading_tag, heading, list_start, without_zeros}
 use Rattle.md_shape.specs.Built.{is_digit}
 use Rattle.md_safe.proofs.Texts.{Escaped, zeros-escaped}
 use Rattle.md_safe.proofs.Claim.{Claim}
-use Rattle.md_safe.proofs.Laid.{Adds, adds-append, adds-weaker, adds-needed, adds-recalled}
+use Rattle.md_safe.proofs.Laid.{Adds, adds-append, adds-needed}
 use Rattle.md_safe.proofs.Tags.{IsTest, attribute, IsFramed, Bracket, bracket-tag, bracket-two, element-read, void-read, adds-pair, adds-flat, framed-text, framed-needed, flat, are_texts}
 
 pub bracket-plain : (p : Claim) (name : List ℕ) → is_tag elements name [] ≡ true →
     Bracket p (opening_tag name []) (closing_tag name)
 bracket-plain p name h = bracket-tag p name [] h refl
 
+abbrev pub code_closing : List ℕ
+code_closing = codes "</code></pre>"
+
 pub bracket-code : (p : Claim) → Bracket p (codes "<pre><code>") code_closing
 bracket-code p = bracket-two p (codes "<pre>") (codes "</pre>") (codes "<code>") (codes "</code>")
     (bracket-plain p (codes "pre") refl) (bracket-plain p (codes "code") refl)
 
 -- a heading of a rank from 1 to 6
+heading_name : ℕ → List ℕ
+heading_name rank = 104 ∷ decimal rank
+
 pub bracket-heading : (p : Claim) (rank : ℕ) → (1 ≤ rank) × (rank ≤ 6) →
-    Bracket p (heading_opening rank) (heading_closing rank)
+    Bracket p (heading_tag (codes "<h") rank) (heading_tag (codes "</h") rank)
+unfolding heading_name digits
 bracket-heading p rank h =
     let below : rank < 7 = omega (arith, h.1) in
     let some : rank ≢ 0 = (λ e. omega (arith, h.0, e)) in
@@ -37,23 +44,20 @@ bracket-heading p rank h =
     (agree_below_at (λ rank. is_tag elements (heading_name rank) []) (λ rank. not (rank == 0)) 7 rank refl below
     ∙ not_from_false (rank == 0) (ne_eqb rank 0 some))
 
--- the heading that was noted
-pub adds-setext : (p : Claim) (ending : List ℕ) → ((x : List ℕ) → p.noted x → p.holds x) → Escaped ending →
-    (rank : ℕ) → (1 ≤ rank) × (rank ≤ 6) →
-    Adds p ending p.holds (Needed ∷ Text (heading_opening rank) ∷ Recalled ∷ Text (heading_closing rank)
-    ∷ [])
-adds-setext p ending recalls h rank fits =
-    adds-pair p ending (heading_opening rank) (heading_closing rank) (Needed ∷ Text (heading_opening rank)
-    ∷ []) (Recalled ∷ []) (Text (heading_closing rank) ∷ [])
-    (bracket-heading p rank fits) (framed-needed p ending (heading_opening rank) h)
-    (adds-weaker p ending p.noted p.holds (Recalled ∷ []) recalls (adds-recalled p ending))
-    (framed-text p ending (heading_closing rank))
+-- a heading around what stands in it
+pub adds-heading : (p : Claim) (ending : List ℕ) → Escaped ending → (rank : ℕ) → (1 ≤ rank) × (rank ≤ 6) →
+    (inner : List Piece) → Adds ending p.holds inner → Adds ending p.holds (heading rank inner)
+adds-heading p ending h rank fits inner a =
+    adds-pair p ending (heading_tag (codes "<h") rank) (heading_tag (codes "</h") rank)
+    (on_own_line (heading_tag (codes "<h") rank)) inner (said (heading_tag (codes "</h") rank))
+    (bracket-heading p rank fits) (framed-needed ending (heading_tag (codes "<h") rank) h) a
+    (framed-text ending (heading_tag (codes "</h") rank))
 
 -- some texts after pieces that add an escaped one
-pub adds-framed_flat : (p : Claim) (ending : List ℕ) (xs zs : List Stroke) → are_texts zs ≡ true →
-    Adds p ending Escaped xs → Adds p ending (IsFramed (flat zs)) (xs ++ zs)
-adds-framed_flat p ending xs zs texts a =
-    adds-append p ending Escaped (λ w. w ≡ flat zs) (IsFramed (flat zs)) xs zs
+pub adds-framed_flat : (ending : List ℕ) (xs zs : List Piece) → are_texts zs ≡ true →
+    Adds ending Escaped xs → Adds ending (IsFramed (flat zs)) (xs ++ zs)
+adds-framed_flat ending xs zs texts a =
+    adds-append ending Escaped (λ w. w ≡ flat zs) (IsFramed (flat zs)) xs zs
     (λ x w f g. record {
       before = x;
       after = [];
@@ -62,12 +66,12 @@ adds-framed_flat p ending xs zs texts a =
       escaped_before = f;
       escaped_after = refl;
     })
-    a (adds-flat p ending (λ w. w ≡ flat zs) zs texts refl)
+    a (adds-flat ending (λ w. w ≡ flat zs) zs texts refl)
 
 -- the opening of a list, between pieces
-pub record IsOpening (p : Claim) (ending : List ℕ) (close : List ℕ) (pieces : List Stroke) : Type 0 where
+pub record IsOpening (p : Claim) (ending : List ℕ) (close : List ℕ) (pieces : List Piece) : Type 0 where
   pub open_tag : List ℕ
-  pub adds : Adds p ending (IsFramed open_tag) pieces
+  pub adds : Adds ending (IsFramed open_tag) pieces
   pub bracket : Bracket p open_tag close
 
 ol_start : (n : List ℕ) → Escaped n → is_tag elements (codes "ol") (attribute (codes "start") n ∷ []) ≡ true
@@ -80,8 +84,8 @@ with_start : (p : Claim) (ending : List ℕ) → Escaped ending → (options : C
 with_start p ending h options test n e =
     record {
       open_tag = codes "<ol start=\"" ++ (n ++ codes "\">");
-      adds = adds-framed_flat p ending (Needed ∷ []) (Text (codes "<ol") ∷ Text (codes " start=\"") ∷ Text n
-          ∷ Text (codes "\"") ∷ Text (codes ">") ∷ []) refl (adds-needed p ending h);
+      adds = adds-framed_flat ending (Needed ∷ []) (Text (codes "<ol") ∷ Text (codes " start=\"") ∷ Text n
+          ∷ Text (codes "\"") ∷ Text (codes ">") ∷ []) refl (adds-needed ending h);
       bracket =
           subst (λ o. Bracket p o (codes "</ol>")) (ap (λ x. codes "<ol start=\""
           ++ x) (append_assoc n (34 ∷ []) (62 ∷ [])))
@@ -94,33 +98,38 @@ without_start : (p : Claim) (ending : List ℕ) → Escaped ending →
 without_start p ending h =
     record {
       open_tag = codes "<ol>";
-      adds = adds-framed_flat p ending (Needed ∷ []) (Text (codes "<ol") ∷ Text (codes ">")
-          ∷ []) refl (adds-needed p ending h);
+      adds = adds-framed_flat ending (Needed ∷ []) (Text (codes "<ol") ∷ Text (codes ">")
+          ∷ []) refl (adds-needed ending h);
       bracket = bracket-plain p (codes "ol") refl;
     }
 
 -- an ordered list's opening
-pub ordered-opening : (p : Claim) (ending : List ℕ) → Escaped ending → (options : CompileOptions) →
-    IsTest p.test options → (bytes : List ℕ) (number : Option Position)
-    → option_map_or (λ place. list_all is_digit (text_of bytes place.start place.end)) number true ≡ true
-    → IsOpening p ending (codes "</ol>")
-    (on_new_line (codes "<ol") ++ (start_pieces bytes number ++ saying (codes ">")))
-ordered-opening p ending h options test bytes None fits = without_start p ending h
-ordered-opening p ending h options test bytes (Some place) fits =
-    by (bytes_eq (unpadded (text_of bytes place.start place.end)) (codes "1"))
+pub ordered-opening : (p : Claim) (ending : List ℕ) → Escaped ending → (given : Given) →
+    IsTest p.test given.options → (at : At)
+    → option_map_or (λ place. list_all is_digit (text_in given.bytes place)) (number_in_list at.children) true ≡ true
+    → IsOpening p ending (codes "</ol>") (on_own_line (codes "<ol") ++ (list_start given at ++ said (codes ">")))
+ordered-opening p ending h given test at fits =
+    let first : List ℕ = option_map_or (text_in given.bytes) (number_in_list at.children) (codes "1") in
+    by (without_zeros first) (zeros-escaped first (digits_of (number_in_list at.children) fits))
+    (bytes_eq (without_zeros first) (codes "1"))
   where
-    by : (one : Bool) → IsOpening p ending (codes "</ol>") (on_new_line (codes "<ol")
-        ++ ((cond one [] (Text (codes " start=\"") ∷ Text (unpadded (text_of bytes place.start place.end))
-        ∷ Text (codes "\"") ∷ [])) ++ saying (codes ">")))
-    by true = without_start p ending h
-    by false = with_start p ending h options test (unpadded (text_of bytes place.start place.end))
-        (zeros-escaped (text_of bytes place.start place.end) fits)
+    digits_of : (found : Option Position) →
+        option_map_or (λ place. list_all is_digit (text_in given.bytes place)) found true ≡ true
+        → list_all is_digit (option_map_or (text_in given.bytes) found (codes "1")) ≡ true
+    digits_of None fits = refl
+    digits_of (Some place) fits = fits
+
+    by : (number : List ℕ) → Escaped number → (one : Bool) → IsOpening p ending (codes "</ol>")
+        (on_own_line (codes "<ol") ++ (when (not one) (Text (codes " start=\"") ∷ Text number ∷ Text (codes "\"") ∷ [])
+        ++ said (codes ">")))
+    by number e true = without_start p ending h
+    by number e false = with_start p ending h given.options test number e
 
 -- code in a text
 pub adds-code : (p : Claim) (ending : List ℕ) (x : List ℕ) → Escaped x →
-    Adds p ending p.holds (Text (codes "<code>") ∷ Text x ∷ Text (codes "</code>") ∷ [])
+    Adds ending p.holds (Text (codes "<code>") ∷ Text x ∷ Text (codes "</code>") ∷ [])
 adds-code p ending x h =
-    adds-flat p ending p.holds (Text (codes "<code>") ∷ Text x ∷ Text (codes "</code>") ∷ []) refl
+    adds-flat ending p.holds (Text (codes "<code>") ∷ Text x ∷ Text (codes "</code>") ∷ []) refl
     (element-read p (codes "code") [] x refl refl (p.plain x (text p.test x h)))
 
 pub class-passes : (p : Claim) (options : CompileOptions) → IsTest p.test options → (value : List ℕ) →
@@ -129,10 +138,10 @@ class-passes p options test value = cc (test.other (codes "class") value refl)
 
 pub adds-math : (p : Claim) (ending : List ℕ) (options : CompileOptions) → IsTest p.test options →
     (x : List ℕ) → Escaped x
-    → Adds p ending p.holds (Text (codes "<code class=\"language-math math-inline\">") ∷ Text x
+    → Adds ending p.holds (Text (codes "<code class=\"language-math math-inline\">") ∷ Text x
     ∷ Text (codes "</code>") ∷ [])
 adds-math p ending options test x h =
-    adds-flat p ending p.holds (Text (codes "<code class=\"language-math math-inline\">") ∷ Text x
+    adds-flat ending p.holds (Text (codes "<code class=\"language-math math-inline\">") ∷ Text x
     ∷ Text (codes "</code>") ∷ []) refl
     (element-read p (codes "code") (attribute (codes "class") (codes "language-math math-inline")
     ∷ []) x refl (class-passes p options test (codes "language-math math-inline")) (p.plain x (text p.test x h)))
@@ -176,26 +185,26 @@ task-read p options test checkable x done =
 
 -- a task outside images
 pub adds-task : (p : Claim) (ending : List ℕ) (options : CompileOptions) → IsTest p.test options →
-    (checkable in_image : Bool) (inner : List Stroke) → Adds p ending (IsDone in_image) inner
-    → Adds p ending p.holds ((Text (codes "<input type=\"checkbox\" ")
-    ∷ (cond checkable [] (saying (codes "disabled=\"\" ")))) ++ (inner ++ saying (codes "/>")))
+    (checkable in_image : Bool) (inner : List Piece) → Adds ending (IsDone in_image) inner
+    → Adds ending p.holds ((Text (codes "<input type=\"checkbox\" ")
+    ∷ (cond checkable [] (said (codes "disabled=\"\" ")))) ++ (inner ++ said (codes "/>")))
 adds-task p ending options test checkable in_image inner a =
-    adds-append p ending (λ x. x ≡ task_tag checkable) (λ w. (x : List ℕ) × (w ≡ x ++ codes "/>")
+    adds-append ending (λ x. x ≡ task_tag checkable) (λ w. (x : List ℕ) × (w ≡ x ++ codes "/>")
     × ((x ≡ []) ⊎ (x ≡ codes "checked=\"\" "))) p.holds
-    (Text (codes "<input type=\"checkbox\" ") ∷ (cond checkable [] (saying (codes "disabled=\"\" ")))) (inner
-    ++ saying (codes "/>"))
+    (Text (codes "<input type=\"checkbox\" ") ∷ (cond checkable [] (said (codes "disabled=\"\" ")))) (inner
+    ++ said (codes "/>"))
     (λ x w f g. subst p.holds (ap (λ w. task_tag checkable ++ w) (sym g.1)
     ∙ ap (λ x. x ++ w) (sym f)) (task-read p options test checkable g.0 g.2))
     (first checkable)
-    (adds-append p ending (IsDone in_image) (λ x. x ≡ codes "/>") (λ w. (x : List ℕ) × (w ≡ x ++ codes "/>")
-    × ((x ≡ []) ⊎ (x ≡ codes "checked=\"\" "))) inner (saying (codes "/>"))
+    (adds-append ending (IsDone in_image) (λ x. x ≡ codes "/>") (λ w. (x : List ℕ) × (w ≡ x ++ codes "/>")
+    × ((x ≡ []) ⊎ (x ≡ codes "checked=\"\" "))) inner (said (codes "/>"))
     (λ x y f g. (x, ap (λ y. x ++ y) g, elim f [ inl e ↦ inl e | inr e ↦ inr e.1 ]))
-    a (adds-flat p ending (λ x. x ≡ codes "/>") (saying (codes "/>")) refl refl))
+    a (adds-flat ending (λ x. x ≡ codes "/>") (said (codes "/>")) refl refl))
   where
-    first : (checkable : Bool) → Adds p ending (λ x. x ≡ task_tag checkable) (Text (codes "<input type=\"checkbox\" ")
-        ∷ (cond checkable [] (saying (codes "disabled=\"\" "))))
-    first true = adds-flat p ending (λ x. x ≡ task_tag true) (Text (codes "<input type=\"checkbox\" ") ∷ []) refl refl
-    first false = adds-flat p ending (λ x. x ≡ task_tag false) (Text (codes "<input type=\"checkbox\" ")
+    first : (checkable : Bool) → Adds ending (λ x. x ≡ task_tag checkable) (Text (codes "<input type=\"checkbox\" ")
+        ∷ (cond checkable [] (said (codes "disabled=\"\" "))))
+    first true = adds-flat ending (λ x. x ≡ task_tag true) (Text (codes "<input type=\"checkbox\" ") ∷ []) refl refl
+    first false = adds-flat ending (λ x. x ≡ task_tag false) (Text (codes "<input type=\"checkbox\" ")
         ∷ Text (codes "disabled=\"\" ") ∷ []) refl refl
 
 -- a text that ends an opening tag of code and goes on with an escaped text
@@ -234,17 +243,17 @@ raw-enclosed p tag x y z a r c =
     (subst (λ z. p.holds ((a.0 ++ tag) ++ ((r.attributes ++ (62 ∷ r.body)) ++ z))) (sym c.whole) parts))
 
 -- fenced code or math
-pub adds-raw : (p : Claim) (ending : List ℕ) → Escaped ending → (tag : List ℕ) (inner end : List Stroke) →
-    Adds p ending (IsRaw p tag) inner → Adds p ending (IsFramed code_closing) end
-    → Adds p ending p.holds ((Needed ∷ Text tag ∷ []) ++ (inner ++ end))
+pub adds-raw : (p : Claim) (ending : List ℕ) → Escaped ending → (tag : List ℕ) (inner end : List Piece) →
+    Adds ending (IsRaw p tag) inner → Adds ending (IsFramed code_closing) end
+    → Adds ending p.holds ((Needed ∷ Text tag ∷ []) ++ (inner ++ end))
 adds-raw p ending h tag inner end a b =
-    adds-append p ending (IsBegun tag) (λ w. (y : List ℕ) × (z : List ℕ) × (w ≡ y ++ z) × IsRaw p tag y
+    adds-append ending (IsBegun tag) (λ w. (y : List ℕ) × (z : List ℕ) × (w ≡ y ++ z) × IsRaw p tag y
     × IsFramed code_closing z) p.holds (Needed ∷ Text tag ∷ []) (inner ++ end)
     (λ x w f g. subst (λ w. p.holds (x ++ w)) (sym g.2) (raw-enclosed p tag x g.0 g.1 f g.3 g.4))
-    (adds-append p ending Escaped (λ x. x ≡ tag) (IsBegun tag) (Needed ∷ []) (Text tag
-    ∷ []) (λ x y f g. (x, ap (λ y. x ++ y) g, f)) (adds-needed p ending h)
-    (adds-flat p ending (λ x. x ≡ tag) (Text tag ∷ []) refl (append-nil tag)))
-    (adds-append p ending (IsRaw p tag) (IsFramed code_closing) (λ w. (y : List ℕ) × (z : List ℕ) × (w ≡ y ++ z)
+    (adds-append ending Escaped (λ x. x ≡ tag) (IsBegun tag) (Needed ∷ []) (Text tag
+    ∷ []) (λ x y f g. (x, ap (λ y. x ++ y) g, f)) (adds-needed ending h)
+    (adds-flat ending (λ x. x ≡ tag) (Text tag ∷ []) refl (append-nil tag)))
+    (adds-append ending (IsRaw p tag) (IsFramed code_closing) (λ w. (y : List ℕ) × (z : List ℕ) × (w ≡ y ++ z)
     × IsRaw p tag y × IsFramed code_closing z) inner end (λ y z f g. (y, z, refl, f, g)) a b)
 
 -- the tags of fenced code, without the end of the second one, and of math

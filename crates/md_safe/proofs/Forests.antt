@@ -1,28 +1,33 @@
--- What the nodes of a document print, define and note: the induction over nodes of any content, for any claim that is
--- kept where two texts meet.
+-- What the nodes of a document mean: the induction over nodes of any content, for any claim that is kept where two
+-- texts meet. It goes over all that an outcome has at once.
 use Rattle.std.proofs.Common.{◌≡◌, ℕ, Bool, true, false, ◌&&◌, ◌||◌, cond, List, [], ◌∷◌, ◌++◌, refl, sym, ap, subst, append_assoc}
-use Rattle.std.proofs.lemmas.Bool.{cond_both}
+use Rattle.std.specs.Prelude.{Option, Some, None, unwrap_or}
+use Rattle.std.proofs.lemmas.Bool.{cond_both, or_left, or_right}
 use Rattle.md_base.proofs.Lies.{lie}
 use Rattle.md_base.specs.declared.event.Name.{Name}
-use Rattle.md_base.specs.declared.event.Name.TheVariants.{Other, BlockQuotePrefix, SpaceOrTab, Definition, GfmFootnoteDefinition}
-use Rattle.md_base.specs.declared.event.Point.{Point}
+use Rattle.md_base.specs.declared.event.Name.TheVariants.{Other, BlockQuotePrefix, SpaceOrTab, HeadingSetextText, Definition, DefinitionDestinationString, DefinitionTitleString, GfmFootnoteDefinition, Resource, ResourceDestinationString, ResourceTitleString}
+use Rattle.md_base.specs.Is.{is as named}
 use Rattle.md_base.specs.Tree.{Forest, Empty, Node}
-use Rattle.md_base.specs.NameTests.{is_transparent, is_link_definition, is_footnote_definition}
-use Rattle.md_base.specs.Children.{is_empty}
+use Rattle.md_base.specs.NameTests.{is_transparent}
+use Rattle.md_base.specs.Children.{is_empty, or_else}
 use Rattle.md_infer.specs.Looseness.{is_loose}
 use Rattle.md_text.specs.declared.options.CompileOptions.{CompileOptions}
+use Rattle.md_tree.specs.Rules.{place}
 use Rattle.md_meaning.specs.declared.context.Surroundings.{Surroundings}
-use Rattle.md_meaning.specs.Piece.{Stroke, blank, lay, Sheet}
-use Rattle.md_meaning.specs.Given.{Supply, Defined}
-use Rattle.md_meaning.specs.Places.{Stood, stood_inside, stood_after, left_of, passed_over, ahead_of, identifier_at}
-use Rattle.md_meaning.specs.Surroundings.{inside, spine_inside}
-use Rattle.md_meaning.specs.Footnotes.{Footnote}
-use Rattle.md_meaning.specs.Printed.{printed, definitions_of, footnotes_of}
-use Rattle.md_shape.specs.Built.{Content, Blocks, Spans, Strings, FirstFence, FirstMathFence, Chunks, InfoAndMeta, MetaAlone, Done, Nothing, may_stand, content_of, content_inside, content_after_node, content_after, IsBuilt}
-use Rattle.md_safe.proofs.Laid.{IsEscapedTitle, adds-blank}
-use Rattle.md_safe.proofs.Contents.{is_blocks, inside-blocks, asked-after-node, Holds, Suits, Follows, second, suits-inside, suits-after-node, follows-inside, follows-after-node}
-use Rattle.md_safe.proofs.Spot.{IsWhole, Setting, Spot, AreTitles, node_pieces, Prints, Inside}
-use Rattle.md_safe.proofs.Nodes.{any-node, inside-alone}
+use Rattle.md_meaning.specs.Meaning.Around.{inside}
+use Rattle.md_meaning.specs.Meaning.At.{Target, Defined, Footnote, Found, nothing_found, target_in, Before, At, identifier_of}
+use Rattle.md_meaning.specs.Meaning.Before.{before_children}
+use Rattle.md_meaning.specs.Meaning.Layout.{Piece, layout, when}
+use Rattle.md_meaning.specs.Meaning.Nodes.{Outcome, found_at, node, before_next, outcome}
+use Rattle.md_shape.specs.Built.{Content, Blocks, Sources, may_stand, content_of, content_inside, content_after_node, content_after, content_past, IsBuilt}
+use Rattle.md_safe.proofs.Texts.{Escaped}
+use Rattle.md_safe.proofs.Media.{IsEscapedTitle}
+use Rattle.md_safe.proofs.Contents.{is_blocks, inside-blocks, asked-after-node, stays-after, Holds, Suits, Follows, second, suits-inside, suits-after-node, follows-inside, follows-after-node}
+use Rattle.md_safe.proofs.Spot.{IsWhole, Setting, AreTitles, IsGoodTarget, IsFitAt, Prints, Inside}
+use Rattle.md_safe.proofs.SpanNodes.{text-holds}
+use Rattle.md_safe.proofs.BlockNodes.{Reads, holds-none}
+use Rattle.md_safe.proofs.Nodes.{Knows, any-node, inside-alone}
+use Rattle.md_safe.proofs.Nodes.{Before as PrintsBefore}
 
 -- the surroundings of children suit them
 through-suits : (options : CompileOptions) (loose : Bool) (around : Surroundings) (content : Content) (name : Name) →
@@ -33,7 +38,7 @@ through-suits options loose around content BlockQuotePrefix is h = h
 through-suits options loose around content SpaceOrTab is h = h
 through-suits options loose around content _ is h = lie is
 
-pub children-suit : (options : CompileOptions) → options.allow_dangerous_html ≡ false →
+children-suit : (options : CompileOptions) → options.allow_dangerous_html ≡ false →
     (loose : Bool) (around : Surroundings) (content : Content) (name : Name) →
     (is_transparent name || may_stand content name) ≡ true → Suits around.is_escaping around.in_image content
     → Suits (inside options loose name around).is_escaping (inside options loose name around).in_image
@@ -48,187 +53,297 @@ children-suit options html loose around content name stands h = by (is_transpare
         (second (is_transparent name) (may_stand content name) e stands) h
 
 -- what stands before a node's first child
-children-follow : (content : Content) (name : Name) (names : List Name) →
-    (is_transparent name || may_stand content name) ≡ true → Follows content names →
-    Follows (content_inside content name) (spine_inside name names)
-children-follow content name names stands f = by (is_transparent name) refl
+children-follow : (content : Content) (name : Name) (before : Before) (children : Forest) →
+    (is_transparent name || may_stand content name) ≡ true → Follows content before.spine →
+    Follows (content_inside content name) (before_children name children before).spine
+children-follow content name before children stands f = by (is_transparent name) refl
   where
     by : (through : Bool) → is_transparent name ≡ through →
-        Follows (cond through content (content_of name content)) (cond through names [])
+        Follows (cond through content (content_of name content)) (cond through before.spine [])
     by true e = f
     by false e = follows-inside content name (second (is_transparent name) (may_stand content name) e stands)
 
--- a node where it stands
-abbrev pub spot_of : Supply → Surroundings → Stood → Point → Point → Name → Forest → Forest → Spot
-spot_of given around before start end name children rest = record {
-  around = around;
-  left = left_of given.bytes before children;
-  passed = passed_over (spine_inside name before.spine) children;
-  last = around.is_outermost && is_empty rest;
-  start = start;
-  end = end;
-  children = children;
-}
+-- blocks stay blocks
+blocks-past : (content : Content) (name : Name) → is_blocks content ≡ true →
+    is_blocks (content_past content name) ≡ true
+blocks-past Blocks name h = refl
+blocks-past _ name h = lie h
 
--- nodes print what may stand where they are, before what is printed after them
-pub forest-prints : (s : Setting) (forest : Forest) (around : Surroundings) (before : Stood) (content : Content) →
-    IsBuilt s.given.bytes content forest → Suits around.is_escaping around.in_image content →
-    Follows content before.spine → (is_blocks content ≡ true → IsWhole s.p)
-    → (later : List Stroke) → Prints s (Holds s.p around.is_escaping around.in_image (content_after content forest))
-    later → Prints s (Holds s.p around.is_escaping around.in_image content) (printed s.given around before forest
-    ++ later)
-forest-prints s Empty around before content built suits f whole later h = h
-forest-prints s (Node name start end children rest) around before content built suits f whole later h =
-    let t : Spot = spot_of s.given around before start end name children rest in
-    let around' : Surroundings = inside s.given.options (is_loose children) name around in
-    let inner : List Stroke = printed s.given around' (stood_inside name children before) children in
-    let others : List Stroke =
-    printed s.given around (stood_after s.given around name start end children before) rest in
-    subst (Prints s (Holds s.p around.is_escaping around.in_image content))
-    (sym (append_assoc (node_pieces s t name inner) others later))
-    (any-node s t content name before.spine refl built.0 built.1 suits f whole inner (others ++ later) built.2
-    (λ pieces g.
-    forest-prints s children around' (stood_inside name children before) (content_inside content name) built.2
-    (children-suit s.given.options s.test.html (is_loose children) around content name built.0 suits)
-    (children-follow content name before.spine built.0 f) (λ h. whole (inside-blocks content name h)) pieces g)
-    (forest-prints s rest around (stood_after s.given around name start end children before)
-    (content_after_node content name children) built.3
-    (suits-after-node around.is_escaping around.in_image content name children suits)
-    (follows-after-node s.given.bytes content name before.spine children built.0 built.2 f)
-    (asked-after-node (IsWhole s.p) content name children whole) later h))
+blocks-after-node : (content : Content) (name : Name) (children : Forest) → is_blocks content ≡ true →
+    is_blocks (content_after_node content name children) ≡ true
+blocks-after-node content name children h =
+    cond_both (is_transparent name) (content_after content children) (content_past content name)
+    (λ c. is_blocks c ≡ true) (λ _. stays-after (λ c. is_blocks c ≡ true) blocks-past content children h)
+    (λ _. blocks-past content name h)
 
--- the children of a node that isn't transparent print what may stand in it
-pub children-print : (s : Setting) (name : Name) (start end : Point) (children rest : Forest) (around : Surroundings)
-    (before : Stood) (content : Content) → is_transparent name ≡ false →
-    IsBuilt s.given.bytes content (Node name start end children rest)
-    → Suits around.is_escaping around.in_image content → Follows content before.spine
-    → (is_blocks (content_of name content) ≡ true → IsWhole s.p)
-    → Inside s (spot_of s.given around before start end name children rest) content name
-    (printed s.given (inside s.given.options (is_loose children) name around)
-    (stood_inside name children before) children)
-children-print s name start end children rest around before content solid built suits f whole =
-    let t : Spot = spot_of s.given around before start end name children rest in
-    let around' : Surroundings = inside s.given.options (is_loose children) name around in
-    let may : may_stand content name ≡ true = second (is_transparent name) (may_stand content name) solid built.0 in
-    let same : content_inside content name ≡ content_of name content =
-    ap (λ b. cond b content (content_of name content)) solid in
-    let within : IsBuilt s.given.bytes (content_of name content) children =
-    subst (λ c. IsBuilt s.given.bytes c children) same built.2 in
-    inside-alone s t content name may built.1 within (printed s.given around'
-    (stood_inside name children before) children)
-    (λ pieces g.
-    forest-prints s children around' (stood_inside name children before) (content_of name content) within
-    (suits-inside s.given.options s.test.html (is_loose children) around content name may suits)
-    (subst (λ n. Follows (content_of name content) n) (sym (ap (λ b. cond b before.spine []) solid))
-    (follows-inside content name may)) whole pieces g)
-
--- the title of a definition that is one of the nodes
-defined-here : (s : Setting) (name : Name) (start end : Point) (children rest : Forest) (around : Surroundings)
-    (before : Stood) (content : Content) → IsBuilt s.given.bytes content (Node name start end children rest)
-    → Suits around.is_escaping around.in_image content → Follows content before.spine
-    → (is_blocks content ≡ true → IsWhole s.p) → is_link_definition name ≡ true
-    → IsEscapedTitle (lay s.given.ending blank (printed s.given
-    (inside s.given.options (is_loose children) name around)
-    (stood_inside name children before) children)).notes.target.title
-defined-here s Definition start end children rest around before content built suits f whole is =
-    let inner : List Stroke = printed s.given (inside s.given.options (is_loose children) Definition around)
-    (stood_inside Definition children before) children in
-    (adds-blank s.p s.given.ending (Holds s.p around.is_escaping around.in_image content) inner
-    (children-print s Definition start end children rest around before content refl built suits f whole)).1.title
-defined-here s _ start end children rest around before content built suits f whole is = lie is
-
--- the texts of some footnotes have readings
-abbrev pub AreRead : Setting → List Footnote → Type 0
-AreRead s [] = Unit {0}
-AreRead s (footnote ∷ others) = s.p.holds footnote.text × AreRead s others
-
--- what is gathered of some nodes: definitions whose titles are escaped, and footnotes whose texts have readings
-pub record Gathered (s : Setting) (definitions : List Defined) (footnotes : List Footnote) : Type 0 where
-  pub titles : AreTitles definitions
-  pub texts : AreRead s footnotes
-
-gathered-append : (s : Setting) (xs ys : List Defined) (us vs : List Footnote) → Gathered s xs us →
-    Gathered s ys vs → Gathered s (xs ++ ys) (us ++ vs)
-gathered-append s xs ys us vs a b = record {
-  titles = titles xs a.titles;
-  texts = texts us a.texts;
-}
-  where
-    titles : (xs : List Defined) → AreTitles xs → AreTitles (xs ++ ys)
-    titles [] h = b.titles
-    titles (x ∷ xs) h = (h.0, titles xs h.1)
-
-    texts : (us : List Footnote) → AreRead s us → AreRead s (us ++ vs)
-    texts [] h = b.texts
-    texts (u ∷ us) h = (h.0, texts us h.1)
+-- what holds of a text among blocks is what is claimed
+blocks-read : (s : Setting) (escaping in_image : Bool) (content : Content) → is_blocks content ≡ true →
+    (x : List ℕ) → Holds s.p escaping in_image content x → Reads s x
+blocks-read s escaping in_image Blocks is x h = h
+blocks-read s escaping in_image _ is x h = lie is
 
 -- a footnote stands among blocks
-noted-text : (s : Setting) (content : Content) (escaping in_image : Bool) →
-    may_stand content GfmFootnoteDefinition ≡ true → (x : List ℕ) → Holds s.p escaping in_image content x →
-    s.p.holds x
-noted-text s Blocks escaping in_image stands x h = h
-noted-text s Spans escaping in_image stands x h = lie stands
-noted-text s Strings escaping in_image stands x h = lie stands
-noted-text s FirstFence escaping in_image stands x h = lie stands
-noted-text s FirstMathFence escaping in_image stands x h = lie stands
-noted-text s Chunks escaping in_image stands x h = lie stands
-noted-text s InfoAndMeta escaping in_image stands x h = lie stands
-noted-text s MetaAlone escaping in_image stands x h = lie stands
-noted-text s Done escaping in_image stands x h = lie stands
-noted-text s Nothing escaping in_image stands x h = lie stands
+note-blocks : (content : Content) → may_stand content GfmFootnoteDefinition ≡ true → is_blocks content ≡ true
+note-blocks Blocks h = refl
+note-blocks _ h = lie h
 
-noted-here : (s : Setting) (name : Name) (start end : Point) (children rest : Forest) (around : Surroundings)
-    (before : Stood) (content : Content) → IsBuilt s.given.bytes content (Node name start end children rest)
-    → Suits around.is_escaping around.in_image content → Follows content before.spine
-    → (is_blocks content ≡ true → IsWhole s.p) → is_footnote_definition name ≡ true
-    → s.p.holds (lay s.given.ending blank (printed s.given
-    (inside s.given.options (is_loose children) name around) (stood_inside name children before) children)).text
-noted-here s GfmFootnoteDefinition start end children rest around before content built suits f whole is =
-    let inner : List Stroke = printed s.given (inside s.given.options (is_loose children) GfmFootnoteDefinition around)
-    (stood_inside GfmFootnoteDefinition children before) children in
-    noted-text s content around.is_escaping around.in_image built.0 (lay s.given.ending blank inner).text
-    (adds-blank s.p s.given.ending (Holds s.p around.is_escaping around.in_image content) inner
-    (children-print s GfmFootnoteDefinition start end children rest around before content refl built suits f whole)).0
-noted-here s _ start end children rest around before content built suits f whole is = lie is
+-- where a title may stand, special characters are escaped
+suits-title : (escaping in_image : Bool) (content : Content) →
+    (may_stand content DefinitionTitleString || may_stand content ResourceTitleString) ≡ true →
+    Suits escaping in_image content → escaping ≡ true
+suits-title escaping in_image Sources s h = h
+suits-title escaping in_image _ s h = lie s
 
--- what all nodes define and note
-pub gathered : (s : Setting) (forest : Forest) (around : Surroundings) (before : Stood) (content : Content) →
-    IsBuilt s.given.bytes content forest → Suits around.is_escaping around.in_image content →
-    Follows content before.spine → (is_blocks content ≡ true → IsWhole s.p)
-    → Gathered s (definitions_of s.given around before forest) (footnotes_of s.given around before forest)
-gathered s Empty around before content built suits f whole = record { titles = tt; texts = tt }
-gathered s (Node name start end children rest) around before content built suits f whole =
+-- a heading's text that was found is as claimed
+abbrev pub IsRead : Setting → Option (List ℕ) → Type 0
+IsRead s None = Unit {0}
+IsRead s (Some x) = Reads s x
+
+-- what is found: among blocks a heading as is claimed, and titles that are escaped
+pub record AreFound (s : Setting) (content : Content) (found : Found) : Type 0 where
+  pub heading : is_blocks content ≡ true → IsRead s found.heading
+  pub title : IsEscapedTitle found.title
+  pub resource : IsGoodTarget found.resource
+
+-- the texts of some footnotes are as claimed
+abbrev pub AreRead : Setting → List Footnote → Type 0
+AreRead s [] = Unit {0}
+AreRead s (footnote ∷ others) = Reads s footnote.text × AreRead s others
+
+titles-append : (xs ys : List Defined) → AreTitles xs → AreTitles ys → AreTitles (xs ++ ys)
+titles-append [] ys a b = b
+titles-append (x ∷ xs) ys a b = (a.0, titles-append xs ys a.1 b)
+
+read-append : (s : Setting) (xs ys : List Footnote) → AreRead s xs → AreRead s ys → AreRead s (xs ++ ys)
+read-append s [] ys a b = b
+read-append s (x ∷ xs) ys a b = (a.0, read-append s xs ys a.1 b)
+
+-- what nodes mean: they print what may stand where they are, before what is printed after them; what is found is good;
+-- the titles of definitions are escaped, and the texts of footnotes are as claimed
+pub record Means (s : Setting) (around : Surroundings) (content : Content) (forest : Forest) (means : Outcome) :
+    Type 0 where
+  pub prints : (later : List Piece) →
+      Prints s (Holds s.p around.is_escaping around.in_image (content_after content forest)) later
+      → Prints s (Holds s.p around.is_escaping around.in_image content) (means.pieces ++ later)
+  pub found : AreFound s content means.found
+  pub titles : AreTitles means.definitions
+  pub texts : AreRead s means.footnotes
+
+-- what is known where nodes stand
+pub record Ready (s : Setting) (around : Surroundings) (before : Before) (content : Content) : Type 0 where
+  pub suits : Suits around.is_escaping around.in_image content
+  pub follows : Follows content before.spine
+  pub whole : is_blocks content ≡ true → IsWhole s.p
+  pub heading : is_blocks content ≡ true → Reads s before.heading
+
+-- a node and its children: what may stand where, and what the children print
+record Inner (s : Setting) (t : At) (content : Content) (name : Name) (inner : List Piece) : Type 0 where
+  stands : (is_transparent name || may_stand content name) ≡ true
+  fit : IsFitAt s t name
+  suits : Suits t.around.is_escaping t.around.in_image content
+  built : IsBuilt s.given.bytes (content_inside content name) t.children
+  before : PrintsBefore s t (content_inside content name) name inner
+  found : AreFound s (content_inside content name) t.found
+
+nothing-found : (s : Setting) (content : Content) → AreFound s content nothing_found
+nothing-found s content = record { heading = λ _. tt; title = tt; resource = tt }
+
+-- what is found where a node stands
+found-node : (s : Setting) (t : At) (content : Content) (name : Name) (inner : List Piece) →
+    Inner s t content name inner → AreFound s content (found_at t name (layout s.given.ending inner))
+found-node s t content HeadingSetextText inner i = record {
+  heading = λ is. blocks-read s t.around.is_escaping t.around.in_image content is (layout s.given.ending inner)
+      (text-holds s (Holds s.p t.around.is_escaping t.around.in_image content) inner
+      (inside-alone s t content HeadingSetextText i.stands i.fit i.built inner i.before));
+  title = tt;
+  resource = tt;
+}
+found-node s t content DefinitionDestinationString inner i = record { heading = λ _. tt; title = tt; resource = tt }
+found-node s t content ResourceDestinationString inner i = record { heading = λ _. tt; title = tt; resource = tt }
+found-node s t content DefinitionTitleString inner i = record {
+  heading = λ _. tt;
+  title = text-holds s (λ x. t.around.is_escaping ≡ true → Escaped x) inner
+      (inside-alone s t content DefinitionTitleString i.stands i.fit i.built inner i.before)
+      (suits-title t.around.is_escaping t.around.in_image content
+      (or_left (may_stand content DefinitionTitleString) (may_stand content ResourceTitleString) i.stands) i.suits);
+  resource = tt;
+}
+found-node s t content ResourceTitleString inner i = record {
+  heading = λ _. tt;
+  title = text-holds s (λ x. t.around.is_escaping ≡ true → Escaped x) inner
+      (inside-alone s t content ResourceTitleString i.stands i.fit i.built inner i.before)
+      (suits-title t.around.is_escaping t.around.in_image content
+      (or_right (may_stand content DefinitionTitleString) (may_stand content ResourceTitleString) i.stands) i.suits);
+  resource = tt;
+}
+found-node s t content Resource inner i = record { heading = λ _. tt; title = tt; resource = i.found.title }
+found-node s t content (Other number) inner i = i.found
+found-node s t content BlockQuotePrefix inner i = i.found
+found-node s t content SpaceOrTab inner i = i.found
+found-node s t content _ inner i = nothing-found s content
+
+-- the text of a footnote that is the node
+note-node : (s : Setting) (t : At) (content : Content) (name : Name) (inner : List Piece) →
+    Inner s t content name inner → named GfmFootnoteDefinition name ≡ true → Reads s (layout s.given.ending inner)
+note-node s t content GfmFootnoteDefinition inner i is =
+    blocks-read s t.around.is_escaping t.around.in_image content (note-blocks content i.stands)
+    (layout s.given.ending inner)
+    (text-holds s (Holds s.p t.around.is_escaping t.around.in_image content) inner
+    (inside-alone s t content GfmFootnoteDefinition i.stands i.fit i.built inner i.before))
+note-node s t content _ inner i is = lie is
+
+-- of two things that were found the later one
+later-heading : (s : Setting) (first later : Option (List ℕ)) → IsRead s first → IsRead s later →
+    IsRead s (or_else later first)
+later-heading s first None f g = f
+later-heading s first (Some x) f g = g
+
+later-title : (first later : Option (List ℕ)) → IsEscapedTitle first → IsEscapedTitle later →
+    IsEscapedTitle (or_else later first)
+later-title first None f g = f
+later-title first (Some x) f g = g
+
+later-resource : (first later : Option Target) → IsGoodTarget first → IsGoodTarget later →
+    IsGoodTarget (or_else later first)
+later-resource first None f g = f
+later-resource first (Some x) f g = g
+
+heading-before : (s : Setting) (found : Option (List ℕ)) (before : List ℕ) → IsRead s found → Reads s before →
+    Reads s (unwrap_or found before)
+heading-before s None before f g = g
+heading-before s (Some x) before f g = f
+
+-- what is known where the children of a node stand
+pub ready-inside : (s : Setting) (around : Surroundings) (before : Before) (content : Content) (name : Name)
+    (children : Forest) → (is_transparent name || may_stand content name) ≡ true → Ready s around before content →
+    Ready s (inside s.given.options (is_loose children) name around) (before_children name children before)
+    (content_inside content name)
+ready-inside s around before content name children stands r = record {
+  suits = children-suit s.given.options s.test.html (is_loose children) around content name stands r.suits;
+  follows = children-follow content name before children stands r.follows;
+  whole = λ h. r.whole (inside-blocks content name h);
+  heading = λ h. cond_both (is_transparent name) before.heading [] (Reads s)
+      (λ _. r.heading (inside-blocks content name h)) (λ _. holds-none s);
+}
+
+-- and where the next node stands
+pub ready-after : (s : Setting) (t : At) (content : Content) (name : Name) (here : Outcome) →
+    (is_transparent name || may_stand content name) ≡ true →
+    IsBuilt s.given.bytes (content_inside content name) t.children → AreFound s content here.found →
+    Ready s t.around t.before content → Ready s t.around (before_next t name here)
+    (content_after_node content name t.children)
+ready-after s t content name here stands built own r = record {
+  suits = suits-after-node t.around.is_escaping t.around.in_image content name t.children r.suits;
+  follows = follows-after-node s.given.bytes content name t.before.spine t.children stands built r.follows;
+  whole = asked-after-node (IsWhole s.p) content name t.children r.whole;
+  heading = asked-after-node (Reads s (before_next t name here).heading) content name t.children
+      (λ is. heading-before s here.found.heading t.before.heading (own.heading is) (r.heading is));
+}
+
+pub means : (s : Setting) (forest : Forest) (around : Surroundings) (before : Before) (content : Content) →
+    IsBuilt s.given.bytes content forest → Ready s around before content →
+    Means s around content forest (outcome s.given around before forest)
+means s Empty around before content built r = record {
+  prints = λ later h. h;
+  found = nothing-found s content;
+  titles = tt;
+  texts = tt;
+}
+means s (Node name start end children rest) around before content built r =
     let around' : Surroundings = inside s.given.options (is_loose children) name around in
-    let within : Stood = stood_inside name children before in
-    let next : Stood = stood_after s.given around name start end children before in
-    let sheet : Sheet = lay s.given.ending blank (printed s.given around' within children) in
+    let before' : Before = before_children name children before in
+    let inner : Outcome = outcome s.given around' before' children in
+    let t : At = record {
+      around = around;
+      before = before;
+      children = children;
+      found = inner.found;
+      calls = before.calls ++ inner.calls;
+      place = place start end;
+      is_last = around.is_outermost && is_empty rest;
+    } in
+    let here : Outcome = node s.given t name inner in
+    let next : Before = before_next t name here in
+    let others : Outcome = outcome s.given around next rest in
+    let within : Means s around' (content_inside content name) children inner =
+    means s children around' before' (content_inside content name) built.2
+    (ready-inside s around before content name children built.0 r) in
+    let i : Inner s t content name inner.pieces = record {
+      stands = built.0;
+      fit = built.1;
+      suits = r.suits;
+      built = built.2;
+      before = within.prints;
+      found = within.found;
+    } in
+    let own : AreFound s content here.found = found-node s t content name inner.pieces i in
+    let after : Means s around (content_after_node content name children) rest others =
+    means s rest around next (content_after_node content name children) built.3
+    (ready-after s t content name here built.0 built.2 own r) in
+    let k : Knows s t content name = record {
+      fit = built.1;
+      suits = r.suits;
+      follows = r.follows;
+      whole = r.whole;
+      heading = r.heading;
+      resource = within.found.resource;
+    } in
     let defined : Defined = record {
-      identifier = identifier_at s.given.bytes (ahead_of children).defined;
-      target = sheet.notes.target;
+      identifier = identifier_of s.given.bytes children;
+      target = target_in inner.found;
     } in
     let noted : Footnote = record {
-      identifier = identifier_at s.given.bytes (ahead_of children).footnote;
-      text = sheet.text;
+      identifier = identifier_of s.given.bytes children;
+      text = layout s.given.ending inner.pieces;
     } in
-    let definitions : List Defined = cond (is_link_definition name) (defined ∷ []) [] in
-    let footnotes : List Footnote = cond (is_footnote_definition name) (noted ∷ []) [] in
-    let own : Gathered s definitions footnotes = record {
-      titles = cond_both (is_link_definition name) (defined ∷ []) [] AreTitles
-          (λ is. (defined-here s name start end children rest around before content built suits f whole is, tt))
-          (λ _. tt);
-      texts = cond_both (is_footnote_definition name) (noted ∷ []) [] (AreRead s)
-          (λ is. (noted-here s name start end children rest around before content built suits f whole is, tt))
-          (λ _. tt);
-    } in
-    gathered-append s (definitions_of s.given around' within children)
-    (definitions ++ definitions_of s.given around next rest) (footnotes_of s.given around' within children)
-    (footnotes ++ footnotes_of s.given around next rest)
-    (gathered s children around' within (content_inside content name) built.2
-    (children-suit s.given.options s.test.html (is_loose children) around content name built.0 suits)
-    (children-follow content name before.spine built.0 f) (λ h. whole (inside-blocks content name h)))
-    (gathered-append s definitions (definitions_of s.given around next rest) footnotes
-    (footnotes_of s.given around next rest) own
-    (gathered s rest around next (content_after_node content name children) built.3
-    (suits-after-node around.is_escaping around.in_image content name children suits)
-    (follows-after-node s.given.bytes content name before.spine children built.0 built.2 f)
-    (asked-after-node (IsWhole s.p) content name children whole)))
+    record {
+      prints = λ later h.
+          subst (Prints s (Holds s.p around.is_escaping around.in_image content))
+          (sym (append_assoc here.pieces others.pieces later))
+          (any-node s t content name built.0 k inner.pieces (others.pieces ++ later) built.2
+          (λ pieces g. within.prints pieces g) (after.prints later h));
+      found = record {
+        heading = λ is. later-heading s here.found.heading others.found.heading (own.heading is)
+            (after.found.heading (blocks-after-node content name children is));
+        title = later-title here.found.title others.found.title own.title after.found.title;
+        resource = later-resource here.found.resource others.found.resource own.resource after.found.resource;
+      };
+      titles = titles-append here.definitions others.definitions
+          (titles-append inner.definitions (when (named Definition name) (defined ∷ [])) within.titles
+          (cond_both (named Definition name) (defined ∷ []) [] AreTitles (λ _. (within.found.title, tt)) (λ _. tt)))
+          after.titles;
+      texts = read-append s here.footnotes others.footnotes
+          (read-append s inner.footnotes (when (named GfmFootnoteDefinition name) (noted ∷ [])) within.texts
+          (cond_both (named GfmFootnoteDefinition name) (noted ∷ []) [] (AreRead s)
+          (λ is. (note-node s t content name inner.pieces i is, tt)) (λ _. tt)))
+          after.texts;
+    }
+
+-- what the children of a node that isn't transparent print
+pub inside-means : (s : Setting) (t : At) (content : Content) (name : Name) (inner : Outcome) →
+    is_transparent name ≡ false → (is_transparent name || may_stand content name) ≡ true → IsFitAt s t name →
+    IsBuilt s.given.bytes (content_inside content name) t.children →
+    Means s (inside s.given.options (is_loose t.children) name t.around) (content_inside content name) t.children inner
+    → Inside s t content name inner.pieces
+inside-means s t content name inner solid stands fit built means =
+    let same : content_inside content name ≡ content_of name content =
+    ap (λ b. cond b content (content_of name content)) solid in
+    inside-alone s t content name (second (is_transparent name) (may_stand content name) solid stands) fit
+    (subst (λ c. IsBuilt s.given.bytes c t.children) same built) inner.pieces
+    (subst (λ c. PrintsBefore s t c name inner.pieces) same means.prints)
+
+-- what is found at a node whose children print and find what they may
+pub found-at : (s : Setting) (t : At) (content : Content) (name : Name) (inner : List Piece) →
+    (is_transparent name || may_stand content name) ≡ true → IsFitAt s t name →
+    Suits t.around.is_escaping t.around.in_image content → IsBuilt s.given.bytes (content_inside content name) t.children
+    → PrintsBefore s t (content_inside content name) name inner → AreFound s (content_inside content name) t.found →
+    AreFound s content (found_at t name (layout s.given.ending inner))
+found-at s t content name inner stands fit suits built before found =
+    found-node s t content name inner (record {
+      stands = stands;
+      fit = fit;
+      suits = suits;
+      built = built;
+      before = before;
+      found = found;
+    })

@@ -1,4 +1,4 @@
--- The lemmas of two theorems, from texts and names up to documents: output has a reading, and no id stands twice.
+-- The lemmas.
 pub mod Texts
 pub mod Claim
 pub mod Laid
@@ -13,10 +13,8 @@ pub mod BlockNodes
 pub mod Nodes
 pub mod Forests
 pub mod Section
-pub mod CallIds
 pub mod Counted
-pub mod CountedNodes
-pub mod CountedForest
 pub mod Distinct
+pub mod CountedForest
 pub mod CountedSection
 pub mod Whole

@@ -1,6 +1,7 @@
 -- Links, images, calls and cells as they are printed have readings, and their addresses pass the test.
-use Rattle.std.specs.List.{list_all}
-use Rattle.std.proofs.Common.{◌≡◌, ℕ, ◌==◌, zero, suc, Bool, true, false, ◌&&◌, ◌||◌, cond, List, [], ◌∷◌, ◌++◌, refl, subst, append_assoc, codes}
+use Rattle.std.specs.List.{list_all, flat_map}
+use Rattle.std.specs.Option.{option_map_or}
+use Rattle.std.proofs.Common.{◌≡◌, ℕ, ◌==◌, zero, suc, Bool, true, false, not, ◌&&◌, ◌||◌, cond, List, [], ◌∷◌, ◌++◌, refl, subst, append_assoc, codes}
 use Rattle.std.specs.Prelude.{Option, Some, None, option_map, string_bytes}
 use Rattle.std.specs.Fmt.{decimal}
 use Rattle.std.proofs.lemmas.Bool.{and_from, cond_both}
@@ -12,23 +13,24 @@ use Rattle.md_text.proofs.EncodeLaws.{is_escaped-encoded}
 use Rattle.md_text.proofs.EscapedLemmas.{escaped-append, sanitized-escaped, sanitized_with-escaped}
 use Rattle.md_text.proofs.HtmlJoin.{nothing, text, join}
 use Rattle.md_text.specs.declared.options.CompileOptions.{CompileOptions}
-use Rattle.md_meaning.specs.Piece.{Stroke, Text, Needed, Target}
-use Rattle.md_meaning.specs.Media.{href_of, src_of, link_to, image_of, link_start, link_end, title_pieces}
-use Rattle.md_meaning.specs.Footnotes.{escaped_option, prefix_of, back_label_of, heading_label_of, id_by_name, numbered_id_of, footnote_id, id_of_call, occurrence_suffix, occurrence_mark, call_tags, return_link, return_links, arrow}
-use Rattle.md_meaning.specs.Tables.{alignment_text, cell_pieces, cell_in, empty_cells}
+use Rattle.md_meaning.specs.Meaning.At.{Target}
+use Rattle.md_meaning.specs.Meaning.Layout.{Piece, Text, Needed}
+use Rattle.md_meaning.specs.Meaning.Media.{href, src, anchor, picture}
+use Rattle.md_meaning.specs.Meaning.Footnotes.{option_or, id_of, call_id, backreference, backreferences}
+use Rattle.md_meaning.specs.Meaning.Tables.{align_attribute, cell_of}
 use Rattle.md_safe.proofs.Texts.{Escaped, decimal-escaped}
 use Rattle.md_safe.proofs.Claim.{Claim, plain_of, reading}
-use Rattle.md_safe.proofs.Laid.{Adds, IsEscapedTitle, adds-append, adds-nothing, adds-needed}
+use Rattle.md_safe.proofs.Laid.{Adds, adds-append, adds-nothing, adds-needed}
 use Rattle.md_safe.proofs.Tags.{IsTest, attribute, element-read, void-read, adds-flat, adds-before, adds-escaped}
 
-pub href-escaped : (options : CompileOptions) (x : List ℕ) → Escaped (href_of options x)
+pub href-escaped : (options : CompileOptions) (x : List ℕ) → Escaped (href options x)
 href-escaped options x =
     cond_both options.allow_dangerous_protocol (sanitized x) (sanitized_with link_protocols x) Escaped
     (λ _. sanitized-escaped x) (λ _. sanitized_with-escaped link_protocols x)
 
-pub src-escaped : (options : CompileOptions) (x : List ℕ) → Escaped (src_of options x)
+pub src-escaped : (options : CompileOptions) (x : List ℕ) → Escaped (src options x)
 src-escaped options x =
-    cond_both (options.allow_dangerous_protocol || options.allow_any_img_src) (sanitized x)
+    cond_both (options.allow_any_img_src || options.allow_dangerous_protocol) (sanitized x)
     (sanitized_with image_protocols x) Escaped (λ _. sanitized-escaped x)
     (λ _. sanitized_with-escaped image_protocols x)
 
@@ -63,114 +65,99 @@ pass_four : (p : Attribute → Bool) (a b c d : Attribute) → p a ≡ true → 
     list_all p (a ∷ b ∷ c ∷ d ∷ []) ≡ true
 pass_four p a b c d h g k l = and_from (p a) (p b && (p c && (p d && true))) h (pass_three p b c d g k l)
 
+-- a title is escaped, where there is one
+abbrev pub IsEscapedTitle : Option (List ℕ) → Type 0
+IsEscapedTitle None = Unit {0}
+IsEscapedTitle (Some title) = Escaped title
+
 -- a link
 pub adds-link : (p : Claim) (ending : List ℕ) (options : CompileOptions) (test : IsTest p.test options)
     (target : Target) (label : List ℕ) → IsEscapedTitle target.title → p.holds label →
-    Adds p ending p.holds (link_to options target label)
+    Adds ending p.holds (anchor options target label)
 adds-link p ending options test target label h r = by target.title h
   where
     by : (title : Option (List ℕ)) → IsEscapedTitle title →
-        Adds p ending p.holds (link_start options target.destination ++ (title_pieces title ++ link_end label))
+        Adds ending p.holds (anchor options (record { destination = target.destination; title = title }) label)
     by None h =
-        adds-flat p ending p.holds (link_start options target.destination ++ link_end label) refl
-        (element-read p (codes "a") (attribute (codes "href") (href_of options target.destination) ∷ []) label
-        (a_href (href_of options target.destination) (href-escaped options target.destination))
-        (pass_one p.test (attribute (codes "href") (href_of options target.destination))
+        adds-flat ending p.holds (anchor options (record {
+          destination = target.destination;
+          title = None;
+        }) label) refl
+        (element-read p (codes "a") (attribute (codes "href") (href options target.destination) ∷ []) label
+        (a_href (href options target.destination) (href-escaped options target.destination))
+        (pass_one p.test (attribute (codes "href") (href options target.destination))
         (test.link target.destination)) r)
     by (Some title) h =
-        adds-flat p ending p.holds (link_start options target.destination
-        ++ (title_pieces (Some title) ++ link_end label)) refl
-        (element-read p (codes "a") (attribute (codes "href") (href_of options target.destination)
+        adds-flat ending p.holds (anchor options (record {
+          destination = target.destination;
+          title = Some title;
+        }) label) refl
+        (element-read p (codes "a") (attribute (codes "href") (href options target.destination)
         ∷ attribute (codes "title") title ∷ []) label
-        (a_href_title (href_of options target.destination) title (href-escaped options target.destination) h)
-        (pass_two p.test (attribute (codes "href") (href_of options target.destination))
+        (a_href_title (href options target.destination) title (href-escaped options target.destination) h)
+        (pass_two p.test (attribute (codes "href") (href options target.destination))
         (attribute (codes "title") title) (test.link target.destination) (test.other (codes "title") title refl)) r)
-
--- a link with no title
-pub adds-autolink : (p : Claim) (ending : List ℕ) (options : CompileOptions) (test : IsTest p.test options)
-    (destination label : List ℕ) → p.holds label →
-    Adds p ending p.holds (link_start options destination ++ link_end label)
-adds-autolink p ending options test destination label r =
-    adds-link p ending options test (record { destination = destination; title = None }) label tt r
 
 -- an image
 pub adds-image : (p : Claim) (ending : List ℕ) (options : CompileOptions) (test : IsTest p.test options)
     (target : Target) (label : List ℕ) → IsEscapedTitle target.title → Escaped label →
-    Adds p ending p.holds (image_of options target label)
+    Adds ending p.holds (picture options target label)
 adds-image p ending options test target label h e = by target.title h
   where
     by : (title : Option (List ℕ)) → IsEscapedTitle title →
-        Adds p ending p.holds (image_of options (record {
+        Adds ending p.holds (picture options (record {
           destination = target.destination;
           title = title;
         }) label)
     by None h =
-        adds-flat p ending p.holds (image_of options (record {
+        adds-flat ending p.holds (picture options (record {
           destination = target.destination;
           title = None;
         }) label) refl
-        (void-read p (codes "img") (attribute (codes "src") (src_of options target.destination)
+        (void-read p (codes "img") (attribute (codes "src") (src options target.destination)
         ∷ attribute (codes "alt") label ∷ [])
-        (img (src_of options target.destination) label (src-escaped options target.destination) e)
-        (pass_two p.test (attribute (codes "src") (src_of options target.destination)) (attribute (codes "alt") label)
+        (img (src options target.destination) label (src-escaped options target.destination) e)
+        (pass_two p.test (attribute (codes "src") (src options target.destination)) (attribute (codes "alt") label)
         (test.image target.destination) (test.other (codes "alt") label refl)))
     by (Some title) h =
-        adds-flat p ending p.holds (image_of options (record {
+        adds-flat ending p.holds (picture options (record {
           destination = target.destination;
           title = Some title;
         }) label) refl
-        (void-read p (codes "img") (attribute (codes "src") (src_of options target.destination)
+        (void-read p (codes "img") (attribute (codes "src") (src options target.destination)
         ∷ attribute (codes "alt") label ∷ attribute (codes "title") title ∷ [])
-        (img_title (src_of options target.destination) label title (src-escaped options target.destination) e h)
-        (pass_three p.test (attribute (codes "src") (src_of options target.destination)) (attribute (codes "alt") label)
+        (img_title (src options target.destination) label title (src-escaped options target.destination) e h)
+        (pass_three p.test (attribute (codes "src") (src options target.destination)) (attribute (codes "alt") label)
         (attribute (codes "title") title)
         (test.image target.destination) (test.other (codes "alt") label refl) (test.other (codes "title") title refl)))
 
 -- a text of the options, escaped
-escaped_option-escaped : (given : Option (List ℕ)) (default : List ℕ) → Escaped default →
-    Escaped (escaped_option given default)
-escaped_option-escaped None default h = h
-escaped_option-escaped (Some x) default h = is_escaped-encoded x
+option-escaped : (text : Option (List ℕ)) (unset : List ℕ) → Escaped unset → Escaped (option_or text unset)
+option-escaped None unset h = h
+option-escaped (Some x) unset h = is_escaped-encoded x
 
-pub label-escaped : (options : CompileOptions) → Escaped (heading_label_of options)
-label-escaped options = escaped_option-escaped (option_map string_bytes options.gfm_footnote_label)
-    (codes "Footnotes") refl
+pub label-escaped : (options : CompileOptions) →
+    Escaped (option_or (option_map string_bytes options.gfm_footnote_label) (codes "Footnotes"))
+label-escaped options = option-escaped (option_map string_bytes options.gfm_footnote_label) (codes "Footnotes") refl
 
-id-escaped : (options : CompileOptions) (kind identifier : List ℕ) → Escaped kind →
-    Escaped (id_by_name options kind identifier)
-id-escaped options kind identifier h =
-    escaped-append (prefix_of options) (kind ++ sanitized identifier)
-    (escaped_option-escaped (option_map string_bytes options.gfm_footnote_clobber_prefix) (codes "user-content-") refl)
-    (escaped-append kind (sanitized identifier) h (sanitized-escaped identifier))
-
-numbered-escaped : (options : CompileOptions) (kind : List ℕ) (number : ℕ) → Escaped kind →
-    Escaped (numbered_id_of options kind number)
-numbered-escaped options kind number h =
-    escaped-append (prefix_of options) (kind ++ decimal number)
-    (escaped_option-escaped (option_map string_bytes options.gfm_footnote_clobber_prefix) (codes "user-content-") refl)
-    (escaped-append kind (decimal number) h (decimal-escaped number))
-
-pub footnote_id-escaped : (options : CompileOptions) (identifier : List ℕ) (number : ℕ) →
-    Escaped (footnote_id options identifier number)
-footnote_id-escaped options identifier number =
-    cond_both options.gfm_footnote_number_ids (numbered_id_of options (codes "fn-") number)
-    (id_by_name options (codes "fn-") identifier) Escaped
-    (λ _. numbered-escaped options (codes "fn-") number refl) (λ _. id-escaped options (codes "fn-") identifier refl)
-
-suffix-escaped : (occurrence : ℕ) → Escaped (occurrence_suffix occurrence)
-suffix-escaped occurrence = cond_both (occurrence == 1) [] (45
-    ∷ decimal occurrence) Escaped (λ _. refl) (λ _. decimal-escaped occurrence)
+pub id-escaped : (options : CompileOptions) (kind identifier : List ℕ) (number : ℕ) → Escaped kind →
+    Escaped (id_of options kind identifier number)
+id-escaped options kind identifier number h =
+    let own : List ℕ = cond options.gfm_footnote_number_ids (decimal number) (sanitized identifier) in
+    let prefix : List ℕ = option_or (option_map string_bytes options.gfm_footnote_clobber_prefix)
+    (codes "user-content-") in
+    escaped-append prefix (kind ++ own)
+    (option-escaped (option_map string_bytes options.gfm_footnote_clobber_prefix) (codes "user-content-") refl)
+    (escaped-append kind own h (cond_both options.gfm_footnote_number_ids (decimal number) (sanitized identifier) Escaped
+    (λ _. decimal-escaped number) (λ _. sanitized-escaped identifier)))
 
 pub call_id-escaped : (options : CompileOptions) (identifier : List ℕ) (number occurrence : ℕ) →
-    Escaped (id_of_call options identifier number occurrence)
+    Escaped (call_id options identifier number occurrence)
 call_id-escaped options identifier number occurrence =
-    cond_both options.gfm_footnote_number_ids
-    (numbered_id_of options (codes "fnref-") number ++ (45 ∷ decimal occurrence))
-    (id_by_name options (codes "fnref-") identifier ++ occurrence_suffix occurrence) Escaped
-    (λ _. escaped-append (numbered_id_of options (codes "fnref-") number) (45 ∷ decimal occurrence)
-    (numbered-escaped options (codes "fnref-") number refl) (decimal-escaped occurrence))
-    (λ _. escaped-append (id_by_name options (codes "fnref-") identifier) (occurrence_suffix occurrence)
-    (id-escaped options (codes "fnref-") identifier refl) (suffix-escaped occurrence))
+    let first : Bool = not options.gfm_footnote_number_ids && occurrence == 1 in
+    escaped-append (id_of options (codes "fnref-") identifier number) (cond first [] (45 ∷ decimal occurrence))
+    (id-escaped options (codes "fnref-") identifier number refl)
+    (cond_both first [] (45 ∷ decimal occurrence) Escaped (λ _. refl) (λ _. decimal-escaped occurrence))
 
 pub a_call : (v w : List ℕ) → Escaped v → Escaped w → is_tag elements (codes "a") (attribute (codes "href") (35 ∷ v)
     ∷ attribute (codes "id") w ∷ attribute (codes "data-footnote-ref") []
@@ -207,17 +194,34 @@ call-read p options test v w n h passes g k =
     (test.other (codes "aria-describedby") (codes "footnote-label") refl))
     (p.plain n (text p.test n k))))
 
+-- the tags of a call
+abbrev pub call_tags : CompileOptions → List ℕ → ℕ → ℕ → List Piece
+call_tags options identifier number occurrence =
+    Text (codes "<sup><a href=\"#") ∷ Text (id_of options (codes "fn-") identifier number)
+    ∷ Text (codes "\" id=\"") ∷ Text (call_id options identifier number occurrence)
+    ∷ Text (codes "\" data-footnote-ref=\"\" aria-describedby=\"footnote-label\">") ∷ Text (decimal number)
+    ∷ Text (codes "</a></sup>") ∷ []
+
 -- a call
 pub adds-call : (p : Claim) (ending : List ℕ) (options : CompileOptions) (test : IsTest p.test options)
     (identifier : List ℕ) (number occurrence : ℕ) →
-    p.test (attribute (codes "id") (id_of_call options identifier number occurrence)) ≡ true → Adds p ending p.holds
+    p.test (attribute (codes "id") (call_id options identifier number occurrence)) ≡ true → Adds ending p.holds
     (call_tags options identifier number occurrence)
 adds-call p ending options test identifier number occurrence passes =
-    adds-flat p ending p.holds (call_tags options identifier number occurrence) refl
-    (call-read p options test (footnote_id options identifier number) (id_of_call options identifier number occurrence)
-    (decimal number) (footnote_id-escaped options identifier number) passes
+    adds-flat ending p.holds (call_tags options identifier number occurrence) refl
+    (call-read p options test (id_of options (codes "fn-") identifier number)
+    (call_id options identifier number occurrence)
+    (decimal number) (id-escaped options (codes "fn-") identifier number refl) passes
     (call_id-escaped options identifier number occurrence)
     (decimal-escaped number))
+
+-- which of its footnote's calls it is, from the second on
+abbrev occurrence_mark : ℕ → List ℕ
+occurrence_mark occurrence =
+    cond (occurrence == 1) [] (codes "<sup>" ++ (decimal occurrence ++ codes "</sup>"))
+
+abbrev arrow : List ℕ
+arrow = 226 ∷ 134 ∷ 169 ∷ []
 
 mark-read : (p : Attribute → Bool) (occurrence : ℕ) → HasReadingWith p (occurrence_mark occurrence)
 mark-read p occurrence =
@@ -247,82 +251,83 @@ back-read p options test v t m h g r =
     (join p arrow m (text p arrow refl) r)
 
 backreference-read : (p : Attribute → Bool) (options : CompileOptions) (test : IsTest p options) (identifier : List ℕ)
-    (number occurrence : ℕ) → HasReadingWith p (return_link options identifier number occurrence)
+    (number occurrence : ℕ) → HasReadingWith p (backreference options identifier number occurrence)
 backreference-read p options test identifier number occurrence =
-    back-read p options test (id_of_call options identifier number occurrence) (back_label_of options)
+    back-read p options test (call_id options identifier number occurrence)
+    (option_or (option_map string_bytes options.gfm_footnote_back_label) (codes "Back to content"))
     (occurrence_mark occurrence) (call_id-escaped options identifier number occurrence)
-    (escaped_option-escaped (option_map string_bytes options.gfm_footnote_back_label) (codes "Back to content") refl)
+    (option-escaped (option_map string_bytes options.gfm_footnote_back_label) (codes "Back to content") refl)
     (mark-read p occurrence)
 
 -- the ways back to calls
 pub backreferences-read : (p : Attribute → Bool) (options : CompileOptions) (test : IsTest p options)
-    (identifier : List ℕ) (number count : ℕ) → HasReadingWith p (return_links options identifier number count)
+    (identifier : List ℕ) (number count : ℕ) → HasReadingWith p (backreferences options identifier number count)
 backreferences-read p options test identifier number zero = nothing p
 backreferences-read p options test identifier number (suc count) =
-    join p (return_links options identifier number count) ((cond (count == 0) [] (32 ∷ []))
-    ++ return_link options identifier number (suc count))
+    join p (backreferences options identifier number count) ((cond (count == 0) [] (32 ∷ []))
+    ++ backreference options identifier number (suc count))
     (backreferences-read p options test identifier number count)
-    (join p (cond (count == 0) [] (32 ∷ [])) (return_link options identifier number (suc count))
+    (join p (cond (count == 0) [] (32 ∷ [])) (backreference options identifier number (suc count))
     (cond_both (count == 0) [] (32 ∷ []) (HasReadingWith p) (λ _. nothing p) (λ _. text p (32 ∷ []) refl))
     (backreference-read p options test identifier number (suc count)))
 
 -- a cell's texts
-abbrev cell_texts : Bool → AlignKind → List ℕ → List Stroke
-cell_texts in_head kind x = Text (cond in_head (codes "<th") (codes "<td")) ∷ Text (alignment_text kind)
+abbrev cell_texts : Bool → AlignKind → List ℕ → List Piece
+cell_texts in_head kind x = Text (cond in_head (codes "<th") (codes "<td")) ∷ Text (align_attribute kind)
     ∷ Text (codes ">") ∷ Text x ∷ Text (cond in_head (codes "</th>") (codes "</td>")) ∷ []
 
 cell-flat : (p : Claim) (ending : List ℕ) (options : CompileOptions) (test : IsTest p.test options)
     (in_head : Bool) (kind : AlignKind) (x : List ℕ) → p.holds x
-    → Adds p ending p.holds (cell_texts in_head kind x)
-cell-flat p ending options test true align.Left x r = adds-flat p ending p.holds
+    → Adds ending p.holds (cell_texts in_head kind x)
+cell-flat p ending options test true align.Left x r = adds-flat ending p.holds
     (cell_texts true align.Left x) refl (element-read p (codes "th") (attribute (codes "align") (codes "left")
     ∷ []) x refl (pass_one p.test (attribute (codes "align") (codes "left"))
     (test.other (codes "align") (codes "left") refl)) r)
-cell-flat p ending options test true align.Right x r = adds-flat p ending p.holds
+cell-flat p ending options test true align.Right x r = adds-flat ending p.holds
     (cell_texts true align.Right x) refl (element-read p (codes "th") (attribute (codes "align") (codes "right")
     ∷ []) x refl (pass_one p.test (attribute (codes "align") (codes "right"))
     (test.other (codes "align") (codes "right") refl)) r)
-cell-flat p ending options test true align.Center x r = adds-flat p ending p.holds
+cell-flat p ending options test true align.Center x r = adds-flat ending p.holds
     (cell_texts true align.Center x) refl (element-read p (codes "th") (attribute (codes "align") (codes "center")
     ∷ []) x refl (pass_one p.test (attribute (codes "align") (codes "center"))
     (test.other (codes "align") (codes "center") refl)) r)
-cell-flat p ending options test true align.None x r = adds-flat p ending p.holds
+cell-flat p ending options test true align.None x r = adds-flat ending p.holds
     (cell_texts true align.None x) refl (element-read p (codes "th") [] x refl refl r)
-cell-flat p ending options test false align.Left x r = adds-flat p ending p.holds
+cell-flat p ending options test false align.Left x r = adds-flat ending p.holds
     (cell_texts false align.Left x) refl (element-read p (codes "td") (attribute (codes "align") (codes "left")
     ∷ []) x refl (pass_one p.test (attribute (codes "align") (codes "left"))
     (test.other (codes "align") (codes "left") refl)) r)
-cell-flat p ending options test false align.Right x r = adds-flat p ending p.holds
+cell-flat p ending options test false align.Right x r = adds-flat ending p.holds
     (cell_texts false align.Right x) refl (element-read p (codes "td") (attribute (codes "align") (codes "right")
     ∷ []) x refl (pass_one p.test (attribute (codes "align") (codes "right"))
     (test.other (codes "align") (codes "right") refl)) r)
 cell-flat p ending options test false align.Center x r =
-    adds-flat p ending p.holds (cell_texts false align.Center x) refl
+    adds-flat ending p.holds (cell_texts false align.Center x) refl
     (element-read p (codes "td") (attribute (codes "align") (codes "center")
     ∷ []) x refl (pass_one p.test (attribute (codes "align") (codes "center"))
     (test.other (codes "align") (codes "center") refl)) r)
-cell-flat p ending options test false align.None x r = adds-flat p ending p.holds
+cell-flat p ending options test false align.None x r = adds-flat ending p.holds
     (cell_texts false align.None x) refl (element-read p (codes "td") [] x refl refl r)
 
 adds-cell : (p : Claim) (ending : List ℕ) → Escaped ending →
     (options : CompileOptions) (test : IsTest p.test options) (in_head : Bool) (kind : AlignKind) (x : List ℕ) →
-    p.holds x → Adds p ending p.holds (cell_pieces in_head kind x)
+    p.holds x → Adds ending p.holds (cell_of in_head x kind)
 adds-cell p ending h options test in_head kind x r =
     adds-before p ending (Needed ∷ []) (cell_texts in_head kind x)
-    (adds-escaped p ending (Needed ∷ []) (adds-needed p ending h)) (cell-flat p ending options test in_head kind x r)
+    (adds-escaped p ending (Needed ∷ []) (adds-needed ending h)) (cell-flat p ending options test in_head kind x r)
 
 pub adds-cell_in : (p : Claim) (ending : List ℕ) → Escaped ending →
     (options : CompileOptions) (test : IsTest p.test options) (in_head : Bool) (kind : Option AlignKind) (x : List ℕ) →
-    p.holds x → Adds p ending p.holds (cell_in in_head kind x)
-adds-cell_in p ending h options test in_head None x r = adds-nothing p ending p.holds (p.plain [] (nothing p.test))
+    p.holds x → Adds ending p.holds (option_map_or (λ kind. cell_of in_head x kind) kind [])
+adds-cell_in p ending h options test in_head None x r = adds-nothing ending p.holds (p.plain [] (nothing p.test))
 adds-cell_in p ending h options test in_head (Some kind) x r = adds-cell p ending h options test in_head kind x r
 
 pub adds-empty_cells : (p : Claim) (ending : List ℕ) → Escaped ending →
     (options : CompileOptions) (test : IsTest p.test options) (in_head : Bool) (kinds : List AlignKind) →
-    Adds p ending (HasReadingWith p.test) (empty_cells in_head kinds)
-adds-empty_cells p ending h options test in_head [] = adds-nothing p ending (HasReadingWith p.test) (nothing p.test)
+    Adds ending (HasReadingWith p.test) (flat_map (cell_of in_head []) kinds)
+adds-empty_cells p ending h options test in_head [] = adds-nothing ending (HasReadingWith p.test) (nothing p.test)
 adds-empty_cells p ending h options test in_head (kind ∷ kinds) =
-    adds-append p ending (HasReadingWith p.test) (HasReadingWith p.test) (HasReadingWith p.test)
-    (cell_pieces in_head kind []) (empty_cells in_head kinds) (join p.test)
+    adds-append ending (HasReadingWith p.test) (HasReadingWith p.test) (HasReadingWith p.test)
+    (cell_of in_head [] kind) (flat_map (cell_of in_head []) kinds) (join p.test)
     (adds-cell (plain_of p) ending h options test in_head kind [] (nothing p.test))
     (adds-empty_cells p ending h options test in_head kinds)

@@ -6,8 +6,8 @@ use Rattle.md_text.specs.Html.{Attribute, HasReadingWith, opening_tag, closing_t
 use Rattle.md_text.proofs.HtmlJoin.{text, void, opening-before}
 use Rattle.md_text.proofs.HtmlWriting.{attributes_before, written_attributes-before}
 use Rattle.md_text.specs.declared.options.CompileOptions.{CompileOptions}
-use Rattle.md_meaning.specs.Piece.{Stroke, Text, Needed, Forced, Noted, Recalled}
-use Rattle.md_meaning.specs.Media.{href_of, src_of}
+use Rattle.md_meaning.specs.Meaning.Layout.{Piece, Text, Needed, Forced}
+use Rattle.md_meaning.specs.Meaning.Media.{href, src}
 use Rattle.md_safe.proofs.Texts.{Escaped}
 use Rattle.md_safe.proofs.Claim.{Claim}
 use Rattle.md_safe.proofs.Laid.{Adds, adds-append, adds-text, adds-weaker, adds-needed, adds-forced, adds-nothing}
@@ -24,9 +24,9 @@ is_other_name name = not (bytes_eq name (codes "href")) && (not (bytes_eq name (
 -- what is known of a test on attributes, and of the options
 pub record IsTest (p : Attribute → Bool) (options : CompileOptions) : Type 0 where
   pub other : (name value : List ℕ) → is_other_name name ≡ true → p (attribute name value) ≡ true
-  pub link : (destination : List ℕ) → p (attribute (codes "href") (href_of options destination)) ≡ true
+  pub link : (destination : List ℕ) → p (attribute (codes "href") (href options destination)) ≡ true
   pub anchor : (rest : List ℕ) → p (attribute (codes "href") (35 ∷ rest)) ≡ true
-  pub image : (destination : List ℕ) → p (attribute (codes "src") (src_of options destination)) ≡ true
+  pub image : (destination : List ℕ) → p (attribute (codes "src") (src options destination)) ≡ true
   pub html : options.allow_dangerous_html ≡ false
 
 -- two texts around one of which something is claimed, so that something is claimed of all
@@ -97,30 +97,30 @@ enclosed p q o c x y z bracket a r b =
     (subst (λ z. q.holds ((a.before ++ (o ++ a.after)) ++ (y ++ z))) (sym b.whole) parts)
 
 -- pieces between those of two texts
-pub adds-turned : (p q : Claim) (ending o c : List ℕ) (xs ys zs : List Stroke) → Turns p q o c →
-    Adds p ending (IsFramed o) xs → Adds p ending p.holds ys → Adds p ending (IsFramed c) zs
-    → Adds p ending q.holds (xs ++ (ys ++ zs))
+pub adds-turned : (p q : Claim) (ending o c : List ℕ) (xs ys zs : List Piece) → Turns p q o c →
+    Adds ending (IsFramed o) xs → Adds ending p.holds ys → Adds ending (IsFramed c) zs
+    → Adds ending q.holds (xs ++ (ys ++ zs))
 adds-turned p q ending o c xs ys zs bracket a r b =
-    adds-append p ending (IsFramed o) (λ w. (y : List ℕ) × (z : List ℕ) × (w ≡ y ++ z) × p.holds y
+    adds-append ending (IsFramed o) (λ w. (y : List ℕ) × (z : List ℕ) × (w ≡ y ++ z) × p.holds y
     × IsFramed c z) q.holds xs (ys ++ zs)
     (λ x w f g. subst (λ w. q.holds (x ++ w)) (sym g.2) (enclosed p q o c x g.0 g.1 bracket f g.3 g.4))
     a
-    (adds-append p ending p.holds (IsFramed c) (λ w. (y : List ℕ) × (z : List ℕ) × (w ≡ y ++ z)
+    (adds-append ending p.holds (IsFramed c) (λ w. (y : List ℕ) × (z : List ℕ) × (w ≡ y ++ z)
     × p.holds y × IsFramed c z) ys zs
     (λ y z f g. (y, z, refl, f, g))
     r b)
 
 -- pieces between those of a bracket
-pub adds-pair : (p : Claim) (ending o c : List ℕ) (xs ys zs : List Stroke) → Bracket p o c →
-    Adds p ending (IsFramed o) xs → Adds p ending p.holds ys → Adds p ending (IsFramed c) zs
-    → Adds p ending p.holds (xs ++ (ys ++ zs))
+pub adds-pair : (p : Claim) (ending o c : List ℕ) (xs ys zs : List Piece) → Bracket p o c →
+    Adds ending (IsFramed o) xs → Adds ending p.holds ys → Adds ending (IsFramed c) zs
+    → Adds ending p.holds (xs ++ (ys ++ zs))
 adds-pair p ending o c xs ys zs bracket a r b = adds-turned p p ending o c xs ys zs bracket a r b
 
 -- a tag between pieces that add escaped texts
-pub adds-framed : (p : Claim) (ending c : List ℕ) (xs zs : List Stroke) → Adds p ending Escaped xs →
-    Adds p ending Escaped zs → Adds p ending (IsFramed c) (xs ++ (Text c ∷ zs))
-adds-framed p ending c xs zs a b =
-    adds-append p ending Escaped (λ w. (z : List ℕ) × (w ≡ c ++ z) × Escaped z) (IsFramed c) xs (Text c ∷ zs)
+pub adds-framed : (ending c : List ℕ) (xs zs : List Piece) → Adds ending Escaped xs →
+    Adds ending Escaped zs → Adds ending (IsFramed c) (xs ++ (Text c ∷ zs))
+adds-framed ending c xs zs a b =
+    adds-append ending Escaped (λ w. (z : List ℕ) × (w ≡ c ++ z) × Escaped z) (IsFramed c) xs (Text c ∷ zs)
     (λ x w f g. record {
       before = x;
       after = g.0;
@@ -129,58 +129,56 @@ adds-framed p ending c xs zs a b =
       escaped_after = g.2;
     })
     a
-    (adds-append p ending (λ x. x ≡ c) Escaped (λ w. (z : List ℕ) × (w ≡ c ++ z) × Escaped z) (Text c ∷ []) zs
+    (adds-append ending (λ x. x ≡ c) Escaped (λ w. (z : List ℕ) × (w ≡ c ++ z) × Escaped z) (Text c ∷ []) zs
     (λ x z f g. (z, ap (λ x. x ++ z) f, g))
-    (adds-text p ending (λ x. x ≡ c) c refl) b)
+    (adds-text ending (λ x. x ≡ c) c refl) b)
 
-pub adds-nil : (p : Claim) (ending : List ℕ) → Adds p ending Escaped []
-adds-nil p ending = adds-nothing p ending Escaped refl
+pub adds-nil : (ending : List ℕ) → Adds ending Escaped []
+adds-nil ending = adds-nothing ending Escaped refl
 
 -- a tag alone, or on a line of its own
-pub framed-text : (p : Claim) (ending c : List ℕ) → Adds p ending (IsFramed c) (Text c ∷ [])
-framed-text p ending c = adds-framed p ending c [] [] (adds-nil p ending) (adds-nil p ending)
+pub framed-text : (ending c : List ℕ) → Adds ending (IsFramed c) (Text c ∷ [])
+framed-text ending c = adds-framed ending c [] [] (adds-nil ending) (adds-nil ending)
 
-pub framed-needed : (p : Claim) (ending c : List ℕ) → Escaped ending →
-    Adds p ending (IsFramed c) (Needed ∷ Text c ∷ [])
-framed-needed p ending c h = adds-framed p ending c (Needed ∷ []) [] (adds-needed p ending h) (adds-nil p ending)
+pub framed-needed : (ending c : List ℕ) → Escaped ending →
+    Adds ending (IsFramed c) (Needed ∷ Text c ∷ [])
+framed-needed ending c h = adds-framed ending c (Needed ∷ []) [] (adds-needed ending h) (adds-nil ending)
 
-pub framed-forced : (p : Claim) (ending c : List ℕ) → Escaped ending →
-    Adds p ending (IsFramed c) (Forced ∷ Text c ∷ [])
-framed-forced p ending c h = adds-framed p ending c (Forced ∷ []) [] (adds-forced p ending h) (adds-nil p ending)
+pub framed-forced : (ending c : List ℕ) → Escaped ending →
+    Adds ending (IsFramed c) (Forced ∷ Text c ∷ [])
+framed-forced ending c h = adds-framed ending c (Forced ∷ []) [] (adds-forced ending h) (adds-nil ending)
 
 -- what is claimed before or after what has a reading
-pub adds-before : (p : Claim) (ending : List ℕ) (xs ys : List Stroke) → Adds p ending (HasReadingWith p.test) xs →
-    Adds p ending p.holds ys → Adds p ending p.holds (xs ++ ys)
-adds-before p ending xs ys a b = adds-append p ending (HasReadingWith p.test) p.holds p.holds xs ys p.before a b
+pub adds-before : (p : Claim) (ending : List ℕ) (xs ys : List Piece) → Adds ending (HasReadingWith p.test) xs →
+    Adds ending p.holds ys → Adds ending p.holds (xs ++ ys)
+adds-before p ending xs ys a b = adds-append ending (HasReadingWith p.test) p.holds p.holds xs ys p.before a b
 
-pub adds-after : (p : Claim) (ending : List ℕ) (xs ys : List Stroke) → Adds p ending p.holds xs →
-    Adds p ending (HasReadingWith p.test) ys → Adds p ending p.holds (xs ++ ys)
-adds-after p ending xs ys a b = adds-append p ending p.holds (HasReadingWith p.test) p.holds xs ys p.after a b
+pub adds-after : (p : Claim) (ending : List ℕ) (xs ys : List Piece) → Adds ending p.holds xs →
+    Adds ending (HasReadingWith p.test) ys → Adds ending p.holds (xs ++ ys)
+adds-after p ending xs ys a b = adds-append ending p.holds (HasReadingWith p.test) p.holds xs ys p.after a b
 
 -- an escaped text has a reading
-pub adds-escaped : (p : Claim) (ending : List ℕ) (xs : List Stroke) → Adds p ending Escaped xs →
-    Adds p ending (HasReadingWith p.test) xs
-adds-escaped p ending xs a = adds-weaker p ending Escaped (HasReadingWith p.test) xs (text p.test) a
+pub adds-escaped : (p : Claim) (ending : List ℕ) (xs : List Piece) → Adds ending Escaped xs →
+    Adds ending (HasReadingWith p.test) xs
+adds-escaped p ending xs a = adds-weaker ending Escaped (HasReadingWith p.test) xs (text p.test) a
 
 -- the texts of some pieces in one
-abbrev pub flat : List Stroke → List ℕ
+abbrev pub flat : List Piece → List ℕ
 flat [] = []
 flat (Text x ∷ pieces) = x ++ flat pieces
 flat (_ ∷ pieces) = flat pieces
 
-abbrev pub are_texts : List Stroke → Bool
+abbrev pub are_texts : List Piece → Bool
 are_texts [] = true
 are_texts (Text x ∷ pieces) = are_texts pieces
 are_texts (_ ∷ pieces) = false
 
-pub adds-flat : (p : Claim) (ending : List ℕ) (f : List ℕ → Type 0) (pieces : List Stroke) →
-    are_texts pieces ≡ true → f (flat pieces) → Adds p ending f pieces
-adds-flat p ending f [] texts h = adds-nothing p ending f h
-adds-flat p ending f (Text x ∷ pieces) texts h =
-    adds-append p ending (λ y. y ≡ x) (λ y. y ≡ flat pieces) f (Text x
+pub adds-flat : (ending : List ℕ) (f : List ℕ → Type 0) (pieces : List Piece) →
+    are_texts pieces ≡ true → f (flat pieces) → Adds ending f pieces
+adds-flat ending f [] texts h = adds-nothing ending f h
+adds-flat ending f (Text x ∷ pieces) texts h =
+    adds-append ending (λ y. y ≡ x) (λ y. y ≡ flat pieces) f (Text x
     ∷ []) pieces (λ y z e g. subst f (sym (ap (λ y. y ++ z) e ∙ ap (λ z. x ++ z) g)) h)
-    (adds-text p ending (λ y. y ≡ x) x refl) (adds-flat p ending (λ y. y ≡ flat pieces) pieces texts refl)
-adds-flat p ending f (Needed ∷ pieces) texts h = absurd (cc texts)
-adds-flat p ending f (Forced ∷ pieces) texts h = absurd (cc texts)
-adds-flat p ending f (Noted note ∷ pieces) texts h = absurd (cc texts)
-adds-flat p ending f (Recalled ∷ pieces) texts h = absurd (cc texts)
+    (adds-text ending (λ y. y ≡ x) x refl) (adds-flat ending (λ y. y ≡ flat pieces) pieces texts refl)
+adds-flat ending f (Needed ∷ pieces) texts h = absurd (cc texts)
+adds-flat ending f (Forced ∷ pieces) texts h = absurd (cc texts)

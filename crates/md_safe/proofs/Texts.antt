@@ -1,14 +1,14 @@
 -- Texts that are escaped: line endings, digits, numbers and the text of code. They may stand anywhere.
-use Rattle.std.proofs.Common.{◌≡◌, ℕ, ◌-◌, ◌<◌, ◌≤◌, ◌/◌, ◌%◌, ◌==◌, zero, suc, Bool, true, false, not, ◌&&◌, ◌||◌, cond, List, [], ◌∷◌, ◌++◌, length, take, refl, sym, ap, subst, inl, inr, arith, append_assoc, append-nil, eqb-true}
-use Rattle.std.specs.Prelude.{slice_get, slice_range, nat_le}
+use Rattle.std.proofs.Common.{◌≡◌, ℕ, ◌-◌, ◌<◌, ◌≤◌, ◌/◌, ◌%◌, ◌==◌, zero, suc, Bool, true, false, not, ◌&&◌, ◌||◌, cond, List, [], ◌∷◌, ◌++◌, length, take, drop, refl, sym, ap, subst, inl, inr, arith, append_assoc, append-nil, eqb-true}
+use Rattle.std.specs.Prelude.{nat_le, nat_lt}
 use Rattle.std.specs.Fmt.{decimal, digits, digits_onto, digit_glyph}
 use Rattle.std.specs.List.{list_all}
 use Rattle.std.proofs.lemmas.Bool.{and_parts, or_cases, cond_both, agree_below_at, leb-true}
 use Rattle.md_text.specs.References.{is_escaped}
 use Rattle.md_text.specs.Laws.{is_line_ends}
 use Rattle.md_text.proofs.EscapedLemmas.{completes_reference, escaped-tail, escaped-without}
-use Rattle.md_meaning.specs.Texts.{is_space, is_padded, is_blank, without_padding, unescaped_pipes, escapes_pipe, begins_with_pipe}
-use Rattle.md_meaning.specs.Places.{unpadded, has_leading_zero}
+use Rattle.md_meaning.specs.Meaning.Spans.{is_at, without_escapes, trimmed}
+use Rattle.md_meaning.specs.Meaning.Blocks.{without_zeros}
 use Rattle.md_shape.specs.Built.{is_digit}
 
 -- a text is escaped
@@ -61,10 +61,10 @@ digits-escaped (b ∷ text) h =
     plain_first b text (digit-plain b parts.0) (digits-escaped text parts.1)
 
 -- digits without the zeros before them are digits
-pub zeros-escaped : (text : List ℕ) → list_all is_digit text ≡ true → Escaped (unpadded text)
+pub zeros-escaped : (text : List ℕ) → list_all is_digit text ≡ true → Escaped (without_zeros text)
 zeros-escaped [] h = refl
 zeros-escaped (b ∷ text) h =
-    cond_both (has_leading_zero (b ∷ text)) (unpadded text) (b ∷ text) Escaped
+    cond_both (b == 48 && nat_lt 0 (length text)) (without_zeros text) (b ∷ text) Escaped
     (λ _. zeros-escaped text (and_parts (is_digit b) (list_all is_digit text) h).1)
     (λ _. digits-escaped (b ∷ text) h)
 
@@ -86,18 +86,18 @@ unfolding digits
 decimal-escaped n = onto-escaped 64 n [] refl
 
 -- the pipes' backslashes go
-pipes : (text front : List ℕ) → Escaped (front ++ text) → Escaped (front ++ unescaped_pipes text)
+pipes : (text front : List ℕ) → Escaped (front ++ text) → Escaped (front ++ without_escapes text)
 pipes [] front h = h
 pipes (b ∷ text) front h =
-    cond_both (escapes_pipe b text) (unescaped_pipes text) (b ∷ unescaped_pipes text) (λ x. Escaped (front ++ x))
+    cond_both (b == 92 && is_at 124 text 0) [] (b ∷ []) (λ own. Escaped (front ++ (own ++ without_escapes text)))
     (λ escapes.
-    let is : b ≡ 92 = eqb-true b 92 (and_parts (b == 92) (begins_with_pipe text) escapes).0 in
+    let is : b ≡ 92 = eqb-true b 92 (and_parts (b == 92) (is_at 124 text 0) escapes).0 in
     pipes text front (escaped-without 92 front text refl (subst (λ b. Escaped (front ++ (b ∷ text))) is h)))
     (λ _.
-    subst Escaped (append_assoc front (b ∷ []) (unescaped_pipes text))
+    subst Escaped (append_assoc front (b ∷ []) (without_escapes text))
     (pipes text (front ++ (b ∷ [])) (subst Escaped (sym (append_assoc front (b ∷ []) text)) h)))
 
-pub pipes-escaped : (text : List ℕ) → Escaped text → Escaped (unescaped_pipes text)
+pub pipes-escaped : (text : List ℕ) → Escaped text → Escaped (without_escapes text)
 pipes-escaped text h = pipes text [] h
 
 -- a text that ends in a space, without it
@@ -106,38 +106,40 @@ record Trim (b : ℕ) (text : List ℕ) : Type 0 where
   whole : b ∷ text ≡ front ++ (32 ∷ [])
   cut : take (length text) (b ∷ text) ≡ front
 
-trim_last : (b : ℕ) (text : List ℕ) → is_space (slice_get (b ∷ text) (length text)) ≡ true → Trim b text
+trim_last : (b : ℕ) (text : List ℕ) → is_at 32 (b ∷ text) (length text) ≡ true → Trim b text
 trim_last b [] h = record { front = []; whole = ap (λ b. b ∷ []) (eqb-true b 32 h); cut = refl }
 trim_last b (c ∷ text) h =
     let r = trim_last c text h in
     record { front = b ∷ r.front; whole = ap (λ x. b ∷ x) r.whole; cut = ap (λ x. b ∷ x) r.cut }
 
-cut_last : (c n : ℕ) (text : List ℕ) → n ≡ length text → is_space (slice_get (c ∷ text) n) ≡ true →
-    Escaped (c ∷ text) → Escaped (take n (c ∷ text))
-cut_last c n text size last h =
-    let r = trim_last c text (subst (λ n. is_space (slice_get (c ∷ text) n) ≡ true) size last) in
+cut_last : (c : ℕ) (text : List ℕ) → is_at 32 (c ∷ text) (length text) ≡ true → Escaped (c ∷ text) →
+    Escaped (take (length text) (c ∷ text))
+cut_last c text last h =
+    let r = trim_last c text last in
     let front : Escaped (r.front ++ []) = escaped-without 32 r.front [] refl (subst Escaped r.whole h) in
-    subst (λ n. Escaped (take n (c ∷ text))) (sym size) (subst Escaped (sym r.cut)
-    (subst Escaped (append-nil r.front) front))
+    subst Escaped (sym r.cut) (subst Escaped (append-nil r.front) front)
 
-later : (b c n : ℕ) (text : List ℕ) → n ≡ suc (length text) → is_space (slice_get (b ∷ c ∷ text) n) ≡ true →
-    is_space (slice_get (c ∷ text) (length text)) ≡ true
-later b c n text size h = subst (λ n. is_space (slice_get (b ∷ c ∷ text) n) ≡ true) size h
+later : (b c n : ℕ) (text : List ℕ) → n ≡ suc (length text) → is_at 32 (b ∷ c ∷ text) n ≡ true →
+    is_at 32 (c ∷ text) (length text) ≡ true
+later b c n text size h = subst (λ n. is_at 32 (b ∷ c ∷ text) n ≡ true) size h
 
-trim_both : (text : List ℕ) → Escaped text → is_padded text ≡ true → Escaped (slice_range text 1 (length text - 1))
+abbrev is_padded : List ℕ → Bool
+is_padded text =
+    is_at 32 text 0 && is_at 32 text (length text - 1) && not (list_all (λ byte. byte == 32) text)
+
+trim_both : (text : List ℕ) → Escaped text → is_padded text ≡ true →
+    Escaped (take (length text - 2) (drop 1 text))
 trim_both [] h padded = refl
 trim_both (b ∷ []) h padded = refl
 trim_both (b ∷ c ∷ text) h padded =
-    let all = and_parts (is_space (slice_get (b ∷ c ∷ text) 0)
-    && is_space (slice_get (b ∷ c ∷ text) (length (b ∷ c ∷ text) - 1))) (not (is_blank (b ∷ c ∷ text))) padded in
-    let ends = and_parts (is_space (slice_get (b ∷ c ∷ text) 0))
-    (is_space (slice_get (b ∷ c ∷ text) (length (b ∷ c ∷ text) - 1))) all.0 in
+    let all = and_parts (is_at 32 (b ∷ c ∷ text) 0 && is_at 32 (b ∷ c ∷ text) (length (b ∷ c ∷ text) - 1))
+    (not (list_all (λ byte. byte == 32) (b ∷ c ∷ text))) padded in
+    let ends = and_parts (is_at 32 (b ∷ c ∷ text) 0) (is_at 32 (b ∷ c ∷ text) (length (b ∷ c ∷ text) - 1)) all.0 in
     let size : length (b ∷ c ∷ text) - 1 ≡ suc (length text) = omega arith in
-    let cut : length (b ∷ c ∷ text) - 1 - 1 ≡ length text = omega arith in
-    let last : is_space (slice_get (c ∷ text) (length text)) ≡ true = later b c _ text size ends.1 in
-    cut_last c _ text cut (subst (λ n. is_space (slice_get (c ∷ text) n) ≡ true) (sym cut) last)
-    (escaped-tail b (c ∷ text) h)
+    let cut : length (b ∷ c ∷ text) - 2 ≡ length text = omega arith in
+    let last : is_at 32 (c ∷ text) (length text) ≡ true = later b c _ text size ends.1 in
+    subst (λ n. Escaped (take n (c ∷ text))) (sym cut) (cut_last c text last (escaped-tail b (c ∷ text) h))
 
-pub trimmed-escaped : (text : List ℕ) → Escaped text → Escaped (without_padding text)
-trimmed-escaped text h = cond_both (is_padded text) (slice_range text 1 (length text - 1)) text Escaped
+pub trimmed-escaped : (text : List ℕ) → Escaped text → Escaped (trimmed text)
+trimmed-escaped text h = cond_both (is_padded text) (take (length text - 2) (drop 1 text)) text Escaped
     (trim_both text h) (λ _. h)

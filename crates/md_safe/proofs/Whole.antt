@@ -1,12 +1,12 @@
--- The meaning of a document has a reading in which each attribute passes a test, and has no id twice: both theorems
--- from the two inductions.
+-- The meaning of a document has a reading in which each attribute passes a test, and has no id twice: the theorems from
+-- the two inductions.
 use Rattle.std.specs.Str.{bytes_eq}
-use Rattle.std.proofs.Common.{◌≡◌, ℕ, ◌&&◌, ◌||◌, Bool, true, false, not, cond, List, [], ◌∷◌, ◌++◌, length, ◌<◌, ◌^◌, ◌+◌, ◌≤◌, arith, refl, sym, ap, subst, codes}
+use Rattle.std.proofs.Common.{◌≡◌, ℕ, ◌&&◌, ◌||◌, Bool, true, false, not, cond, List, [], ◌∷◌, ◌++◌, length, ◌<◌, ◌^◌, ◌+◌, ◌≤◌, arith, refl, sym, ap, ◌∙◌, subst, codes}
 use Rattle.std.specs.Prelude.{Option, Some, None}
 use Rattle.std.specs.Option.{option_map_or}
 use Rattle.std.proofs.lemmas.Bool.{and_parts, not-true}
 use Rattle.md_base.specs.declared.event.Name.{Name}
-use Rattle.md_base.specs.declared.event.Name.TheVariants.{LineEnding, BlankLineEnding}
+use Rattle.md_base.specs.declared.event.Name.TheVariants.{LineEnding, BlankLineEnding, GfmFootnoteCall}
 use Rattle.md_base.specs.declared.event.Point.{Point}
 use Rattle.md_base.specs.declared.event.Position.{Position}
 use Rattle.md_text.specs.declared.line_ending.LineEnding.{LineEnding as Ending}
@@ -16,43 +16,46 @@ use Rattle.md_text.specs.LineEnding.{ending_text}
 use Rattle.md_text.specs.Html.{Attribute, any_attribute, HasReadingWith, HasOneReadingWith}
 use Rattle.md_text.specs.Safe.{is_safe_link, is_safe_image, is_safe_value}
 use Rattle.md_text.specs.Url.{sanitized, sanitized_with, link_protocols, image_protocols}
-use Rattle.md_text.proofs.HtmlJoin.{nothing, join}
+use Rattle.md_text.proofs.HtmlJoin.{join}
 use Rattle.md_text.proofs.HtmlReading.{only_reading}
 use Rattle.md_text.proofs.ProtocolLemmas.{kept-link, kept-image}
-use Rattle.md_base.specs.Tree.{Forest, Empty, Node, flatten, exiting}
-use Rattle.md_base.specs.Children.{or_else}
-use Rattle.md_base.specs.NameTests.{is_line_ending, is_call}
 use Rattle.std.proofs.lemmas.List.{length-append}
-use Rattle.md_text.specs.declared.options.CompileOptions.{CompileOptions}
-use Rattle.md_meaning.specs.Piece.{Stroke, blank, lay}
-use Rattle.md_meaning.specs.Surroundings.{outermost}
-use Rattle.md_meaning.specs.Given.{Supply, text_of}
-use Rattle.md_meaning.specs.Calls.{tally}
-use Rattle.md_meaning.specs.Places.{nothing_stood, first_ending, calls_of, identifier_at, ahead_of}
-use Rattle.md_meaning.specs.Footnotes.{section_pieces}
-use Rattle.md_meaning.specs.Printed.{printed, definitions_of, footnotes_of}
-use Rattle.md_meaning.specs.Meaning.{ending_at}
-use Rattle.md_meaning.specs.Whole.{printed_meaning as meaning}
-use Rattle.md_shape.specs.Built.{Content, Blocks, content_inside, content_after_node, content_past, content_after, IsBuilt, IsFit}
-use Rattle.md_safe.specs.Options.{KeepsGrammar, KeepsLinks, KeepsImages, KeepsIds}
-use Rattle.md_safe.proofs.Texts.{Escaped, line_ends-escaped}
-use Rattle.md_safe.proofs.Claim.{Claim, passing}
-use Rattle.md_safe.proofs.Laid.{adds-blank}
-use Rattle.md_safe.proofs.Tags.{IsTest}
-use Rattle.md_safe.proofs.Contents.{Holds, stays-after}
-use Rattle.md_safe.proofs.Spot.{PassesIds, IsWhole, Setting, AreTitles, Prints}
-use Rattle.md_safe.proofs.BlockNodes.{Reads}
-use Rattle.md_safe.proofs.Forests.{forest-prints, gathered}
-use Rattle.md_safe.proofs.Section.{section-prints}
-use Rattle.md_safe.proofs.CountedNodes.{Document}
-use Rattle.md_safe.proofs.CountedSection.{document-counted}
+use Rattle.md_base.specs.Is.{is as named}
+use Rattle.md_base.specs.Tree.{Forest, Empty, Node, flatten, exiting}
+use Rattle.md_base.specs.Children.{or_else, is_empty}
+use Rattle.md_infer.specs.Looseness.{is_loose}
 use Rattle.md_text.specs.Ids.{HasDistinctIds}
 use Rattle.md_text.proofs.HtmlIds.{counted-once}
 use Rattle.md_shape.specs.Underlined.{IsUnderlined}
+use Rattle.md_base.specs.NameTests.{is_line_ending}
+use Rattle.md_text.specs.declared.options.CompileOptions.{CompileOptions}
+use Rattle.md_tree.specs.Rules.{place as position}
+use Rattle.md_meaning.specs.Meaning.{meaning, ending_at}
+use Rattle.md_meaning.specs.Meaning.Around.{outermost, inside}
+use Rattle.md_meaning.specs.Meaning.At.{Given, At, Before, text_in, identifier_of}
+use Rattle.md_meaning.specs.Meaning.Before.{nothing_before, before_children}
+use Rattle.md_meaning.specs.Meaning.Finds.{first_ending}
+use Rattle.md_meaning.specs.Meaning.Footnotes.{section}
+use Rattle.md_meaning.specs.Meaning.Layout.{layout, when}
+use Rattle.md_meaning.specs.Meaning.Nodes.{Outcome, node, before_next, outcome}
+use Rattle.md_meaning.specs.declared.context.Surroundings.{Surroundings}
+use Rattle.md_shape.specs.Built.{Content, Blocks, content_inside, content_after_node, content_past, content_after, IsBuilt, IsFit}
+use Rattle.md_safe.specs.Options.{KeepsGrammar, KeepsLinks, KeepsImages, KeepsIds}
+use Rattle.md_safe.proofs.Texts.{Escaped, line_ends-escaped}
+use Rattle.md_safe.proofs.Claim.{reading}
+use Rattle.md_safe.proofs.Laid.{adds-alone}
+use Rattle.md_safe.proofs.Tags.{IsTest}
+use Rattle.md_safe.proofs.Contents.{Holds, stays-after}
+use Rattle.md_safe.proofs.Spot.{PassesIds, IsWhole, Setting, AreTitles, Prints}
+use Rattle.md_safe.proofs.BlockNodes.{Reads, holds-none}
+use Rattle.md_safe.proofs.Forests.{Ready, Means, means}
+use Rattle.md_safe.proofs.Section.{section-prints}
+use Rattle.md_safe.proofs.CountedForest.{Document}
+use Rattle.md_safe.proofs.CountedSection.{document-counted}
 
 -- a place, where there is one, has the text of line endings
 abbrev IsEnding : List ℕ → Option Position → Type 0
-IsEnding bytes place = option_map_or (λ found. is_line_ends (text_of bytes found.start found.end)) place true ≡ true
+IsEnding bytes place = option_map_or (λ found. is_line_ends (text_in bytes found)) place true ≡ true
 
 first_of_two : (bytes : List ℕ) (first second : Option Position) → IsEnding bytes first → IsEnding bytes second →
     IsEnding bytes (or_else first second)
@@ -61,7 +64,7 @@ first_of_two bytes (Some place) second f g = f
 
 own-ending : (bytes : List ℕ) (name : Name) (start end : Point) (children : Forest) →
     IsFit bytes name start end children → IsEnding bytes
-    (cond (is_line_ending name) (Some (record { start = start; end = end })) None)
+    (cond (is_line_ending name) (Some (position start end)) None)
 own-ending bytes LineEnding start end children fit = fit
 own-ending bytes BlankLineEnding start end children fit = fit
 own-ending bytes _ start end children fit = refl
@@ -71,7 +74,7 @@ first-is_ending : (bytes : List ℕ) (content : Content) (forest : Forest) → I
     IsEnding bytes (first_ending forest)
 first-is_ending bytes content Empty built = refl
 first-is_ending bytes content (Node name start end children rest) built =
-    let own : Option Position = cond (is_line_ending name) (Some (record { start = start; end = end })) None in
+    let own : Option Position = cond (is_line_ending name) (Some (position start end)) None in
     first_of_two bytes (first_ending children) (or_else own (first_ending rest))
     (first-is_ending bytes (content_inside content name) children built.2)
     (first_of_two bytes own (first_ending rest) (own-ending bytes name start end children built.1)
@@ -85,29 +88,37 @@ default-escaped LineFeed = refl
 ending-escaped : (options : CompileOptions) (bytes : List ℕ) (place : Option Position) → IsEnding bytes place →
     Escaped (ending_at options bytes place)
 ending-escaped options bytes None h = default-escaped options.default_line_ending
-ending-escaped options bytes (Some place) h = line_ends-escaped (text_of bytes place.start place.end) h
+ending-escaped options bytes (Some place) h = line_ends-escaped (text_in bytes place) h
 
 -- blocks stand after blocks
 blocks-stay : (forest : Forest) → content_after Blocks forest ≡ Blocks
 blocks-stay forest = stays-after (λ content. content ≡ Blocks)
     (λ content name e. ap (λ content. content_past content name) e) Blocks forest refl
 
--- a document before its section
+-- what is known at the document's beginning
+outermost-ready : (s : Setting) → IsWhole s.p → Ready s outermost nothing_before Blocks
+outermost-ready s whole = record {
+  suits = refl;
+  follows = tt;
+  whole = λ _. whole;
+  heading = λ _. holds-none s;
+}
+
+-- a document and its section
 document-prints : (s : Setting) → IsWhole s.p → (document : Forest) → IsBuilt s.given.bytes Blocks document →
     KeepsGrammar s.given.options
-    → s.p.holds (lay s.given.ending blank (printed s.given outermost nothing_stood document
-    ++ section_pieces s.given.options (footnotes_of s.given outermost nothing_stood document)
-    (tally (calls_of s.given.bytes document)))).text
+    → s.p.holds (layout s.given.ending ((outcome s.given outermost nothing_before document).pieces
+    ++ section s.given (outcome s.given outermost nothing_before document).footnotes))
 document-prints s whole document built keeps =
-    let section : List Stroke = section_pieces s.given.options (footnotes_of s.given outermost nothing_stood document)
-    (tally (calls_of s.given.bytes document)) in
-    let last : Prints s (Reads s) section =
-    section-prints s whole keeps.usual_tag keeps.usual_attributes
-    (footnotes_of s.given outermost nothing_stood document) (tally (calls_of s.given.bytes document))
-    (gathered s document outermost nothing_stood Blocks built refl tt (λ _. whole)).texts in
-    (adds-blank s.p s.given.ending (Reads s) (printed s.given outermost nothing_stood document ++ section)
-    (forest-prints s document outermost nothing_stood Blocks built refl tt (λ _. whole) section
-    (subst (λ content. Prints s (Holds s.p true false content) section) (sym (blocks-stay document)) last))).0
+    let all : Outcome = outcome s.given outermost nothing_before document in
+    let known : Means s outermost Blocks document all =
+    means s document outermost nothing_before Blocks built (outermost-ready s whole) in
+    let last : Prints s (Reads s) (section s.given all.footnotes) =
+    section-prints s whole keeps.usual_tag keeps.usual_attributes all.footnotes known.texts in
+    adds-alone s.given.ending (Reads s) (all.pieces ++ section s.given all.footnotes)
+    (known.prints (section s.given all.footnotes)
+    (subst (λ content. Prints s (Holds s.p true false content) (section s.given all.footnotes))
+    (sym (blocks-stay document)) last))
 
 -- any attribute passes
 any-test : (options : CompileOptions) → KeepsGrammar options → IsTest any_attribute options
@@ -119,52 +130,66 @@ any-test options keeps = record {
   html = keeps.escapes_html;
 }
 
--- the titles of a document's definitions are escaped
-titles-escaped : (bytes : List ℕ) (names : List (List ℕ × List ℕ)) (options : CompileOptions) (document : Forest) →
-    (ending : List ℕ) → Escaped ending → IsBuilt bytes Blocks document → KeepsGrammar options →
-    AreTitles (definitions_of (record {
+-- a reading is claimed as a whole
+reads-whole : (p : Attribute → Bool) → PassesIds p → IsWhole (reading p)
+reads-whole p ids = record { both = join p; ids = ids }
+
+-- the line ending that is used is escaped, and so are the titles of definitions
+prepared : (bytes : List ℕ) (names : List (List ℕ × List ℕ)) (options : CompileOptions) (document : Forest) →
+    IsBuilt bytes Blocks document → KeepsGrammar options →
+    Escaped (ending_at options bytes (first_ending document))
+    × AreTitles (outcome (record {
       bytes = bytes;
       names = names;
       options = options;
-      ending = ending;
+      ending = ending_at options bytes (first_ending document);
+      calls = (outcome (record {
+        bytes = bytes;
+        names = names;
+        options = options;
+        ending = ending_at options bytes (first_ending document);
+        calls = [];
+        definitions = [];
+      }) outermost nothing_before document).calls;
       definitions = [];
-    }) outermost nothing_stood document)
-titles-escaped bytes names options document ending escaped built keeps =
-    let alone : Supply =
-    record { bytes = bytes; names = names; options = options; ending = ending; definitions = [] } in
-    let claim : Claim = passing any_attribute (HasReadingWith any_attribute) (nothing any_attribute) in
-    let whole : IsWhole claim = record {
-      both = join any_attribute;
-      ids = λ value. refl;
-      notes = λ x h. h;
-      recalls = λ x h. h;
-    } in
-    let s : Setting = record {
-      p = claim;
-      given = alone;
+    }) outermost nothing_before document).definitions
+prepared bytes names options document built keeps =
+    let ending : List ℕ = ending_at options bytes (first_ending document) in
+    let escaped : Escaped ending = ending-escaped options bytes (first_ending document)
+    (first-is_ending bytes Blocks document built) in
+    let alone : Given =
+    record { bytes = bytes; names = names; options = options; ending = ending; calls = []; definitions = [] } in
+    let called : Given = record alone { calls = (outcome alone outermost nothing_before document).calls } in
+    let before : Setting = record {
+      p = reading any_attribute;
+      given = called;
       test = any-test options keeps;
       ending = escaped;
       titles = tt;
     } in
-    (gathered s document outermost nothing_stood Blocks built refl tt (λ _. whole)).titles
+    let known : Means before outermost Blocks document (outcome called outermost nothing_before document) =
+    means before document outermost nothing_before Blocks built
+    (outermost-ready before (reads-whole any_attribute (λ value. refl))) in
+    (escaped, known.titles)
 
 -- the meaning has a reading in which each attribute passes the test
 meaning-reads : (p : Attribute → Bool) (bytes : List ℕ) (names : List (List ℕ × List ℕ)) (options : CompileOptions)
     (document : Forest) → IsTest p options → PassesIds p → IsBuilt bytes Blocks document → KeepsGrammar options
     → HasReadingWith p (meaning options names bytes document)
 meaning-reads p bytes names options document test ids built keeps =
-    let claim : Claim = passing p (HasReadingWith p) (nothing p) in
-    let whole : IsWhole claim = record { both = join p; ids = ids; notes = λ x h. h; recalls = λ x h. h } in
+    let known = prepared bytes names options document built keeps in
     let ending : List ℕ = ending_at options bytes (first_ending document) in
-    let escaped : Escaped ending = ending-escaped options bytes (first_ending document)
-    (first-is_ending bytes Blocks document built) in
-    let alone : Supply =
-    record { bytes = bytes; names = names; options = options; ending = ending; definitions = [] } in
-    let titles : AreTitles (definitions_of alone outermost nothing_stood document) =
-    titles-escaped bytes names options document ending escaped built keeps in
-    let given : Supply = record alone { definitions = definitions_of alone outermost nothing_stood document } in
-    let s : Setting = record { p = claim; given = given; test = test; ending = escaped; titles = titles } in
-    document-prints s whole document built keeps
+    let alone : Given =
+    record { bytes = bytes; names = names; options = options; ending = ending; calls = []; definitions = [] } in
+    let called : Given = record alone { calls = (outcome alone outermost nothing_before document).calls } in
+    let s : Setting = record {
+      p = reading p;
+      given = record called { definitions = (outcome called outermost nothing_before document).definitions };
+      test = test;
+      ending = known.0;
+      titles = known.1;
+    } in
+    document-prints s (reads-whole p ids) document built keeps
 
 -- a safe link passes
 link-test : (options : CompileOptions) → KeepsLinks options → IsTest is_safe_link options
@@ -192,11 +217,11 @@ image-test options keeps = record {
   link = λ destination. refl;
   anchor = λ rest. refl;
   image = λ destination.
-      subst (λ b. is_safe_value image_protocols (cond (b
-      || options.allow_any_img_src) (sanitized destination) (sanitized_with image_protocols destination))
-      ≡ true) (sym keeps.links.permitted_links)
+      subst (λ b. is_safe_value image_protocols (cond (b || options.allow_dangerous_protocol) (sanitized destination)
+      (sanitized_with image_protocols destination)) ≡ true) (sym keeps.permitted_images)
       (subst (λ b. is_safe_value image_protocols (cond b (sanitized destination)
-      (sanitized_with image_protocols destination)) ≡ true) (sym keeps.permitted_images) (kept-image destination));
+      (sanitized_with image_protocols destination)) ≡ true) (sym keeps.links.permitted_links)
+      (kept-image destination));
   html = keeps.links.grammar.escapes_html;
 }
 
@@ -223,25 +248,54 @@ safe-images bytes names options document built keeps =
     (meaning-reads is_safe_image bytes names options document (image-test options keeps) (λ value. refl) built
     keeps.links.grammar)
 
+-- the identifiers of the footnote calls in some nodes, in the order of their exits
+abbrev calls_in : List ℕ → Forest → List (List ℕ)
+calls_in bytes Empty = []
+calls_in bytes (Node name start end children rest) =
+    (calls_in bytes children ++ when (named GfmFootnoteCall name) (identifier_of bytes children ∷ []))
+    ++ calls_in bytes rest
+
+-- which calls there are doesn't go by what else is given
+calls-same : (given : Given) (forest : Forest) (around : Surroundings) (before : Before) →
+    (outcome given around before forest).calls ≡ calls_in given.bytes forest
+calls-same given Empty around before = refl
+calls-same given (Node name start end children rest) around before =
+    let around' : Surroundings = inside given.options (is_loose children) name around in
+    let before' : Before = before_children name children before in
+    let inner : Outcome = outcome given around' before' children in
+    let t : At = record {
+      around = around;
+      before = before;
+      children = children;
+      found = inner.found;
+      calls = before.calls ++ inner.calls;
+      place = position start end;
+      is_last = around.is_outermost && is_empty rest;
+    } in
+    let next : Before = before_next t name (node given t name inner) in
+    let own : List (List ℕ) = when (named GfmFootnoteCall name) (identifier_of given.bytes children ∷ []) in
+    ap (λ calls. (calls ++ own) ++ (outcome given around next rest).calls) (calls-same given children around' before')
+    ∙ ap (λ calls. (calls_in given.bytes children ++ own) ++ calls) (calls-same given rest around next)
+
 -- a document has no more calls than half its events
-calls-fewer : (bytes : List ℕ) (forest : Forest) → length (calls_of bytes forest) + length (calls_of bytes forest)
-    ≤ length (flatten forest)
+calls-fewer : (bytes : List ℕ) (forest : Forest) →
+    length (calls_in bytes forest) + length (calls_in bytes forest) ≤ length (flatten forest)
 calls-fewer bytes Empty = omega arith
 calls-fewer bytes (Node name start end children rest) =
-    let below : List (List ℕ) = calls_of bytes children in
-    let own : List (List ℕ) = cond (is_call name) (identifier_at bytes (ahead_of children).label ∷ []) [] in
-    let after : List (List ℕ) = calls_of bytes rest in
+    let below : List (List ℕ) = calls_in bytes children in
+    let own : List (List ℕ) = when (named GfmFootnoteCall name) (identifier_of bytes children ∷ []) in
+    let after : List (List ℕ) = calls_in bytes rest in
     omega (
-      length-append below (own ++ after),
-      length-append own after,
-      one (is_call name) (identifier_at bytes (ahead_of children).label),
+      length-append (below ++ own) after,
+      length-append below own,
+      one (named GfmFootnoteCall name) (identifier_of bytes children),
       length-append (flatten children) (exiting name end ∷ flatten rest),
       calls-fewer bytes children,
       calls-fewer bytes rest,
       arith,
     )
   where
-    one : (is : Bool) (identifier : List ℕ) → length (cond is (identifier ∷ []) []) ≤ 1
+    one : (is : Bool) (identifier : List ℕ) → length (when is (identifier ∷ [])) ≤ 1
     one true identifier = omega arith
     one false identifier = omega arith
 
@@ -249,17 +303,26 @@ pub distinct-ids : (bytes : List ℕ) (names : List (List ℕ × List ℕ)) (opt
     IsBuilt bytes Blocks document → IsUnderlined false document → KeepsIds options →
     length (flatten document) < 2 ^ 64 → HasDistinctIds (meaning options names bytes document)
 distinct-ids bytes names options document built underlined keeps small =
+    let known = prepared bytes names options document built keeps.grammar in
     let ending : List ℕ = ending_at options bytes (first_ending document) in
-    let escaped : Escaped ending = ending-escaped options bytes (first_ending document)
-    (first-is_ending bytes Blocks document built) in
-    let alone : Supply =
-    record { bytes = bytes; names = names; options = options; ending = ending; definitions = [] } in
+    let alone : Given =
+    record { bytes = bytes; names = names; options = options; ending = ending; calls = []; definitions = [] } in
+    let called : Given = record alone { calls = (outcome alone outermost nothing_before document).calls } in
+    let given : Given = record called {
+      definitions = (outcome called outermost nothing_before document).definitions;
+    } in
     let d : Document = record {
-      given = record alone { definitions = definitions_of alone outermost nothing_stood document };
+      given = given;
       html = keeps.grammar.escapes_html;
-      ending = escaped;
-      titles = titles-escaped bytes names options document ending escaped built keeps.grammar;
+      ending = known.0;
+      titles = known.1;
     } in
     counted-once (meaning options names bytes document)
     (λ w. document-counted d w document keeps.grammar keeps.by_number built underlined
-    (omega (calls-fewer bytes document, small, arith)))
+    (omega (
+      ap length (calls-same alone document outermost nothing_before),
+      calls-fewer bytes document,
+      small,
+      arith,
+    ))
+    (calls-same given document outermost nothing_before ∙ sym (calls-same alone document outermost nothing_before)))

@@ -5,11 +5,11 @@ ghost use Rattle.md_text.specs.Html.{any_attribute, HasOneReadingWith};
 ghost use Rattle.md_text.specs.Safe.{is_safe_link, is_safe_image};
 ghost use Rattle.md_text.specs.Ids.{HasDistinctIds};
 ghost use Rattle.md_base.specs.Tree.{Forest, flatten};
-ghost use Rattle.md_text.specs.declared.options.CompileOptions.{CompileOptions};
-ghost use Rattle.md_meaning.specs.Whole.{printed_meaning as meaning};
-ghost use Rattle.md_shape.specs.Built.{Blocks, IsBuilt};
 ghost use Rattle.md_shape.specs.Underlined.{IsUnderlined};
+ghost use Rattle.md_text.specs.declared.options.CompileOptions.{CompileOptions};
+ghost use Rattle.md_meaning.specs.Meaning.{meaning};
 ghost use Rattle.md_text.specs.Defaults.{default_options, gfm_options};
+ghost use Rattle.md_shape.specs.Built.{Blocks, IsBuilt};
 ghost use Rattle.md_safe.specs.Options.{KeepsGrammar, KeepsLinks, KeepsImages, KeepsIds};
 
 /// A document that is built of what may stand where it is means a text of the HTML grammar with exactly one

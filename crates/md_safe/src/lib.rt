@@ -1,4 +1,4 @@
-//! Safe options make safe output: a fact of the meaning, apart from the compiler.
+//! Safe options make safe output: a fact of the meaning itself.
 #![tactic(auto)]
 
 pub mod laws;

@@ -15,7 +15,7 @@ use Rattle.md_pattern.specs.declared.kinds.Item.{Item}
 use Rattle.md_pattern.specs.declared.kinds.Item.TheVariants.{Once, Maybe, Many}
 use Rattle.md_pattern.specs.Pattern.{members, class_of, takes, pattern_of, Fits, IsCount}
 use Rattle.md_pattern.specs.Spine.{IsTail, IsGrouped, Matches}
-use Rattle.md_shape.specs.Built.{Content, Blocks, Spans, Strings, FirstFence, FirstMathFence, Chunks, InfoAndMeta, MetaAlone, Done, Nothing}
+use Rattle.md_shape.specs.Built.{Content, Blocks, Spans, Strings, FirstFence, FirstMathFence, Chunks, InfoAndMeta, MetaAlone, Done, Nothing, Sources}
 use Rattle.md_shape.proofs.Symbols.{may_show, past, admits, same_content, item_admits, pattern_admits}
 
 -- what may stand at the beginning may stand after others
@@ -53,6 +53,7 @@ same_content-is InfoAndMeta InfoAndMeta h = refl
 same_content-is MetaAlone MetaAlone h = refl
 same_content-is Done Done h = refl
 same_content-is Nothing Nothing h = refl
+same_content-is Sources Sources h = refl
 same_content-is _ _ h = lie h
 
 -- what holds of each member of a class holds of each symbol that it takes

@@ -33,13 +33,13 @@ use Rattle.md_pattern.specs.Standing.{standing_of}
 use Rattle.md_pattern.specs.Pattern.{members, takes, Fits}
 use Rattle.md_pattern.specs.Spine.{spine, shown, IsGrouped, Matches}
 use Rattle.md_pattern.specs.Shape.{IsStanding, inner_role, inner_before}
-use Rattle.md_tree.specs.Rules.{is_line_ending, is_rank, columns, unless, broken_by, MeetsRules}
-use Rattle.md_base.specs.NameTests.{is_transparent, is_heading_mark, is_item, is_item_prefix, is_item_value}
+use Rattle.md_tree.specs.Rules.{is_line_ending, is_rank, columns, unless, broken_by, MeetsRules, place}
+use Rattle.md_base.specs.Is.{is}
+use Rattle.md_base.specs.NameTests.{is_transparent}
 use Rattle.md_base.specs.Children.{first_on_spine, spine_names}
-use Rattle.md_meaning.specs.Given.{text_of}
-use Rattle.md_meaning.specs.Places.{position, number_in_prefix, number_in_item, ahead_of}
-use Rattle.md_meaning.specs.Blocks.{rank_of}
-use Rattle.md_shape.specs.Built.{is_fence, is_digit, IsFit}
+use Rattle.md_meaning.specs.Meaning.At.{text_in}
+use Rattle.md_meaning.specs.Meaning.Finds.{first_named, in_first_named, number_in_list}
+use Rattle.md_shape.specs.Built.{is_fence, is_digit, rank_in, IsFit}
 use Rattle.md_shape.proofs.Symbols.{is_fence_symbol, Told, told}
 use Rattle.md_shape.proofs.Admitted.{taken}
 use Rattle.md_shape.proofs.Firsts.{IsFine, AreFine, shows, begins, Agree, First, has_first, none_first, OfAll, OfFirst, of_first, begins_with}
@@ -85,34 +85,44 @@ text_fits test broken Holds each (Some text) e = each text (unless-holds (test t
 
 -- a rank of a heading's first mark
 mark_fits : (lies : Bool) (length : ℕ) → (if lies then unless (is_rank role.Heading None length) rule.HeadingMark
-    else Some rule.Place) ≡ None → (1 ≤ (if lies then length else 0)) × ((if lies then length else 0) ≤ 6)
+    else Some rule.Place) ≡ None → (1 ≤ length) × (length ≤ 6) × (lies ≡ true)
 mark_fits true length e =
     let parts = and_parts (nat_le 1 length) (nat_le length 6)
     (unless-holds (is_rank role.Heading None length) rule.HeadingMark e) in
-    (leb-true 1 length parts.0, leb-true length 6 parts.1)
+    (leb-true 1 length parts.0, leb-true length 6 parts.1, refl)
 mark_fits false length e = cc
 
 is_mark_symbol : Symbol → Bool
 is_mark_symbol symbol.HeadingSequence = true
 is_mark_symbol _ = false
 
-mark_agree : Agree is_mark_symbol is_heading_mark
+mark_agree : Agree is_mark_symbol (is HeadingAtxSequence)
 unfolding is_mark_symbol
 mark_agree HeadingAtxSequence = refl
 mark_agree _ = refl
 
-mark_is : (name : Name) → is_heading_mark name ≡ true → name ≡ HeadingAtxSequence
+mark_is : (name : Name) → (is HeadingAtxSequence) name ≡ true → name ≡ HeadingAtxSequence
 mark_is HeadingAtxSequence h = refl
 mark_is _ h = lie h
 
+-- how long a mark that was found is
+abbrev long : Option Position → ℕ
+long mark = option_map_or (λ place. columns place.start place.end) mark 0
+
+-- the place of a node
+abbrev placed : Point → Point → Forest → Position
+placed start end inner = place start end
+
 heading_fits : (bytes : List ℕ) (names : List (List ℕ × List ℕ)) (children : Forest) →
     AreFine bytes names children role.Heading None → begins is_mark_symbol (spine children) ≡ true →
-    (1 ≤ rank_of bytes (ahead_of children).mark) × (rank_of bytes (ahead_of children).mark ≤ 6)
+    (1 ≤ rank_in children) × (rank_in children ≤ 6)
+    × (option_map_or (λ place. fits bytes place.start place.end) (first_named HeadingAtxSequence children) true ≡ true)
 heading_fits bytes names children all h =
-    let first = has_first is_mark_symbol is_heading_mark mark_agree position bytes names children role.Heading all h in
+    let first = has_first is_mark_symbol (is HeadingAtxSequence) mark_agree placed bytes names children role.Heading all h in
     let meets = subst (λ name. MeetsRules bytes names role.Heading None name first.start first.end first.children)
     (mark_is first.name first.passes) first.is_fine.1 in
-    subst (λ mark. (1 ≤ rank_of bytes mark) × (rank_of bytes mark ≤ 6)) (sym first.found)
+    subst (λ mark. (1 ≤ long mark) × (long mark ≤ 6)
+    × (option_map_or (λ place. fits bytes place.start place.end) mark true ≡ true)) (sym first.found)
     (mark_fits (fits bytes first.start first.end) (columns first.start first.end) meets)
 
 -- digits of a number are decimal digits
@@ -134,19 +144,19 @@ number_digits text h =
 
 -- the number at a place has only digits
 abbrev MayHaveDigits : List ℕ → Option Position → Type 0
-MayHaveDigits bytes number = option_map_or (λ place. list_all is_digit (text_of bytes place.start place.end)) number
+MayHaveDigits bytes number = option_map_or (λ place. list_all is_digit (text_in bytes place)) number
     true ≡ true
 
 is_value_symbol : Symbol → Bool
 is_value_symbol symbol.ListItemValue = true
 is_value_symbol _ = false
 
-value_agree : Agree is_value_symbol is_item_value
+value_agree : Agree is_value_symbol (is ListItemValue)
 unfolding is_value_symbol
 value_agree ListItemValue = refl
 value_agree _ = refl
 
-value_is : (name : Name) → is_item_value name ≡ true → name ≡ ListItemValue
+value_is : (name : Name) → (is ListItemValue) name ≡ true → name ≡ ListItemValue
 value_is ListItemValue h = refl
 value_is _ h = lie h
 
@@ -154,12 +164,12 @@ is_prefix_symbol : Symbol → Bool
 is_prefix_symbol symbol.ListItemPrefix = true
 is_prefix_symbol _ = false
 
-prefix_agree : Agree is_prefix_symbol is_item_prefix
+prefix_agree : Agree is_prefix_symbol (is ListItemPrefix)
 unfolding is_prefix_symbol
 prefix_agree ListItemPrefix = refl
 prefix_agree _ = refl
 
-prefix_is : (name : Name) → is_item_prefix name ≡ true → name ≡ ListItemPrefix
+prefix_is : (name : Name) → (is ListItemPrefix) name ≡ true → name ≡ ListItemPrefix
 prefix_is ListItemPrefix h = refl
 prefix_is _ h = lie h
 
@@ -167,12 +177,12 @@ is_item_symbol : Symbol → Bool
 is_item_symbol symbol.ListItem = true
 is_item_symbol _ = false
 
-item_agree : Agree is_item_symbol is_item
+item_agree : Agree is_item_symbol (is ListItem)
 unfolding is_item_symbol
 item_agree ListItem = refl
 item_agree _ = refl
 
-item_is : (name : Name) → is_item name ≡ true → name ≡ ListItem
+item_is : (name : Name) → (is ListItem) name ≡ true → name ≡ ListItem
 item_is ListItem h = refl
 item_is _ h = lie h
 
@@ -225,11 +235,11 @@ value_or_none spine match =
 
 prefix_number : (bytes : List ℕ) (names : List (List ℕ × List ℕ)) (children : Forest) →
     AreFine bytes names children role.FirstOrderedPrefix None → Matches role.FirstOrderedPrefix (spine children) →
-    MayHaveDigits bytes (number_in_prefix children)
+    MayHaveDigits bytes (first_named ListItemValue children)
 prefix_number bytes names children all match = by (value_or_none (spine children) match)
   where
-    of_value : First is_value_symbol is_item_value value_agree position bytes names children role.FirstOrderedPrefix →
-        MayHaveDigits bytes (number_in_prefix children)
+    of_value : First is_value_symbol (is ListItemValue) value_agree placed bytes names children role.FirstOrderedPrefix →
+        MayHaveDigits bytes (first_named ListItemValue children)
     of_value first =
         subst (MayHaveDigits bytes) (sym first.found)
         (text_fits (is_number 10) rule.ListNumber (λ text. list_all is_digit text
@@ -238,21 +248,21 @@ prefix_number bytes names children all match = by (value_or_none (spine children
         (value_is first.name first.passes) first.is_fine.1))
 
     by : (begins is_value_symbol (spine children) ≡ true) ⊎ (list_any is_value_symbol (spine children) ≡ false) →
-        MayHaveDigits bytes (number_in_prefix children)
-    by (inl h) = of_value (has_first is_value_symbol is_item_value value_agree position bytes names children
+        MayHaveDigits bytes (first_named ListItemValue children)
+    by (inl h) = of_value (has_first is_value_symbol (is ListItemValue) value_agree placed bytes names children
         role.FirstOrderedPrefix all h)
     by (inr h) =
-        subst (MayHaveDigits bytes) (sym (none_first is_value_symbol is_item_value value_agree position bytes names
+        subst (MayHaveDigits bytes) (sym (none_first is_value_symbol (is ListItemValue) value_agree placed bytes names
         children role.FirstOrderedPrefix None all h)) refl
 
 item_number : (bytes : List ℕ) (names : List (List ℕ × List ℕ)) (children : Forest) →
-    AreFine bytes names children role.FirstOrderedItem None → MayHaveDigits bytes (number_in_item children)
+    AreFine bytes names children role.FirstOrderedItem None → MayHaveDigits bytes (in_first_named ListItemPrefix (first_named ListItemValue) children)
 item_number bytes names children all =
-    from_first_of bytes (first_on_spine is_item_prefix (λ start end inner. number_in_prefix inner) children)
-    (of_first is_prefix_symbol is_item_prefix prefix_agree (λ start end inner. number_in_prefix inner) bytes names
+    from_first_of bytes (first_on_spine (is ListItemPrefix) (λ start end inner. first_named ListItemValue inner) children)
+    (of_first is_prefix_symbol (is ListItemPrefix) prefix_agree (λ start end inner. first_named ListItemValue inner) bytes names
     (MayHaveDigits bytes) role.FirstOrderedItem each children None all)
   where
-    each : OfAll is_prefix_symbol is_item_prefix prefix_agree (λ start end inner. number_in_prefix inner) bytes names
+    each : OfAll is_prefix_symbol (is ListItemPrefix) prefix_agree (λ start end inner. first_named ListItemValue inner) bytes names
         (MayHaveDigits bytes) role.FirstOrderedItem
     each before name start end inner passes here inside =
         prefix_number bytes names inner
@@ -262,10 +272,10 @@ item_number bytes names children all =
 
 list_fits : (bytes : List ℕ) (names : List (List ℕ × List ℕ)) (children : Forest) →
     AreFine bytes names children role.OrderedList None → begins is_item_symbol (spine children) ≡ true →
-    MayHaveDigits bytes (ahead_of children).number
+    MayHaveDigits bytes (number_in_list children)
 list_fits bytes names children all h =
-    let first = has_first is_item_symbol is_item item_agree
-    (λ start end inner. number_in_item inner) bytes names children role.OrderedList all h in
+    let first = has_first is_item_symbol (is ListItem) item_agree
+    (λ start end inner. in_first_named ListItemPrefix (first_named ListItemValue) inner) bytes names children role.OrderedList all h in
     let inside = subst (λ n. AreFine bytes names first.children (inner_role (standing_of n) role.OrderedList None)
     (inner_before (standing_of n) None)) (item_is first.name first.passes) first.are_fine in
     subst (λ found. MayHaveDigits bytes (unwrap_or found None)) (sym first.found)

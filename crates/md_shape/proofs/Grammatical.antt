@@ -1,4 +1,4 @@
--- Each document of the grammar is built of what may stand where it is: what `md_safe` and `md_tie` begin with.
+-- Each document of the grammar is built of what may stand where it is: what the theorem begins with.
 use Rattle.std.proofs.Common.{◌≡◌, ℕ, true, Option, None, is_some, List}
 use Rattle.md_pattern.specs.declared.kinds.Symbol.{Symbol}
 use Rattle.md_pattern.specs.declared.kinds.Role.{Role}

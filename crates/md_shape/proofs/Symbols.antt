@@ -16,7 +16,7 @@ use Rattle.md_pattern.specs.declared.kinds.Standing.TheVariants.{Through, Space,
 use Rattle.md_pattern.specs.Standing.{standing_of}
 use Rattle.md_pattern.specs.Pattern.{members, pattern_of}
 use Rattle.md_base.specs.NameTests.{is_transparent}
-use Rattle.md_shape.specs.Built.{Content, Blocks, Spans, Strings, FirstFence, FirstMathFence, Chunks, InfoAndMeta, MetaAlone, Done, Nothing, is_string, is_span, is_in_media, is_autolink, is_fence, is_code_fence, is_math_fence, is_meta, is_info, is_done, is_line, is_part, may_stand, content_of, content_past}
+use Rattle.md_shape.specs.Built.{Content, Blocks, Spans, Strings, FirstFence, FirstMathFence, Chunks, InfoAndMeta, MetaAlone, Done, Nothing, Sources, is_string, is_span, is_in_media, is_autolink, is_fence, is_code_fence, is_math_fence, is_meta, is_info, is_done, is_line, is_part, is_source, is_ending, may_stand, content_of, content_past}
 
 -- what is asked of a name, or of a symbol
 pub record Tests : Type 0 where
@@ -30,6 +30,8 @@ pub record Tests : Type 0 where
   pub info : Bool
   pub meta : Bool
   pub done : Bool
+  pub source : Bool
+  pub ending : Bool
 
 abbrev pub tests_of : Name → Tests
 tests_of name = record {
@@ -43,6 +45,8 @@ tests_of name = record {
   info = is_info name;
   meta = is_meta name;
   done = is_done name;
+  source = is_source name;
+  ending = is_ending name;
 }
 
 abbrev pub is_part_symbol : Symbol → Bool
@@ -69,8 +73,6 @@ is_spanning_symbol symbol.HtmlTextData = true
 is_spanning_symbol symbol.Label = true
 is_spanning_symbol symbol.LabelText = true
 is_spanning_symbol symbol.Resource = true
-is_spanning_symbol symbol.ResourceDestination = true
-is_spanning_symbol symbol.ResourceTitle = true
 is_spanning_symbol symbol.ReferenceString = true
 is_spanning_symbol _ = false
 
@@ -107,6 +109,19 @@ abbrev pub is_done_symbol : Symbol → Bool
 is_done_symbol symbol.TaskChecked = true
 is_done_symbol _ = false
 
+abbrev pub is_source_symbol : Symbol → Bool
+is_source_symbol symbol.DefinitionLabel = true
+is_source_symbol symbol.DefinitionDestination = true
+is_source_symbol symbol.DefinitionTitle = true
+is_source_symbol symbol.FootnoteLabel = true
+is_source_symbol symbol.ResourceDestination = true
+is_source_symbol symbol.ResourceTitle = true
+is_source_symbol _ = false
+
+abbrev pub is_ending_symbol : Symbol → Bool
+is_ending_symbol symbol.LineEnding = true
+is_ending_symbol _ = false
+
 abbrev pub tests_for : Symbol → Tests
 tests_for symbol = record {
   part = is_part_symbol symbol;
@@ -119,11 +134,13 @@ tests_for symbol = record {
   info = is_info_symbol symbol;
   meta = is_meta_symbol symbol;
   done = is_done_symbol symbol;
+  source = is_source_symbol symbol;
+  ending = is_ending_symbol symbol;
 }
 
 -- what passes these tests may stand there
 abbrev pub may_by : Content → Tests → Bool
-may_by Blocks tests = if tests.part then false else true
+may_by Blocks tests = if tests.part || tests.source then false else true
 may_by Spans tests = tests.string || tests.spanning
 may_by Strings tests = tests.string
 may_by FirstFence tests = tests.code_fence
@@ -133,6 +150,7 @@ may_by InfoAndMeta tests = tests.info || tests.meta
 may_by MetaAlone tests = tests.meta
 may_by Done tests = tests.done
 may_by Nothing tests = false
+may_by Sources tests = tests.source || tests.ending
 
 -- what may stand after what passes these tests
 abbrev pub past_by : Content → Tests → Content
@@ -154,6 +172,7 @@ may_by-names InfoAndMeta name = refl
 may_by-names MetaAlone name = refl
 may_by-names Done name = refl
 may_by-names Nothing name = refl
+may_by-names Sources name = refl
 
 pub past_by-names : (content : Content) (name : Name) → past_by content (tests_of name) ≡ content_past content name
 past_by-names Blocks name = refl
@@ -166,6 +185,7 @@ past_by-names InfoAndMeta name = refl
 past_by-names MetaAlone name = refl
 past_by-names Done name = refl
 past_by-names Nothing name = refl
+past_by-names Sources name = refl
 
 -- a symbol may stand there, after others or at the beginning: lines begin with no fence
 abbrev pub may_show : Bool → Content → Symbol → Bool
@@ -191,6 +211,7 @@ same_content InfoAndMeta InfoAndMeta = true
 same_content MetaAlone MetaAlone = true
 same_content Done Done = true
 same_content Nothing Nothing = true
+same_content Sources Sources = true
 same_content _ _ = false
 
 -- symbols of an item may stand there, so many as it has, and what is left after them
@@ -213,7 +234,7 @@ abbrev pub every_content : (Content → Bool) → Bool
 every_content test =
     test Blocks && (test Spans && (test Strings && (test FirstFence
     && (test FirstMathFence && (test Chunks && (test InfoAndMeta
-    && (test MetaAlone && (test Done && test Nothing))))))))
+    && (test MetaAlone && (test Done && (test Nothing && test Sources)))))))))
 
 pub each_content : (test : Content → Bool) → every_content test ≡ true → (content : Content) → test content ≡ true
 each_content test h content =
@@ -226,6 +247,7 @@ each_content test h content =
     let meta = and_parts (test InfoAndMeta) _ info.1 in
     let done = and_parts (test MetaAlone) _ meta.1 in
     let nothing = and_parts (test Done) _ done.1 in
+    let sources = and_parts (test Nothing) _ nothing.1 in
     elim content as (λ c. test c ≡ true) [
       | Blocks ↦ spans.0
       | Spans ↦ strings.0
@@ -236,7 +258,8 @@ each_content test h content =
       | InfoAndMeta ↦ meta.0
       | MetaAlone ↦ done.0
       | Done ↦ nothing.0
-      | Nothing ↦ nothing.1
+      | Nothing ↦ sources.0
+      | Sources ↦ sources.1
     ]
 
 -- the roles that a name with this usual one may have, after others or at the beginning

@@ -4,15 +4,16 @@ use Rattle.std.specs.Prelude.{ℕ, ◌≤◌, Bool, true, false, ◌&&◌, ◌||
 use Rattle.std.specs.Option.{option_map_or}
 use Rattle.std.specs.List.{list_all, list_any}
 use Rattle.md_base.specs.declared.event.Name.{Name}
-use Rattle.md_base.specs.declared.event.Name.TheVariants.{LineEnding, BlankLineEnding, Data, CharacterEscapeValue, CharacterReferenceMarker, CharacterReferenceMarkerNumeric, CharacterReferenceMarkerHexadecimal, CharacterReferenceValue, CodeText, CodeTextData, MathText, MathTextData, HtmlText, HtmlTextData, Emphasis, Strong, GfmStrikethrough, Link, Image, Label, LabelText, Resource, ResourceDestinationString, ResourceTitleString, ReferenceString, GfmFootnoteCall, AutolinkEmail, AutolinkProtocol, GfmAutolinkLiteralEmail, GfmAutolinkLiteralMailto, GfmAutolinkLiteralProtocol, GfmAutolinkLiteralWww, GfmAutolinkLiteralXmpp, HardBreakEscape, HardBreakTrailing, GfmTaskListItemCheck, GfmTaskListItemValueChecked, CodeFenced, CodeFencedFence, CodeFencedFenceInfo, CodeFencedFenceMeta, CodeFlowChunk, MathFlow, MathFlowFence, MathFlowFenceMeta, MathFlowChunk, DefinitionLabelString, DefinitionDestinationString, DefinitionTitleString, GfmFootnoteDefinitionLabelString, HeadingAtx, ListOrdered}
+use Rattle.md_base.specs.declared.event.Name.TheVariants.{LineEnding, BlankLineEnding, Data, CharacterEscapeValue, CharacterReferenceMarker, CharacterReferenceMarkerNumeric, CharacterReferenceMarkerHexadecimal, CharacterReferenceValue, CodeText, CodeTextData, MathText, MathTextData, HtmlText, HtmlTextData, Emphasis, Strong, GfmStrikethrough, Link, Image, Label, LabelText, Resource, ResourceDestinationString, ResourceTitleString, ReferenceString, GfmFootnoteCall, AutolinkEmail, AutolinkProtocol, GfmAutolinkLiteralEmail, GfmAutolinkLiteralMailto, GfmAutolinkLiteralProtocol, GfmAutolinkLiteralWww, GfmAutolinkLiteralXmpp, HardBreakEscape, HardBreakTrailing, GfmTaskListItemCheck, GfmTaskListItemValueChecked, CodeFenced, CodeFencedFence, CodeFencedFenceInfo, CodeFencedFenceMeta, CodeFlowChunk, MathFlow, MathFlowFence, MathFlowFenceMeta, MathFlowChunk, DefinitionLabelString, DefinitionDestinationString, DefinitionTitleString, GfmFootnoteDefinitionLabelString, GfmFootnoteDefinitionPrefix, Definition, HeadingAtx, HeadingAtxSequence, ListOrdered}
 use Rattle.md_base.specs.declared.event.Point.{Point}
 use Rattle.md_text.specs.Laws.{is_line_ends}
+use Rattle.md_base.specs.Place.{fits}
 use Rattle.md_base.specs.Tree.{Forest, Empty, Node}
 use Rattle.md_base.specs.NameTests.{is_transparent}
 use Rattle.md_base.specs.Children.{spine_names}
-use Rattle.md_meaning.specs.Given.{text_of}
-use Rattle.md_meaning.specs.Places.{ahead_of}
-use Rattle.md_meaning.specs.Blocks.{rank_of}
+use Rattle.md_tree.specs.Rules.{place, columns}
+use Rattle.md_meaning.specs.Meaning.At.{text_in}
+use Rattle.md_meaning.specs.Meaning.Finds.{first_named, number_in_list}
 
 -- what may stand somewhere: blocks and all that prints whole elements; spans; strings; the first fence of code, or
 -- of math, and what follows it; in a first fence what it says of the code, or the rest of that; in a task whether it
@@ -28,6 +29,7 @@ pub data Content : Type 0 where
   MetaAlone : Content
   Done : Content
   Nothing : Content
+  Sources : Content
 
 abbrev pub is_string : Name → Bool
 is_string LineEnding = true
@@ -62,8 +64,6 @@ abbrev pub is_in_media : Name → Bool
 is_in_media Label = true
 is_in_media LabelText = true
 is_in_media Resource = true
-is_in_media ResourceDestinationString = true
-is_in_media ResourceTitleString = true
 is_in_media ReferenceString = true
 is_in_media _ = false
 
@@ -118,9 +118,24 @@ is_part CodeFencedFenceInfo = true
 is_part GfmTaskListItemValueChecked = true
 is_part _ = false
 
+-- where links and footnotes lead and what they are called: strings that stand in a resource or a definition alone,
+-- whose text isn't printed
+abbrev pub is_source : Name → Bool
+is_source DefinitionLabelString = true
+is_source DefinitionDestinationString = true
+is_source DefinitionTitleString = true
+is_source GfmFootnoteDefinitionLabelString = true
+is_source ResourceDestinationString = true
+is_source ResourceTitleString = true
+is_source _ = false
+
+abbrev pub is_ending : Name → Bool
+is_ending LineEnding = true
+is_ending _ = false
+
 -- a name that isn't transparent may stand there
 abbrev pub may_stand : Content → Name → Bool
-may_stand Blocks name = if is_part name then false else true
+may_stand Blocks name = if is_part name || is_source name then false else true
 may_stand Spans name = is_string name || (is_span name || (is_in_media name || is_autolink name))
 may_stand Strings name = is_string name
 may_stand FirstFence name = is_code_fence name
@@ -130,6 +145,7 @@ may_stand InfoAndMeta name = is_info name || is_meta name
 may_stand MetaAlone name = is_meta name
 may_stand Done name = is_done name
 may_stand Nothing name = false
+may_stand Sources name = is_source name || is_ending name
 
 -- what may stand in a first fence, and in another
 abbrev pub in_fence : Name → Content → Content
@@ -140,6 +156,9 @@ in_fence _ _ = Nothing
 -- what may stand in a node that isn't transparent
 abbrev pub content_of : Name → Content → Content
 content_of Image content = Spans
+content_of Resource content = Sources
+content_of Definition content = Sources
+content_of GfmFootnoteDefinitionPrefix content = Sources
 content_of CodeText content = Strings
 content_of MathText content = Strings
 content_of DefinitionLabelString content = Strings
@@ -190,16 +209,20 @@ content_after_node content name children =
 abbrev pub is_digit : ℕ → Bool
 is_digit byte = nat_le 48 byte && nat_le byte 57
 
+-- how long a heading's first mark is
+abbrev pub rank_in : Forest → ℕ
+rank_in children = option_map_or (λ place. columns place.start place.end) (first_named HeadingAtxSequence children) 0
+
 -- what else is asked of a node: the text of a line ending is one; a heading's rank is 1 to 6; a list's number has
 -- only digits; a raw flow has a fence
 abbrev pub IsFit : List ℕ → Name → Point → Point → Forest → Type 0
-IsFit bytes LineEnding start end children = IsTrue (is_line_ends (text_of bytes start end))
-IsFit bytes BlankLineEnding start end children = IsTrue (is_line_ends (text_of bytes start end))
-IsFit bytes HeadingAtx start end children = (1 ≤ rank_of bytes (ahead_of children).mark)
-    × (rank_of bytes (ahead_of children).mark ≤ 6)
+IsFit bytes LineEnding start end children = IsTrue (is_line_ends (text_in bytes (place start end)))
+IsFit bytes BlankLineEnding start end children = IsTrue (is_line_ends (text_in bytes (place start end)))
+IsFit bytes HeadingAtx start end children = (1 ≤ rank_in children) × (rank_in children ≤ 6)
+    × IsTrue (option_map_or (λ place. fits bytes place.start place.end)
+    (first_named HeadingAtxSequence children) true)
 IsFit bytes ListOrdered start end children =
-    IsTrue (option_map_or (λ place. list_all is_digit (text_of bytes place.start place.end))
-    (ahead_of children).number true)
+    IsTrue (option_map_or (λ place. list_all is_digit (text_in bytes place)) (number_in_list children) true)
 IsFit bytes CodeFenced start end children = IsTrue (list_any is_fence (spine_names children))
 IsFit bytes MathFlow start end children = IsTrue (list_any is_fence (spine_names children))
 IsFit bytes _ start end children = Unit {0}

@@ -91,18 +91,16 @@ mark-same children = ap (λ test. place_by test children) (fun_ext mark_is)
 abbrev long : Option Position → ℕ
 long found = option_map_or (λ at. columns at.start at.end) found 0
 
-fitting : (bytes : List ℕ) (found : Option Position) → 1 ≤ rank_of bytes found → rank_of bytes found ≡ long found
-fitting bytes None small = refl
-fitting bytes (Some at) small = by (fits bytes at.start at.end) small
-  where
-    by : (b : Bool) → 1 ≤ (if b then columns at.start at.end else 0) → (if b then columns at.start at.end else 0)
-        ≡ columns at.start at.end
-    by true h = refl
-    by false h = absurd (omega (arith, h))
+fitting : (bytes : List ℕ) (found : Option Position) →
+    option_map_or (λ at. fits bytes at.start at.end) found true ≡ true → rank_of bytes found ≡ long found
+fitting bytes None lies = refl
+fitting bytes (Some at) lies = ap (λ b. if b then columns at.start at.end else 0) lies
 
-pub rank-same : (bytes : List ℕ) (children : Forest) → 1 ≤ rank_of bytes (ahead_of children).mark →
+pub rank-same : (bytes : List ℕ) (children : Forest) →
+    option_map_or (λ at. fits bytes at.start at.end) (first_named HeadingAtxSequence children) true ≡ true →
     rank_of bytes (ahead_of children).mark ≡ long (first_named HeadingAtxSequence children)
-rank-same bytes children small = fitting bytes (ahead_of children).mark small ∙ ap long (mark-same children)
+rank-same bytes children lies =
+    ap (rank_of bytes) (mark-same children) ∙ fitting bytes (first_named HeadingAtxSequence children) lies
 
 -- zeros before a number
 pub zeros-same : (digits : List ℕ) → machine.unpadded digits ≡ without_zeros digits

@@ -479,12 +479,12 @@ sides given at Paragraph fit h d =
       whole = λ inner none. span-whole tight (on_own_line (codes "<p>")) inner (said (codes "</p>"));
     }
 sides given at HeadingAtx fit h d =
-    let rank : ℕ = old.rank_of given.bytes (ahead_of at.children).mark in
-    let same : rank ≡ atx_rank (at_of at) = rank-same given.bytes at.children fit.0 in
-    tagged given at HeadingAtx (on_own_line (heading_tag (codes "<h") (atx_rank (at_of at))))
-    (said (heading_tag (codes "</h") (atx_rank (at_of at))))
-    (λ n. (ap (λ t. Needed ∷ Text t ∷ []) (opening-same rank fit.1 ∙ ap (heading_tag (codes "<h")) same), refl))
-    (λ n. (ap (λ t. Text t ∷ []) (closing-same rank fit.1 ∙ ap (heading_tag (codes "</h")) same), refl)) (λ inner. refl)
+    let rank : ℕ = atx_rank (at_of at) in
+    let same : old.rank_of given.bytes (ahead_of at.children).mark ≡ rank =
+    rank-same given.bytes at.children fit.2 in
+    tagged given at HeadingAtx (on_own_line (heading_tag (codes "<h") rank)) (said (heading_tag (codes "</h") rank))
+    (λ n. (ap (λ t. Needed ∷ Text t ∷ []) (ap old.heading_opening same ∙ opening-same rank fit.1), refl))
+    (λ n. (ap (λ t. Text t ∷ []) (ap old.heading_closing same ∙ closing-same rank fit.1), refl)) (λ inner. refl)
 sides given at CodeIndented fit h d =
     tagged given at CodeIndented (on_own_line (codes "<pre><code>")) (code_end (at_of at)) (λ n. (refl, refl))
     (λ n. chunk-says (list_any is_chunk (spine_names at.children)) n) (λ inner. refl)

@@ -17,7 +17,7 @@ use Rattle.md_base.specs.declared.event.Event.{Event}
 use Rattle.md_pattern.specs.Shape.{IsShaped}
 use Rattle.md_html.specs.OwnDefinitions.{own_definitions}
 use Rattle.md_html.proofs.OwnEvents.{document-definitions}
-use Rattle.md_meaning.specs.Meaning.{ending_at}
+use Rattle.md_meaning.specs.Meaning.{ending_at, meaning}
 use Rattle.md_meaning.specs.Whole.{printed_meaning}
 use Rattle.md_tie.proofs.Whole.{printed-is-meant}
 use Rattle.md_tree.specs.Grammar.{IsGrammatical}
@@ -69,7 +69,15 @@ returns c =
     let own = c.in_ok-own.ensures.visits read.0 (shaped read.0 read.1.flattened) read.1.flattened
     (c.definitions.ensures.definitions read.0 read.1.flattened) in
     let text = string_bytes c.in_ok-printed.printed.text in
-    let same = sym (printed read.0 read.1.flattened) in
+    let meant : (document : Forest) → flatten document ≡ checked.events →
+    text ≡ meaning options checked.names checked.bytes document =
+    λ document flat.
+    printed document flat
+    ∙ printed-is-meant options checked.names checked.bytes document
+    (subst (λ forest. IsGrammatical checked.bytes checked.names forest)
+    (flatten_one GfmTable (record { line = 0; column = 0; index = 0; vs = 0 }) read.0 document
+    (read.1.flattened ∙ sym flat)) read.1.grammatical) in
+    let same = sym (meant read.0 read.1.flattened) in
     let one : KeepsGrammar options → HasOneReadingWith any_attribute text = λ keeps.
     subst (λ t. HasOneReadingWith any_attribute t) same
     (one-reading checked.bytes checked.names options read.0 built keeps) in
@@ -80,12 +88,7 @@ returns c =
     subst (λ t. HasOneReadingWith is_safe_image t) same
     (safe-images checked.bytes checked.names options read.0 built keeps) in
     record {
-      meaning = λ document flat.
-          printed document flat
-          ∙ printed-is-meant options checked.names checked.bytes document
-          (subst (λ forest. IsGrammatical checked.bytes checked.names forest)
-          (flatten_one GfmTable (record { line = 0; column = 0; index = 0; vs = 0 }) read.0 document
-          (read.1.flattened ∙ sym flat)) read.1.grammatical);
+      meaning = meant;
       one_reading = one;
       safe_links = links;
       safe_images = images;
