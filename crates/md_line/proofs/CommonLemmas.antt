@@ -15,14 +15,15 @@ use lib.Lanes.{zip2, mask_l, top}
 use lib.Count.{count_trailing_zeros}
 use Rattle.md_base.specs.declared.event.Kind.{Kind}
 use Rattle.md_base.specs.declared.event.Name.{Name}
+use Rattle.md_base.specs.declared.event.Point.{Point}
 use Rattle.md_base.specs.declared.event.Name.TheVariants.{Other}
 use Rattle.md_base.specs.EventNames.{event_names}
 use Rattle.md_base.specs.Table.{listed}
 use Rattle.md_line.specs.Line.{◌>>=◌, is_space, is_line_feed, kind_of, otherwise, other_name, name_of}
 use Rattle.md_line.specs.Number.{number_of}
 use Rattle.md_line.specs.CommonName.{IsFirstSpace, spelled, named, is_full, AreRows}
-use Rattle.md_line.specs.PlainLine.{is_break, BeginsWithEvent, BeginsWithNumber, BeginsWithName}
-use Rattle.md_line.proofs.PlainLemmas.{before_cut, cut_at, number_is_digits, line_plain}
+use Rattle.md_line.specs.PlainLine.{is_break, BeginsWithEvent, BeginsWithNumber, BeginsWithName, BeginsWithPlace}
+use Rattle.md_line.proofs.PlainLemmas.{before_cut, cut_at, number_is_digits, line_placed, line_plain}
 
 -- ---- digits up to a byte
 
@@ -286,3 +287,11 @@ line_common sign input rest place following kind name index is ek read number =
     line_plain sign read.text place input following kind name index (is ∙ ap (λ r. sign ∷ r) read.whole) ek read.says
     (named_unbroken read.text name _ _ refl refl read.says)
     (record { digits = number.digits; whole = number.whole; value = number.value })
+
+pub line_cut : (sign : ℕ) (input rest place following : List ℕ) (kind : Kind) (name : Name) (point : Point) →
+    input ≡ sign ∷ rest → kind_of sign ≡ Some kind → BeginsWithName rest name place →
+    BeginsWithPlace place point following →
+    BeginsWithEvent input (record { kind = kind; name = name; point = point }) following
+line_cut sign input rest place following kind name point is ek read said =
+    line_placed sign read.text place input following kind name point (is ∙ ap (λ r. sign ∷ r) read.whole) ek read.says
+    (named_unbroken read.text name _ _ refl refl read.says) said

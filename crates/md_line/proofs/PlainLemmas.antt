@@ -14,7 +14,7 @@ use Rattle.md_base.specs.declared.event.Name.{Name}
 use Rattle.md_base.specs.declared.event.Point.{Point}
 use Rattle.md_line.specs.Line.{◌>>=◌, is_dot, is_space, is_line_feed, lines_of, kind_of, name_of, point_of, event_of}
 use Rattle.md_line.specs.Number.{number_of}
-use Rattle.md_line.specs.PlainLine.{is_break, BeginsWithEvent, BeginsWithIndex}
+use Rattle.md_line.specs.PlainLine.{is_break, BeginsWithEvent, BeginsWithIndex, BeginsWithNumber, BeginsWithPlace}
 use Rattle.md_line.proofs.LineLemmas.{built}
 
 -- ---- a list that is cut at its first byte of a kind
@@ -179,36 +179,79 @@ sign_is_none sign kind e =
       unsigned : (sign : ℕ) (kind : Kind) → sign ≡ 10 → kind_of sign ≡ Some kind → ⊥
       unsigned sign kind is e = let no : kind_of 10 ≡ Some kind = sym (ap kind_of is) ∙ e in cc
 
-event_plain : (sign : ℕ) (text digits : List ℕ) (kind : Kind) (name : Name) (index : ℕ) → kind_of sign ≡ Some kind →
-    name_of text ≡ Some name → number_of 9 digits ≡ Some index → list_any is_space text ≡ false →
-    event_of (sign ∷ (text ++ 32 ∷ digits)) ≡ Some (record { kind = kind; name = name; point = place index })
-event_plain sign text digits kind name index ek en ei none =
-    ap (λ t. built (kind_of sign) (name_of t) (point_of (after_first is_space (text ++ 32 ∷ digits))))
-    (before_cut is_space text 32 digits none refl)
-    ∙ ap (λ t. built (kind_of sign) (name_of text) (point_of t)) (after_cut is_space text 32 digits none refl)
-    ∙ ap (λ k. built k (name_of text) (point_of digits)) ek ∙ ap (λ n. built (Some kind) n (point_of digits)) en
-    ∙ ap (λ p. built (Some kind) (Some name) p) (point_plain digits index ei)
+event_placed : (sign : ℕ) (text said : List ℕ) (kind : Kind) (name : Name) (point : Point) → kind_of sign ≡ Some kind →
+    name_of text ≡ Some name → point_of said ≡ Some point → list_any is_space text ≡ false →
+    event_of (sign ∷ (text ++ 32 ∷ said)) ≡ Some (record { kind = kind; name = name; point = point })
+event_placed sign text said kind name point ek en ep none =
+    ap (λ t. built (kind_of sign) (name_of t) (point_of (after_first is_space (text ++ 32 ∷ said))))
+    (before_cut is_space text 32 said none refl)
+    ∙ ap (λ t. built (kind_of sign) (name_of text) (point_of t)) (after_cut is_space text 32 said none refl)
+    ∙ ap (λ k. built k (name_of text) (point_of said)) ek ∙ ap (λ n. built (Some kind) n (point_of said)) en
+    ∙ ap (λ p. built (Some kind) (Some name) p) ep
+
+pub line_placed : (sign : ℕ) (text rest input following : List ℕ) (kind : Kind) (name : Name) (point : Point) →
+    input ≡ sign ∷ (text ++ 32 ∷ rest) → kind_of sign ≡ Some kind → name_of text ≡ Some name →
+    list_any is_break text ≡ false → BeginsWithPlace rest point following →
+    BeginsWithEvent input (record { kind = kind; name = name; point = point }) following
+line_placed sign text rest input following kind name point is ek en none read =
+    let said = read.text in
+    let line = sign ∷ (text ++ 32 ∷ said) in
+    let free = unbroken text none in
+    let same : input ≡ line ++ 10 ∷ following =
+    is ∙ ap (λ r. sign ∷ (text ++ 32 ∷ r)) read.whole ∙ sym
+    (ap (λ l. sign ∷ l) (append_assoc text (32 ∷ said) (10 ∷ following))) in
+    let after : list_any is_line_feed (text ++ 32 ∷ said) ≡ false =
+    list_any-append is_line_feed text (32 ∷ said) ∙ ap (λ t. t || list_any is_line_feed said) free.1 ∙ read.uncut in
+    let whole : list_any is_line_feed line ≡ false = ap (λ t. t
+    || list_any is_line_feed (text ++ 32 ∷ said)) (sign_is_none sign kind ek) ∙ after in
+    record {
+      line = line;
+      cut = ap lines_of same ∙ split_cut is_line_feed line 10 following whole refl;
+      size = let long : length input ≡ length line + length (10 ∷ following) = ap length same
+          ∙ length-append line (10 ∷ following) in omega (arith, long);
+      says = event_placed sign text said kind name point ek en read.says free.0;
+    }
+
+index_placed : (rest following : List ℕ) (index : ℕ) → BeginsWithIndex rest index following →
+    BeginsWithPlace rest (place index) following
+index_placed rest following index read = record {
+  text = read.digits;
+  whole = read.whole;
+  says = point_plain read.digits index read.value;
+  uncut = (digits_are_none read.digits (number_digits read.digits index read.value)).1;
+}
 
 pub line_plain : (sign : ℕ) (text rest input following : List ℕ) (kind : Kind) (name : Name) (index : ℕ) →
     input ≡ sign ∷ (text ++ 32 ∷ rest) → kind_of sign ≡ Some kind → name_of text ≡ Some name →
     list_any is_break text ≡ false → BeginsWithIndex rest index following →
     BeginsWithEvent input (record { kind = kind; name = name; point = place index }) following
 line_plain sign text rest input following kind name index is ek en none read =
-    let digits = read.digits in
-    let line = sign ∷ (text ++ 32 ∷ digits) in
-    let free = unbroken text none in
-    let same : input ≡ line ++ 10 ∷ following =
-    is ∙ ap (λ r. sign ∷ (text ++ 32 ∷ r)) read.whole ∙ sym
-    (ap (λ l. sign ∷ l) (append_assoc text (32 ∷ digits) (10 ∷ following))) in
-    let after : list_any is_line_feed (text ++ 32 ∷ digits) ≡ false =
-    list_any-append is_line_feed text (32 ∷ digits) ∙ ap (λ t. t || list_any is_line_feed digits) free.1
-    ∙ (digits_are_none digits (number_digits digits index read.value)).1 in
-    let whole : list_any is_line_feed line ≡ false = ap (λ t. t
-    || list_any is_line_feed (text ++ 32 ∷ digits)) (sign_is_none sign kind ek) ∙ after in
+    line_placed sign text rest input following kind name (place index) is ek en none
+    (index_placed rest following index read)
+
+-- ---- a place within a tab
+
+pub place_cut : (bytes columns following : List ℕ) (index vs : ℕ) → BeginsWithNumber 9 46 bytes index columns →
+    BeginsWithNumber 3 10 columns vs following →
+    BeginsWithPlace bytes (record { line = 1; column = 1; index = index; vs = vs }) following
+place_cut bytes columns following index vs front back =
+    let first = front.digits in
+    let second = back.digits in
+    let said = first ++ 46 ∷ second in
+    let none = digits_are_none first (number_is_digits 9 first index _ _ refl refl front.value) in
+    let others = digits_are_none second (number_is_digits 3 second vs _ _ refl refl back.value) in
+    let dotted : list_any is_dot said ≡ true =
+    list_any-append is_dot first (46 ∷ second) ∙ ap (λ t. t || list_any is_dot (46 ∷ second)) none.0 in
     record {
-      line = line;
-      cut = ap lines_of same ∙ split_cut is_line_feed line 10 following whole refl;
-      size = let long : length input ≡ length line + length (10 ∷ following) = ap length same
-          ∙ length-append line (10 ∷ following) in omega (arith, long);
-      says = event_plain sign text digits kind name index ek en read.value free.0;
+      text = said;
+      whole = front.whole ∙ ap (λ c. first ++ 46 ∷ c) back.whole ∙ sym (append_assoc first (46 ∷ second) (10
+          ∷ following));
+      says =
+          ap (λ d. pointed (number_of 9 d) (cond (list_any is_dot said) (number_of 3 (after_first is_dot said)) (Some 0)))
+          (before_cut is_dot first 46 second none.0 refl)
+          ∙ ap (λ t. pointed (number_of 9 first) (cond t (number_of 3 (after_first is_dot said)) (Some 0))) dotted
+          ∙ ap (λ d. pointed (number_of 9 first) (number_of 3 d)) (after_cut is_dot first 46 second none.0 refl)
+          ∙ ap (λ i. pointed i (number_of 3 second)) front.value ∙ ap (λ c. pointed (Some index) c) back.value;
+      uncut = list_any-append is_line_feed first (46 ∷ second) ∙ ap (λ t. t
+          || list_any is_line_feed (46 ∷ second)) none.1 ∙ others.1;
     }

@@ -11,6 +11,11 @@ pub record IsFirstSpace (bytes : List ℕ) (size : ℕ) : Type 0 where
   pub none : (k : ℕ) → k < size → is_space (slice_index bytes k) ≡ false
   pub there : slice_index bytes size ≡ 32
 
+-- a space stands at this place
+pub record IsSpaceAt (bytes : List ℕ) (place : ℕ) : Type 0 where
+  pub inside : place < length bytes
+  pub there : slice_index bytes place ≡ 32
+
 -- the name that a row's text spells up to its first space
 abbrev pub spelled : List ℕ × Name → Option Name
 spelled row = listed event_names (before_first is_space row.0)

@@ -1,8 +1,10 @@
 -- What is read of a plain line in one go; only private contracts cite it.
-use Rattle.std.specs.Prelude.{◌≡◌, ℕ, ◌+◌, Bool, ◌||◌, List, ◌∷◌, ◌++◌, length, Some}
+use Rattle.std.specs.Prelude.{◌≡◌, ℕ, ◌+◌, Bool, false, ◌||◌, List, ◌∷◌, ◌++◌, length, Some}
+use Rattle.std.specs.List.{list_any}
 use Rattle.md_base.specs.declared.event.Event.{Event}
 use Rattle.md_base.specs.declared.event.Name.{Name}
-use Rattle.md_line.specs.Line.{is_space, is_line_feed, lines_of, name_of, event_of}
+use Rattle.md_base.specs.declared.event.Point.{Point}
+use Rattle.md_line.specs.Line.{is_space, is_line_feed, lines_of, name_of, point_of, event_of}
 use Rattle.md_line.specs.Number.{number_of}
 
 -- what a name ends before
@@ -27,6 +29,13 @@ pub record BeginsWithNumber (most end : ℕ) (bytes : List ℕ) (number : ℕ) (
   pub digits : List ℕ
   pub whole : bytes ≡ digits ++ end ∷ following
   pub value : number_of most digits ≡ Some number
+
+-- a text that says this point, and this after the line feed that ends it
+pub record BeginsWithPlace (bytes : List ℕ) (point : Point) (following : List ℕ) : Type 0 where
+  pub text : List ℕ
+  pub whole : bytes ≡ text ++ 10 ∷ following
+  pub says : point_of text ≡ Some point
+  pub uncut : list_any is_line_feed text ≡ false
 
 -- a text that spells this name, and this after the space that ends it
 pub record BeginsWithName (bytes : List ℕ) (name : Name) (following : List ℕ) : Type 0 where

@@ -2,7 +2,7 @@
 
 ghost use Rattle.std.specs.Prelude.{◌≡◌, ℕ, ◌<◌, ◌≤◌, nat_le, if◌then◌else◌, length, slice_index, IfSome};
 ghost use Rattle.md_line.specs.PlainLine.{BeginsWithName};
-ghost use Rattle.md_line.specs.CommonName.{IsFirstSpace, AreRows};
+ghost use Rattle.md_line.specs.CommonName.{IsFirstSpace, IsSpaceAt, AreRows};
 
 use crate::digits::digits_before;
 use crate::name::read_name;
@@ -11,6 +11,9 @@ use std::simd::prelude::*;
 
 /// How many bytes are loaded at once; names as most are have fewer.
 const LANES: usize = 16;
+
+/// How many bytes are looked at for the end of a name; no name has as many.
+const LONGEST: usize = 48;
 
 /// A name of under sixteen bytes: its text with spaces after it, and the name.
 type Row = ([u8; 16], Name);
@@ -93,21 +96,31 @@ fn name_of_number(number: usize) -> Option<Name>
     Some(Name::Other(u16::try_from(number).ok()?))
 }
 
-/// A name of sixteen to thirty-one bytes.
+/// A name of sixteen bytes and more.
 #[inline(never)]
 fn read_long_name(bytes: &[u8]) -> Option<(Name, &[u8])>
+    requires { LANES ≤ length bytes.now }
     ensures { IfSome result (λ read. BeginsWithName bytes.now read.0 read.1.now) }
 {
-    if bytes.len() < 2 * LANES {
-        return None;
-    }
-    let more = first_space(&bytes[LANES..]);
-    if LANES <= more {
-        return None;
-    }
-    let size = LANES + more;
+    let size = space_after_block(bytes)?;
     let name = read_name(&bytes[..size])?;
     Some((name, &bytes[size + 1..]))
+}
+
+/// Where a space stands after the first sixteen bytes, and before the last of the next blocks that a name may reach.
+fn space_after_block(bytes: &[u8]) -> Option<usize>
+    requires { LANES ≤ length bytes.now }
+    ensures { IfSome result (λ size. IsSpaceAt bytes.now size) }
+{
+    let mut before = LANES;
+    while before < LONGEST && LANES <= bytes.len() - before {
+        let more = first_space(&bytes[before..]);
+        if more < LANES {
+            return Some(before + more);
+        }
+        before += LANES;
+    }
+    None
 }
 
 /// The place of the row for a name with these bytes as its first, its middle and its last one: no two of these names

@@ -2,7 +2,7 @@
 
 ghost use Rattle.std.specs.Prelude.{◌≡◌, ◌+◌, ◌*◌, ◌++◌, ◌∷◌, List, false, length, position, IfSome};
 ghost use Rattle.std.specs.List.{list_any};
-ghost use Rattle.md_line.specs.PlainLine.{is_break, BeginsWithEvent, BeginsWithIndex};
+ghost use Rattle.md_line.specs.PlainLine.{is_break, BeginsWithEvent, BeginsWithIndex, BeginsWithPlace};
 
 use crate::common_name::read_common_name;
 use crate::digits::digits_before;
@@ -10,9 +10,20 @@ use crate::line::read_kind;
 use crate::name::read_name;
 use md_base::{Event, Point};
 
-/// The event of the first line and what follows its line feed, where the line is plain: a sign, a name, one space and
-/// an index. Nothing where it is another one, also where it can be read in parts.
+/// The event of the first line and what follows its line feed, where the line is plain: a sign, a name, one space, an
+/// index, and after a dot perhaps columns. Nothing where it is another one, and near the end of the input also where
+/// it has columns.
 pub fn read_plain_line(input: &[u8]) -> Option<(Event, &[u8])>
+    ensures { IfSome result (λ read. BeginsWithEvent input.now read.0 read.1.now) }
+{
+    match read_cut_line(input) {
+        Some(read) => Some(read),
+        None => read_uncut_line(input),
+    }
+}
+
+/// The same of a line that ends with an index, in parts.
+fn read_uncut_line(input: &[u8]) -> Option<(Event, &[u8])>
     ensures { IfSome result (λ read. BeginsWithEvent input.now read.0 read.1.now) }
 {
     let (sign, rest) = input.split_first()?;
@@ -29,12 +40,47 @@ pub fn read_plain_line(input: &[u8]) -> Option<(Event, &[u8])>
     Some((Event { kind, name, point }, following))
 }
 
+/// The same of a line with columns, unless the input ends soon.
+fn read_cut_line(input: &[u8]) -> Option<(Event, &[u8])>
+    ensures { IfSome result (λ read. BeginsWithEvent input.now read.0 read.1.now) }
+{
+    let (sign, rest) = input.split_first()?;
+    let kind = read_kind(*sign)?;
+    let (name, place) = read_common_name(rest)?;
+    let (point, following) = read_cut_place(place)?;
+    Some((Event { kind, name, point }, following))
+}
+
+/// An index, after a dot columns, and what follows the line feed after them.
+fn read_cut_place(bytes: &[u8]) -> Option<(Point, &[u8])>
+    ensures { IfSome result (λ read. BeginsWithPlace bytes.now read.0 read.1.now) }
+{
+    if bytes.len() < INDEX_SIZE {
+        return None;
+    }
+    let (index, columns) = digits_before(bytes, b'.', INDEX_SIZE - 1)?;
+    if columns.len() < COLUMNS_SIZE {
+        return None;
+    }
+    let (vs, following) = digits_before(columns, b'\n', COLUMNS_SIZE - 1)?;
+    let point = Point {
+        line: 1,
+        column: 1,
+        index,
+        vs,
+    };
+    Some((point, following))
+}
+
 /// How many bytes the longest index has with its line feed.
 const INDEX_SIZE: usize = 10;
 
+/// How many bytes the most columns have with their line feed.
+const COLUMNS_SIZE: usize = 4;
+
 /// The event of a line that gives an index and nothing else, and what follows the line, as [`read_plain_line`] tells
-/// them, in fewer steps, of lines as most are. Nothing also where fewer than sixteen bytes follow the sign or fewer
-/// than ten the name, and of names of more than thirty-one bytes.
+/// them, in fewer steps, of lines as most are. Nothing also where fewer than sixteen bytes follow the sign, fewer than
+/// ten the name, or few a long one.
 #[inline(always)]
 pub fn read_common_line(input: &[u8]) -> Option<(Event, &[u8])>
     ensures { IfSome result (λ read. BeginsWithEvent input.now read.0 read.1.now) }

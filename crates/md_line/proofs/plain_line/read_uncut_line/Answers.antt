@@ -2,7 +2,7 @@
 -- By itself the search can't put the line together from them.
 use Rattle.std.proofs.Common.{◌∷◌, sym, ap, ◌∙◌}
 use Rattle.md_line.proofs.PlainLemmas.{line_plain}
-use Rattle.md_line.proofs.plain_line.read_plain_line.Goals as goal
+use Rattle.md_line.proofs.plain_line.read_uncut_line.Goals as goal
 
 pub returns : goal.returns
 returns c =
