@@ -15,12 +15,19 @@ use md_line::{
     split_at_first,
 };
 use std::alloc::{AllocError, Global};
+use std::simd::prelude::*;
 
 /// The line that ends a script.
 const END_LINE: &[u8] = b"--";
 
-/// From how many events on room is made for three times as many more at once.
+/// From how many events on the lines that follow are counted.
 const MANY_EVENTS: usize = 128;
+
+/// How many bytes most lines have, or fewer.
+const LINE_SIZE: usize = 16;
+
+/// How many bytes are looked at together.
+const BLOCK_SIZE: usize = 64;
 
 /// What a script stands for.
 #[derive(Drop)]
@@ -42,13 +49,13 @@ pub(crate) fn read_script(alloc: Global, input: &[u8]) -> Result<Script<'_>, Run
     let mut rest = input;
     'lines: loop {
         if let Some((event, following)) = read_common_line(rest) {
-            keep(&mut events, event)?;
+            keep(&mut events, event, following)?;
             read_lines += 1;
             rest = following;
             continue;
         }
         if let Some((event, following)) = read_plain_line(rest) {
-            keep(&mut events, event)?;
+            keep(&mut events, event, following)?;
             read_lines += 1;
             rest = following;
             continue;
@@ -74,29 +81,42 @@ pub(crate) fn read_script(alloc: Global, input: &[u8]) -> Result<Script<'_>, Run
     }
 }
 
-/// Adds an event to those before it.
-fn keep(events: &mut Vec<Event>, event: Event) -> Result<(), AllocError>
+/// Adds an event to those before it, where this follows its line.
+fn keep(events: &mut Vec<Event>, event: Event, following: &[u8]) -> Result<(), AllocError>
     ensures { OnOk result (events.new.items ≡ events.old.items ++ event ∷ []) }
 {
     if events.len() == events.capacity() {
-        make_room(events)?;
+        make_room(events, following)?;
     }
     events.push_reserved(event);
     Ok(())
 }
 
-/// Makes room for an event more; of many events for three times as many more, if there is memory for them, so that they
-/// are copied less often than where room grows by doubling.
+/// Makes room for an event more, and for as many as there are, unless fewer lines follow: so there is never more than
+/// where room grows by doubling.
 #[inline(never)]
-fn make_room(events: &mut Vec<Event>) -> Result<(), AllocError>
+fn make_room(events: &mut Vec<Event>, following: &[u8]) -> Result<(), AllocError>
     ensures events { events.new.items ≡ events.old.items }
     ensures room { OnOk result (vec_len events.new < vec_capacity events.new) }
 {
     let count = events.len();
-    if count >= MANY_EVENTS && events.reserve(count.saturating_mul(3)).is_ok() {
-        return Ok(());
+    if count >= MANY_EVENTS && following.len() / LINE_SIZE <= count {
+        let more = count.min(line_feeds(following).saturating_add(1));
+        return events.reserve_exact(more);
     }
     events.reserve(1)
+}
+
+/// How many line feeds there are among whole blocks of bytes, and in what is left.
+fn line_feeds(bytes: &[u8]) -> usize {
+    let mut count: usize = 0;
+    let mut rest = bytes;
+    while BLOCK_SIZE <= rest.len() {
+        let feeds = Simd::<u8, BLOCK_SIZE>::from_slice(rest).simd_eq(Simd::splat(b'\n'));
+        count = count.saturating_add(feeds.to_bitmask().count_ones() as usize);
+        rest = &rest[BLOCK_SIZE..];
+    }
+    count.saturating_add(rest.iter().filter(|byte| **byte == b'\n').count())
 }
 
 /// Takes a line's event, or the line itself where it sets an option; whether it could be read.
