@@ -74,8 +74,17 @@ fn enter_plain(printer: &mut Printer, given: &Given, entry: &Event) -> Result<()
 {
     let around = printer.around();
     open_plain(printer, given, around, entry.name)?;
-    printer.capture_if(given.alloc, is_captured(entry.name))?;
+    printer.capture_if(given.alloc, is_captured(entry.name), keeps_text(entry.name))?;
     printer.open_plain_frame(given.options, entry.name, entry.point)
+}
+
+/// A name whose text a definition keeps.
+#[inline(always)]
+fn keeps_text(name: Name) -> bool {
+    matches!(
+        name,
+        Name::DefinitionDestinationString | Name::DefinitionTitleString
+    )
 }
 
 /// A name that reads something of its children before they are printed.
@@ -110,7 +119,7 @@ fn enter(
 {
     let around = printer.around();
     open(printer, given, around, lookahead.place, name)?;
-    printer.capture_if(given.alloc, is_captured(name))?;
+    printer.capture_if(given.alloc, is_captured(name), false)?;
     printer.open_frame(given.options, &lookahead, name, start)?;
     printer.enter_table_if(is_table(name), lookahead.columns)
 }

@@ -24,7 +24,7 @@ use crate::nodes::{
 };
 use crate::section::{Settings, lay_section};
 use crate::sheets::{
-    Below, begin_notes, drop_notes, keep_spare, make_room, take_notes, take_spare, take_text,
+    Below, begin_notes, drop_notes, keep_spare, make_room, room_for, take_notes, take_text,
 };
 use md_base::name_tests::is_definition;
 use md_base::{AlignKind, Name, Point, Position};
@@ -392,19 +392,20 @@ impl Printer {
         self.text.push_str(self.notes.heading())
     }
 
-    /// Begins a text of its own, to be released later.
+    /// Begins a text of its own, to be released later; `kept` says that it is kept for good, so that it begins without room
+    /// and has no more than what it comes to fill.
     ///
     /// # Errors
     ///
     /// `AllocError`, only where memory runs out.
     #[cold]
-    pub fn capture(&mut self, alloc: Global) -> Result<(), AllocError>
+    pub fn capture(&mut self, alloc: Global, kept: bool) -> Result<(), AllocError>
         ensures captured { OnOk result (self.new ≡ machine.capturing true self.old) }
         ensures refused { OnErr result (self.new ≡ self.old) }
     {
         make_room(&mut self.below)?;
         begin_notes(alloc, &mut self.notes, self.noted, &mut self.kept)?;
-        let inner = Rope::from_string(alloc, take_spare(alloc, &mut self.spare));
+        let inner = Rope::from_string(alloc, room_for(alloc, &mut self.spare, kept));
         let text = std::mem::replace(&mut self.text, inner);
         let noted = self.noted;
         self.noted = false;
@@ -547,16 +548,21 @@ impl Printer {
         }
     }
 
-    /// Captures what follows, if it is to be captured.
+    /// Captures what follows, if it is to be captured; `kept` says that its text is kept for good.
     ///
     /// # Errors
     ///
     /// `AllocError`, only where memory runs out.
-    pub fn capture_if(&mut self, alloc: Global, captured: bool) -> Result<(), AllocError>
+    pub fn capture_if(
+        &mut self,
+        alloc: Global,
+        captured: bool,
+        kept: bool,
+    ) -> Result<(), AllocError>
         ensures { OnOk result (self.new ≡ machine.capturing captured self.old) }
     {
         if captured {
-            self.capture(alloc)
+            self.capture(alloc, kept)
         } else {
             Ok(())
         }

@@ -50,12 +50,15 @@ pub(crate) fn keep_spare(spare: &mut Vec<String>, text: String) {
     }
 }
 
-/// A text with nothing in it, in the room of one that isn't used any more, if there is one; else in room of its own,
-/// where there is memory for it.
+/// A text with nothing in it: if it will be kept for good without room; else in the room of one that isn't used any more,
+/// if there is one, or in room of its own, where there is memory for it.
 #[inline(always)]
-pub(crate) fn take_spare(alloc: Global, spare: &mut Vec<String>) -> String
+pub(crate) fn room_for(alloc: Global, spare: &mut Vec<String>, kept: bool) -> String
     ensures { string_bytes result ≡ [] }
 {
+    if kept {
+        return String::new(alloc);
+    }
     match spare.pop() {
         Some(mut text) => {
             text.clear();
