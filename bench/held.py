@@ -1,19 +1,22 @@
 #!/usr/bin/env python3
-"""Compiles scripts whose nodes each read a whole long document, and looks at the memory that each takes at most.
+"""Compiles scripts that would show it if memory were kept, and looks at the memory that each takes at most.
 
-usage: bench/held.py PROGRAM      (crates/mdevents/out/mdevents, once `rt run` there has built it)
+usage: bench/held.py PROGRAM      (crates/mdevents/out/mdevents, once `rt run < stdin` there has built it)
 
-A text that isn't used any more gives its memory back, whatever is kept for its room: no clause says so. Each script prints
-or drops some hundreds of texts as long as its document, few of them at once. Ends with status 1 where one takes more than
-MOST, which is what some sixty of them take.
+That memory is given back no clause says. Of the first three scripts each prints or drops some hundreds of texts as long
+as its document, few of them at once, and may take what some sixty of them take. The others have a limit of their own, a
+few hundredths above what was measured: definitions keep what their texts fill and no more, the list of a document's texts
+is gone when its labels are looked up, and a script's events have no more room than where it grows by doubling, so that
+all is answered in an address space of so many bytes. Ends with status 1 where one takes more.
 """
 
 import os
+import resource
 import subprocess
 import sys
 
 LENGTH = 1_000_000
-MOST = 64_000_000
+LONG = b"a" + b"b" * (LENGTH - 1)
 
 
 def leaf(name, start, end):
@@ -49,10 +52,51 @@ def footnotes(count):
     return events
 
 
-def taken(program, events):
+def kept_targets(count, size):
+    """Definitions with a destination and a title of so many bytes each."""
+    label = ["+DefinitionLabelString 0", *leaf("Data", 0, 1), "-DefinitionLabelString 1"]
+    events = []
+    for name in ("DefinitionDestinationString", "DefinitionTitleString"):
+        events += [f"+{name} 0", *leaf("Data", 0, size), f"-{name} {size}"]
+    return ["+Definition 0", *label, *events, f"-Definition {size}"] * count
+
+
+def labels(count, first, size):
+    """Definitions with labels of some such size each, no two alike, that begin at an index."""
+    events = []
+    for last in range(first + size, first + size + count):
+        label = [f"+DefinitionLabelString {first}", *leaf("Data", first, last), f"-DefinitionLabelString {last}"]
+        events += [f"+Definition {first}", *label, f"-Definition {last}"]
+    return events
+
+
+def data(count):
+    """A paragraph of so many texts of a byte each."""
+    return ["+Paragraph 0", *leaf("Data", 0, 1) * count, "-Paragraph 1"]
+
+
+BAD = 2_000_000
+
+# Each script: its name, its events, made when it is run, its document, the most memory that it may take, and its address
+# space, if it has one.
+SCRIPTS = [
+    ("images", lambda: images(400), LONG, 64_000_000, None),
+    ("definitions", lambda: definitions(200), LONG, 64_000_000, None),
+    ("footnotes", lambda: footnotes(200), LONG, 64_000_000, None),
+    ("definitions of 65 bytes", lambda: kept_targets(30_000, 65), b"a" * 65, 45_500_000, None),
+    ("labels behind bad bytes", lambda: labels(100, BAD, 250_000), b"\xff" * BAD + b"a" * 500_000, 57_000_000, None),
+    ("events in 26,000 kB", lambda: data(66_000), b"ab", 64_000_000, 26_000 * 1024),
+    ("events in 28,000 kB", lambda: data(66_000), b"ab", 64_000_000, 28_000 * 1024),
+    # The longest comes last, since a program's peak begins with this script's own memory.
+    ("definitions of 20 bytes", lambda: kept_targets(100_000, 20), b"a" * 20, 142_000_000, None),
+]
+
+
+def taken(program, events, document, space):
     """The status of a run over these events, and the memory that it took at most, in bytes."""
-    script = "\n".join([*events, "--", "a" + "b" * (LENGTH - 1)]).encode("ascii")
-    with subprocess.Popen([program], stdin=subprocess.PIPE, stdout=subprocess.DEVNULL) as child:
+    script = "\n".join([*events, "--\n"]).encode("ascii") + document
+    limit = None if space is None else lambda: resource.setrlimit(resource.RLIMIT_AS, (space, space))
+    with subprocess.Popen([program], stdin=subprocess.PIPE, stdout=subprocess.DEVNULL, preexec_fn=limit) as child:
         child.stdin.write(script)
         child.stdin.close()
         _, status, usage = os.wait4(child.pid, 0)
@@ -65,11 +109,11 @@ def main():
     if len(sys.argv) != 2:
         sys.exit("usage: bench/held.py PROGRAM")
     faults = []
-    for name, events in (("images", images(400)), ("definitions", definitions(200)), ("footnotes", footnotes(200))):
-        status, most = taken(os.path.abspath(sys.argv[1]), events)
-        print(f"held memory: {name}, {most / 1e6:.0f} MB at most")
-        if status != 0 or most > MOST:
-            faults.append(f"{name}: status {status}, {most / 1e6:.0f} MB, where {MOST / 1e6:.0f} are enough")
+    for name, events, document, most, space in SCRIPTS:
+        status, bytes_taken = taken(os.path.abspath(sys.argv[1]), events(), document, space)
+        print(f"held memory: {name}, {bytes_taken / 1e6:.1f} MB at most")
+        if status != 0 or bytes_taken > most:
+            faults.append(f"{name}: status {status}, {bytes_taken / 1e6:.1f} MB, where {most / 1e6:.1f} are enough")
     print("\n".join(faults) or "held memory: 0 faults")
     sys.exit(1 if faults else 0)
 

@@ -1,0 +1,63 @@
+#!/usr/bin/env python3
+"""Counts the instructions of two builds of a program on each input of price_inputs.py, by callgrind.
+
+    bench/prices.py OLD NEW [--limit R] [--only WORD] [--jobs N]
+
+OLD and NEW are programs that read a script, as crates/mdevents/out/mdevents, once `rt run < stdin` there has built it. It
+prints, for each input, millions of instructions of both, and new over old. The counts are steady however busy the
+machine is. The status is 1 where the two answer otherwise, or one takes more than R times the old count (no limit where
+R isn't given). It needs valgrind.
+"""
+
+import argparse
+import os
+import re
+import subprocess
+import sys
+from concurrent.futures import ThreadPoolExecutor
+
+from price_inputs import INPUTS
+
+
+def counted(program, script):
+    """The instructions of a run over a script, its status and what it writes."""
+    command = ["valgrind", "--tool=callgrind", "--callgrind-out-file=/dev/null", os.path.abspath(program)]
+    done = subprocess.run(command, input=script, capture_output=True)
+    return int(re.search(rb"Collected : (\d+)", done.stderr).group(1)), done.returncode, done.stdout
+
+
+def compared(old, new, name):
+    """Both counts of an input, with a fault where the answers differ or the input isn't compiled."""
+    script = INPUTS[name]()
+    before, status, text = counted(old, script)
+    after, new_status, new_text = counted(new, script)
+    fault = "the answers differ" if (status, text) != (new_status, new_text) else f"status {status}" if status else ""
+    return name, before, after, fault
+
+
+def main():
+    """Compares all inputs, or those with a word in their names."""
+    words = argparse.ArgumentParser(usage="bench/prices.py OLD NEW [--limit R] [--only WORD] [--jobs N]")
+    words.add_argument("old")
+    words.add_argument("new")
+    words.add_argument("--limit", type=float)
+    words.add_argument("--only", default="")
+    words.add_argument("--jobs", type=int, default=2)
+    given = words.parse_args()
+    faults = []
+    print("| input | old, million | new, million | new over old |\n|---|--:|--:|--:|")
+    names = [name for name in INPUTS if given.only in name]
+    with ThreadPoolExecutor(given.jobs) as pool:
+        for name, before, after, fault in pool.map(lambda name: compared(given.old, given.new, name), names):
+            ratio = after / before
+            print(f"| {name} | {before / 1e6:.2f} | {after / 1e6:.2f} | {ratio:.2f} |", flush=True)
+            if fault:
+                faults.append(f"{name}: {fault}")
+            elif given.limit and given.limit < ratio:
+                faults.append(f"{name}: {ratio:.3f} times as many, where {given.limit} are let pass")
+    print("\n".join(faults), file=sys.stderr)
+    sys.exit(1 if faults else 0)
+
+
+if __name__ == "__main__":
+    main()
