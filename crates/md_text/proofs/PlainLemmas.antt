@@ -1,11 +1,14 @@
 -- What a URL is made of: runs of plain bytes, percent triples, and bytes that become one.
-use Rattle.std.proofs.Common.{◌≡◌, ◌≢◌, ℕ, ◌+◌, ◌<◌, ◌≤◌, ◌/◌, ◌%◌, Bool, true, false, not, ◌&&◌, cond, eqb, List, [], ◌∷◌, ◌++◌, length, get_or, take, drop, Fits, w8, refl, sym, ap, ap₂, subst, ◌∙◌, arith, append-nil, suc, inl, inr, lit<}
-use Rattle.std.proofs.lemmas.List.Elements.{All-nil, All-cons, All-head, All-from_recursion}
-use Rattle.std.proofs.lemmas.Bool.{agree_below_at, and_parts, or_left, or_cases, not-true, eqb-true, eqb-false, both_ways, and_from, ne_eqb}
+use Rattle.std.proofs.Common.{◌≡◌, ◌≢◌, ℕ, ◌+◌, ◌<◌, ◌≤◌, ◌/◌, ◌%◌, Bool, true, false, not, ◌&&◌, cond, eqb, List, [], ◌∷◌, ◌++◌, ◌||◌, length, get_or, take, drop, codes, Fits, w8, refl, sym, ap, ap₂, subst, ◌∙◌, arith, append-nil, append_assoc, suc, zero, suc-le-suc, inl, inr, lit<}
+use Rattle.std.proofs.Math.Seq.{take-add}
+use Rattle.std.proofs.lemmas.List.{length-drop, drop-drop}
+use Rattle.std.proofs.lemmas.List.Elements.{All-nil, All-cons, All-head, All-append, All-from_recursion}
+use Rattle.std.proofs.lemmas.Bool.{cases_Bool, cases_lt, cases_eq, agree_below_at, and_parts, or_parts, or_left, or_right, not-true, eqb-true, eqb-false, both_ways, and_from, ne_eqb}
+use Rattle.std.proofs.lemmas.Bool.Decides.{nat_tests}
 use Rattle.std.specs.List.{prefix_len}
 use Rattle.md_text.specs.Encode.{encoded, encoded_byte}
-use Rattle.md_text.specs.Kept.{is_kept, is_plain}
-use Rattle.md_text.specs.Url.{stays_anywhere, stays, completes_triple, hex_digit, percent, normalized_byte, normalized_url, sanitized}
+use Rattle.md_text.specs.Kept.{is_kept, is_plain, begins_triple, begins_kept, AreKept, changed_byte}
+use Rattle.md_text.specs.Url.{stays_anywhere, stays, is_triple_byte, completes_triple, hex_digit, percent, normalized_byte, normalized_url, sanitized}
 use Rattle.md_text.proofs.EncodeLemmas.{encoded-append}
 use Rattle.md_text.proofs.KeptLemmas.{kept-stays}
 use Rattle.md_text.specs.Laws.{AreAscii}
@@ -30,23 +33,6 @@ sanitized-plain b rest p =
     let parts = and_parts (stays_anywhere b) (not (eqb b 38)) p in
     sanitized-stays b rest (or_left (stays_anywhere b) (eqb b 37 && completes_triple rest) parts.0)
     (eqb-false b 38 (not-true (eqb b 38) parts.1))
-
-next : (n : ℕ) → suc n ≡ 1 + n
-next n = omega arith
-
--- the run of plain bytes at the front, and what is left
-pub sanitized-run : (bs : List ℕ) →
-    take (prefix_len is_plain bs) bs ++ sanitized (drop (prefix_len is_plain bs) bs) ≡ sanitized bs
-sanitized-run [] = refl
-sanitized-run (b ∷ bs) = by_first (is_plain b) refl (sanitized-run bs)
-  where
-    by_first : (t : Bool) → is_plain b ≡ t →
-        take (prefix_len is_plain bs) bs ++ sanitized (drop (prefix_len is_plain bs) bs) ≡ sanitized bs →
-        take (cond t (1 + prefix_len is_plain bs) 0) (b ∷ bs)
-        ++ sanitized (drop (cond t (1 + prefix_len is_plain bs) 0) (b ∷ bs)) ≡ sanitized (b ∷ bs)
-    by_first true e rest = subst (λ n. take n (b ∷ bs) ++ sanitized (drop n (b ∷ bs)) ≡ sanitized (b ∷ bs))
-        (next (prefix_len is_plain bs)) (ap (λ x. b ∷ x) rest ∙ sym (sanitized-plain b bs e))
-    by_first false e rest = refl
 
 -- a byte that becomes a percent triple
 digit-kept : (d : ℕ) → d < 16 → encoded_byte true (hex_digit d) ≡ hex_digit d ∷ []
@@ -81,35 +67,113 @@ sanitized-four-of a (b ∷ c ∷ []) l fits la ha hb hc hd = absurd (omega arith
 sanitized-four-of a (b ∷ c ∷ d ∷ rest) l fits la ha hb hc hd =
     sanitized-four a b c d rest ha hb hc hd la (fits 0).fits (fits 1).fits (fits 2).fits
 
--- the `%` of a triple, which stays as it is
-pub sanitized-mark : (b : ℕ) (rest : List ℕ) → is_plain b ≡ false → b ≢ 38 → stays b rest ≡ true →
-    37 ∷ sanitized rest ≡ sanitized (b ∷ rest)
-sanitized-mark b rest p ne s = elim (or_cases (stays_anywhere b) (eqb b 37 && completes_triple rest) s) [
-  | inl anywhere ↦ absurd (both_ways (is_plain b) p
-      (and_from (stays_anywhere b) (not (eqb b 38)) anywhere (ap not (ne_eqb b 38 ne))))
-  | inr triple ↦ (let both = and_parts (eqb b 37) (completes_triple rest) triple in
-      subst (λ n. n ∷ sanitized rest ≡ sanitized (b ∷ rest)) (eqb-true b 37 both.0)
-      (sym (sanitized-stays b rest s ne)))
-]
-
 abbrev IsAsciiByte : ℕ → Type 0
 IsAsciiByte b = b < 128
 
--- the run of plain bytes at the front is ASCII
+-- a plain byte is ASCII
 plain-ascii : (b : ℕ) → is_plain b ≡ true → b < 128
 plain-ascii b p =
     let parts = and_parts (stays_anywhere b) (not (eqb b 38)) p in
     stays-ascii b [] (or_left (stays_anywhere b) (eqb b 37 && completes_triple []) parts.0)
 
-pub run-ascii : (bs : List ℕ) → AreAscii (take (prefix_len is_plain bs) bs)
-run-ascii [] = All-nil IsAsciiByte
-run-ascii (b ∷ bs) = by_first (is_plain b) refl (run-ascii bs)
+-- plain bytes at the front
+pub kept-plain : (n : ℕ) (bs : List ℕ) → n ≤ prefix_len is_plain bs → AreKept bs n
+kept-plain zero bs le = (omega arith, All-nil IsAsciiByte, refl)
+kept-plain (suc n) [] le = absurd (omega arith)
+kept-plain (suc n) (b ∷ bs) le = by_first (is_plain b) refl (kept-plain n bs)
   where
-    by_first : (t : Bool) → is_plain b ≡ t → AreAscii (take (prefix_len is_plain bs) bs) →
-        AreAscii (take (cond t (1 + prefix_len is_plain bs) 0) (b ∷ bs))
-    by_first true e rest = subst (λ n. AreAscii (take n (b ∷ bs))) (next (prefix_len is_plain bs))
-        (All-cons IsAsciiByte b (take (prefix_len is_plain bs) bs) (plain-ascii b e) rest)
-    by_first false e rest = All-nil IsAsciiByte
+    by_first : (t : Bool) → is_plain b ≡ t → (n ≤ prefix_len is_plain bs → AreKept bs n) → AreKept (b ∷ bs) (suc n)
+    by_first true e rest =
+        let whole : prefix_len is_plain (b ∷ bs) ≡ 1 + prefix_len is_plain bs =
+        ap (λ t. cond t (1 + prefix_len is_plain bs) 0) e in
+        let kept = rest (omega arith) in (
+          suc-le-suc kept.0,
+          All-cons IsAsciiByte b (take n bs) (plain-ascii b e) kept.1,
+          ap (λ x. b ∷ x) kept.2 ∙ sym (sanitized-plain b bs e),
+        )
+    by_first false e rest =
+        let none : prefix_len is_plain (b ∷ bs) ≡ 0 = ap (λ t. cond t (1 + prefix_len is_plain bs) 0) e in
+        absurd (omega arith)
+
+-- a percent triple at the front
+triple-plain : (b : ℕ) → is_triple_byte b ≡ true → is_plain b ≡ true
+triple-plain b e = elim (cases_lt b 128) [
+  | inl low ↦ ap (λ t. not t || is_plain b) (sym e)
+      ∙ agree_below_at (λ b. not (is_triple_byte b) || is_plain b) (λ b. true) 128 b refl low
+  | inr high ↦ (let none : is_triple_byte b ≡ false = grind (arith, nat_tests) in
+      absurd (both_ways (is_triple_byte b) none e))
+]
+
+pub kept-triple : (bs : List ℕ) → begins_triple bs ≡ true → AreKept bs 3
+kept-triple [] e = absurd (both_ways false refl e)
+kept-triple (b ∷ []) e = absurd (both_ways false refl (and_parts (eqb b 37) false e).1)
+kept-triple (b ∷ c ∷ []) e = absurd (both_ways false refl (and_parts (eqb b 37) false e).1)
+kept-triple (b ∷ c ∷ d ∷ rest) e =
+    let parts = and_parts (eqb b 37) (is_triple_byte c && is_triple_byte d) e in
+    let digits = and_parts (is_triple_byte c) (is_triple_byte d) parts.1 in
+    let is = eqb-true b 37 parts.0 in
+    let first = triple-plain c digits.0 in
+    let second = triple-plain d digits.1 in (
+      omega arith,
+      All-from_recursion IsAsciiByte (b ∷ c ∷ d ∷ []) (omega (arith, is), (plain-ascii c first, (plain-ascii d second, tt))),
+      sym (sanitized-stays b (c ∷ d ∷ rest)
+          (or_right (stays_anywhere b) (eqb b 37 && (is_triple_byte c && is_triple_byte d)) e)
+          (λ other. absurd (omega (arith, is, other)))
+          ∙ ap (λ x. b ∷ x) (sanitized-plain c (d ∷ rest) first
+          ∙ ap (λ x. c ∷ x) (sanitized-plain d rest second))),
+    )
+
+-- some at the front, and some of what is left
+pub kept-join : (bs : List ℕ) (n m : ℕ) → AreKept bs n → AreKept (drop n bs) m → AreKept bs (n + m)
+kept-join bs n m front later =
+    let both = take-add n m bs in (
+      omega (arith, front.0, later.0, length-drop n bs),
+      subst AreAscii (sym both) (All-append IsAsciiByte (take n bs) (take m (drop n bs)) front.1 later.1),
+      ap₂ (λ x y. x ++ sanitized y) both (sym (drop-drop m n bs))
+          ∙ append_assoc (take n bs) (take m (drop n bs)) (sanitized (drop m (drop n bs)))
+          ∙ ap (λ x. take n bs ++ x) later.2
+          ∙ front.2,
+    )
+
+next : (n : ℕ) → suc n ≡ 1 + n
+next n = omega arith
+
+-- where the plain bytes end, and no triple begins
+pub kept-ends : (bs : List ℕ) → begins_triple (drop (prefix_len is_plain bs) bs) ≡ false →
+    begins_kept (drop (prefix_len is_plain bs) bs) ≡ false
+kept-ends [] other = refl
+kept-ends (b ∷ bs) other = by_first (is_plain b) refl (kept-ends bs) other
+  where
+    by_first : (t : Bool) → is_plain b ≡ t →
+        (begins_triple (drop (prefix_len is_plain bs) bs) ≡ false →
+        begins_kept (drop (prefix_len is_plain bs) bs) ≡ false) →
+        begins_triple (drop (cond t (1 + prefix_len is_plain bs) 0) (b ∷ bs)) ≡ false →
+        begins_kept (drop (cond t (1 + prefix_len is_plain bs) 0) (b ∷ bs)) ≡ false
+    by_first true e rest other =
+        subst (λ n. begins_kept (drop n (b ∷ bs)) ≡ false) (next (prefix_len is_plain bs))
+        (rest (subst (λ n. begins_triple (drop n (b ∷ bs)) ≡ false) (sym (next (prefix_len is_plain bs))) other))
+    by_first false e rest other = ap₂ (λ x y. x || y) e other
+
+-- a byte that isn't written as it is
+pub sanitized-changed : (b : ℕ) (rest : List ℕ) → b < 256 → begins_kept (b ∷ rest) ≡ false →
+    changed_byte b ++ sanitized rest ≡ sanitized (b ∷ rest)
+sanitized-changed b rest l changes = elim (cases_eq b 38) [
+  | inl is ↦ subst (λ b. changed_byte b ++ sanitized rest ≡ sanitized (b ∷ rest)) (sym is) refl
+  | inr ne ↦ (let parts = or_parts (is_plain b) (eqb b 37 && completes_triple rest) changes in
+      let other = ne_eqb b 38 ne in
+      elim (cases_Bool (stays_anywhere b)) [
+        | inl anywhere ↦ absurd (both_ways (is_plain b) parts.0
+            (and_from (stays_anywhere b) (not (eqb b 38)) anywhere (ap not other)))
+        | inr nowhere ↦ ap (λ t. cond t (codes "&amp;") (percent b) ++ sanitized rest) other
+            ∙ sanitized-percent b rest l (ap₂ (λ x y. x || y) nowhere parts.1)
+      ])
+]
+
+-- the same of what comes first
+pub sanitized-changed_first : (bs : List ℕ) → 1 ≤ length bs → get_or bs 0 0 < 256 →
+    begins_kept bs ≡ false → changed_byte (get_or bs 0 0) ++ sanitized (drop 1 bs) ≡ sanitized bs
+sanitized-changed_first [] long low changes = absurd (omega arith)
+sanitized-changed_first (b ∷ rest) long low changes = sanitized-changed b rest low changes
 
 -- triples are ASCII
 pub triple-ascii : (high low : ℕ) → high < 128 → low < 128 → AreAscii (37 ∷ high ∷ low ∷ [])

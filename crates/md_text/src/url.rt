@@ -1,11 +1,11 @@
 //! URLs that may stand in HTML, and their protocols.
 
-ghost use Rattle.std.specs.Prelude.{◌≡◌, ◌≤◌, ◌<◌, ◌++◌, ◌∷◌, ◌+◌, ◌/◌, ◌%◌, false, IfOk, OnOk, MatchOption, take, length, map, true};
+ghost use Rattle.std.specs.Prelude.{◌≡◌, ◌≤◌, ◌<◌, ◌++◌, ◌∷◌, ◌/◌, ◌%◌, false, IfOk, OnOk, MatchOption, take, drop, length, get_or, min, map, true};
 ghost use Rattle.std.specs.String.{string_bytes};
 ghost use Rattle.std.specs.List.{prefix_len};
-ghost use Rattle.md_text.specs.Kept.{is_plain};
+ghost use Rattle.md_text.specs.Kept.{is_plain, begins_triple, begins_kept, AreKept, changed_byte, goes_on};
 ghost use Rattle.md_text.specs.Laws.{AreAscii};
-ghost use Rattle.md_text.specs.Url.{stays_anywhere, stays, hex_digit, percent};
+ghost use Rattle.md_text.specs.Url.{hex_digit, percent};
 ghost use Rattle.md_text.specs.Url.{is_triple_byte, completes_triple};
 ghost use Rattle.md_text.specs.Url.{sanitized, sanitized_with};
 ghost use Rattle.md_text.specs.Url.{protocol_of, has_permitted_protocol};
@@ -17,6 +17,16 @@ use std::simd::prelude::*;
 
 /// The hexadecimal digits, in upper case.
 const HEX_DIGITS: [u8; 16] = *b"0123456789ABCDEF";
+
+/// How many plain bytes are looked for one by one before several are looked at together.
+const FEW: usize = 4;
+
+/// The plain bytes, each at its own place, and a backquote at the place of every other byte.
+const PLAIN_BYTES: [u8; 256] = *b"\
+    `````````````````````````````````!`#$``'()*+,-./0123456789:;`=`?\
+    @ABCDEFGHIJKLMNOPQRSTUVWXYZ````_`abcdefghijklmnopqrstuvwxyz```~`\
+    ````````````````````````````````````````````````````````````````\
+    ````````````````````````````````````````````````````````````````";
 
 /// Makes a URL that may stand in HTML.
 ///
@@ -61,13 +71,10 @@ pub fn push_sanitized(out: &mut String, value: &str) -> Result<(), AllocError>
     let mut rest = value.as_bytes();
     out.reserve(rest.len())?;
     while let Some((byte, after)) = rest.split_first() {
-        rest = if is_plain(*byte) {
-            push_run(out, rest)?
-        } else if *byte >= 0x80 {
+        rest = if *byte >= 0x80 {
             push_high(out, *byte, after)?
         } else {
-            push_changed(out, *byte, after)?;
-            after
+            push_low(out, rest)?
         };
     }
     Ok(())
@@ -149,17 +156,114 @@ fn push_ascii(out: &mut String, bytes: &[u8]) -> Result<(), AllocError>
     out.push_str(unsafe { str::from_utf8_unchecked(bytes) })
 }
 
-/// Writes the plain bytes that a URL begins with, and gives what is left.
+/// Writes the bytes that stay as they are, with which a URL begins, and what becomes of an ASCII byte behind them. Gives
+/// what is left.
 #[inline(always)]
-fn push_run<'a>(out: &mut String, rest: &'a [u8]) -> Result<&'a [u8], AllocError>
+fn push_low<'a>(out: &mut String, rest: &'a [u8]) -> Result<&'a [u8], AllocError>
+    requires { (0 < length rest.now) × (get_or rest.now 0 0 < 128) }
     ensures value { IfOk result
         (λ left. string_bytes out.new ++ sanitized left.now ≡ string_bytes out.old ++ sanitized rest.now) }
-    ensures left { IfOk result
-        (λ left. length left.now + prefix_len is_plain rest.now ≡ length rest.now) }
+    ensures left { IfOk result (λ left. length left.now < length rest.now) }
 {
-    let (run, left) = rest.split_at(run_length(Plain, rest));
-    push_ascii(out, run)?;
-    Ok(left)
+    let (kept, left) = rest.split_at(kept_length(rest));
+    push_kept(out, kept)?;
+    match left {
+        [byte, after @ ..] if *byte < 0x80 => {
+            push_changed(out, *byte)?;
+            Ok(after)
+        }
+        _ => Ok(left),
+    }
+}
+
+/// Writes ASCII bytes as they are: so few that they are copied as one, or all.
+#[inline(always)]
+fn push_kept(out: &mut String, bytes: &[u8]) -> Result<(), AllocError>
+    requires { AreAscii bytes.now }
+    ensures { OnOk result (string_bytes out.new ≡ string_bytes out.old ++ bytes.now) }
+{
+    match bytes {
+        [] => Ok(()),
+        [a] => push_ascii(out, &[*a]),
+        [a, b] => push_ascii(out, &[*a, *b]),
+        [a, b, c] => push_ascii(out, &[*a, *b, *c]),
+        _ => push_ascii(out, bytes),
+    }
+}
+
+/// How many bytes come before the first that doesn't stay as it is.
+#[inline(always)]
+fn kept_length(bytes: &[u8]) -> usize
+    ensures kept { AreKept bytes.now result }
+    ensures ends { begins_kept (drop result bytes.now) ≡ false }
+{
+    let few = first_plain(bytes);
+    if few == FEW {
+        kept_from(bytes, run_length(Plain, bytes))
+    } else if begins_triple(&bytes[few..]) {
+        kept_from(bytes, few + 3)
+    } else {
+        few
+    }
+}
+
+/// The same, where so many are known.
+#[inline(always)]
+fn kept_from(bytes: &[u8], known: usize) -> usize
+    requires { AreKept bytes.now known }
+    ensures kept { AreKept bytes.now result }
+    ensures ends { begins_kept (drop result bytes.now) ≡ false }
+{
+    let mut at = known;
+    loop {
+        let step = kept_step(&bytes[at..]);
+        if step == 0 {
+            return at;
+        }
+        at += step;
+    }
+}
+
+/// How many bytes of a triple or of plain ones come first.
+#[inline(always)]
+fn kept_step(bytes: &[u8]) -> usize
+    ensures kept { AreKept bytes.now result }
+    ensures ends { result ≡ 0 → begins_kept bytes.now ≡ false }
+{
+    if begins_triple(bytes) {
+        return 3;
+    }
+    let few = first_plain(bytes);
+    if few == FEW {
+        run_length(Plain, bytes)
+    } else {
+        few
+    }
+}
+
+/// How many plain bytes come first, of the first four.
+#[inline(always)]
+fn first_plain(bytes: &[u8]) -> usize
+    ensures { result ≡ min 4 (prefix_len is_plain bytes.now) }
+{
+    match bytes {
+        [a, b, c, d, ..] if is_plain(*a) && is_plain(*b) && is_plain(*c) && is_plain(*d) => FEW,
+        [a, b, c, ..] if is_plain(*a) && is_plain(*b) && is_plain(*c) => 3,
+        [a, b, ..] if is_plain(*a) && is_plain(*b) => 2,
+        [a, ..] if is_plain(*a) => 1,
+        _ => 0,
+    }
+}
+
+/// Whether a percent triple comes first.
+#[inline(always)]
+fn begins_triple(bytes: &[u8]) -> bool
+    ensures { result ≡ begins_triple bytes.now }
+{
+    match bytes {
+        [b'%', after @ ..] => completes_triple(after),
+        _ => false,
+    }
 }
 
 /// Writes what becomes of a byte past ASCII, and of the three after it where they are so too, and gives what is left.
@@ -182,22 +286,15 @@ fn push_high<'a>(out: &mut String, byte: u8, rest: &'a [u8]) -> Result<&'a [u8],
     }
 }
 
-/// Writes what becomes of a byte that isn't plain: as it is before two digits, with which the next run begins.
+/// Writes what becomes of a byte that doesn't stay as it is.
 #[inline(always)]
-fn push_changed(out: &mut String, byte: u8, rest: &[u8]) -> Result<(), AllocError>
-    requires { is_plain byte ≡ false }
-    ensures { OnOk result
-        (string_bytes out.new ++ sanitized rest.now ≡ string_bytes out.old ++ sanitized (byte ∷ rest.now)) }
+fn push_changed(out: &mut String, byte: u8) -> Result<(), AllocError>
+    ensures { OnOk result (string_bytes out.new ≡ string_bytes out.old ++ changed_byte byte) }
 {
-    if !stays(byte, rest) {
-        push_percent(out, byte)?;
-        Ok(())
-    } else if byte == b'&' {
-        out.push_str("&amp;")?;
-        Ok(())
+    if byte == b'&' {
+        out.push_str("&amp;")
     } else {
-        out.push_str("%")?;
-        Ok(())
+        push_percent(out, byte)
     }
 }
 
@@ -282,25 +379,7 @@ impl<const N: usize> LaneTest<N> for Plain {
 fn is_plain(byte: u8) -> bool
     ensures { result ≡ is_plain byte }
 {
-    stays_anywhere(byte) && byte != b'&'
-}
-
-/// Whether a byte stays as it is before the bytes that follow it.
-fn stays(byte: u8, rest: &[u8]) -> bool
-    ensures { result ≡ stays byte rest.now }
-{
-    stays_anywhere(byte) || byte == b'%' && completes_triple(rest)
-}
-
-/// Whether a byte stays as it is whatever follows it.
-fn stays_anywhere(byte: u8) -> bool
-    ensures { result ≡ stays_anywhere byte }
-{
-    byte < 0x80
-        && matches!(
-            byte,
-            b'!' | b'#' | b'$' | b'&'..=b';' | b'=' | b'?'..=b'Z' | b'_' | b'a'..=b'z' | b'~'
-        )
+    PLAIN_BYTES[usize::from(byte)] != b'`'
 }
 
 /// Whether what follows a `%` makes it begin a percent triple.
@@ -337,12 +416,37 @@ fn protocol_end(url: &[u8]) -> Option<usize>
         (protocol_of url.now ≡ None)
         (λ end. (end ≤ length url.now) × (protocol_of url.now ≡ Some (take end url.now))) }
 {
-    for (index, byte) in url.iter().enumerate() {
-        match byte {
-            b':' => return Some(index),
-            b'?' | b'#' | b'/' => return None,
-            _ => {}
-        }
+    let end = run_length(GoesOn, url);
+    if end < url.len() && url[end] == b':' {
+        Some(end)
+    } else {
+        None
     }
-    None
+}
+
+/// The test that a byte neither ends a protocol nor shows that there is none.
+#[derive(Clone, Copy)]
+struct GoesOn;
+
+impl ByteTest for GoesOn {
+    ghost use Rattle.md_text.specs.Kept.{goes_on};
+
+    ghost passes = { λ _. goes_on };
+
+    #[inline(always)]
+    fn is_passed(self, byte: u8) -> bool {
+        !matches!(byte, b':' | b'?' | b'#' | b'/')
+    }
+}
+
+impl<const N: usize> LaneTest<N> for GoesOn {
+    #[inline(always)]
+    fn run_in(self, bytes: &[u8], at: usize) -> usize {
+        let block = Simd::<u8, N>::from_slice(&bytes[at..]);
+        let stops = block.simd_eq(Simd::splat(b':'))
+            | block.simd_eq(Simd::splat(b'?'))
+            | block.simd_eq(Simd::splat(b'#'))
+            | block.simd_eq(Simd::splat(b'/'));
+        first_set(stops.to_bitmask(), N)
+    }
 }

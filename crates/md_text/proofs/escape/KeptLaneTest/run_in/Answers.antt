@@ -28,5 +28,5 @@ returns g c =
     let equal = λ (x : ℕ). zip2_splat {Z = ℕ} (λ a b. cond (eqb a b) 255 0) block n x long in
     run_is (is_kept true) bytes at n _ _ c.requires.1 c.requires.0 c.type_inv.bytes c.first_set-2.ensures _
     (zip2_of_maps bit_or _ _ block (zip2_of_maps bit_or _ _ block (zip2_of_maps bit_or _ _ block
-    (zip2_of_maps bit_or _ _ block (equal 0) (equal 38)) (equal 34)) (equal 60)) (equal 62)) refl
+    (zip2_of_maps bit_or _ _ block (equal _) (equal _)) (equal _)) (equal _)) (equal _)) refl
     ∙ ap (λ html. min n (prefix_len (is_kept html) (drop at bytes))) (sym c.if-not-encode_html.false)

@@ -14,4 +14,4 @@ returns g c =
     let block = chunk at n bytes in
     let long = length-chunk at n bytes c.requires.1 in
     run_is opens_no_tag bytes at n _ _ c.requires.1 c.requires.0 c.type_inv.bytes c.first_set.ensures _
-    (zip2_splat {Z = ℕ} (λ a b. cond (eqb a b) 255 0) block n 60 long) refl
+    (zip2_splat {Z = ℕ} (λ a b. cond (eqb a b) 255 0) block n _ long) refl

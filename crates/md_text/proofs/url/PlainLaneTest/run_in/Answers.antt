@@ -17,11 +17,11 @@ returns g c =
     let other = λ (x : ℕ). zip2_splat {Z = ℕ} (λ a b. cond (not (eqb a b)) 255 0) v n x long in
     let below = λ (x : ℕ). zip2_splat {Z = ℕ} (λ a b. cond (ltb a b) 255 0) v n x long in
     let above = λ (x : ℕ). zip2_splat_left {Z = ℕ} (λ a b. cond (ltb a b) 255 0) x n v long in
-    let escaped = zip2_of_maps bit_or _ _ v (zip2_of_maps bit_or _ _ v (zip2_of_maps bit_or _ _ v (equal 34) (equal 38))
-    (equal 60)) (equal 62) in
-    let blanks = zip2_of_maps bit_or _ _ v (below 33) (equal 37) in
-    let brackets = zip2_of_maps bit_and _ _ v (zip2_of_maps bit_and _ _ v (above 90) (below 97)) (other 95) in
-    let others = zip2_of_maps bit_and _ _ v (above 122) (other 126) in
     run_is is_plain bytes at n _ _ c.requires.1 c.requires.0 c.type_inv.bytes c.first_set.ensures _
-    (zip2_of_maps bit_or _ _ v (zip2_of_maps bit_or _ _ v (zip2_of_maps bit_or _ _ v escaped blanks) brackets) others)
+    (zip2_of_maps bit_or _ _ v (zip2_of_maps bit_or _ _ v (zip2_of_maps bit_or _ _ v
+    (zip2_of_maps bit_or _ _ v (zip2_of_maps bit_or _ _ v (zip2_of_maps bit_or _ _ v (equal _) (equal _)) (equal _))
+    (equal _))
+    (zip2_of_maps bit_or _ _ v (below _) (equal _)))
+    (zip2_of_maps bit_and _ _ v (zip2_of_maps bit_and _ _ v (above _) (below _)) (other _)))
+    (zip2_of_maps bit_and _ _ v (above _) (other _)))
     refl
