@@ -115,7 +115,8 @@ kept-triple (b ∷ c ∷ d ∷ rest) e =
     let first = triple-plain c digits.0 in
     let second = triple-plain d digits.1 in (
       omega arith,
-      All-from_recursion IsAsciiByte (b ∷ c ∷ d ∷ []) (omega (arith, is), (plain-ascii c first, (plain-ascii d second, tt))),
+      All-from_recursion IsAsciiByte (b ∷ c ∷ d ∷ [])
+          (omega (arith, is), (plain-ascii c first, (plain-ascii d second, tt))),
       sym (sanitized-stays b (c ∷ d ∷ rest)
           (or_right (stays_anywhere b) (eqb b 37 && (is_triple_byte c && is_triple_byte d)) e)
           (λ other. absurd (omega (arith, is, other)))

@@ -29,7 +29,8 @@ pub protocol_of-colon : (b : ℕ) (rest : List ℕ) → (b == 58) ≡ true → p
 protocol_of-colon b rest e = ap (λ s. cond s (Some []) (cond (ends_protocol b) None
     (option_map (λ before. b ∷ before) (protocol_of rest)))) e
 
-pub protocol_of-end : (b : ℕ) (rest : List ℕ) → (b == 58) ≡ false → ends_protocol b ≡ true → protocol_of (b ∷ rest) ≡ None
+pub protocol_of-end : (b : ℕ) (rest : List ℕ) → (b == 58) ≡ false → ends_protocol b ≡ true →
+    protocol_of (b ∷ rest) ≡ None
 protocol_of-end b rest e f = ap₂ (λ s t. cond s (Some [])
     (cond t None (option_map (λ before. b ∷ before) (protocol_of rest)))) e f
 
@@ -74,7 +75,8 @@ protocol_of-none_at (b ∷ rest) other = by_first (goes_on b) refl (protocol_of-
     by_first true e later other =
         let n = prefix_len goes_on rest in
         protocol_of-goes_on b rest e ∙ ap (option_map (λ before. b ∷ before))
-        (later (λ inside. subst (λ m. (get_or (b ∷ rest) m 0 == 58) ≡ false) (sym (next n)) (other (omega (arith, inside)))))
+        (later (λ inside. subst (λ m. (get_or (b ∷ rest) m 0 == 58) ≡ false) (sym (next n))
+        (other (omega (arith, inside)))))
     by_first false e later other =
         let plain = other (zero-lt-suc (length rest)) in
         elim (cases_Bool (ends_protocol b)) [

@@ -156,8 +156,7 @@ fn push_ascii(out: &mut String, bytes: &[u8]) -> Result<(), AllocError>
     out.push_str(unsafe { str::from_utf8_unchecked(bytes) })
 }
 
-/// Writes the bytes that stay as they are, with which a URL begins, and what becomes of an ASCII byte behind them. Gives
-/// what is left.
+/// Writes the bytes that stay as they are, and what becomes of an ASCII byte after them, and gives what is left.
 #[inline(always)]
 fn push_low<'a>(out: &mut String, rest: &'a [u8]) -> Result<&'a [u8], AllocError>
     requires { (0 < length rest.now) × (get_or rest.now 0 0 < 128) }

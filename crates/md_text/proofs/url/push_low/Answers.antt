@@ -21,6 +21,7 @@ returns-in_ok-push_changed-in-len1-up-clause-value c =
     ∙ ap (λ x. ((before ++ take n rest) ++ first) ++ sanitized x) (take_rest left 1)
     ∙ append_assoc (before ++ take n rest) first (sanitized (drop 1 left))
     ∙ ap (λ x. (before ++ take n rest) ++ x)
-    (sanitized-changed_first left c.in-len1-up.len_at_least (omega (arith, c.if-byte-lt128.true)) changes ∙ ap sanitized c.split_at.ensures.back)
+    (sanitized-changed_first left c.in-len1-up.len_at_least (omega (arith, c.if-byte-lt128.true)) changes
+    ∙ ap sanitized c.split_at.ensures.back)
     ∙ append_assoc before (take n rest) (sanitized (drop n rest))
     ∙ ap (λ x. before ++ x) c.kept_length.ensures.kept.2
