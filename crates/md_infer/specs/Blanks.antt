@@ -1,5 +1,5 @@
--- Which lists and items are loose, told from before a blank line ending. Only proofs speak of it: the pass sees the nodes
--- before a blank line ending first.
+-- Which lists and items are loose, told from before a blank line ending. Only proofs speak of it: the pass sees the
+-- nodes before a blank line ending first.
 use Rattle.std.specs.Prelude.{Bool, true, false, not, ◌&&◌, ◌||◌, if◌then◌else◌}
 use Rattle.md_base.specs.Tree.{Forest, Empty, Node}
 use Rattle.md_base.specs.declared.event.Name.TheVariants.{BlankLineEnding, ListItem, ListItemPrefix, SpaceOrTab}

@@ -392,8 +392,8 @@ impl Printer {
         self.text.push_str(self.notes.heading())
     }
 
-    /// Begins a text of its own, to be released later; `kept` says that it is kept for good, so that it begins without room
-    /// and has no more than what it comes to fill.
+    /// Begins a text of its own, to be released later; `kept` says that it is kept for good, so that it begins without
+    /// room and has no more than what it comes to fill.
     ///
     /// # Errors
     ///

@@ -12,8 +12,8 @@ use std::alloc::{AllocError, Global};
 /// For how many bytes room is made at once: most labels, destinations and titles have no more.
 const FIRST_ROOM: usize = 64;
 
-/// A sheet below the one that is laid out. What was noted on it stands apart, since on few sheets anything is noted, and
-/// the others are kept with less.
+/// A sheet below the one that is laid out. What was noted on it stands apart, since on few sheets anything is noted,
+/// and the others are kept with less.
 #[derive(Drop)]
 pub(crate) struct Below {
     /// Its text.
@@ -50,8 +50,8 @@ pub(crate) fn keep_spare(spare: &mut Vec<String>, text: String) {
     }
 }
 
-/// A text with nothing in it: if it will be kept for good without room; else in the room of one that isn't used any more,
-/// if there is one, or in room of its own, where there is memory for it.
+/// A text with nothing in it: without room, if it will be kept for good; else in the room of one that isn't used any
+/// more, if there is one, or in room of its own, where there is memory for it.
 #[inline(always)]
 pub(crate) fn room_for(alloc: Global, spare: &mut Vec<String>, kept: bool) -> String
     ensures { string_bytes result ≡ [] }
