@@ -17,7 +17,7 @@ use Rattle.md_meaning.specs.Meaning.Finds.{first_named, number_in_list}
 
 -- what may stand somewhere: blocks and all that prints whole elements; spans; strings; the first fence of code, or
 -- of math, and what follows it; in a first fence what it says of the code, or the rest of that; in a task whether it
--- is done; nothing
+-- is done; nothing; where links and footnotes lead and what they are called
 pub data Content : Type 0 where
   Blocks : Content
   Spans : Content
