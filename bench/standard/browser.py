@@ -1,14 +1,14 @@
 #!/usr/bin/env python3
 """Has a real browser, Debian's chromium, take what `mdevents` makes of the attacks in bench/attacks.json.
 
-    /usr/bin/python3 bench/standard/browser.py PROGRAM [CHROMIUM]
+    /usr/bin/python3 bench/standard/browser.py PROGRAM CASES [CHROMIUM]
 
-PROGRAM is the built `mdevents`. Each text is written into a document of its own, by the browser's parser as it reads a
+PROGRAM is the built `mdevents`, and CASES the built `md_cases`, which makes pages. Each text is written into a document of its own, by the browser's parser as it reads a
 page, and set into a `div` of another. In both documents that come of it there may be no script element, no attribute
 whose name begins with `on`, and, but where an option lets them, no `href` and no `src` with a scheme that isn't
 permitted, by the browser's own `URL`; and nothing may run: no call of `alert`, `confirm`, `prompt` or `eval`. Besides,
-each attack is the title of an empty page (`--page`), whose document must have exactly this title and an empty body. It
-fails, with status 1, on each of these, and where it doesn't find them in texts that have them.
+each attack is the title of an empty page (`md_page::page`), whose document must have exactly this title and an empty
+body. It fails, with status 1, on each of these, and where it doesn't find them in texts that have them.
 """
 
 import itertools
@@ -98,8 +98,19 @@ def faults_of(texts, chromium):
     return json.loads(inside.replace("&amp;", "&").replace("&lt;", "<").replace("&gt;", ">"))
 
 
+def pages_of(titles, program):
+    """The empty page with each title, as the program of the worked cases answers it."""
+    arguments = [title.replace("\n", "\\n") for title in titles]
+    asked = [f"%%%% {number}: page\n? compiled page {argument}\n--\n\n" for number, argument in enumerate(arguments)]
+    given = "worked cases\n" + "".join(asked)
+    answers = subprocess.run([program], input=given.encode(), capture_output=True, check=True).stdout.decode()
+    for number, argument in enumerate(arguments):
+        head = f"%%%% {number}: page\ncompiled page {argument}: "
+        yield answers.split(head, 1)[1].split("</html>", 1)[0] + "</html>"
+
+
 def main():
-    program, chromium = sys.argv[1], (sys.argv[2:] or ["chromium"])[0]
+    program, cases, chromium = sys.argv[1], sys.argv[2], (sys.argv[3:] or ["chromium"])[0]
     texts, sources = [], []
     for lines, (text, nodes) in itertools.product(ATTACKS["ways"], attacks()):
         source = script(lines, text, nodes)
@@ -109,9 +120,9 @@ def main():
         texts.append([ran.stdout.decode(), LETS_ANY in lines, None])
         sources.append(source)
     count = len(texts)
-    for title in (text for text, _ in attacks() if "\0" not in text):
-        ran = subprocess.run([program, "--page", title], input=b"--\n", capture_output=True, check=True)
-        texts.append([ran.stdout.decode(), False, title.replace("\r\n", "\n").replace("\r", "\n")])
+    titles = [text for text, _ in attacks() if "\0" not in text]
+    for title, page in zip(titles, pages_of(titles, cases), strict=True):
+        texts.append([page, False, title.replace("\r\n", "\n").replace("\r", "\n")])
         sources.append(title.encode())
     bad = [([text, False, None], word) for text, word in BAD] + [([BAD_PAGE[0], False, BAD_PAGE[1]], BAD_PAGE[2])]
     found = faults_of([text for text, _ in bad] + texts, chromium)

@@ -52,8 +52,8 @@ pub fn tags_are_listed()
         → HasOneReadingWith p text → IsTokenized text tokens → IsTrue (list_all is_listed tokens) }
 {}
 
-/// No start tag among the tokens of a text with a reading is of an element that runs or embeds
-/// something, and none has an event handler, a style, or an address but `href` and `src`.
+/// No start tag among the tokens of a text with a reading is of an element that is listed as one
+/// that runs something or acts on the page around, and none has an attribute that is listed so.
 pub fn nothing_runs()
     ensures { (p : Attribute → Bool) (text : List ℕ) (tokens : List Token)
         → HasOneReadingWith p text → IsTokenized text tokens → IsTrue (list_all runs_nothing tokens) }
