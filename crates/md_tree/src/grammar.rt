@@ -95,34 +95,21 @@ fn find<'a>(
         bytes: &texts,
         names,
     };
-    let facts = find_facts(input)?;
-    let texts = texts.with_front_alone(alloc);
-    Ok(Found { texts, facts })
-}
-
-/// What is found at events that are of the grammar.
-fn find_facts(input: Input) -> Result<Facts, CompileError>
-    ensures grammatical { OnOk result
-        (IsChecked (handed input.entry.events.now input.entry.bytes.now input.entry.names.now)) }
-    ensures facts { IfOk result (λ found. found.facts.items ≡ facts_at input.entry.events.now) }
-    ensures tables { IfOk result (λ found. map (λ t. t.items) found.tables.items
-        ≡ tables_at input.entry.events.now) }
-    ensures definitions { IfOk result (λ found. found.definitions.items ≡ definitions_at input.entry.events.now) }
-    ensures first_ending { IfOk result (λ found. found.first_ending ≡ first_index input.entry.events.now) }
-    ensures visits { IfOk result (λ found. found.visits ≡ length input.entry.events.now) }
-    ensures refused { IfErr result
-        (IsRefusal (handed input.entry.events.now input.entry.bytes.now input.entry.names.now)) }
-{
     let read = read_events(input)?;
     if !is_done(&read.walk) {
         return Err(CompileError::Event {
-            index: input.events.len(),
+            index: events.len(),
             rule: Rule::Order,
         });
     }
     let Read { walk, found } = read;
-    resolve(input.alloc, input.bytes, &walk.mentions)?;
-    Ok(found)
+    // Identifiers may be long, and each is of a text that is read once: the list of other texts makes room for them.
+    let texts = texts.with_front_alone(alloc);
+    resolve(alloc, &texts, &walk.mentions)?;
+    Ok(Found {
+        texts,
+        facts: found,
+    })
 }
 
 /// What is known of events that have been read.

@@ -1,4 +1,4 @@
--- What `find_facts` says where the walk isn't done, where a mention leads nowhere, and where all is well. The search
+-- What `find` says where the walk isn't done, where a mention leads nowhere, and where all is well. The search
 -- can't go from how a walk ends to what holds of the events: `Checking` does.
 use Rattle.std.proofs.Common.{◌≡◌, [], ◌∷◌, refl, sym, ap, ◌∙◌, subst, length, List}
 use Rattle.std.specs.Prelude.{reverse}
@@ -14,7 +14,7 @@ use Rattle.md_tree.specs.Grammar.{handed}
 use Rattle.md_tree.specs.Walk.{opens_at, opens_seen, course_of}
 use Rattle.md_tree.proofs.Endings.{IsWalked, IsWalked-done}
 use Rattle.md_tree.proofs.Checking.{IsRefusal-undone, IsRefusal-lost, IsChecked-walked}
-use Rattle.md_tree.proofs.grammar.find_facts.Goals as goal
+use Rattle.md_tree.proofs.grammar.find.Goals as goal
 
 -- no node of a course is open, and so none of a walk
 none_at : (events : List Event) (targets : List Aim) (opens : List Open) → opens_at events targets opens ≡ [] →
@@ -28,33 +28,37 @@ none_open events targets opens e = sym (reverse-reverse opens) ∙ ap reverse (n
 
 pub returns-then-not-is_done-clause-refused : goal.returns-then-not-is_done-clause-refused
 returns-then-not-is_done-clause-refused c =
-    IsRefusal-undone (handed c.args.input.events.now c.args.input.bytes.now c.args.input.names.now)
-    (course_of c.args.input.events.now (length c.args.input.events.now) c.in_ok-read.read.walk) c.in_ok-read.ensures.walked
+    IsRefusal-undone (handed c.args.events.now c.args.bytes.now c.args.names.now)
+    (course_of c.args.events.now (length c.args.events.now) c.in_ok-read.read.walk)
+    (rw c.in_ok-texts.ensures at c.in_ok-read.ensures.walked)
     (λ e. c.is_done.ensures.undone c.if-not-is_done.true
-    (none_open c.args.input.events.now (reverse c.in_ok-read.read.walk.targets.items)
+    (none_open c.args.events.now (reverse c.in_ok-read.read.walk.targets.items)
     c.in_ok-read.read.walk.open_nodes.items e))
 
 pub returns-in_err-resolve-clause-refused : goal.returns-in_err-resolve-clause-refused
 returns-in_err-resolve-clause-refused c =
     let p = err_from_is_err_and c.from_residual-in_err-resolve.result c.from_residual-in_err-resolve.ensures.1 in
-    let given = handed c.args.input.events.now c.args.input.bytes.now c.args.input.names.now in
+    let given = handed c.args.events.now c.args.bytes.now c.args.names.now in
     let mentions = c.in_ok-read.read.walk.mentions.items in
     let done = c.is_done.ensures.done c.if-not-is_done.false in
     let walked : IsWalked given mentions = IsWalked-done given
-    (course_of c.args.input.events.now (length c.args.input.events.now) c.in_ok-read.read.walk) c.in_ok-read.ensures.walked
-    (ap (λ opens. opens_seen c.args.input.events.now (reverse c.in_ok-read.read.walk.targets.items) opens) done.0) done.1 in
+    (course_of c.args.events.now (length c.args.events.now) c.in_ok-read.read.walk)
+    (rw c.in_ok-texts.ensures at c.in_ok-read.ensures.walked)
+    (ap (λ opens. opens_seen c.args.events.now (reverse c.in_ok-read.read.walk.targets.items) opens) done.0) done.1 in
     rw (p.1, p.2)
     (IsRefusal-lost given mentions c.in_err-resolve.field-0.0 walked
-    (subst (λ ms. IsUnresolved c.args.input.bytes.now ms c.in_err-resolve.field-0.0) c.deref.ensures.value
-    c.in_err-resolve.ensures.refused))
+    (subst (λ ms. IsUnresolved c.args.bytes.now ms c.in_err-resolve.field-0.0) c.deref.ensures.value
+    (rw (c.with_front_alone-texts.ensures, c.in_ok-texts.ensures) at c.in_err-resolve.ensures.refused)))
 
 pub returns-clause-grammatical : goal.returns-clause-grammatical
 returns-clause-grammatical c =
-    let given = handed c.args.input.events.now c.args.input.bytes.now c.args.input.names.now in
+    let given = handed c.args.events.now c.args.bytes.now c.args.names.now in
     let mentions = c.in_ok-read.read.walk.mentions.items in
     let done = c.is_done.ensures.done c.if-not-is_done.false in
     let walked : IsWalked given mentions = IsWalked-done given
-    (course_of c.args.input.events.now (length c.args.input.events.now) c.in_ok-read.read.walk) c.in_ok-read.ensures.walked
-    (ap (λ opens. opens_seen c.args.input.events.now (reverse c.in_ok-read.read.walk.targets.items) opens) done.0) done.1 in
-    IsChecked-walked given mentions walked (subst (λ ms. All (IsResolved c.args.input.bytes.now (mentions_among ms))
-    (mentions_among ms)) c.deref.ensures.value c.in_ok-resolve.ensures.ok)
+    (course_of c.args.events.now (length c.args.events.now) c.in_ok-read.read.walk)
+    (rw c.in_ok-texts.ensures at c.in_ok-read.ensures.walked)
+    (ap (λ opens. opens_seen c.args.events.now (reverse c.in_ok-read.read.walk.targets.items) opens) done.0) done.1 in
+    IsChecked-walked given mentions walked (subst (λ ms. All (IsResolved c.args.bytes.now (mentions_among ms))
+    (mentions_among ms)) c.deref.ensures.value
+    (rw (c.with_front_alone-texts.ensures, c.in_ok-texts.ensures) at c.in_ok-resolve.ensures.ok))
