@@ -1,9 +1,9 @@
 -- Runs of bytes that are texts: a part of a run is that part of the bytes.
-use Rattle.std.proofs.Common.{rules, ◌≡◌, ℕ, ◌+◌, ◌-◌, ◌≤◌, Bool, true, ◌&&◌, nat_le, Option, None, Some, List, ◌++◌, length, take, drop, refl, sym, ap, ◌∙◌, arith}
+use Rattle.std.proofs.Common.{rules, ◌≡◌, ℕ, ◌+◌, ◌-◌, ◌≤◌, Bool, true, ◌&&◌, nat_le, Option, None, Some, List, ◌++◌, length, take, drop, take-add, refl, sym, ap, ◌∙◌, arith}
 use Rattle.std.specs.Prelude.{slice_range, IfSome}
 use Rattle.std.specs.Str.{IsUtf8}
-use Rattle.std.proofs.lemmas.Str.{is_utf8-from_IsUtf8}
-use Rattle.std.proofs.lemmas.List.{take-take, take_at, drop-drop, drop_at, drop-take, length-drop, length-append}
+use Rattle.std.proofs.lemmas.Str.{IsUtf8-append, is_utf8-from_IsUtf8}
+use Rattle.std.proofs.lemmas.List.{take-take, drop-drop, drop-take}
 use Rattle.md_base.specs.Place.{text_when}
 
 -- the part of a run
@@ -45,21 +45,16 @@ pub some-weaken : {A : Type 0} (P Q : A → Type 0) → ((a : A) → P a → Q a
 some-weaken P Q weaken None holds = holds
 some-weaken P Q weaken (Some a) holds = weaken a holds
 
--- a run and what lies after it, up to the next
-pub IsRun-chunk : (bytes text after rest : List ℕ) (start : ℕ) → start ≤ length bytes →
-    drop start bytes ≡ text ++ (after ++ rest) → (start + (length text + length after) ≤ length bytes)
-    × (drop (start + (length text + length after)) bytes ≡ rest) × (start + length text ≤ length bytes)
-    × (take (length text) (drop start bytes) ≡ text)
-IsRun-chunk bytes text after rest start within is =
-    let lengths : length bytes - start ≡ length text + (length after + length rest) =
-    sym (length-drop start bytes) ∙ ap length is ∙ length-append text (after ++ rest)
-    ∙ ap (λ n. length text + n) (length-append after rest) in
-    let next : drop (length text + length after) (drop start bytes) ≡ rest =
-    ap (drop (length text + length after)) is ∙ sym (drop-drop (length after) (length text) (text
-    ++ (after ++ rest))) ∙ ap (drop (length after)) (drop_at text (after ++ rest) (length text) refl)
-    ∙ drop_at after rest (length after) refl in (
-      omega arith,
-      sym (drop-drop (length text + length after) start bytes) ∙ next,
-      omega arith,
-      ap (take (length text)) is ∙ take_at text (after ++ rest) (length text) refl,
-    )
+-- a text that goes on where another ends
+pub IsUtf8-on : (bytes : List ℕ) (start at end : ℕ) → start ≤ at → at ≤ end → IsUtf8 (slice_range bytes start at) →
+    IsUtf8 (slice_range bytes at end) → IsUtf8 (slice_range bytes start end)
+IsUtf8-on bytes start at end before after front rest =
+    let m = at - start in
+    let n = end - at in
+    let all : end - start ≡ m + n = omega arith in
+    let there : start + m ≡ at = omega arith in
+    let left : drop m (drop start bytes) ≡ drop at bytes = drop-drop m start bytes ∙ ap (λ k. drop k bytes) there in
+    let parts : take (end - start) (drop start bytes) ≡ take m (drop start bytes) ++ take n (drop at bytes) =
+    ap (λ k. take k (drop start bytes)) all ∙ take-add m n (drop start bytes)
+    ∙ ap (λ xs. take m (drop start bytes) ++ take n xs) left in
+    rw parts (IsUtf8-append _ _ front rest)
