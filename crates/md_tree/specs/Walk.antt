@@ -54,7 +54,7 @@ outer_seen events target outer =
       reading = outer.reading;
     }
 
--- the target that was put aside where a node was entered, if there was one; of those put aside the innermost comes first
+-- the target that was put aside where a node was entered, if there was one; the innermost of those put aside is first
 abbrev pub target_of : Bool → List Aim → Aim
 target_of true (target ∷ targets) = target
 target_of true [] = aim.Missing
