@@ -1,8 +1,12 @@
-"""Documents to render: the examples of the GFM specification, and mutations of these and of our own."""
+"""Documents to render: the examples of the GFM specification, and mutations of these and of our own.
+
+    documents.py COUNT SEED    writes the examples and so many mutated documents, each after its length and a line feed
+"""
 
 import gzip
 import pathlib
 import random
+import sys
 
 SPECIFICATION = pathlib.Path("/usr/share/doc/cmark-gfm/spec.txt.gz")
 FENCE = "`" * 32
@@ -83,3 +87,14 @@ def mutated(count, seed):
     generator = random.Random(seed)
     bases = [document.decode("utf-8") for document in examples()] + list(OWN) * 30
     return [mutate(bases, generator) for _ in range(count)]
+
+
+def main(arguments):
+    """Writes the documents as frames."""
+    count, seed = map(int, arguments)
+    for document in (*examples(), *mutated(count, seed)):
+        sys.stdout.buffer.write(b"%d\n%s" % (len(document), document))
+
+
+if __name__ == "__main__":
+    main(sys.argv[1:])

@@ -1,6 +1,6 @@
 //! Finds the archive `libbivdrazo.a`, which clients/build makes: in the folder that `BIVDRAZO_FOLDER` names, or else in
-//! `lib`, where the crate's package has it, or else in `../out`. Where there is none, documentation can be made and
-//! types checked, and nothing can be linked.
+//! `lib`, where the crate's package has it, or else in `../out`. Where there is none, the crate can be documented, checked,
+//! built and packed, and no program can be linked with it.
 
 use std::env;
 use std::path::PathBuf;
@@ -16,13 +16,14 @@ fn main() {
     };
     let folder = env::var_os("BIVDRAZO_FOLDER").map_or(beside, PathBuf::from);
     let archive = folder.join("libbivdrazo.a");
+    println!("cargo:rerun-if-changed={}", archive.display());
     if !archive.exists() {
         println!(
             "cargo:warning={} isn't there: clients/build makes it",
             archive.display()
         );
+        return;
     }
-    println!("cargo:rerun-if-changed={}", archive.display());
     println!("cargo:rustc-link-search=native={}", folder.display());
     println!("cargo:rustc-link-lib=static=bivdrazo");
 }

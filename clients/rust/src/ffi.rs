@@ -83,18 +83,19 @@ extern "C" {
     fn bivdrazo_version() -> u32;
 }
 
-/// As `crate::compile`.
+/// As `crate::compile`, with a bound on the text's length.
 pub(crate) fn compile(
     events: &[Event],
     bytes: &[u8],
     options: &Options,
     names: &[(&str, &str)],
+    limit: Option<usize>,
 ) -> Result<String, Error> {
     let events = collect(events.iter().map(c_event))?;
     let names = collect(names.iter().map(c_reference))?;
     let options = c_options(options);
     let room = first_size(events.len(), bytes.len());
-    into_text(room, |buffer| {
+    into_text(room, limit, |buffer| {
         // SAFETY: the pointers are those of slices, of a struct that refers to strings of the caller's, and of a buffer
         // that nothing else refers to; each goes with its own length and isn't null.
         unsafe {
@@ -115,7 +116,7 @@ pub(crate) fn compile(
 
 /// As `crate::run`.
 pub(crate) fn run(script: &[u8]) -> Result<String, Error> {
-    into_text(first_size(0, script.len()), |buffer| {
+    into_text(first_size(0, script.len()), None, |buffer| {
         // SAFETY: the pointers are those of a slice and of a buffer that nothing else refers to, with their lengths.
         unsafe {
             bivdrazo_run(
@@ -142,10 +143,19 @@ pub(crate) fn first_size(events: usize, bytes: usize) -> usize {
         .saturating_add(64)
 }
 
-/// The text that a call writes into a buffer, with a second call where the first buffer is too short.
-fn into_text(room: usize, call: impl Fn(&mut Vec<u8>) -> CAnswer) -> Result<String, Error> {
-    let mut buffer = buffer_of(room)?;
+/// The text that a call writes into a buffer, with a second call where the first buffer is too short. Where there is a
+/// limit, no buffer is longer, nor is the text.
+fn into_text(
+    room: usize,
+    limit: Option<usize>,
+    call: impl Fn(&mut Vec<u8>) -> CAnswer,
+) -> Result<String, Error> {
+    let limit = limit.unwrap_or(usize::MAX);
+    let mut buffer = buffer_of(room.min(limit))?;
     let mut answer = call(&mut buffer);
+    if matches!(answer.status, STATUS_OK | STATUS_TOO_SHORT) && answer.length > limit {
+        return Err(Error::OutputTooLong { limit });
+    }
     if answer.status == STATUS_TOO_SHORT {
         buffer = buffer_of(answer.length)?;
         answer = call(&mut buffer);

@@ -1,9 +1,20 @@
-//! Events of a Markdown parser to HTML, by a library that is proved.
+//! Markdown to safe HTML, by a parser and a library that is proved.
 //!
-//! A parser says what it found in a document as a list of events: a paragraph begins at byte 0, a text runs from there
-//! to byte 6, the paragraph ends. [`compile`] makes HTML of such a list. Nothing is assumed of the events: whatever a
-//! parser hands in is refused or gives a text that, under the default options, has one reading as HTML, with links and
-//! images of permitted protocols alone.
+//! ```
+//! # #[cfg(feature = "markdown")] {
+//! use bivdrazo::{markdown_to_html, MarkdownOptions};
+//!
+//! let html = markdown_to_html("**a** <b>", &MarkdownOptions::default())?;
+//! assert_eq!(html, "<p><strong>a</strong> &lt;b&gt;</p>\n");
+//! # }
+//! # Ok::<(), bivdrazo::Error>(())
+//! ```
+//!
+//! This stands on the feature `markdown`, which is on by default: the parser is pulldown-cmark. The library itself
+//! compiles the events of a parser, and can be called with those of any other one. A parser says what it found in a
+//! document as a list of events: a paragraph begins at byte 0, a text runs from there to byte 6, the paragraph ends.
+//! [`compile`] makes HTML of such a list. Nothing is assumed of the events: whatever a parser hands in is refused or gives
+//! a text that, under the default options, has one reading as HTML, with links and images of permitted protocols alone.
 //!
 //! ```
 //! use bivdrazo::{compile, Event, Name, Options};
@@ -21,10 +32,19 @@
 //!
 //! There is no state between calls: any number of threads may call at once.
 
+#![warn(missing_docs)]
+
 mod ffi;
+#[cfg(feature = "markdown")]
+mod markdown;
 mod numbers;
+mod references;
+
+#[cfg(feature = "markdown")]
+pub use markdown::{events_of, markdown_to_html, Document, DocumentHtml, MarkdownOptions};
 
 pub use numbers::{Name, Rule, VERSION, VERSION_TEXT};
+pub use references::REFERENCES;
 
 use std::error;
 use std::fmt;
@@ -129,6 +149,7 @@ pub struct Options {
 
 /// Why there is no text.
 #[derive(Clone, Copy, Debug, Eq, PartialEq)]
+#[non_exhaustive]
 pub enum Error {
     /// The events are refused: at `index` (the number of events where something is open at the end), by `rule`.
     Refused {
@@ -147,6 +168,18 @@ pub enum Error {
     Line(usize),
     /// There is no more memory.
     Memory,
+    /// The Markdown has more bytes than a bound permits.
+    InputTooLong {
+        /// How many it has.
+        length: usize,
+        /// How many it may have.
+        limit: usize,
+    },
+    /// The text would have more bytes than a bound permits.
+    OutputTooLong {
+        /// How many it may have.
+        limit: usize,
+    },
     /// The library answered what this crate doesn't know: it is of another version.
     Unknown,
 }
@@ -163,6 +196,15 @@ impl fmt::Display for Error {
             }
             Error::Line(number) => write!(formatter, "line {number}: unreadable"),
             Error::Memory => write!(formatter, "out of memory"),
+            Error::InputTooLong { length, limit } => {
+                write!(
+                    formatter,
+                    "the Markdown has {length} bytes, of {limit} at most"
+                )
+            }
+            Error::OutputTooLong { limit } => {
+                write!(formatter, "the text has more than {limit} bytes")
+            }
             Error::Unknown => write!(formatter, "a library of another version"),
         }
     }
@@ -173,7 +215,7 @@ impl error::Error for Error {}
 /// The HTML of a list of events over a document's bytes.
 ///
 /// `names` are the character references by name that a document may use, each with what it stands for; of two with one
-/// name the first counts. The bytes need not be UTF-8 but where events read them as text.
+/// name the first counts. HTML's are [`REFERENCES`]. The bytes need not be UTF-8 but where events read them as text.
 ///
 /// # Errors
 ///
@@ -192,7 +234,7 @@ pub fn compile(
     options: &Options,
     names: &[(&str, &str)],
 ) -> Result<String, Error> {
-    ffi::compile(events, bytes, options, names)
+    ffi::compile(events, bytes, options, names, None)
 }
 
 /// The HTML of an event script: lines of options and events, a line `--`, the document.

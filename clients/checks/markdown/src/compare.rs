@@ -1,0 +1,117 @@
+//! The comparison with pulldown-cmark's own renderer.
+
+use crate::judge::judge;
+use bivdrazo::{markdown_to_html, MarkdownOptions};
+use std::collections::BTreeMap;
+use std::error::Error;
+use std::fs;
+use std::io::{self, BufRead};
+
+/// How many faults are told in full.
+const TOLD: usize = 10;
+
+/// How many documents have each class.
+type Counts = BTreeMap<String, usize>;
+
+/// Compares the documents of standard input, and their counts with a list's, or writes these there; whether nothing else
+/// differs.
+pub fn run(list: &str, is_write: bool) -> Result<bool, Box<dyn Error>> {
+    let documents = read_documents(&mut io::stdin().lock())?;
+    let mut counts = Counts::new();
+    let mut faults = Vec::new();
+    for (number, document) in documents.iter().enumerate() {
+        let text = String::from_utf8_lossy(document);
+        let (classes, fault) = compare(&text);
+        for class in classes {
+            *counts.entry(class.to_string()).or_insert(0) += 1;
+        }
+        faults.extend(fault.map(|fault| format!("document {number}: {text:?}\n{fault}")));
+    }
+    faults
+        .iter()
+        .take(TOLD)
+        .for_each(|fault| println!("{fault}"));
+    if is_write {
+        fs::write(list, with_counts(&fs::read_to_string(list)?, &counts))?;
+    }
+    let is_listed = fs::read_to_string(list)? == with_counts(&fs::read_to_string(list)?, &counts);
+    println!(
+        "{}",
+        with_counts(&fs::read_to_string(list)?, &counts).trim_end()
+    );
+    println!(
+        "pulldown-cmark: {} documents, {} faults",
+        documents.len(),
+        faults.len()
+    );
+    if !is_listed {
+        println!("{list} has other counts");
+    }
+    Ok(faults.is_empty() && is_listed)
+}
+
+/// The frames of an input.
+fn read_documents(input: &mut impl BufRead) -> Result<Vec<Vec<u8>>, Box<dyn Error>> {
+    let mut documents = Vec::new();
+    let mut line = String::new();
+    while input.read_line(&mut line)? > 0 {
+        let mut document = vec![0; line.trim_end().parse()?];
+        input.read_exact(&mut document)?;
+        documents.push(document);
+        line.clear();
+    }
+    Ok(documents)
+}
+
+/// The classes of a document, and what is wrong with its text.
+fn compare(text: &str) -> (Vec<&'static str>, Option<String>) {
+    let judged = judge(text);
+    let mut options = MarkdownOptions::default();
+    let linked = markdown_to_html(text, &options);
+    options.bare_links = false;
+    let html = match (markdown_to_html(text, &options), linked) {
+        (Ok(html), Ok(linked)) if without_links(&html) == without_links(&linked) => html,
+        (html, linked) => {
+            return (
+                Vec::new(),
+                Some(format!("  is     {html:?}\n  linked {linked:?}")),
+            )
+        }
+    };
+    let fault =
+        (html != judged.wanted).then(|| format!("  wanted {:?}\n  is     {html:?}", judged.wanted));
+    let mut classes = judged.classes;
+    if html == judged.plain {
+        classes.push("equal");
+    }
+    (classes, fault)
+}
+
+/// A text without the tags of links.
+fn without_links(html: &str) -> String {
+    let mut parts = html.split("<a ");
+    let mut kept = parts.next().unwrap_or("").to_string();
+    for part in parts {
+        kept.push_str(part.split_once('>').map_or("", |(_, rest)| rest));
+    }
+    kept.replace("</a>", "")
+}
+
+/// The list's lines, each with its count: the class, the count, and why.
+fn with_counts(list: &str, counts: &Counts) -> String {
+    let line = |line: &str| {
+        let mut words = line.splitn(3, ' ');
+        match (
+            line.starts_with('#'),
+            words.next(),
+            words.next(),
+            words.next(),
+        ) {
+            (false, Some(class), Some(_), Some(why)) => {
+                format!("{class} {} {why}\n", counts.get(class).unwrap_or(&0))
+            }
+            _ => format!("{line}\n"),
+        }
+    };
+    list.lines().map(line).collect()
+}

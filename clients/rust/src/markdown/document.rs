@@ -1,0 +1,108 @@
+//! A document as the library takes it.
+
+use crate::{compile, ffi, Error, Event, Kind, Name, Options};
+
+/// Events, and the bytes that they are over: not those of the Markdown, but the texts that were found in it.
+#[derive(Clone, Debug, Default, Eq, PartialEq)]
+#[non_exhaustive]
+pub struct Document {
+    /// The bytes.
+    pub bytes: Vec<u8>,
+    /// The events over them.
+    pub events: Vec<Event>,
+}
+
+impl Document {
+    /// The document's HTML.
+    ///
+    /// # Errors
+    ///
+    /// As [`compile`](crate::compile).
+    pub fn compile(&self, options: &Options) -> Result<String, Error> {
+        compile(&self.events, &self.bytes, options, &[])
+    }
+
+    /// The document's HTML, if it has at most so many bytes.
+    pub(super) fn compile_within(
+        &self,
+        options: &Options,
+        limit: Option<usize>,
+    ) -> Result<String, Error> {
+        ffi::compile(&self.events, &self.bytes, options, &[], limit)
+    }
+
+    /// Begins a node after the bytes so far.
+    pub(super) fn enter(&mut self, name: Name) {
+        self.events.push(Event::enter(name, self.bytes.len()));
+    }
+
+    /// Ends a node after the bytes so far.
+    pub(super) fn exit(&mut self, name: Name) {
+        self.events.push(Event::exit(name, self.bytes.len()));
+    }
+
+    /// A node without bytes or children.
+    pub(super) fn empty(&mut self, name: Name) {
+        self.enter(name);
+        self.exit(name);
+    }
+
+    /// A node over a text of its own.
+    pub(super) fn text(&mut self, name: Name, text: &str) {
+        self.enter(name);
+        self.bytes.extend_from_slice(text.as_bytes());
+        self.exit(name);
+    }
+
+    /// A node with one text in it.
+    pub(super) fn within(&mut self, outer: Name, inner: Name, text: &str) {
+        self.within_at(outer, inner, self.bytes.len(), text);
+    }
+
+    /// A node with one text in it, which stands there in the bytes already, or is put at their end.
+    pub(super) fn within_at(&mut self, outer: Name, inner: Name, start: usize, text: &str) {
+        if start == self.bytes.len() {
+            self.bytes.extend_from_slice(text.as_bytes());
+        }
+        let end = start + text.len();
+        self.events.extend([
+            Event::enter(outer, start),
+            Event::enter(inner, start),
+            Event::exit(inner, end),
+            Event::exit(outer, end),
+        ]);
+    }
+
+    /// A call of a footnote: six events.
+    pub(super) fn call(&mut self, label: &str) {
+        self.enter(Name::GfmFootnoteCall);
+        self.enter(Name::Label);
+        self.bytes.extend_from_slice(b"[^");
+        self.text(Name::LabelText, label);
+        self.bytes.push(b']');
+        self.exit(Name::Label);
+        self.exit(Name::GfmFootnoteCall);
+    }
+
+    /// Makes a text of the call whose first event has that index.
+    pub(super) fn uncall(&mut self, index: usize) {
+        if let [call, label, start, end, label_end, call_end] = &mut self.events[index..index + 6] {
+            for outer in [&mut *call, label, label_end, &mut *call_end] {
+                outer.name = Name::Other(0);
+            }
+            *start = Event::enter(Name::Data, call.index);
+            *end = Event::exit(Name::Data, call_end.index);
+        }
+    }
+
+    /// Takes away the empty cells at the end of a row, which the library prints anyway.
+    pub(super) fn drop_empty_cells(&mut self) {
+        let is = |event: &Event, kind| event.kind == kind && event.name == Name::GfmTableCell;
+        while let [.., start, end] = &self.events[..] {
+            if !(is(start, Kind::Enter) && is(end, Kind::Exit)) {
+                return;
+            }
+            self.events.truncate(self.events.len() - 2);
+        }
+    }
+}

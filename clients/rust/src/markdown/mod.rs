@@ -1,0 +1,139 @@
+//! Markdown in: pulldown-cmark reads it, and the library judges the events that come of it.
+//!
+//! Nothing is proved of the parser or of the way from its events to ours. What the library promises it promises of any
+//! events: the text has one reading as HTML, with links and images of permitted protocols alone.
+
+mod autolinks;
+mod base;
+mod comments;
+mod document;
+mod events;
+mod pieces;
+mod tables;
+
+pub use document::Document;
+pub use events::events_of;
+
+use crate::{Error, Options};
+use pulldown_cmark::Parser;
+
+/// What becomes of HTML in a document. Whatever is chosen, none of it is HTML in the text.
+#[derive(Clone, Copy, Debug, Default, Eq, Hash, PartialEq)]
+#[non_exhaustive]
+pub enum DocumentHtml {
+    /// It is printed as text: `<b>` as `&lt;b&gt;`.
+    #[default]
+    Text,
+    /// It is left out. What stands between two tags stays.
+    LeftOut,
+    /// Comments are left out, and all else is printed as text.
+    WithoutComments,
+}
+
+/// How [`markdown_to_html`] renders. Whatever is chosen, the text is safe.
+///
+/// ```
+/// use bivdrazo::{markdown_to_html, MarkdownOptions};
+///
+/// let mut options = MarkdownOptions::default();
+/// options.hard_breaks = true;
+/// assert_eq!(markdown_to_html("a\nb", &options)?, "<p>a<br />\nb</p>\n");
+/// # Ok::<(), bivdrazo::Error>(())
+/// ```
+#[derive(Clone, Debug, Eq, PartialEq)]
+#[non_exhaustive]
+pub struct MarkdownOptions {
+    /// What the ids of footnotes begin with; else `user-content-`. Each document of a page needs another one.
+    pub footnote_prefix: Option<String>,
+    /// Make the ids of footnotes of their numbers: then no two ids of the text are equal.
+    pub number_ids: bool,
+    /// The heading of the footnotes; else `Footnotes`.
+    pub footnote_label: Option<String>,
+    /// The `aria-label` of a way back from a footnote; else `Back to content`.
+    pub footnote_back_label: Option<String>,
+    /// Begin a new line where the document does: `<br />` for its soft breaks.
+    pub hard_breaks: bool,
+    /// Make links of bare URLs (`https://..`, `www...`) and of addresses. This is on by default.
+    pub bare_links: bool,
+    /// What becomes of HTML in the document.
+    pub html: DocumentHtml,
+    /// The URL against which those of links and images are read, as RFC 3986 has it. An empty URL stays as it is, and
+    /// so does one that begins with `#`.
+    pub base: Option<String>,
+    /// How many bytes the document may have; else any number.
+    pub max_input: Option<usize>,
+    /// How many bytes the text may have; else any number. What links and images lead to counts also where it is left
+    /// out, for its protocol.
+    pub max_output: Option<usize>,
+}
+
+impl Default for MarkdownOptions {
+    fn default() -> MarkdownOptions {
+        MarkdownOptions {
+            footnote_prefix: None,
+            number_ids: false,
+            footnote_label: None,
+            footnote_back_label: None,
+            hard_breaks: false,
+            bare_links: true,
+            html: DocumentHtml::Text,
+            base: None,
+            max_input: None,
+            max_output: None,
+        }
+    }
+}
+
+impl MarkdownOptions {
+    /// The library's options for these; they are safe.
+    fn for_library(&self) -> Options {
+        Options {
+            gfm_footnote_clobber_prefix: self.footnote_prefix.clone(),
+            gfm_footnote_number_ids: self.number_ids,
+            gfm_footnote_label: self.footnote_label.clone(),
+            gfm_footnote_back_label: self.footnote_back_label.clone(),
+            ..Options::default()
+        }
+    }
+}
+
+/// The HTML of a Markdown document, with tables, strikethrough, tasks, footnotes and bare links.
+///
+/// # Errors
+///
+/// [`Error::InputTooLong`] and [`Error::OutputTooLong`] where a bound of the options is passed, [`Error::Memory`] where
+/// the library finds no memory. [`Error::Refused`] would be a fault of this crate or of the parser: no document is known
+/// that gets it.
+///
+/// ```
+/// use bivdrazo::{markdown_to_html, MarkdownOptions};
+///
+/// let html = markdown_to_html("**a** <b>", &MarkdownOptions::default())?;
+/// assert_eq!(html, "<p><strong>a</strong> &lt;b&gt;</p>\n");
+/// # Ok::<(), bivdrazo::Error>(())
+/// ```
+pub fn markdown_to_html(text: &str, options: &MarkdownOptions) -> Result<String, Error> {
+    if let Some(limit) = options.max_input.filter(|&limit| text.len() > limit) {
+        let length = text.len();
+        return Err(Error::InputTooLong { length, limit });
+    }
+    let parser = Parser::new_ext(text, parser_options(text));
+    let document = events::document_of(parser.into_offset_iter(), options)?;
+    document.compile_within(&options.for_library(), options.max_output)
+}
+
+/// What the parser reads: no tables where they would have too many cells that nobody wrote.
+fn parser_options(text: &str) -> pulldown_cmark::Options {
+    let mut read = pulldown_cmark::Options::ENABLE_TABLES
+        | pulldown_cmark::Options::ENABLE_FOOTNOTES
+        | pulldown_cmark::Options::ENABLE_STRIKETHROUGH
+        | pulldown_cmark::Options::ENABLE_TASKLISTS;
+    read.set(
+        pulldown_cmark::Options::ENABLE_TABLES,
+        tables::missing_cells(text) <= tables::MOST_MISSING_CELLS,
+    );
+    read
+}
+
+#[cfg(test)]
+mod tests;
