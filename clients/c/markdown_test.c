@@ -1,0 +1,152 @@
+/* Tests of bivdrazo_markdown(): each option by itself, each status, and calls from many threads. */
+#include "bivdrazo_markdown.h"
+
+#include <pthread.h>
+#include <stdio.h>
+#include <string.h>
+
+static int failures;
+
+static void check(int is_right, const char *what) {
+    if (!is_right) {
+        printf("c/markdown_test: %s\n", what);
+        failures++;
+    }
+}
+
+static bivdrazo_text text_of(const char *text) {
+    return bivdrazo_text_of((const uint8_t *)text, strlen(text));
+}
+
+/* Whether a document has this text under these options. */
+static int renders(const char *text, const bivdrazo_markdown_options *options, const char *wanted) {
+    char *html;
+    const bivdrazo_answer answer = bivdrazo_markdown((const uint8_t *)text, strlen(text), options, &html);
+    const int is_right = answer.status == BIVDRAZO_OK && answer.length == strlen(wanted) && strcmp(html, wanted) == 0;
+    if (!is_right)
+        printf("status %u: %s\n", answer.status, html == NULL ? "null" : html);
+    bivdrazo_markdown_free(html);
+    return is_right;
+}
+
+/* Whether a document's text holds a part under these options. */
+static int holds(const char *text, const bivdrazo_markdown_options *options, const char *part) {
+    char *html;
+    const bivdrazo_answer answer = bivdrazo_markdown((const uint8_t *)text, strlen(text), options, &html);
+    const int is_right = answer.status == BIVDRAZO_OK && strstr(html, part) != NULL;
+    bivdrazo_markdown_free(html);
+    return is_right;
+}
+
+/* Whether there is no text, for this cause. */
+static int fails(const void *text, size_t length, const bivdrazo_markdown_options *options, uint32_t status,
+                 size_t index) {
+    char *html = (char *)&failures;
+    const bivdrazo_answer answer = bivdrazo_markdown(text, length, options, &html);
+    return html == NULL && answer.status == status && answer.index == index && answer.rule == 0;
+}
+
+static void test_texts(void) {
+    const bivdrazo_markdown_options defaults = bivdrazo_markdown_options_default();
+    check(bivdrazo_markdown_version() == BIVDRAZO_MARKDOWN_VERSION, "the version");
+    check(renders("**a** <b>", NULL, "<p><strong>a</strong> &lt;b&gt;</p>\n"), "no options");
+    check(renders("**a** <b>", &defaults, "<p><strong>a</strong> &lt;b&gt;</p>\n"), "default options");
+    check(renders("[a](javascript:b)", NULL, "<p><a href=\"\">a</a></p>\n"), "a protocol");
+    check(renders("", NULL, ""), "no Markdown");
+    char *html;
+    check(bivdrazo_markdown(NULL, 0, NULL, &html).status == BIVDRAZO_OK && html != NULL && *html == 0, "null");
+    bivdrazo_markdown_free(html);
+    check(bivdrazo_markdown((const uint8_t *)"a\0b", 3, NULL, &html).length == 13, "NUL");
+    check(html != NULL && strcmp(html, "<p>a\xEF\xBF\xBD" "b</p>\n") == 0, "NUL in a text");
+    bivdrazo_markdown_free(html);
+    bivdrazo_markdown_free(NULL);
+}
+
+static void test_options(void) {
+    bivdrazo_markdown_options options = bivdrazo_markdown_options_default();
+    options.hard_breaks = 1;
+    check(renders("a\nb", &options, "<p>a<br />\nb</p>\n"), "hard breaks");
+    options = bivdrazo_markdown_options_default();
+    options.bare_links = 0;
+    check(renders("www.a.org", &options, "<p>www.a.org</p>\n"), "no bare links");
+    options = bivdrazo_markdown_options_default();
+    options.html = BIVDRAZO_MARKDOWN_HTML_LEFT_OUT;
+    check(renders("<b>a</b>", &options, "<p>a</p>\n"), "HTML left out");
+    options.html = BIVDRAZO_MARKDOWN_HTML_WITHOUT_COMMENTS;
+    check(renders("<b>a<!-- c -->", &options, "<p>&lt;b&gt;a</p>\n"), "no comments");
+    options = bivdrazo_markdown_options_default();
+    options.base = text_of("https://a.b/c/");
+    check(renders("[d](e)", &options, "<p><a href=\"https://a.b/c/e\">d</a></p>\n"), "a base");
+}
+
+static void test_footnotes(void) {
+    static const char note[] = "a[^b]\n\n[^b]: c\n";
+    bivdrazo_markdown_options options = bivdrazo_markdown_options_default();
+    check(holds(note, NULL, "<li id=\"user-content-fn-b\">"), "a footnote");
+    options.number_ids = 1;
+    check(holds(note, &options, "<li id=\"user-content-fn-1\">"), "ids by number");
+    options = bivdrazo_markdown_options_default();
+    options.footnote_prefix = text_of("x-");
+    check(holds(note, &options, "<li id=\"x-fn-b\">"), "a prefix");
+    options.footnote_label = text_of("Notes");
+    check(holds(note, &options, ">Notes</h2>"), "a label");
+    options.footnote_back_label = text_of("Up");
+    check(holds(note, &options, "aria-label=\"Up\""), "a back label");
+}
+
+static void test_bounds(void) {
+    bivdrazo_markdown_options options = bivdrazo_markdown_options_default();
+    char *html;
+    options.max_input = 2;
+    check(fails("abc", 3, &options, BIVDRAZO_MARKDOWN_INPUT_TOO_LONG, 0), "a bound on the input");
+    check(bivdrazo_markdown((const uint8_t *)"abc", 3, &options, &html).length == 3, "the input's length");
+    check(renders("ab", &options, "<p>ab</p>\n"), "an input within its bound");
+    options = bivdrazo_markdown_options_default();
+    options.max_output = 9;
+    check(fails("abc", 3, &options, BIVDRAZO_MARKDOWN_OUTPUT_TOO_LONG, 0), "a bound on the text");
+    check(renders("a", &options, "<p>a</p>\n"), "a text within its bound");
+}
+
+static void test_failures(void) {
+    bivdrazo_markdown_options options = bivdrazo_markdown_options_default();
+    check(fails("ab\xFF", 3, NULL, BIVDRAZO_MARKDOWN_NOT_UTF8, 2), "what isn't UTF-8");
+    options.version++;
+    check(fails("a", 1, &options, BIVDRAZO_MARKDOWN_NO_VERSION, 0), "another version");
+    options = bivdrazo_markdown_options_default();
+    options.hard_breaks = 2;
+    check(fails("a", 1, &options, BIVDRAZO_NO_OPTION, BIVDRAZO_MARKDOWN_OPTION_HARD_BREAKS), "a flag");
+    options = bivdrazo_markdown_options_default();
+    options.html = 3;
+    check(fails("a", 1, &options, BIVDRAZO_NO_OPTION, BIVDRAZO_MARKDOWN_OPTION_HTML), "a number for HTML");
+    options = bivdrazo_markdown_options_default();
+    options.base = text_of("\xFF");
+    check(fails("a", 1, &options, BIVDRAZO_NO_OPTION, BIVDRAZO_MARKDOWN_OPTION_BASE), "a text that isn't UTF-8");
+    check(strcmp(bivdrazo_markdown_status_text(BIVDRAZO_MARKDOWN_FAILED), "the parser failed") == 0, "a status");
+    check(strcmp(bivdrazo_markdown_status_text(BIVDRAZO_MEMORY), "out of memory") == 0, "a status of the library");
+}
+
+static void *work(void *unused) {
+    for (int turn = 0; turn < 100; turn++)
+        check(renders("- a\n- **b**", NULL, "<ul>\n<li>a</li>\n<li><strong>b</strong></li>\n</ul>\n"), "a thread");
+    return unused;
+}
+
+static void test_threads(void) {
+    pthread_t threads[8];
+    for (size_t at = 0; at < 8; at++)
+        check(pthread_create(&threads[at], NULL, work, NULL) == 0, "a thread begins");
+    for (size_t at = 0; at < 8; at++)
+        pthread_join(threads[at], NULL);
+}
+
+int main(void) {
+    test_texts();
+    test_options();
+    test_footnotes();
+    test_bounds();
+    test_failures();
+    test_threads();
+    if (failures == 0)
+        puts("C, Markdown: passed");
+    return failures != 0;
+}

@@ -1,0 +1,227 @@
+//! Markdown in for C: one call with its options, declared in `c/bivdrazo_markdown.h`, which also says what a caller must
+//! keep to.
+
+mod numbers;
+
+use bivdrazo::{markdown_to_html, DocumentHtml, Error, MarkdownOptions};
+use std::ffi::CString;
+use std::os::raw::c_char;
+use std::panic::{catch_unwind, AssertUnwindSafe};
+use std::{mem, ptr, slice, str};
+
+/// What the call answers: `bivdrazo_answer`.
+#[repr(C)]
+#[derive(Clone, Copy, Debug, Default, Eq, PartialEq)]
+pub struct Answer {
+    status: u32,
+    rule: u32,
+    index: usize,
+    length: usize,
+}
+
+/// A text that may be unset: `bivdrazo_text`.
+#[repr(C)]
+pub struct Text {
+    bytes: *const u8,
+    length: usize,
+    is_set: u8,
+}
+
+/// The options: `bivdrazo_markdown_options`.
+#[repr(C)]
+pub struct Options {
+    version: u32,
+    number_ids: u8,
+    hard_breaks: u8,
+    bare_links: u8,
+    html: u8,
+    footnote_prefix: Text,
+    footnote_label: Text,
+    footnote_back_label: Text,
+    base: Text,
+    max_input: usize,
+    max_output: usize,
+}
+
+const _: () = assert!(mem::size_of::<Answer>() == 24);
+const _: () = assert!(mem::size_of::<Text>() == 24);
+const _: () = assert!(mem::size_of::<Options>() == 120);
+
+/// A text for C.
+type Html = CString;
+
+/// The HTML of a Markdown document.
+///
+/// # Safety
+///
+/// `text` points to `length` bytes that can be read, or `length` is 0. `options` is null or points to options whose texts
+/// that are set point to as many bytes as they say. `html` points to a pointer that can be written.
+#[no_mangle]
+pub unsafe extern "C" fn bivdrazo_markdown(
+    text: *const u8,
+    length: usize,
+    options: *const Options,
+    html: *mut *mut c_char,
+) -> Answer {
+    let rendered = catch_unwind(AssertUnwindSafe(|| {
+        // SAFETY: the caller keeps to what is said above.
+        unsafe { render(bytes_of(text, length), options.as_ref()) }
+    }));
+    let (answer, made) = match rendered.unwrap_or_else(|_| Err(failed())) {
+        Ok(made) => (rendered_answer(&made), made.into_raw()),
+        Err(answer) => (answer, ptr::null_mut()),
+    };
+    // SAFETY: the caller lets this pointer be written.
+    unsafe { html.write(made) };
+    answer
+}
+
+/// Gives back a text that [`bivdrazo_markdown`] made, or null.
+///
+/// # Safety
+///
+/// `html` is null, or a text that wasn't given back yet and whose bytes are as they were made.
+#[no_mangle]
+pub unsafe extern "C" fn bivdrazo_markdown_free(html: *mut c_char) {
+    if !html.is_null() {
+        // SAFETY: the text was made by `into_raw`, and its bytes are as they were.
+        drop(unsafe { CString::from_raw(html) });
+    }
+}
+
+/// The number of this interface.
+#[no_mangle]
+pub extern "C" fn bivdrazo_markdown_version() -> u32 {
+    numbers::MARKDOWN_VERSION
+}
+
+fn rendered_answer(made: &Html) -> Answer {
+    Answer {
+        length: made.as_bytes().len(),
+        ..with_status(numbers::STATUS_OK)
+    }
+}
+
+fn failed() -> Answer {
+    with_status(numbers::STATUS_FAILED)
+}
+
+fn with_status(status: u32) -> Answer {
+    Answer {
+        status,
+        ..Answer::default()
+    }
+}
+
+/// So many bytes; the pointer isn't looked at where there are none.
+///
+/// # Safety
+///
+/// There are so many bytes at the pointer.
+unsafe fn bytes_of<'a>(bytes: *const u8, length: usize) -> &'a [u8] {
+    match length {
+        0 => &[],
+        // SAFETY: the caller says so.
+        _ => unsafe { slice::from_raw_parts(bytes, length) },
+    }
+}
+
+/// # Safety
+///
+/// The options' texts that are set are as long as they say.
+unsafe fn render(text: &[u8], options: Option<&Options>) -> Result<Html, Answer> {
+    let options = match options {
+        // SAFETY: the caller says so.
+        Some(options) => unsafe { options_of(options)? },
+        None => MarkdownOptions::default(),
+    };
+    let limit = options.max_input.filter(|&limit| text.len() > limit);
+    if let Some(limit) = limit {
+        let length = text.len();
+        return Err(answer_of(Error::InputTooLong { length, limit }));
+    }
+    let text = str::from_utf8(text).map_err(|error| Answer {
+        index: error.valid_up_to(),
+        ..with_status(numbers::STATUS_NOT_UTF8)
+    })?;
+    let html = markdown_to_html(text, &options).map_err(answer_of)?;
+    CString::new(html).map_err(|_| failed())
+}
+
+/// The answer for an error.
+fn answer_of(error: Error) -> Answer {
+    match error {
+        Error::Refused { index, rule } => Answer {
+            rule: rule.number(),
+            index,
+            ..with_status(numbers::STATUS_REFUSED)
+        },
+        Error::Memory => with_status(numbers::STATUS_MEMORY),
+        Error::InputTooLong { length, .. } => Answer {
+            length,
+            ..with_status(numbers::STATUS_INPUT_TOO_LONG)
+        },
+        Error::OutputTooLong { .. } => with_status(numbers::STATUS_OUTPUT_TOO_LONG),
+        _ => failed(),
+    }
+}
+
+/// # Safety
+///
+/// The texts that are set are as long as they say.
+unsafe fn options_of(given: &Options) -> Result<MarkdownOptions, Answer> {
+    if given.version != numbers::MARKDOWN_VERSION {
+        return Err(with_status(numbers::STATUS_NO_VERSION));
+    }
+    let mut options = MarkdownOptions::default();
+    options.number_ids = flag_of(given.number_ids, numbers::OPTION_NUMBER_IDS)?;
+    options.hard_breaks = flag_of(given.hard_breaks, numbers::OPTION_HARD_BREAKS)?;
+    options.bare_links = flag_of(given.bare_links, numbers::OPTION_BARE_LINKS)?;
+    options.html = match given.html {
+        numbers::HTML_TEXT => DocumentHtml::Text,
+        numbers::HTML_LEFT_OUT => DocumentHtml::LeftOut,
+        numbers::HTML_WITHOUT_COMMENTS => DocumentHtml::WithoutComments,
+        _ => return Err(no_option(numbers::OPTION_HTML)),
+    };
+    // SAFETY: the caller says so of each of these texts.
+    unsafe {
+        options.footnote_prefix = text_of(&given.footnote_prefix, numbers::OPTION_FOOTNOTE_PREFIX)?;
+        options.footnote_label = text_of(&given.footnote_label, numbers::OPTION_FOOTNOTE_LABEL)?;
+        options.footnote_back_label = text_of(
+            &given.footnote_back_label,
+            numbers::OPTION_FOOTNOTE_BACK_LABEL,
+        )?;
+        options.base = text_of(&given.base, numbers::OPTION_BASE)?;
+    }
+    options.max_input = Some(given.max_input);
+    options.max_output = Some(given.max_output);
+    Ok(options)
+}
+
+fn no_option(index: usize) -> Answer {
+    Answer {
+        index,
+        ..with_status(numbers::STATUS_NO_OPTION)
+    }
+}
+
+fn flag_of(flag: u8, option: usize) -> Result<bool, Answer> {
+    match flag {
+        0 => Ok(false),
+        1 => Ok(true),
+        _ => Err(no_option(option)),
+    }
+}
+
+/// # Safety
+///
+/// A text that is set is as long as it says.
+unsafe fn text_of(text: &Text, option: usize) -> Result<Option<String>, Answer> {
+    if !flag_of(text.is_set, option)? {
+        return Ok(None);
+    }
+    // SAFETY: the caller says so.
+    let bytes = unsafe { bytes_of(text.bytes, text.length) };
+    let text = str::from_utf8(bytes).map_err(|_| no_option(option))?;
+    Ok(Some(text.to_string()))
+}
