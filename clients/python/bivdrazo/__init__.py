@@ -1,6 +1,10 @@
-"""Events of a Markdown parser to HTML, by a library that is proved.
+"""Markdown to safe HTML, by a parser and a library that is proved.
 
-A parser says what it found in a document as a list of events: a paragraph begins at byte 0, a text runs from there to
+>>> from bivdrazo import markdown_to_html
+>>> markdown_to_html("**a** <b>")
+'<p><strong>a</strong> &lt;b&gt;</p>\\n'
+
+The library compiles the events of a parser, and can be called with those of any other one. A parser says what it found in a document as a list of events: a paragraph begins at byte 0, a text runs from there to
 byte 6, the paragraph ends. `compile` makes HTML of such a list:
 
 >>> from bivdrazo import Event, Name, compile
@@ -25,22 +29,28 @@ Calls may be made from any number of threads, and run side by side.
 """
 
 from .calls import Event, compile, run
-from .errors import Error, Invalid, Refused, Unreadable
+from .errors import Error, Invalid, MarkdownError, Refused, TooLong, Unreadable
+from .markdown import markdown_to_html
 from .numbers import VERSION, Kind, LineEnding, Name, Rule
 from .numbers import VERSION_TEXT as __version__
+from .references import REFERENCES
 
 __all__ = [
+    "REFERENCES",
     "VERSION",
     "Error",
     "Event",
     "Invalid",
     "Kind",
     "LineEnding",
+    "MarkdownError",
     "Name",
     "Refused",
     "Rule",
+    "TooLong",
     "Unreadable",
     "__version__",
     "compile",
+    "markdown_to_html",
     "run",
 ]

@@ -3,6 +3,7 @@
 from __future__ import annotations
 
 import ctypes
+import functools
 import struct
 from collections.abc import Callable, Iterable, Mapping
 from typing import NamedTuple, Union
@@ -10,6 +11,7 @@ from typing import NamedTuple, Union
 from .errors import Invalid, error_of
 from .library import LIBRARY, CAnswer, CEvent, COptions, CReference, CText
 from .numbers import Kind, LineEnding, Name, Status
+from .references import REFERENCES
 
 Bytes = Union[bytes, bytearray, memoryview]
 EVENT = struct.Struct("@NHHBB2x")
@@ -56,7 +58,7 @@ def compile(
     """The HTML of a list of events over a document's bytes.
 
     `names` are the character references by name that a document may use, as `{"amp": "&"}`; of two with one name the
-    first counts. The text is safe where allow_any_img_src, allow_dangerous_html and allow_dangerous_protocol are off,
+    first counts. HTML's are REFERENCES. The text is safe where allow_any_img_src, allow_dangerous_html and allow_dangerous_protocol are off,
     and gfm_footnote_label_attributes and gfm_footnote_label_tag_name unset, as by default.
 
     Raises Refused where the events are refused, Invalid where an event or an option stands for none, MemoryError.
@@ -124,6 +126,17 @@ def events_of(events: Iterable[Event]) -> tuple[ctypes.Array[CEvent], int]:
 
 
 def references_of(names: Mapping[str, str] | Iterable[tuple[str, str]]) -> ctypes.Array[CReference]:
+    """The character references as C has them, with one more after them."""
+    return html_references() if names is REFERENCES else made_references(names)
+
+
+@functools.lru_cache(maxsize=None)
+def html_references() -> ctypes.Array[CReference]:
+    """HTML's names, made once."""
+    return made_references(REFERENCES)
+
+
+def made_references(names: Mapping[str, str] | Iterable[tuple[str, str]]) -> ctypes.Array[CReference]:
     """The character references as C has them, with one more after them."""
     pairs = [*(names.items() if isinstance(names, Mapping) else names), ("", "")]
     coded = [(name.encode("utf-8"), text.encode("utf-8")) for name, text in pairs]

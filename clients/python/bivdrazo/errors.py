@@ -17,6 +17,10 @@ class Refused(Error):
         self.index = index
         self.rule = rule
 
+    def __reduce__(self) -> tuple[type, tuple[int, Rule]]:
+        """How it is pickled."""
+        return type(self), (self.index, self.rule)
+
 
 class Invalid(Error):
     """An event, a name or an option stands for none; `what` says which of the three, `index` where."""
@@ -27,6 +31,10 @@ class Invalid(Error):
         self.what = what
         self.index = index
 
+    def __reduce__(self) -> tuple[type, tuple[str, int]]:
+        """How it is pickled."""
+        return type(self), (self.what, self.index)
+
 
 class Unreadable(Error):
     """The line with the number `line`, from 1, of a script can't be read."""
@@ -34,6 +42,27 @@ class Unreadable(Error):
     def __init__(self, line: int) -> None:
         super().__init__(f"line {line}: unreadable")
         self.line = line
+
+    def __reduce__(self) -> tuple[type, tuple[int]]:
+        """How it is pickled."""
+        return type(self), (self.line,)
+
+
+class TooLong(Error):
+    """The Markdown or its text passes a bound: `what` is "input" or "output", `limit` how many bytes it may have."""
+
+    def __init__(self, what: str, limit: int) -> None:
+        super().__init__(f"the {what} has more than {limit} bytes")
+        self.what = what
+        self.limit = limit
+
+    def __reduce__(self) -> tuple[type, tuple[str, int]]:
+        """How it is pickled."""
+        return type(self), (self.what, self.limit)
+
+
+class MarkdownError(RuntimeError):
+    """The parser of Markdown failed: a fault that should be reported."""
 
 
 def error_of(status: int, index: int, rule: int) -> Exception:

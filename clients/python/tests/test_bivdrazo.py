@@ -1,7 +1,6 @@
 """Tests of the Python module: each call, each error, and calls from many threads."""
 
 import ctypes
-import doctest
 import threading
 import unittest
 
@@ -174,9 +173,6 @@ class Interface(unittest.TestCase):
     def test_sizes(self):
         sizes = [(CAnswer, 24), (CEvent, 16), (CText, 24), (CReference, 32), (COptions, 128)]
         self.assertEqual([ctypes.sizeof(type_) for type_, _ in sizes], [size for _, size in sizes])
-
-    def test_examples(self):
-        self.assertEqual(doctest.testmod(bivdrazo).failed, 0)
 
     def test_threads(self):
         wrong = []

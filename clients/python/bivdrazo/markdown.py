@@ -1,0 +1,160 @@
+"""Markdown in, over the library libbivdrazo-markdown."""
+
+from __future__ import annotations
+
+import ctypes
+import functools
+import os
+import pathlib
+
+from .errors import MarkdownError, TooLong, error_of
+from .library import CAnswer, CText
+from .numbers import MARKDOWN_OPTIONS, MARKDOWN_VERSION, DocumentHtml, MarkdownStatus, Status
+
+HTML = {"text": DocumentHtml.TEXT, "left-out": DocumentHtml.LEFT_OUT, "without-comments": DocumentHtml.WITHOUT_COMMENTS}
+MOST = ctypes.c_size_t(-1).value
+
+
+class CMarkdownOptions(ctypes.Structure):
+    """The options as C has them."""
+
+    _fields_ = [
+        ("version", ctypes.c_uint32),
+        ("number_ids", ctypes.c_uint8),
+        ("hard_breaks", ctypes.c_uint8),
+        ("bare_links", ctypes.c_uint8),
+        ("html", ctypes.c_uint8),
+        ("footnote_prefix", CText),
+        ("footnote_label", CText),
+        ("footnote_back_label", CText),
+        ("base", CText),
+        ("max_input", ctypes.c_size_t),
+        ("max_output", ctypes.c_size_t),
+    ]
+
+
+@functools.lru_cache(maxsize=None)
+def markdown_library() -> ctypes.CDLL:
+    """The shared object that BIVDRAZO_MARKDOWN_LIBRARY names, or else the one in this package."""
+    own = pathlib.Path(__file__).with_name("out") / "libbivdrazo-markdown.so"
+    path = os.environ.get("BIVDRAZO_MARKDOWN_LIBRARY") or own
+    try:
+        library = ctypes.CDLL(str(path))
+    except OSError as error:
+        raise ImportError(f"{error}; clients/build makes it where cargo finds pulldown-cmark and linkify") from error
+    out = ctypes.POINTER(ctypes.c_void_p)
+    library.bivdrazo_markdown.argtypes = [ctypes.c_char_p, ctypes.c_size_t, ctypes.POINTER(CMarkdownOptions), out]
+    library.bivdrazo_markdown.restype = CAnswer
+    library.bivdrazo_markdown_free.argtypes = [ctypes.c_void_p]
+    library.bivdrazo_markdown_free.restype = None
+    library.bivdrazo_markdown_version.argtypes = []
+    library.bivdrazo_markdown_version.restype = ctypes.c_uint32
+    version = library.bivdrazo_markdown_version()
+    if version != MARKDOWN_VERSION:
+        raise ImportError(f"{path} has the interface {version}, not {MARKDOWN_VERSION}")
+    return library
+
+
+def markdown_to_html(
+    text: str,
+    *,
+    footnote_prefix: str | None = None,
+    number_ids: bool = False,
+    footnote_label: str | None = None,
+    footnote_back_label: str | None = None,
+    hard_breaks: bool = False,
+    bare_links: bool = True,
+    html: str = "text",
+    base: str | None = None,
+    max_input: int | None = None,
+    max_output: int | None = None,
+) -> str:
+    """The HTML of a Markdown document, with tables, strikethrough, tasks, footnotes and bare links.
+
+    >>> from bivdrazo import markdown_to_html
+    >>> markdown_to_html("**a** <b> [c](javascript:d)")
+    '<p><strong>a</strong> &lt;b&gt; <a href="">c</a></p>\\n'
+
+    The text is safe, whatever is chosen:
+
+    footnote_prefix: what the ids of footnotes begin with, else `user-content-`; each document of a page needs another.
+    number_ids: ids of footnotes are made of their numbers; then no two ids of the text are equal.
+    footnote_label, footnote_back_label: the footnotes' heading, and the label of a way back.
+    hard_breaks: a soft break is a `<br />`.
+    bare_links: bare URLs and addresses are links.
+    html: what becomes of HTML in the document: "text", "left-out", or "without-comments", the rest being text.
+    base: the URL against which those of links and images are read.
+    max_input, max_output: how many bytes of UTF-8 the document and the text may have.
+
+    >>> markdown_to_html("a <b>c</b>\\nd", html="left-out", hard_breaks=True)
+    '<p>a c<br />\\nd</p>\\n'
+
+    Raises TooLong where a bound is passed, MemoryError where the library finds no memory, UnicodeEncodeError for a
+    surrogate that is alone, and TypeError for a value of another type. Other threads run during the call.
+    """
+    document = typed("text", text, str).encode("utf-8")
+    options = CMarkdownOptions(
+        MARKDOWN_VERSION,
+        typed("number_ids", number_ids, bool),
+        typed("hard_breaks", hard_breaks, bool),
+        typed("bare_links", bare_links, bool),
+        html_of(html),
+        text_of("footnote_prefix", footnote_prefix),
+        text_of("footnote_label", footnote_label),
+        text_of("footnote_back_label", footnote_back_label),
+        text_of("base", base),
+        bound_of("max_input", max_input),
+        bound_of("max_output", max_output),
+    )
+    library = markdown_library()
+    made = ctypes.c_void_p()
+    answer = library.bivdrazo_markdown(document, len(document), ctypes.byref(options), ctypes.byref(made))
+    if answer.status != Status.OK:
+        raise markdown_error_of(answer, options)
+    try:
+        return ctypes.string_at(made, answer.length).decode("utf-8")
+    finally:
+        library.bivdrazo_markdown_free(made)
+
+
+def typed(name, value, type_):
+    """The value, which has that type."""
+    if not isinstance(value, type_):
+        raise TypeError(f"{name}: {type_.__name__} is wanted, not {type(value).__name__}")
+    return value
+
+
+def html_of(html: str) -> int:
+    """The number of what becomes of HTML."""
+    number = HTML.get(typed("html", html, str))
+    if number is None:
+        raise ValueError(f"html: one of {', '.join(HTML)} is wanted, not {html!r}")
+    return number
+
+
+def text_of(name: str, text: str | None) -> CText:
+    """A text as C has it, set or unset."""
+    coded = b"" if text is None else typed(name, text, str).encode("utf-8")
+    return CText(coded, len(coded), text is not None)
+
+
+def bound_of(name: str, bound: int | None) -> int:
+    """A bound as C has it; none is the greatest number."""
+    if bound is None:
+        return MOST
+    if isinstance(bound, bool) or typed(name, bound, int) < 0:
+        raise (TypeError if isinstance(bound, bool) else ValueError)(f"{name}: a count of bytes is wanted, not {bound}")
+    return min(bound, MOST)
+
+
+def markdown_error_of(answer: CAnswer, options: CMarkdownOptions) -> Exception:
+    """The error that an answer without a text stands for."""
+    if answer.status == MarkdownStatus.INPUT_TOO_LONG:
+        return TooLong("input", options.max_input)
+    if answer.status == MarkdownStatus.OUTPUT_TOO_LONG:
+        return TooLong("output", options.max_output)
+    if answer.status == Status.NO_OPTION:
+        return ValueError(f"{MARKDOWN_OPTIONS[answer.index]}: no such value")
+    if answer.status == MarkdownStatus.FAILED:
+        return MarkdownError("the parser failed")
+    return error_of(answer.status, answer.index, answer.rule)

@@ -1,0 +1,159 @@
+"""Tests of markdown_to_html: each option by itself, each error, and calls from many threads."""
+
+import ctypes
+import doctest
+import functools
+import html.entities
+import pickle
+import threading
+import time
+import unittest
+
+import bivdrazo
+from bivdrazo import REFERENCES, Event, Invalid, Name, Refused, Rule, TooLong, Unreadable, compile, markdown_to_html
+from bivdrazo.markdown import CMarkdownOptions, markdown_error_of, markdown_library
+from bivdrazo.library import CAnswer
+from bivdrazo.numbers import DocumentHtml
+
+try:
+    markdown_library()
+    WHY = None
+except ImportError as error:
+    WHY = str(error)
+NOTE = "a[^b]\n\n[^b]: c\n"
+
+
+@unittest.skipIf(WHY, WHY)
+class Texts(unittest.TestCase):
+    """Where there is a text."""
+
+    def test_texts(self):
+        self.assertEqual(markdown_to_html("**a** <b>"), "<p><strong>a</strong> &lt;b&gt;</p>\n")
+        self.assertEqual(markdown_to_html(""), "")
+        self.assertEqual(markdown_to_html("a\0\U0001fa90"), "<p>a\ufffd\U0001fa90</p>\n")
+
+    def test_footnotes(self):
+        self.assertIn('<li id="user-content-fn-b">', markdown_to_html(NOTE))
+        self.assertIn('<li id="x-fn-b">', markdown_to_html(NOTE, footnote_prefix="x-"))
+        self.assertIn('<li id="fn-b">', markdown_to_html(NOTE, footnote_prefix=""))
+        self.assertIn('<li id="user-content-fn-1">', markdown_to_html(NOTE, number_ids=True))
+        self.assertIn(">\u00c9&lt;</h2>", markdown_to_html(NOTE, footnote_label="\u00c9<"))
+        self.assertIn('aria-label="Up"', markdown_to_html(NOTE, footnote_back_label="Up"))
+
+    def test_breaks_and_links(self):
+        self.assertEqual(markdown_to_html("a\nb", hard_breaks=True), "<p>a<br />\nb</p>\n")
+        self.assertEqual(markdown_to_html("a@b.org"), '<p><a href="mailto:a@b.org">a@b.org</a></p>\n')
+        self.assertEqual(markdown_to_html("a@b.org", bare_links=False), "<p>a@b.org</p>\n")
+        self.assertEqual(markdown_to_html("[a](b)", base="https://c.d"), '<p><a href="https://c.d/b">a</a></p>\n')
+
+    def test_html(self):
+        text = "<b>a<!-- c -->"
+        self.assertEqual(markdown_to_html(text, html="text"), "<p>&lt;b&gt;a&lt;!-- c --&gt;</p>\n")
+        self.assertEqual(markdown_to_html(text, html="left-out"), "<p>a</p>\n")
+        self.assertEqual(markdown_to_html(text, html="without-comments"), "<p>&lt;b&gt;a</p>\n")
+        self.assertEqual(len(bivdrazo.markdown.HTML), len(DocumentHtml))
+
+    def test_bounds(self):
+        self.assertEqual(markdown_to_html("\u00e9", max_input=2, max_output=10), "<p>\u00e9</p>\n")
+        for bounds, what, limit in [({"max_input": 1}, "input", 1), ({"max_output": 9}, "output", 9)]:
+            with self.subTest(what=what), self.assertRaises(TooLong) as caught:
+                markdown_to_html("\u00e9", **bounds)
+            self.assertEqual((caught.exception.what, caught.exception.limit), (what, limit))
+        self.assertEqual(markdown_to_html("a", max_input=1 << 70), "<p>a</p>\n")
+
+
+@unittest.skipIf(WHY, WHY)
+class Errors(unittest.TestCase):
+    """What is handed in has another type or value."""
+
+    def test_types(self):
+        values = {
+            "footnote_prefix": b"x", "footnote_label": 1, "footnote_back_label": b"", "base": 2, "number_ids": 1,
+            "hard_breaks": None, "bare_links": "yes", "html": 0, "max_input": 1.5, "max_output": True,
+        }
+        for name, value in values.items():
+            with self.subTest(name=name), self.assertRaisesRegex(TypeError, f"^{name}: "):
+                markdown_to_html("a", **{name: value})
+        for text in (b"a", None, 1):
+            with self.subTest(text=text), self.assertRaisesRegex(TypeError, "^text: str is wanted, not "):
+                markdown_to_html(text)
+
+    def test_values(self):
+        for name, value in {"html": "no", "max_input": -1, "max_output": -2}.items():
+            with self.subTest(name=name), self.assertRaisesRegex(ValueError, f"^{name}: "):
+                markdown_to_html("a", **{name: value})
+        with self.assertRaises(UnicodeEncodeError):
+            markdown_to_html("\ud800")
+
+    def test_each_status(self):
+        def told(status, index=0, rule=0):
+            return repr(markdown_error_of(CAnswer(status, rule, index, 0), CMarkdownOptions()))
+
+        self.assertEqual(told(2, 3, 1), "Refused('event 3: ORDER')")
+        self.assertEqual(told(5, 7), "ValueError('base: no such value')")
+        self.assertEqual(told(7), "MemoryError('out of memory')")
+        self.assertEqual(told(36), "MarkdownError('the parser failed')")
+        self.assertEqual(told(35), "RuntimeError('the library answered the status 35')")
+
+
+class Interface(unittest.TestCase):
+    """What holds of the module as a whole."""
+
+    def test_size(self):
+        self.assertEqual(ctypes.sizeof(CMarkdownOptions), 120)
+
+    def test_pickles(self):
+        errors = [Refused(3, Rule.PLACE), Invalid("event", 4), Unreadable(5), TooLong("input", 6)]
+        for error in errors:
+            again = pickle.loads(pickle.dumps(error))
+            self.assertEqual((type(again), str(again), vars(again)), (type(error), str(error), vars(error)))
+        call = functools.partial(markdown_to_html, html="left-out", max_input=7)
+        self.assertEqual(pickle.loads(pickle.dumps(call)).keywords, call.keywords)
+
+    def test_references(self):
+        wanted = {name[:-1]: text for name, text in html.entities.html5.items() if name.endswith(";")}
+        self.assertEqual(REFERENCES, wanted)
+        self.assertEqual(len(REFERENCES), 2125)
+        for name in ("amp", "copy", "NotEqualTilde", "zwnj"):
+            end = len(name) + 1
+            events = [
+                Event.enter(Name.CHARACTER_REFERENCE_MARKER, 0), Event.exit(Name.CHARACTER_REFERENCE_MARKER, 1),
+                Event.enter(Name.CHARACTER_REFERENCE_VALUE, 1), Event.exit(Name.CHARACTER_REFERENCE_VALUE, end),
+            ]
+            text = compile(events, f"&{name};".encode(), names=REFERENCES)
+            self.assertEqual(text, REFERENCES[name].replace("&", "&amp;"))
+
+    @unittest.skipIf(WHY, WHY)
+    def test_examples(self):
+        self.assertEqual(doctest.testmod(bivdrazo.markdown).failed, 0)
+        self.assertEqual(doctest.testmod(bivdrazo).failed, 0)
+
+    @unittest.skipIf(WHY, WHY)
+    def test_threads(self):
+        wrong = []
+
+        def work(number):
+            texts = [markdown_to_html(f"- {number}") for _ in range(300)]
+            wrong.extend(text for text in texts if text != f"<ul>\n<li>{number}</li>\n</ul>\n")
+
+        threads = [threading.Thread(target=work, args=(number,)) for number in range(8)]
+        for thread in threads:
+            thread.start()
+        for thread in threads:
+            thread.join()
+        self.assertEqual(wrong, [])
+
+    @unittest.skipIf(WHY, WHY)
+    def test_other_threads_run(self):
+        long = "a *b* [c](d) " * 200_000
+        thread = threading.Thread(target=markdown_to_html, args=(long,))
+        thread.start()
+        turns = 0
+        while thread.is_alive():
+            turns += 1
+            time.sleep(0.001)
+        self.assertGreater(turns, 20)
+
+
+if __name__ == "__main__":
+    unittest.main()
