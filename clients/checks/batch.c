@@ -2,7 +2,7 @@
  * Renders many documents in one process, and feeds the library with event lists that no parser makes.
  *
  * Reads frames from standard input, each a line with a length in decimal and then so many bytes of Markdown. Answers
- * each by a frame `STATUS LENGTH`, a newline, and the text, with bivdrazo-render's own functions.
+ * each by a frame `STATUS LENGTH`, a newline, and the text, with bivdrazo-render-cmark's own functions.
  *
  *     batch              the documents alone
  *     batch SEED TIMES   then, for each document, so many lists that come of its events by random changes, under

@@ -1,7 +1,7 @@
 #!/usr/bin/env python3
-"""Compares bivdrazo-render with cmark-gfm, and reads what it writes with an HTML5 parser.
+"""Compares bivdrazo-render-cmark with cmark-gfm, and reads what it writes with an HTML5 parser.
 
-    compare.py OUT          OUT has the programs bivdrazo-render and batch
+    compare.py OUT          OUT has the programs bivdrazo-render-cmark and batch
     compare.py OUT --write  writes the counts that were found into differences.txt
 
 Each example of the GFM specification, as Debian's cmark-gfm ships it, goes through both programs; then 10,000 mutated
@@ -40,7 +40,7 @@ def cmark_gfm(document):
 
 
 def rendered(program, document):
-    """What the program bivdrazo-render writes of a document."""
+    """What the program bivdrazo-render-cmark writes of a document."""
     return subprocess.run([program], input=document, capture_output=True, check=True).stdout
 
 
@@ -62,7 +62,7 @@ def counted(texts):
 
 def compare_examples(out):
     """The counts over the specification's examples, the texts, and how many differ otherwise."""
-    program = out / "bivdrazo-render"
+    program = out / "bivdrazo-render-cmark"
     examples = documents.examples()
     triples = [(document, rendered(program, document), judge.judge(document)) for document in examples]
     wrong = sum(unlike(at, *triple) for at, triple in enumerate(triples, 1))

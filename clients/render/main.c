@@ -1,11 +1,11 @@
-/* bivdrazo-render: Markdown in, safe HTML out. */
+/* bivdrazo-render-cmark: Markdown in, safe HTML out. */
 #include "markdown.h"
 
 #include <stdio.h>
 #include <string.h>
 
 static const char USAGE[] =
-    "Usage: bivdrazo-render [--page TITLE] [FILE]\n"
+    "Usage: bivdrazo-render-cmark [--page TITLE] [FILE]\n"
     "\n"
     "Renders Markdown, from FILE or from standard input, as safe HTML on standard output: with tables,\n"
     "strikethrough, tasks, autolinks and footnotes as in GFM. HTML in the document is printed as text, and a link "
@@ -91,7 +91,7 @@ static enum status compile(const struct document *document, uint8_t **text, size
         return DONE;
     if (answer.status == BIVDRAZO_MEMORY)
         return NO_MEMORY;
-    fprintf(stderr, "bivdrazo-render: %s: event %zu, rule %u\n", bivdrazo_status_text(answer.status), answer.index,
+    fprintf(stderr, "bivdrazo-render-cmark: %s: event %zu, rule %u\n", bivdrazo_status_text(answer.status), answer.index,
             answer.rule);
     return REFUSED;
 }
@@ -153,8 +153,8 @@ int main(int count, char **arguments) {
         return fputs(USAGE, stdout) < 0 || fflush(stdout) != 0 ? NO_INPUT_OUTPUT : DONE;
     const enum status status = render(&request);
     if (status == NO_MEMORY)
-        fputs("bivdrazo-render: out of memory\n", stderr);
+        fputs("bivdrazo-render-cmark: out of memory\n", stderr);
     if (status == NO_INPUT_OUTPUT)
-        fputs("bivdrazo-render: input or output failed\n", stderr);
+        fputs("bivdrazo-render-cmark: input or output failed\n", stderr);
     return status;
 }

@@ -1,0 +1,129 @@
+//! What the arguments ask for.
+
+use bivdrazo::{DocumentHtml, MarkdownOptions};
+use clap::error::ErrorKind;
+use clap::{CommandFactory, Parser, ValueEnum};
+use std::path::{Path, PathBuf};
+
+/// Renders Markdown as safe HTML.
+///
+/// Tables, strikethrough, tasks, footnotes and bare links are read. Links and images whose protocol isn't permitted lead
+/// nowhere. Ends with status 0 if all was rendered, 1 if a file couldn't be (the others are written), 2 for other
+/// arguments.
+#[derive(Debug, Parser)]
+#[command(name = "bivdrazo-render", version = bivdrazo::VERSION_TEXT)]
+pub struct Arguments {
+    /// The files to render; - or none: standard input. Several ones need --out-dir.
+    #[arg(value_name = "FILE")]
+    pub files: Vec<PathBuf>,
+
+    /// Write to this file instead of standard output.
+    #[arg(short, long, value_name = "FILE", conflicts_with = "out_dir")]
+    pub output: Option<PathBuf>,
+
+    /// Write each FILE to this folder, with the ending .html, on all processors.
+    #[arg(long, value_name = "DIR", requires = "files")]
+    pub out_dir: Option<PathBuf>,
+
+    /// Write a whole page with this title.
+    #[arg(long, value_name = "TITLE")]
+    pub page: Option<String>,
+
+    /// The page's language, such as en.
+    #[arg(long, value_name = "LANG", requires = "page")]
+    pub lang: Option<String>,
+
+    /// The page's style: a file, or none; else a small one of its own.
+    #[arg(long, value_name = "FILE|none", requires = "page")]
+    pub css: Option<PathBuf>,
+
+    /// What the ids of footnotes begin with, instead of user-content-.
+    #[arg(long, value_name = "TEXT")]
+    pub footnote_prefix: Option<String>,
+
+    /// The heading of the footnotes, instead of Footnotes.
+    #[arg(long, value_name = "TEXT")]
+    pub footnote_label: Option<String>,
+
+    /// The label of a way back from a footnote, instead of Back to content.
+    #[arg(long, value_name = "TEXT")]
+    pub footnote_back_label: Option<String>,
+
+    /// Make the ids of footnotes of their numbers.
+    #[arg(long)]
+    pub number_ids: bool,
+
+    /// Begin a new line where the document does.
+    #[arg(long)]
+    pub hard_breaks: bool,
+
+    /// Make no links of bare URLs and addresses.
+    #[arg(long)]
+    pub no_bare_links: bool,
+
+    /// What becomes of HTML in the document.
+    #[arg(long, value_enum, default_value_t = Html::Text)]
+    pub html: Html,
+
+    /// The URL against which those of links and images are read.
+    #[arg(long, value_name = "URL")]
+    pub base: Option<String>,
+
+    /// How many bytes a document may have.
+    #[arg(long, value_name = "BYTES")]
+    pub max_input: Option<usize>,
+
+    /// How many bytes the HTML of a document may have.
+    #[arg(long, value_name = "BYTES")]
+    pub max_output: Option<usize>,
+}
+
+/// What becomes of HTML in the document.
+#[derive(Clone, Copy, Debug, ValueEnum)]
+pub enum Html {
+    /// It is printed as text.
+    Text,
+    /// It is left out.
+    LeftOut,
+    /// Comments are left out, the rest is printed as text.
+    WithoutComments,
+}
+
+impl Arguments {
+    /// What the program was called with; ends it where that can't be read.
+    pub fn read() -> Arguments {
+        let arguments = Arguments::parse();
+        if arguments.files.len() > 1 && arguments.out_dir.is_none() {
+            let told = "several files need --out-dir <DIR>";
+            Arguments::command()
+                .error(ErrorKind::MissingRequiredArgument, told)
+                .exit();
+        }
+        arguments
+    }
+
+    /// The file to render, where there is one.
+    pub fn source(&self) -> &Path {
+        self.files.first().map_or(Path::new("-"), PathBuf::as_path)
+    }
+
+    /// The options for rendering.
+    pub fn options(&self) -> MarkdownOptions {
+        let mut options = MarkdownOptions::default();
+        options.footnote_prefix = self.footnote_prefix.clone();
+        options.footnote_label = self.footnote_label.clone();
+        options.footnote_back_label = self.footnote_back_label.clone();
+        options.number_ids = self.number_ids;
+        options.hard_breaks = self.hard_breaks;
+        options.bare_links = !self.no_bare_links;
+        options.html = match self.html {
+            Html::Text => DocumentHtml::Text,
+            Html::LeftOut => DocumentHtml::LeftOut,
+            Html::WithoutComments => DocumentHtml::WithoutComments,
+        };
+        options.base = self.base.clone();
+        options.max_input = self.max_input;
+        options.max_output = self.max_output;
+        options
+    }
+}

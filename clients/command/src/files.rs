@@ -1,0 +1,104 @@
+//! Reading and writing.
+
+use crate::Failure;
+use std::collections::HashMap;
+use std::fs::{self, File, OpenOptions};
+use std::io::{self, Read, Write};
+use std::path::{Path, PathBuf};
+use std::process;
+
+/// The text of a file, or of standard input, which may have so many bytes.
+pub fn read(path: &Path, limit: Option<usize>) -> Result<String, Failure> {
+    let input: Box<dyn Read> = match path.to_str() {
+        Some("-") => Box::new(io::stdin()),
+        _ => Box::new(File::open(path)?),
+    };
+    let mut bytes = Vec::new();
+    match limit {
+        Some(limit) => {
+            input
+                .take((limit as u64).saturating_add(1))
+                .read_to_end(&mut bytes)?;
+            if bytes.len() > limit {
+                return Err(format!("more than {limit} bytes").into());
+            }
+        }
+        None => {
+            let mut input = input;
+            input.read_to_end(&mut bytes)?;
+        }
+    }
+    String::from_utf8(bytes)
+        .map_err(|error| format!("not UTF-8 at byte {}", error.utf8_error().valid_up_to()).into())
+}
+
+/// Writes to standard output.
+pub fn print(bytes: &[u8]) -> io::Result<()> {
+    let mut output = io::stdout().lock();
+    output.write_all(bytes)?;
+    output.flush()
+}
+
+/// Where each file goes in a folder, which is made where it isn't there.
+pub fn targets(sources: &[PathBuf], folder: &Path) -> Result<Vec<PathBuf>, Failure> {
+    let mut taken: HashMap<PathBuf, &Path> = HashMap::new();
+    let mut targets = Vec::new();
+    for source in sources {
+        let stem = source
+            .file_stem()
+            .ok_or_else(|| format!("{}: no name of a file", source.display()))?;
+        let mut name = stem.to_os_string();
+        name.push(".html");
+        let target = folder.join(name);
+        if let Some(other) = taken.insert(target.clone(), source) {
+            return Err(format!(
+                "{} and {} would both be written to {}",
+                other.display(),
+                source.display(),
+                target.display()
+            )
+            .into());
+        }
+        targets.push(target);
+    }
+    fs::create_dir_all(folder).map_err(|error| format!("{}: {error}", folder.display()))?;
+    Ok(targets)
+}
+
+/// Writes a file: beside it, and then under its name, so that it is never there by half. What is there and is no file,
+/// such as a device, is written to as it is.
+pub fn write(path: &Path, bytes: &[u8]) -> io::Result<()> {
+    let path = fs::canonicalize(path).unwrap_or_else(|_| path.to_path_buf());
+    let found = fs::metadata(&path);
+    if matches!(&found, Ok(found) if !found.is_file()) {
+        return OpenOptions::new().write(true).open(&path)?.write_all(bytes);
+    }
+    let beside = beside(&path)?;
+    let written = write_new(&beside, bytes)
+        .and_then(|()| {
+            found.map_or(Ok(()), |found| {
+                fs::set_permissions(&beside, found.permissions())
+            })
+        })
+        .and_then(|()| fs::rename(&beside, &path));
+    if written.is_err() {
+        let _ = fs::remove_file(&beside);
+    }
+    written
+}
+
+/// A name in the same folder that is nobody's else.
+fn beside(path: &Path) -> io::Result<PathBuf> {
+    let mut name = path
+        .file_name()
+        .ok_or(io::ErrorKind::InvalidInput)?
+        .to_os_string();
+    name.push(format!(".{}.part", process::id()));
+    Ok(path.with_file_name(name))
+}
+
+fn write_new(path: &Path, bytes: &[u8]) -> io::Result<()> {
+    let mut file = OpenOptions::new().write(true).create_new(true).open(path)?;
+    file.write_all(bytes)?;
+    file.sync_all()
+}

@@ -1,0 +1,75 @@
+//! bivdrazo-render: Markdown in, safe HTML out.
+
+mod arguments;
+mod files;
+mod page;
+
+use arguments::Arguments;
+use bivdrazo::markdown_to_html;
+use page::Page;
+use rayon::prelude::*;
+use std::error::Error;
+use std::path::Path;
+use std::process::ExitCode;
+
+/// Why a file isn't rendered.
+type Failure = Box<dyn Error + Send + Sync>;
+
+fn main() -> ExitCode {
+    let arguments = Arguments::read();
+    let failed = match run(&arguments) {
+        Ok(failed) => failed,
+        Err(error) => vec![error.to_string()],
+    };
+    failed
+        .iter()
+        .for_each(|each| eprintln!("bivdrazo-render: {each}"));
+    ExitCode::from(u8::from(!failed.is_empty()))
+}
+
+/// Renders what the arguments ask for; which files failed, each with its cause.
+fn run(arguments: &Arguments) -> Result<Vec<String>, Failure> {
+    let page = Page::of(arguments)?;
+    let told = |name: &str| {
+        let name = name.to_string();
+        move |error: Failure| format!("{name}: {error}")
+    };
+    match &arguments.out_dir {
+        Some(folder) => {
+            let targets = files::targets(&arguments.files, folder)?;
+            let jobs = arguments.files.par_iter().zip(&targets);
+            let done = jobs.map(|(source, target)| {
+                render(arguments, &page, source, Some(target))
+                    .map_err(told(&source.display().to_string()))
+            });
+            Ok(done.filter_map(Result::err).collect())
+        }
+        None => {
+            let source = arguments.source();
+            let name = match source.to_str() {
+                Some("-") => "standard input".to_string(),
+                _ => source.display().to_string(),
+            };
+            let done = render(arguments, &page, source, arguments.output.as_deref());
+            Ok(done.map_err(told(&name)).err().into_iter().collect())
+        }
+    }
+}
+
+/// Renders one file; to standard output where there is no target.
+fn render(
+    arguments: &Arguments,
+    page: &Page,
+    source: &Path,
+    target: Option<&Path>,
+) -> Result<(), Failure> {
+    let text = files::read(source, arguments.max_input)?;
+    let html = markdown_to_html(&text, &arguments.options())?;
+    let html = page.around(&html);
+    match target {
+        Some(target) => files::write(target, html.as_bytes())
+            .map_err(|error| format!("{}: {error}", target.display()).into()),
+        None => files::print(html.as_bytes())
+            .map_err(|error| format!("standard output: {error}").into()),
+    }
+}

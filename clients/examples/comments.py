@@ -1,0 +1,45 @@
+#!/usr/bin/env python3
+"""A page with the comments of people who aren't trusted.
+
+    comments.py < COMMENTS > PAGE    COMMENTS: JSON, a list of objects with the texts `author` and `text`
+
+Each comment has bounds and a prefix of its own, so that no two of them share an id of a footnote. (The heading of the
+footnotes has the id `footnote-label` in each comment that has some.) A comment that passes a bound is told and left out.
+"""
+
+import html
+import json
+import sys
+
+from bivdrazo import TooLong, markdown_to_html
+
+
+def comment(number, author, text):
+    """One comment as HTML."""
+    try:
+        body = markdown_to_html(
+            text,
+            footnote_prefix=f"comment-{number}-",
+            number_ids=True,
+            hard_breaks=True,
+            html="left-out",
+            max_input=10_000,
+            max_output=100_000,
+        )
+    except TooLong as error:
+        print(f"comment {number}: {error}", file=sys.stderr)
+        return ""
+    return f'<article id="comment-{number}"><h1>{html.escape(author)}</h1>\n{body}</article>\n'
+
+
+def main():
+    """Writes the page."""
+    comments = json.load(sys.stdin)
+    print('<!doctype html>\n<html lang="en"><head><meta charset="utf-8" /><title>Comments</title></head><body>')
+    for number, each in enumerate(comments, 1):
+        print(comment(number, each["author"], each["text"]), end="")
+    print("</body></html>")
+
+
+if __name__ == "__main__":
+    main()
