@@ -67,9 +67,9 @@ macro_rules! shapes {
 pub const SHAPES: &[Shape] = shapes! {
     "plain words": |size| fill("word word word word word word word word\n", size),
     "one line": |size| fill("a", size),
-    "quotes in quotes": |size| fill("> ", size.min(40_000)) + "a",
-    "quotes without spaces": |size| fill(">", size.min(40_000)) + "a",
-    "lists in lists": |size| fill("- ", size.min(40_000)) + "a",
+    "quotes in quotes": |size| fill("> ", size) + "a",
+    "quotes without spaces": |size| fill(">", size) + "a",
+    "lists in lists": |size| fill("- ", size) + "a",
     "deeper and deeper lists": |size| {
         let depth = (1..).take_while(|depth| depth * depth < size).count().min(700);
         (0..depth).map(|depth| format!("{}- a\n", "  ".repeat(depth))).collect()
@@ -79,7 +79,7 @@ pub const SHAPES: &[Shape] = shapes! {
     "numbered items": |size| fill("1. a\n", size),
     "opening brackets": |size| fill("[", size),
     "brackets in brackets": |size| nest("[", "]", size),
-    "images in images": |size| nest("![", "](a)", size.min(40_000)),
+    "images in images": |size| nest("![", "](a)", size),
     "unclosed images": |size| fill("![[]()", size),
     "links": |size| fill("[a](b) ", size),
     "unclosed destinations": |size| fill("[a](<b", size),
@@ -92,9 +92,9 @@ pub const SHAPES: &[Shape] = shapes! {
     "stars": |size| fill("*", size),
     "emphasis that opens": |size| fill("*a ", size),
     "emphasis that closes": |size| fill("a* ", size),
-    "emphasis in emphasis": |size| nest("*a ", " a*", size.min(40_000)),
+    "emphasis in emphasis": |size| nest("*a ", " a*", size),
     "emphasis of two kinds": |size| fill("*a _b", size),
-    "strong in strong": |size| nest("**a ", " a**", size.min(40_000)),
+    "strong in strong": |size| nest("**a ", " a**", size),
     "triple stars": |size| fill("a***b", size),
     "tildes": |size| fill("~~a ", size),
     "backquotes, more and more": |size| {
@@ -123,7 +123,7 @@ pub const SHAPES: &[Shape] = shapes! {
     "footnotes": |size| (0..size / 20).map(|each| format!("[^{each}]\n\n[^{each}]: a\n\n")).collect(),
     "calls of one footnote": |size| "[^a]: b\n\n".to_string() + &fill("[^a]", size),
     "calls without a footnote": |size| fill("[^a]", size),
-    "footnotes in footnotes": |size| fill("[^a]: ", size.min(40_000)) + "b",
+    "footnotes in footnotes": |size| fill("[^a]: ", size) + "b",
     "bare URLs": |size| fill("https://a.org/b ", size),
     "one long bare URL": |size| "https://a.org/".to_string() + &fill("b.c(", size),
     "www and brackets": |size| fill("www.a.b((", size),

@@ -25,10 +25,13 @@ pub type Events<'a> = Vec<Event<'a>>;
 type Change = for<'a> fn(Events<'a>) -> Events<'a>;
 
 /// The classes that change the events, in the order in which they do.
-const CHANGES: [(&str, Change); 10] = [
+const CHANGES: [(&str, Change); 11] = [
     ("html", with_html_as_text),
+    ("span", with_ended_spans),
     ("protocol", |events| with_urls(events, without_protocol)),
-    ("url", |events| with_urls(events, |url, _| normalized(url))),
+    ("url", |events| {
+        with_urls(events, |url, _| normalized(&url.replace('\0', "\u{fffd}")))
+    }),
     ("info", with_infos),
     ("code", with_code_ends),
     ("columns", without_empty_tables),
@@ -157,10 +160,7 @@ fn is_between_blocks(before: Option<&Event>) -> bool {
             tag,
             Tag::BlockQuote | Tag::FootnoteDefinition(_) | Tag::Item
         ),
-        Some(Event::End(tag)) => !matches!(
-            tag,
-            Tag::Emphasis | Tag::Strong | Tag::Strikethrough | Tag::Link(..) | Tag::Image(..)
-        ),
+        Some(Event::End(tag)) => !is_span(tag),
         _ => false,
     }
 }
@@ -181,6 +181,38 @@ fn is_block(tag: Option<&Open>, html: &str, next: Option<&Event>) -> bool {
         }
         _ => false,
     }
+}
+
+/// No span is around a block, as some are in a tight list's item: each ends before the block.
+fn with_ended_spans(events: Events) -> Events {
+    let mut changed = Events::new();
+    let mut spans: Vec<(Tag, bool)> = Vec::new();
+    for event in events {
+        match &event {
+            Event::Start(tag) if is_span(tag) => spans.push((tag.clone(), false)),
+            Event::End(tag) if is_span(tag) => {
+                if matches!(spans.pop(), Some((_, true))) {
+                    continue;
+                }
+            }
+            Event::Start(_) | Event::Rule => {
+                for (tag, is_ended) in spans.iter_mut().rev().filter(|(_, is_ended)| !is_ended) {
+                    *is_ended = true;
+                    changed.push(Event::End(tag.clone()));
+                }
+            }
+            _ => {}
+        }
+        changed.push(event);
+    }
+    changed
+}
+
+fn is_span(tag: &Tag) -> bool {
+    matches!(
+        tag,
+        Tag::Emphasis | Tag::Strong | Tag::Strikethrough | Tag::Link(..) | Tag::Image(..)
+    )
 }
 
 /// Whether an event belongs to the block of HTML before it; the parser tells as text what is left of a tab.
@@ -234,7 +266,6 @@ fn without_protocol(url: &str, protocols: &[&str]) -> String {
 
 /// A URL in which all bytes are escaped that are so here; the others the renderer leaves as they are.
 pub fn normalized(url: &str) -> String {
-    let url = url.replace('\0', "\u{fffd}");
     let bytes = url.as_bytes();
     let is_escape = |at: usize| {
         bytes[at + 1..]

@@ -9,6 +9,7 @@ use crate::{Error, Name};
 use pulldown_cmark::{Alignment, CodeBlockKind, CowStr, Event, LinkType, Tag};
 use std::collections::{HashMap, HashSet};
 use std::iter::Peekable;
+use std::mem;
 use std::ops::Range;
 
 /// The library's events for those of a parser, with the texts that they are over.
@@ -93,11 +94,19 @@ struct Call {
     label: String,
 }
 
+/// Emphasis, a link or an image that the parser began.
+struct Span<'a> {
+    tag: Tag<'a>,
+    /// Whether it was ended already, before a block.
+    is_ended: bool,
+}
+
 /// The way through a parser's events.
-struct Walk<'o> {
+struct Walk<'o, 'a> {
     options: &'o MarkdownOptions,
     document: Document,
     open: Vec<Open>,
+    spans: Vec<Span<'a>>,
     /// How many links and images are open.
     links: usize,
     images: usize,
@@ -110,12 +119,13 @@ struct Walk<'o> {
     led: usize,
 }
 
-impl<'o> Walk<'o> {
-    fn new(options: &'o MarkdownOptions) -> Walk<'o> {
+impl<'o, 'a> Walk<'o, 'a> {
+    fn new(options: &'o MarkdownOptions) -> Walk<'o, 'a> {
         Walk {
             options,
             document: Document::default(),
             open: Vec::new(),
+            spans: Vec::new(),
             links: 0,
             images: 0,
             alignments: Vec::new(),
@@ -127,7 +137,7 @@ impl<'o> Walk<'o> {
     }
 
     /// Goes through all events; no further once what links lead to is too long.
-    fn all<'a, P>(&mut self, parser: P)
+    fn all<P>(&mut self, parser: P)
     where
         P: IntoIterator<Item = (Event<'a>, Range<usize>)>,
     {
@@ -143,13 +153,13 @@ impl<'o> Walk<'o> {
         self.settle_calls();
     }
 
-    fn one<'a, P>(&mut self, event: Event<'a>, range: Range<usize>, rest: &mut Peekable<P>)
+    fn one<P>(&mut self, event: Event<'a>, range: Range<usize>, rest: &mut Peekable<P>)
     where
         P: Iterator<Item = (Event<'a>, Range<usize>)>,
     {
         match event {
-            Event::Start(tag) => self.start(&tag),
-            Event::End(tag) => self.end(tag),
+            Event::Start(tag) => self.start(tag),
+            Event::End(tag) => self.end(&tag),
             Event::Text(text) if self.is_in_code() => self.code_line(&text),
             Event::Text(text) if self.is_before_flow_html(&text, rest.peek()) => {
                 self.flow_html(&whole_html(&text, rest));
@@ -187,6 +197,7 @@ impl<'o> Walk<'o> {
 
     /// Ends the paragraph of a tight list's item. The next line ending isn't printed: it is this one.
     fn before_block(&mut self) {
+        self.end_spans();
         if let Some(Open::Item(item)) = self.open.last_mut() {
             item.has_block = true;
             if item.has_tight_paragraph {
@@ -197,11 +208,42 @@ impl<'o> Walk<'o> {
         }
     }
 
-    fn start(&mut self, tag: &Tag) {
+    fn start(&mut self, tag: Tag<'a>) {
         match tag {
-            Tag::Emphasis => self.start_span(Name::Emphasis),
-            Tag::Strong => self.start_span(Name::Strong),
-            Tag::Strikethrough => self.start_span(Name::GfmStrikethrough),
+            Tag::Emphasis | Tag::Strong | Tag::Strikethrough | Tag::Link(..) | Tag::Image(..) => {
+                self.start_span(&tag);
+                self.spans.push(Span {
+                    tag,
+                    is_ended: false,
+                });
+            }
+            Tag::Table(_) | Tag::TableHead | Tag::TableRow | Tag::TableCell => {
+                self.start_table(&tag);
+            }
+            _ => {
+                self.before_block();
+                self.start_block(&tag);
+            }
+        }
+    }
+
+    fn end(&mut self, tag: &Tag) {
+        match tag {
+            Tag::Emphasis | Tag::Strong | Tag::Strikethrough | Tag::Link(..) | Tag::Image(..) => {
+                if matches!(self.spans.pop(), Some(span) if !span.is_ended) {
+                    self.end_span(tag);
+                }
+            }
+            Tag::Table(_) | Tag::TableHead | Tag::TableRow | Tag::TableCell => self.end_table(tag),
+            _ => self.end_block(tag),
+        }
+    }
+
+    fn start_span(&mut self, tag: &Tag) {
+        self.before_phrasing();
+        match tag {
+            Tag::Emphasis => self.document.enter(Name::Emphasis),
+            Tag::Strong => self.document.enter(Name::Strong),
             Tag::Link(..) => {
                 self.links += 1;
                 self.start_media(Name::Link);
@@ -210,32 +252,34 @@ impl<'o> Walk<'o> {
                 self.images += 1;
                 self.start_media(Name::Image);
             }
-            Tag::Table(_) | Tag::TableHead | Tag::TableRow | Tag::TableCell => {
-                self.start_table(tag)
-            }
-            _ => {
-                self.before_block();
-                self.start_block(tag);
-            }
+            _ => self.document.enter(Name::GfmStrikethrough),
         }
     }
 
-    fn end(&mut self, tag: Tag) {
+    fn end_span(&mut self, tag: &Tag) {
         match tag {
             Tag::Emphasis => self.document.exit(Name::Emphasis),
             Tag::Strong => self.document.exit(Name::Strong),
-            Tag::Strikethrough => self.document.exit(Name::GfmStrikethrough),
             Tag::Link(kind, url, title) => {
-                self.links = self.links.saturating_sub(1);
-                self.end_media(Name::Link, kind, &url, &title);
+                self.links -= 1;
+                self.end_media(Name::Link, *kind, url, title);
             }
             Tag::Image(kind, url, title) => {
-                self.images = self.images.saturating_sub(1);
-                self.end_media(Name::Image, kind, &url, &title);
+                self.images -= 1;
+                self.end_media(Name::Image, *kind, url, title);
             }
-            Tag::Table(_) | Tag::TableHead | Tag::TableRow | Tag::TableCell => self.end_table(&tag),
-            _ => self.end_block(&tag),
+            _ => self.document.exit(Name::GfmStrikethrough),
         }
+    }
+
+    /// Ends the spans that are open: in a tight list's item the parser tells some around a block.
+    fn end_spans(&mut self) {
+        let mut spans = mem::take(&mut self.spans);
+        for span in spans.iter_mut().rev().take_while(|span| !span.is_ended) {
+            span.is_ended = true;
+            self.end_span(&span.tag);
+        }
+        self.spans = spans;
     }
 
     fn start_block(&mut self, tag: &Tag) {
@@ -492,13 +536,8 @@ impl<'o> Walk<'o> {
         self.document.exit(Name::GfmTableDelimiterRow);
     }
 
-    fn start_span(&mut self, name: Name) {
-        self.before_phrasing();
-        self.document.enter(name);
-    }
-
     fn start_media(&mut self, name: Name) {
-        self.start_span(name);
+        self.document.enter(name);
         self.document.enter(Name::Label);
         self.document.enter(Name::LabelText);
     }

@@ -15,7 +15,7 @@ pub use document::Document;
 pub use events::events_of;
 
 use crate::{Error, Options};
-use pulldown_cmark::Parser;
+use pulldown_cmark::{CowStr, Parser};
 
 /// What becomes of HTML in a document. Whatever is chosen, none of it is HTML in the text.
 #[derive(Clone, Copy, Debug, Default, Eq, Hash, PartialEq)]
@@ -63,7 +63,8 @@ pub struct MarkdownOptions {
     /// How many bytes the document may have; else any number.
     pub max_input: Option<usize>,
     /// How many bytes the text may have; else any number. What links and images lead to counts also where it is left
-    /// out, for its protocol.
+    /// out, for its protocol. What a definition with a character reference or an escaped character leads to is bounded in
+    /// any case: by this bound or 16 megabytes, or by 256 if there is none, for all links that may use it.
     pub max_output: Option<usize>,
 }
 
@@ -97,7 +98,8 @@ impl MarkdownOptions {
     }
 }
 
-/// The HTML of a Markdown document, with tables, strikethrough, tasks, footnotes and bare links.
+/// The HTML of a Markdown document, with tables, strikethrough, tasks, footnotes and bare links. A byte order mark before
+/// it is passed over.
 ///
 /// # Errors
 ///
@@ -117,9 +119,33 @@ pub fn markdown_to_html(text: &str, options: &MarkdownOptions) -> Result<String,
         let length = text.len();
         return Err(Error::InputTooLong { length, limit });
     }
+    let text = text.strip_prefix('\u{feff}').unwrap_or(text);
     let parser = Parser::new_ext(text, parser_options(text));
+    let limit = options.max_output.unwrap_or(MOST_COPIED);
+    if copied(&parser, text) > limit.max(LEAST_COPIED) {
+        return Err(Error::OutputTooLong { limit });
+    }
     let document = events::document_of(parser.into_offset_iter(), options)?;
     document.compile_within(&options.for_library(), options.max_output)
+}
+
+/// How many bytes the parser may copy for links, where no bound on the text says it, and where a bound says less.
+const MOST_COPIED: usize = 1 << 28;
+const LEAST_COPIED: usize = 1 << 24;
+
+/// At most so many bytes does the parser copy for links: it does so for each one whose definition has a character reference
+/// or an escaped character in its URL or title. A link has a bracket at least.
+fn copied(parser: &Parser, text: &str) -> usize {
+    let own = |text: &CowStr| match text {
+        CowStr::Boxed(text) => text.len(),
+        _ => 0,
+    };
+    let definitions = parser.reference_definitions().iter();
+    let longest = definitions
+        .map(|(_, definition)| own(&definition.dest) + definition.title.as_ref().map_or(0, own))
+        .max();
+    let links = text.bytes().filter(|&byte| byte == b'[').count();
+    longest.unwrap_or(0).saturating_mul(links)
 }
 
 /// What the parser reads: no tables where they would have too many cells that nobody wrote.

@@ -293,6 +293,46 @@ fn long_destinations() {
     );
 }
 
+/// The parser would copy this destination for each link.
+#[test]
+fn long_destinations_with_references() {
+    let text = |length| {
+        format!(
+            "{}\n\n[a]: /&amp;{}\n",
+            "[a] ".repeat(1000),
+            "b".repeat(length)
+        )
+    };
+    assert!(html(&text(100)).contains("href=\"/&amp;bbb"));
+    let limit = 1 << 28;
+    assert_eq!(
+        html_with(&text(limit / 1000), |_| ()),
+        Err(Error::OutputTooLong { limit })
+    );
+    let bound = |options: &mut MarkdownOptions| options.max_output = Some(5);
+    assert_eq!(
+        html_with(&text(20_000), bound),
+        Err(Error::OutputTooLong { limit: 5 })
+    );
+}
+
+#[test]
+fn byte_order_mark() {
+    assert_eq!(html("\u{feff}# a"), "<h1>a</h1>\n");
+}
+
+/// In a tight list's item the parser tells spans around blocks.
+#[test]
+fn spans_around_blocks() {
+    for (text, wanted) in [
+        ("- [a\n  # b\n  c](d)", "<ul>\n<li><a href=\"d\">a</a>\n<h1>b</h1>\nc</li>\n</ul>\n"),
+        ("- ![a\n  > b\n\n  c](d)", "<ul>\n<li>\n<p>![a</p>\n<blockquote>\n<p>b</p>\n</blockquote>\n<p>c](d)</p>\n</li>\n</ul>\n"),
+        ("- *a **b\n  ***\n  c** d*", "<ul>\n<li><em>a <strong>b</strong></em>\n<hr />\nc d</li>\n</ul>\n"),
+    ] {
+        assert_eq!(html(text), wanted, "{text:?}");
+    }
+}
+
 #[test]
 fn wide_tables() {
     let table = |columns, rows| {
