@@ -1,5 +1,5 @@
 -- What a URL is made of: runs of plain bytes, percent triples, and bytes that become one.
-use Rattle.std.proofs.Common.{◌≡◌, ◌≢◌, ℕ, ◌+◌, ◌<◌, ◌≤◌, ◌/◌, ◌%◌, Bool, true, false, not, ◌&&◌, cond, eqb, List, [], ◌∷◌, ◌++◌, ◌||◌, length, get_or, take, drop, codes, Fits, w8, refl, sym, ap, ap₂, subst, ◌∙◌, arith, append-nil, append_assoc, suc, zero, suc-le-suc, inl, inr, lit<}
+use Rattle.std.proofs.Common.{◌≡◌, ◌≢◌, ℕ, ◌+◌, ◌<◌, ◌≤◌, ◌/◌, ◌%◌, Bool, true, false, not, ◌&&◌, cond, eqb, List, [], ◌∷◌, ◌++◌, ◌||◌, length, get_or, take, drop, min, codes, Fits, w8, refl, sym, ap, ap₂, subst, ◌∙◌, arith, append-nil, append_assoc, suc, zero, suc-le-suc, inl, inr, lit<}
 use Rattle.std.proofs.Math.Seq.{take-add}
 use Rattle.std.proofs.lemmas.List.{length-drop, drop-drop}
 use Rattle.std.proofs.lemmas.List.Elements.{All-nil, All-cons, All-head, All-append, All-from_recursion}
@@ -154,6 +154,15 @@ kept-ends (b ∷ bs) other = by_first (is_plain b) refl (kept-ends bs) other
         subst (λ n. begins_kept (drop n (b ∷ bs)) ≡ false) (next (prefix_len is_plain bs))
         (rest (subst (λ n. begins_triple (drop n (b ∷ bs)) ≡ false) (sym (next (prefix_len is_plain bs))) other))
     by_first false e rest other = ap₂ (λ x y. x || y) e other
+
+-- a plain byte, and those after it
+pub first-plain : (bs : List ℕ) (n : ℕ) → 1 ≤ length bs → is_plain (get_or bs 0 0) ≡ true →
+    n ≡ min 3 (prefix_len is_plain (drop 1 bs)) → 1 + n ≡ min 4 (prefix_len is_plain bs)
+first-plain [] n long plain is = absurd (omega arith)
+first-plain (b ∷ bs) n long plain is =
+    let whole : prefix_len is_plain (b ∷ bs) ≡ 1 + prefix_len is_plain bs =
+    ap (λ t. cond t (1 + prefix_len is_plain bs) 0) plain in
+    omega (arith, is, whole)
 
 -- a byte that isn't written as it is
 pub sanitized-changed : (b : ℕ) (rest : List ℕ) → b < 256 → begins_kept (b ∷ rest) ≡ false →

@@ -156,15 +156,33 @@ fn push_ascii(out: &mut String, bytes: &[u8]) -> Result<(), AllocError>
     out.push_str(unsafe { str::from_utf8_unchecked(bytes) })
 }
 
-/// Writes the bytes that stay as they are, and what becomes of an ASCII byte after them, and gives what is left.
+/// Writes bytes that stay as they are, or what becomes of one that doesn't, and gives what is left.
 #[inline(always)]
 fn push_low<'a>(out: &mut String, rest: &'a [u8]) -> Result<&'a [u8], AllocError>
-    requires { (0 < length rest.now) × (get_or rest.now 0 0 < 128) }
+    requires { 0 < length rest.now }
     ensures value { IfOk result
         (λ left. string_bytes out.new ++ sanitized left.now ≡ string_bytes out.old ++ sanitized rest.now) }
     ensures left { IfOk result (λ left. length left.now < length rest.now) }
 {
-    let (kept, left) = rest.split_at(kept_length(rest));
+    let run = kept_length(rest);
+    match rest {
+        [byte, after @ ..] if run == 0 => {
+            push_changed(out, *byte)?;
+            Ok(after)
+        }
+        _ => push_run(out, rest, run),
+    }
+}
+
+/// Writes so many bytes as they are, and what becomes of an ASCII byte after them, and gives what is left.
+#[inline(always)]
+fn push_run<'a>(out: &mut String, rest: &'a [u8], run: usize) -> Result<&'a [u8], AllocError>
+    requires { (AreKept rest.now run) × (0 < run) × (begins_kept (drop run rest.now) ≡ false) }
+    ensures value { IfOk result
+        (λ left. string_bytes out.new ++ sanitized left.now ≡ string_bytes out.old ++ sanitized rest.now) }
+    ensures left { IfOk result (λ left. length left.now < length rest.now) }
+{
+    let (kept, left) = rest.split_at(run);
     push_kept(out, kept)?;
     match left {
         [byte, after @ ..] if *byte < 0x80 => {
@@ -196,13 +214,19 @@ fn kept_length(bytes: &[u8]) -> usize
     ensures kept { AreKept bytes.now result }
     ensures ends { begins_kept (drop result bytes.now) ≡ false }
 {
-    let few = first_plain(bytes);
-    if few == FEW {
-        kept_from(bytes, run_length(Plain, bytes))
-    } else if begins_triple(&bytes[few..]) {
-        kept_from(bytes, few + 3)
-    } else {
-        few
+    match bytes {
+        [first, after @ ..] if is_plain(*first) => {
+            let few = 1 + first_plain(after);
+            if few == FEW {
+                kept_from(bytes, run_length(Plain, bytes))
+            } else if begins_triple(&bytes[few..]) {
+                kept_from(bytes, few + 3)
+            } else {
+                few
+            }
+        }
+        _ if begins_triple(bytes) => kept_from(bytes, 3),
+        _ => 0,
     }
 }
 
@@ -232,21 +256,25 @@ fn kept_step(bytes: &[u8]) -> usize
     if begins_triple(bytes) {
         return 3;
     }
-    let few = first_plain(bytes);
-    if few == FEW {
-        run_length(Plain, bytes)
-    } else {
-        few
+    match bytes {
+        [first, after @ ..] if is_plain(*first) => {
+            let few = 1 + first_plain(after);
+            if few == FEW {
+                run_length(Plain, bytes)
+            } else {
+                few
+            }
+        }
+        _ => 0,
     }
 }
 
-/// How many plain bytes come first, of the first four.
+/// How many plain bytes come first, of the first three.
 #[inline(always)]
 fn first_plain(bytes: &[u8]) -> usize
-    ensures { result ≡ min 4 (prefix_len is_plain bytes.now) }
+    ensures { result ≡ min 3 (prefix_len is_plain bytes.now) }
 {
     match bytes {
-        [a, b, c, d, ..] if is_plain(*a) && is_plain(*b) && is_plain(*c) && is_plain(*d) => FEW,
         [a, b, c, ..] if is_plain(*a) && is_plain(*b) && is_plain(*c) => 3,
         [a, b, ..] if is_plain(*a) && is_plain(*b) => 2,
         [a, ..] if is_plain(*a) => 1,

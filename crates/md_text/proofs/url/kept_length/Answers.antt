@@ -1,41 +1,47 @@
--- A few plain bytes, and what comes behind them.
-use Rattle.std.proofs.Common.{◌≡◌, ◌≤◌, ℕ, List, false, length, min, drop, sym, ap, subst, ◌∙◌, arith}
+-- A few plain bytes or a triple, and what comes behind them.
+use Rattle.std.proofs.Common.{◌≡◌, ◌≤◌, ◌+◌, ℕ, List, false, true, length, get_or, min, drop, sym, ap, subst, ◌∙◌, arith}
 use Rattle.std.proofs.lemmas.List.{take_rest}
-use Rattle.std.proofs.lemmas.List.Sums.{prefix_len-le-length}
 use Rattle.std.specs.List.{prefix_len}
 use Rattle.md_text.specs.Kept.{is_plain, begins_triple, begins_kept}
-use Rattle.md_text.proofs.PlainLemmas.{kept-plain, kept-triple, kept-join, kept-ends}
+use Rattle.md_text.proofs.PlainLemmas.{kept-plain, kept-triple, kept-join, kept-ends, first-plain}
 use Rattle.md_text.proofs.url.kept_length.Goals as goal
 
-few-inside : (bytes : List ℕ) (few : ℕ) → few ≡ min 4 (prefix_len is_plain bytes) → few ≤ length bytes
-few-inside bytes few is = omega (arith, is, prefix_len-le-length is_plain bytes)
+-- the first and those after it
+few-is : (bytes after : List ℕ) (n : ℕ) → 1 ≤ length bytes → is_plain (get_or bytes 0 0) ≡ true →
+    n ≡ min 3 (prefix_len is_plain after) → after ≡ drop 1 bytes → 1 + n ≡ min 4 (prefix_len is_plain bytes)
+few-is bytes after n long plain is rest =
+    first-plain bytes n long plain (is ∙ ap (λ after. min 3 (prefix_len is_plain after)) rest)
 
 pub kept_from-requires : goal.kept_from-requires
 kept_from-requires c = kept-plain c.run_length.result c.args.bytes.now (omega (arith, c.run_length.ensures))
 
-pub slice_bounds-begins_triple-count : goal.slice_bounds-begins_triple-count
-slice_bounds-begins_triple-count c = few-inside c.args.bytes.now c.first_plain-few.result c.first_plain-few.ensures
-
-pub slice_bounds-begins_triple-start : goal.slice_bounds-begins_triple-start
-slice_bounds-begins_triple-start c = few-inside c.args.bytes.now c.first_plain-few.result c.first_plain-few.ensures
-
 pub kept_from-requires-then-begins_triple : goal.kept_from-requires-then-begins_triple
 kept_from-requires-then-begins_triple c =
     let bytes : List ℕ = c.args.bytes.now in
-    let few = c.first_plain-few.result in
+    let few = 1 + c.first_plain-few.result in
+    let is = few-is bytes _ c.first_plain-few.result c.in-len1-up.len_at_least
+    (sym c.is_plain.ensures ∙ c.if-is_plain.true) c.first_plain-few.ensures (take_rest bytes 1) in
     let triple = ap begins_triple (sym (take_rest bytes few)) ∙ sym c.begins_triple.ensures ∙ c.if-begins_triple.true in
-    kept-join bytes few 3 (kept-plain few bytes (omega (arith, c.first_plain-few.ensures)))
-    (kept-triple (drop few bytes) triple)
+    kept-join bytes few 3 (kept-plain few bytes (omega (arith, is))) (kept-triple (drop few bytes) triple)
+
+pub kept_from-requires-in_default : goal.kept_from-requires-in_default
+kept_from-requires-in_default c =
+    kept-triple c.args.bytes.now (sym c.begins_triple-2.ensures ∙ c.if-begins_triple-2.true)
 
 pub returns-else-begins_triple-clause-kept : goal.returns-else-begins_triple-clause-kept
 returns-else-begins_triple-clause-kept c =
-    kept-plain c.first_plain-few.result c.args.bytes.now (omega (arith, c.first_plain-few.ensures))
+    let bytes : List ℕ = c.args.bytes.now in
+    let is = few-is bytes _ c.first_plain-few.result c.in-len1-up.len_at_least
+    (sym c.is_plain.ensures ∙ c.if-is_plain.true) c.first_plain-few.ensures (take_rest bytes 1) in
+    kept-plain (1 + c.first_plain-few.result) bytes (omega (arith, is))
 
 pub returns-else-begins_triple-clause-ends : goal.returns-else-begins_triple-clause-ends
 returns-else-begins_triple-clause-ends c =
     let bytes : List ℕ = c.args.bytes.now in
-    let few = c.first_plain-few.result in
-    let all : few ≡ prefix_len is_plain bytes = omega (arith, c.first_plain-few.ensures, c.if-few-eq-FEW.false) in
+    let few = 1 + c.first_plain-few.result in
+    let is = few-is bytes _ c.first_plain-few.result c.in-len1-up.len_at_least
+    (sym c.is_plain.ensures ∙ c.if-is_plain.true) c.first_plain-few.ensures (take_rest bytes 1) in
+    let all : few ≡ prefix_len is_plain bytes = omega (arith, is, c.if-few-eq-FEW.false) in
     let other = ap begins_triple (sym (take_rest bytes few)) ∙ sym c.begins_triple.ensures ∙ c.if-begins_triple.false in
     subst (λ n. begins_kept (drop n bytes) ≡ false) (sym all)
     (kept-ends bytes (subst (λ n. begins_triple (drop n bytes) ≡ false) all other))

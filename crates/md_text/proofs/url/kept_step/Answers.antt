@@ -1,6 +1,9 @@
 -- A triple, or plain bytes.
-use Rattle.std.proofs.Common.{arith, sym, ◌∙◌}
-use Rattle.md_text.proofs.PlainLemmas.{kept-triple, kept-plain}
+use Rattle.std.proofs.Common.{sym, ap, ◌∙◌, arith, min}
+use Rattle.std.proofs.lemmas.List.{take_rest}
+use Rattle.std.specs.List.{prefix_len}
+use Rattle.md_text.specs.Kept.{is_plain}
+use Rattle.md_text.proofs.PlainLemmas.{kept-triple, kept-plain, first-plain}
 use Rattle.md_text.proofs.url.kept_step.Goals as goal
 
 pub returns-then-begins_triple-clause-kept : goal.returns-then-begins_triple-clause-kept
@@ -13,4 +16,8 @@ returns-then-few-eq-FEW-clause-kept c =
 
 pub returns-else-few-eq-FEW-clause-kept : goal.returns-else-few-eq-FEW-clause-kept
 returns-else-few-eq-FEW-clause-kept c =
-    kept-plain c.first_plain-few.result c.args.bytes.now (omega (arith, c.first_plain-few.ensures))
+    let bytes = c.args.bytes.now in
+    let more = c.first_plain-few.ensures ∙ ap (λ after. min 3 (prefix_len is_plain after)) (take_rest bytes 1) in
+    let few = first-plain bytes c.first_plain-few.result c.in-len1-up.len_at_least
+    (sym c.is_plain.ensures ∙ c.if-is_plain.true) more in
+    kept-plain _ bytes (omega (arith, few))

@@ -1,5 +1,5 @@
--- What is kept, and what becomes of the byte behind it.
-use Rattle.std.proofs.Common.{◌≡◌, ◌++◌, ◌-◌, ℕ, List, false, length, get_or, take, drop, ap, ◌∙◌, arith, append_assoc, string_bytes}
+-- Where no byte is kept, the first becomes another.
+use Rattle.std.proofs.Common.{◌≡◌, ◌++◌, ◌-◌, ℕ, List, false, length, get_or, take, drop, ap, subst, ◌∙◌, append_assoc, string_bytes}
 use Rattle.std.proofs.lemmas.List.{take_rest}
 use Rattle.md_text.specs.Kept.{begins_kept, changed_byte}
 use Rattle.md_text.specs.Url.{sanitized}
@@ -10,18 +10,10 @@ pub returns-in_ok-push_changed-in-len1-up-clause-value : goal.returns-in_ok-push
 returns-in_ok-push_changed-in-len1-up-clause-value c =
     let rest : List ℕ = c.args.rest.now in
     let before : List ℕ = string_bytes c.args.out.now in
-    let n = c.kept_length.result in
-    let left : List ℕ = c.split_at.result.1.now in
-    let first : List ℕ = changed_byte (get_or left 0 0) in
-    let changes : begins_kept left ≡ false =
-    ap begins_kept c.split_at.ensures.back ∙ c.kept_length.ensures.ends in
-    ap (λ x. x ++ sanitized (take (length left - 1) (drop 1 left)))
-    (c.in_ok-push_changed-in-len1-up.ensures ∙ ap (λ x. x ++ first)
-    (c.in_ok-push_kept.ensures ∙ ap (λ x. before ++ x) c.split_at.ensures.front))
-    ∙ ap (λ x. ((before ++ take n rest) ++ first) ++ sanitized x) (take_rest left 1)
-    ∙ append_assoc (before ++ take n rest) first (sanitized (drop 1 left))
-    ∙ ap (λ x. (before ++ take n rest) ++ x)
-    (sanitized-changed_first left c.in-len1-up.len_at_least (omega (arith, c.if-byte-lt128.true)) changes
-    ∙ ap sanitized c.split_at.ensures.back)
-    ∙ append_assoc before (take n rest) (sanitized (drop n rest))
-    ∙ ap (λ x. before ++ x) c.kept_length.ensures.kept.2
+    let first : List ℕ = changed_byte (get_or rest 0 0) in
+    let changes = subst (λ n. begins_kept (drop n rest) ≡ false) c.if-run-eq0.true c.kept_length-run.ensures.ends in
+    ap (λ x. x ++ sanitized (take (length rest - 1) (drop 1 rest))) c.in_ok-push_changed-in-len1-up.ensures
+    ∙ ap (λ x. (before ++ first) ++ sanitized x) (take_rest rest 1)
+    ∙ append_assoc before first (sanitized (drop 1 rest))
+    ∙ ap (λ x. before ++ x)
+    (sanitized-changed_first rest c.in-len1-up.len_at_least (c.type_inv.rest 0).fits changes)
