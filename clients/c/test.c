@@ -3,6 +3,7 @@
  * Prints a line for each check that fails, and ends with status 1 then.
  */
 #include "bivdrazo.h"
+#include "bivdrazo_references.h"
 
 #include <pthread.h>
 #include <stdio.h>
@@ -182,6 +183,35 @@ static void test_status_texts(void) {
  * The events of a link or an image with a resource: its label is the byte after `open`, and its destination reaches
  * from the third byte after that to the last byte but one.
  */
+static void test_rule_texts(void) {
+    CHECK(strcmp(bivdrazo_rule_text(BIVDRAZO_RULE_MDX), "a name of MDX") == 0);
+    CHECK(strcmp(bivdrazo_rule_text(BIVDRAZO_RULE_TARGET), "a link or an image leads nowhere") == 0);
+    for (uint32_t rule = BIVDRAZO_RULE_ORDER; rule <= BIVDRAZO_RULE_TARGET; rule++)
+        CHECK(strcmp(bivdrazo_rule_text(rule), "an unknown rule") != 0);
+    CHECK(strcmp(bivdrazo_rule_text(0), "an unknown rule") == 0);
+}
+
+/* Some of HTML's names, each in a document of its own. */
+static void test_references(void) {
+    for (size_t at = 0; at < BIVDRAZO_REFERENCES_LENGTH; at += 17) {
+        const bivdrazo_reference *reference = &BIVDRAZO_REFERENCES[at];
+        const bivdrazo_event events[] = {
+            {.index = 0, .name = BIVDRAZO_NAME_CHARACTER_REFERENCE_MARKER, .kind = BIVDRAZO_ENTER},
+            {.index = 0, .name = BIVDRAZO_NAME_CHARACTER_REFERENCE_MARKER, .kind = BIVDRAZO_EXIT},
+            {.index = 0, .name = BIVDRAZO_NAME_CHARACTER_REFERENCE_VALUE, .kind = BIVDRAZO_ENTER},
+            {.index = reference->name_length, .name = BIVDRAZO_NAME_CHARACTER_REFERENCE_VALUE, .kind = BIVDRAZO_EXIT}};
+        uint8_t *text;
+        const bivdrazo_answer answer =
+            bivdrazo_compile_alloc(events, 4, reference->name, reference->name_length, NULL, BIVDRAZO_REFERENCES,
+                                   BIVDRAZO_REFERENCES_LENGTH, &text);
+        const int is_escaped = strchr("&<>\"", reference->text[0]) != NULL;
+        CHECK(answer.status == BIVDRAZO_OK);
+        CHECK(is_escaped || (answer.length == reference->text_length &&
+                             memcmp(text, reference->text, reference->text_length) == 0));
+        free(text);
+    }
+}
+
 static void medium(bivdrazo_event events[14], uint16_t name, size_t open, size_t length) {
     events[0] = event(BIVDRAZO_ENTER, name, 0);
     events[1] = event(BIVDRAZO_ENTER, BIVDRAZO_NAME_LABEL, 0);
@@ -383,6 +413,8 @@ int main(void) {
     test_refusals();
     test_defaults();
     test_status_texts();
+    test_rule_texts();
+    test_references();
     test_null_options();
     test_options();
     test_lengths();

@@ -6,6 +6,7 @@ import ctypes
 import functools
 import os
 import pathlib
+from typing import Literal, TypeVar
 
 from .errors import MarkdownError, TooLong, error_of
 from .library import CAnswer, CText
@@ -13,6 +14,7 @@ from .numbers import MARKDOWN_OPTIONS, MARKDOWN_VERSION, DocumentHtml, MarkdownS
 
 HTML = {"text": DocumentHtml.TEXT, "left-out": DocumentHtml.LEFT_OUT, "without-comments": DocumentHtml.WITHOUT_COMMENTS}
 MOST = ctypes.c_size_t(-1).value
+T = TypeVar("T")
 
 
 class CMarkdownOptions(ctypes.Structure):
@@ -64,7 +66,7 @@ def markdown_to_html(
     footnote_back_label: str | None = None,
     hard_breaks: bool = False,
     bare_links: bool = True,
-    html: str = "text",
+    html: Literal["text", "left-out", "without-comments"] = "text",
     base: str | None = None,
     max_input: int | None = None,
     max_output: int | None = None,
@@ -117,7 +119,7 @@ def markdown_to_html(
         library.bivdrazo_markdown_free(made)
 
 
-def typed(name, value, type_):
+def typed(name: str, value: object, type_: type[T]) -> T:
     """The value, which has that type."""
     if not isinstance(value, type_):
         raise TypeError(f"{name}: {type_.__name__} is wanted, not {type(value).__name__}")

@@ -2,7 +2,9 @@
 
 use crate::ffi::{error_of, first_size, CAnswer};
 use crate::numbers::NAMES;
-use crate::{compile, run, Error, Event, LineEnding, Name, Options, Rule, VERSION_TEXT};
+use crate::{
+    compile, run, Error, Event, LineEnding, Name, Options, Rule, REFERENCES, VERSION_TEXT,
+};
 use std::thread;
 
 /// The events of a node over some bytes, with others in it.
@@ -145,6 +147,28 @@ fn names_of_references() {
         compile(&events, b"&x;", &Options::default(), &names).unwrap(),
         "&lt;"
     );
+}
+
+/// Each of HTML's names stands for its text.
+#[test]
+fn references() {
+    assert_eq!(REFERENCES.len(), 2125);
+    for (name, text) in REFERENCES {
+        let mut events = node(Name::CharacterReferenceMarker, 0, 0, &[]);
+        events.extend(node(Name::CharacterReferenceValue, 0, name.len(), &[]));
+        let html = compile(&events, name.as_bytes(), &Options::default(), REFERENCES).unwrap();
+        let read = html
+            .replace("&lt;", "<")
+            .replace("&gt;", ">")
+            .replace("&quot;", "\"");
+        assert_eq!(read.replace("&amp;", "&"), *text, "{name}");
+    }
+}
+
+#[test]
+fn numbers_of_rules() {
+    assert_eq!(Rule::from_number(Rule::Target.number()), Some(Rule::Target));
+    assert_eq!((Rule::Order.number(), Rule::from_number(0)), (1, None));
 }
 
 #[test]
