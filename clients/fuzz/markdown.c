@@ -1,0 +1,80 @@
+/*
+ * Markdown by bivdrazo_markdown() under options, for libFuzzer. The first two bytes of an input are the options, the rest
+ * is the document, which ends at the end of a page before one that can't be read. There is a text, unless the document
+ * isn't UTF-8 or a bound is passed, and the text is of the HTML grammar.
+ */
+#include "bivdrazo_markdown.h"
+#include "html.h"
+
+#include <stdio.h>
+#include <string.h>
+#include <sys/mman.h>
+#include <unistd.h>
+
+int LLVMFuzzerTestOneInput(const uint8_t *data, size_t size);
+
+/* A copy of some bytes at the end of a page before one that can't be read. */
+struct guarded {
+    uint8_t *pages;
+    size_t size;
+    uint8_t *bytes;
+};
+
+static struct guarded guard(const uint8_t *bytes, size_t length) {
+    const size_t page = (size_t)sysconf(_SC_PAGESIZE);
+    const size_t room = (length + page) / page * page;
+    struct guarded guarded = {NULL, room + page, NULL};
+    guarded.pages = mmap(NULL, guarded.size, PROT_READ | PROT_WRITE, MAP_PRIVATE | MAP_ANONYMOUS, -1, 0);
+    if (guarded.pages == MAP_FAILED || mprotect(guarded.pages + room, page, PROT_NONE) != 0)
+        abort();
+    guarded.bytes = memcpy(guarded.pages + room - length, bytes, length);
+    return guarded;
+}
+
+/* The options that two bytes stand for. */
+static bivdrazo_markdown_options options_of(uint8_t flags, uint8_t bounds) {
+    bivdrazo_markdown_options options = bivdrazo_markdown_options_default();
+    options.number_ids = flags & 1;
+    options.hard_breaks = flags >> 1 & 1;
+    options.bare_links = flags >> 2 & 1;
+    options.html = (uint8_t)((flags >> 3 & 3) % 3);
+    if (flags >> 5 & 1)
+        options.base = bivdrazo_text_of((const uint8_t *)"https://a.b/c/", 14);
+    if (flags >> 6 & 1)
+        options.footnote_prefix = bivdrazo_text_of((const uint8_t *)"\"<x>&", 5);
+    if (flags >> 7 & 1)
+        options.max_output = 8u * bounds;
+    return options;
+}
+
+static void fail(const char *what, size_t where) {
+    fprintf(stderr, "fuzz: %s at %zu\n", what, where);
+    abort();
+}
+
+static void check_text(const char *html, size_t length, const bivdrazo_markdown_options *options) {
+    size_t where = 0;
+    const char *fault = html_fault(html, length, &where);
+    if (fault != NULL)
+        fail(fault, where);
+    if (strlen(html) != length || length > options->max_output)
+        fail("a length", length);
+}
+
+int LLVMFuzzerTestOneInput(const uint8_t *data, size_t size) {
+    if (size < 2)
+        return 0;
+    const bivdrazo_markdown_options options = options_of(data[0], data[1]);
+    const struct guarded document = guard(data + 2, size - 2);
+    char *html = NULL;
+    const bivdrazo_answer answer = bivdrazo_markdown(document.bytes, size - 2, &options, &html);
+    const int may_fail = answer.status == BIVDRAZO_MARKDOWN_NOT_UTF8 ||
+                         (answer.status == BIVDRAZO_MARKDOWN_OUTPUT_TOO_LONG && options.max_output != SIZE_MAX);
+    if (answer.status == BIVDRAZO_OK)
+        check_text(html, answer.length, &options);
+    else if (!may_fail || html != NULL)
+        fail(bivdrazo_markdown_status_text(answer.status), answer.index);
+    bivdrazo_markdown_free(html);
+    munmap(document.pages, document.size);
+    return 0;
+}
