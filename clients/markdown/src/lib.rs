@@ -193,8 +193,8 @@ unsafe fn options_of(given: &Options) -> Result<MarkdownOptions, Answer> {
         )?;
         options.base = text_of(&given.base, numbers::OPTION_BASE)?;
     }
-    options.max_input = Some(given.max_input);
-    options.max_output = Some(given.max_output);
+    options.max_input = bound_of(given.max_input);
+    options.max_output = bound_of(given.max_output);
     Ok(options)
 }
 
@@ -203,6 +203,11 @@ fn no_option(index: usize) -> Answer {
         index,
         ..with_status(numbers::STATUS_NO_OPTION)
     }
+}
+
+/// A bound; the greatest number is none.
+fn bound_of(bound: usize) -> Option<usize> {
+    Some(bound).filter(|&bound| bound != usize::MAX)
 }
 
 fn flag_of(flag: u8, option: usize) -> Result<bool, Answer> {

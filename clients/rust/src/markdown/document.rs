@@ -1,6 +1,7 @@
 //! A document as the library takes it.
 
 use crate::{compile, ffi, Error, Event, Kind, Name, Options};
+use std::ops::Range;
 
 /// Events, and the bytes that they are over: not those of the Markdown, but the texts that were found in it.
 #[derive(Clone, Debug, Default, Eq, PartialEq)]
@@ -56,21 +57,25 @@ impl Document {
 
     /// A node with one text in it.
     pub(super) fn within(&mut self, outer: Name, inner: Name, text: &str) {
-        self.within_at(outer, inner, self.bytes.len(), text);
+        let range = self.put(text);
+        self.within_at(outer, inner, range);
     }
 
-    /// A node with one text in it, which stands there in the bytes already, or is put at their end.
-    pub(super) fn within_at(&mut self, outer: Name, inner: Name, start: usize, text: &str) {
-        if start == self.bytes.len() {
-            self.bytes.extend_from_slice(text.as_bytes());
-        }
-        let end = start + text.len();
+    /// A node with one text in it, which stands there in the bytes.
+    pub(super) fn within_at(&mut self, outer: Name, inner: Name, range: Range<usize>) {
         self.events.extend([
-            Event::enter(outer, start),
-            Event::enter(inner, start),
-            Event::exit(inner, end),
-            Event::exit(outer, end),
+            Event::enter(outer, range.start),
+            Event::enter(inner, range.start),
+            Event::exit(inner, range.end),
+            Event::exit(outer, range.end),
         ]);
+    }
+
+    /// Puts a text at the end of the bytes; where it stands.
+    pub(super) fn put(&mut self, text: &str) -> Range<usize> {
+        let start = self.bytes.len();
+        self.bytes.extend_from_slice(text.as_bytes());
+        start..self.bytes.len()
     }
 
     /// A call of a footnote: six events.

@@ -7,6 +7,7 @@ use super::pieces::{is_spaces, whole_html, whole_text};
 use super::{base, DocumentHtml, MarkdownOptions};
 use crate::{Error, Name};
 use pulldown_cmark::{Alignment, CodeBlockKind, CowStr, Event, LinkType, Tag};
+use std::borrow::Cow;
 use std::collections::{HashMap, HashSet};
 use std::iter::Peekable;
 use std::mem;
@@ -114,7 +115,7 @@ struct Walk<'o, 'a> {
     footnotes: HashSet<String>,
     calls: Vec<Call>,
     /// Where the destinations and titles that definitions share stand in the bytes, by their addresses and lengths.
-    shared: HashMap<(usize, usize), usize>,
+    shared: HashMap<(usize, usize), Range<usize>>,
     /// How long the destinations and titles are together.
     led: usize,
 }
@@ -230,8 +231,8 @@ impl<'o, 'a> Walk<'o, 'a> {
     fn end(&mut self, tag: &Tag) {
         match tag {
             Tag::Emphasis | Tag::Strong | Tag::Strikethrough | Tag::Link(..) | Tag::Image(..) => {
-                if matches!(self.spans.pop(), Some(span) if !span.is_ended) {
-                    self.end_span(tag);
+                if let Some(span) = self.spans.pop().filter(|span| !span.is_ended) {
+                    self.end_span(&span.tag);
                 }
             }
             Tag::Table(_) | Tag::TableHead | Tag::TableRow | Tag::TableCell => self.end_table(tag),
@@ -548,43 +549,36 @@ impl<'o, 'a> Walk<'o, 'a> {
         self.document.enter(Name::Resource);
         self.destination(kind, url);
         if !title.is_empty() {
-            self.string(Name::ResourceTitleString, title);
+            self.string(Name::ResourceTitleString, title, |title| title.into());
         }
         self.document.exit(Name::Resource);
         self.document.exit(name);
     }
 
     fn destination(&mut self, kind: LinkType, url: &CowStr) {
-        match &self.options.base {
-            _ if kind == LinkType::Email => {
-                self.string(
-                    Name::ResourceDestinationString,
-                    &format!("mailto:{url}").into(),
-                );
-            }
-            Some(base) => {
-                let resolved = base::resolved(base, url);
-                self.string(Name::ResourceDestinationString, &resolved.into());
-            }
-            None => self.string(Name::ResourceDestinationString, url),
-        }
+        let base = self.options.base.as_deref();
+        self.string(Name::ResourceDestinationString, url, |url| match base {
+            _ if kind == LinkType::Email => format!("mailto:{url}").into(),
+            Some(base) => base::resolved(base, url).into(),
+            None => url.into(),
+        });
     }
 
-    /// A destination or a title. The parser hands out the same text for each link that uses a definition: it stands in
-    /// the bytes once. Two texts that are borrowed from the document are equal where their addresses and lengths are.
-    fn string(&mut self, name: Name, text: &CowStr) {
-        self.led = self.led.saturating_add(text.len());
-        let known = match text {
-            CowStr::Borrowed(own) => {
-                let end = self.document.bytes.len();
-                *self
-                    .shared
-                    .entry((own.as_ptr() as usize, own.len()))
-                    .or_insert(end)
-            }
-            _ => self.document.bytes.len(),
+    /// A destination or a title. The parser hands out the same text for each link that uses a definition: what is made of
+    /// it stands in the bytes once. Two texts that are borrowed from the document are equal where their addresses and
+    /// lengths are.
+    fn string(&mut self, name: Name, text: &CowStr, made: impl Fn(&str) -> Cow<str>) {
+        let place = match text {
+            CowStr::Borrowed(own) => Some((own.as_ptr() as usize, own.len())),
+            _ => None,
         };
-        self.document.within_at(name, Name::Data, known, text);
+        let known = place.and_then(|place| self.shared.get(&place).cloned());
+        let range = known.unwrap_or_else(|| self.document.put(&made(text)));
+        self.led = self.led.saturating_add(range.len());
+        self.document.within_at(name, Name::Data, range.clone());
+        if let Some(place) = place {
+            self.shared.insert(place, range);
+        }
     }
 
     fn text(&mut self, text: &str) {

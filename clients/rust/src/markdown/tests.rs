@@ -3,6 +3,7 @@
 use super::autolinks::bare_links;
 use super::base::resolved;
 use super::comments::without_comments;
+use super::events::document_of;
 use super::tables::{missing_cells, MOST_MISSING_CELLS};
 use crate::{events_of, markdown_to_html, DocumentHtml, Error, MarkdownOptions, Options};
 use pulldown_cmark::{CowStr, Event, Parser, Tag};
@@ -284,8 +285,12 @@ fn bounds() {
 #[test]
 fn long_destinations() {
     let text = format!("{}\n\n[a]: /{}\n", "[a] ".repeat(1000), "b".repeat(1000));
-    let document = events_of(Parser::new(&text).into_offset_iter());
-    assert!(document.bytes.len() < 10_000);
+    let mut options = MarkdownOptions::default();
+    for base in [None, Some("https://a.b/".to_string())] {
+        options.base = base;
+        let document = document_of(Parser::new(&text).into_offset_iter(), &options).unwrap();
+        assert!(document.bytes.len() < 10_000);
+    }
     let limit = 100_000;
     assert_eq!(
         html_with(&text, |options| options.max_output = Some(limit)),
