@@ -17,8 +17,8 @@
  *    length says.
  *  - `html` isn't null, and what is written there is given back once, by bivdrazo_markdown_free().
  *
- * There is no state between calls: any number of threads may call at once. Where the parser finds no memory, the process
- * ends; BIVDRAZO_MEMORY tells that the library found none.
+ * There is no state between calls: any number of threads may call at once. Where the parser finds no memory, the
+ * process ends; BIVDRAZO_MEMORY tells that the library found none.
  */
 #ifndef BIVDRAZO_MARKDOWN_H
 #define BIVDRAZO_MARKDOWN_H
@@ -51,8 +51,8 @@ BIVDRAZO_ASSERT(offsetof(bivdrazo_markdown_options, base) == 80, "the last text"
 BIVDRAZO_ASSERT(offsetof(bivdrazo_markdown_options, max_output) == 112, "the last bound");
 
 /*
- * The HTML of a Markdown document. Under BIVDRAZO_OK `*html` is the text, `length` bytes of which none is NUL, and a NUL
- * that isn't counted; else `*html` is null. Null options are the default ones.
+ * The HTML of a Markdown document. Under BIVDRAZO_OK `*html` is the text, `length` bytes of which none is NUL, and a
+ * NUL that isn't counted; else `*html` is null. Null options are the default ones.
  *
  * The statuses: BIVDRAZO_OK, BIVDRAZO_NO_OPTION (`index` is BIVDRAZO_MARKDOWN_OPTION_..), BIVDRAZO_MEMORY, and
  * BIVDRAZO_MARKDOWN_..; BIVDRAZO_REFUSED would be a fault of the parser.

@@ -1,7 +1,7 @@
 /*
- * Markdown by bivdrazo_markdown() under options, for libFuzzer. The first two bytes of an input are the options, the rest
- * is the document, which ends at the end of a page before one that can't be read. There is a text, unless the document
- * isn't UTF-8 or a bound is passed, and the text is of the HTML grammar.
+ * Markdown by bivdrazo_markdown() under options, for libFuzzer. The first two bytes of an input are the options, the
+ * rest is the document, which ends at the end of a page before one that can't be read. There is a text, unless the
+ * document isn't UTF-8 or a bound is passed, and the text is of the HTML grammar.
  */
 #include "bivdrazo_markdown.h"
 #include "html.h"

@@ -7,8 +7,8 @@ use std::path::{Path, PathBuf};
 
 /// Renders Markdown as safe HTML.
 ///
-/// Tables, strikethrough, tasks, footnotes and bare links are read. Links and images whose protocol isn't permitted lead
-/// nowhere. Ends with status 0 if all was rendered, 1 if a file couldn't be (the others are written), 2 for other
+/// Tables, strikethrough, tasks, footnotes and bare links are read. Links and images whose protocol isn't permitted
+/// lead nowhere. Ends with status 0 if all was rendered, 1 if a file couldn't be (the others are written), 2 for other
 /// arguments.
 #[derive(Debug, Parser)]
 #[command(name = "bivdrazo-render", version = bivdrazo::VERSION_TEXT)]

@@ -4,8 +4,9 @@
 >>> markdown_to_html("**a** <b>")
 '<p><strong>a</strong> &lt;b&gt;</p>\\n'
 
-The library compiles the events of a parser, and can be called with those of any other one. A parser says what it found in a document as a list of events: a paragraph begins at byte 0, a text runs from there to
-byte 6, the paragraph ends. `compile` makes HTML of such a list:
+The library compiles the events of a parser, and can be called with those of any other one. A parser says what it found
+in a document as a list of events: a paragraph begins at byte 0, a text runs from there to byte 6, the paragraph ends.
+`compile` makes HTML of such a list:
 
 >>> from bivdrazo import Event, Name, compile
 >>> events = [

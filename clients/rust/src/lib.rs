@@ -13,8 +13,9 @@
 //! This stands on the feature `markdown`, which is on by default: the parser is pulldown-cmark. The library itself
 //! compiles the events of a parser, and can be called with those of any other one. A parser says what it found in a
 //! document as a list of events: a paragraph begins at byte 0, a text runs from there to byte 6, the paragraph ends.
-//! [`compile`] makes HTML of such a list. Nothing is assumed of the events: whatever a parser hands in is refused or gives
-//! a text that, under the default options, has one reading as HTML, with links and images of permitted protocols alone.
+//! [`compile`] makes HTML of such a list. Nothing is assumed of the events: whatever a parser hands in is refused or
+//! gives a text that, under the default options, has one reading as HTML, with links and images of permitted protocols
+//! alone.
 //!
 //! ```
 //! use bivdrazo::{compile, Event, Name, Options};

@@ -2,9 +2,10 @@
 
 use bivdrazo::{markdown_to_html, MarkdownOptions};
 use std::error::Error;
-use std::time::{Duration, Instant};
+use std::fs;
+use std::time::Duration;
 
-/// Renders each shape; whether each has a text within so many seconds.
+/// Renders each shape; whether each has a text within so many seconds of a processor.
 pub fn run(seconds: &str, size: &str) -> Result<bool, Box<dyn Error>> {
     let most = Duration::from_secs_f64(seconds.parse()?);
     let size = size.parse()?;
@@ -12,9 +13,9 @@ pub fn run(seconds: &str, size: &str) -> Result<bool, Box<dyn Error>> {
     let mut is_right = true;
     for shape in SHAPES {
         let document = shape.document(size);
-        let start = Instant::now();
+        let start = spent()?;
         let html = markdown_to_html(&document, &MarkdownOptions::default());
-        let time = start.elapsed();
+        let time = spent()? - start;
         slowest = slowest.max((time, shape.name));
         if html.is_err() || time > most {
             is_right = false;
@@ -33,6 +34,13 @@ pub fn run(seconds: &str, size: &str) -> Result<bool, Box<dyn Error>> {
         slowest.1
     );
     Ok(is_right)
+}
+
+/// How long this process, which has one thread, has run on a processor.
+fn spent() -> Result<Duration, Box<dyn Error>> {
+    let told = fs::read_to_string("/proc/self/schedstat")?;
+    let nanoseconds = told.split(' ').next().unwrap_or("").parse()?;
+    Ok(Duration::from_nanos(nanoseconds))
 }
 
 /// A shape: its name, and a document of it with about so many bytes.

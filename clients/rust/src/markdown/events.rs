@@ -564,9 +564,9 @@ impl<'o, 'a> Walk<'o, 'a> {
         });
     }
 
-    /// A destination or a title. The parser hands out the same text for each link that uses a definition: what is made of
-    /// it stands in the bytes once. Two texts that are borrowed from the document are equal where their addresses and
-    /// lengths are.
+    /// A destination or a title. The parser hands out the same text for each link that uses a definition: what is made
+    /// of it stands in the bytes once. Two texts that are borrowed from the document are equal where their addresses
+    /// and lengths are.
     fn string(&mut self, name: Name, text: &CowStr, made: impl Fn(&str) -> Cow<str>) {
         let place = match text {
             CowStr::Borrowed(own) => Some((own.as_ptr() as usize, own.len())),
@@ -633,8 +633,8 @@ impl<'o, 'a> Walk<'o, 'a> {
             .text(Name::Data, if self.images > 0 { " " } else { "\n" });
     }
 
-    /// Whether HTML is a block here. In a tight list's item the parser doesn't tell; but there a block ends its line, by
-    /// itself or in the next event.
+    /// Whether HTML is a block here. In a tight list's item the parser doesn't tell; but there a block ends its line,
+    /// by itself or in the next event.
     fn is_in_flow(&self, html: &str, next: Option<&(Event, Range<usize>)>) -> bool {
         let is_line_end = |each| each == '\n' || each == '\r';
         match self.open.last() {

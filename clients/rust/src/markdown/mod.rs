@@ -63,8 +63,8 @@ pub struct MarkdownOptions {
     /// How many bytes the document may have; else any number.
     pub max_input: Option<usize>,
     /// How many bytes the text may have; else any number. What links and images lead to counts also where it is left
-    /// out, for its protocol. What a definition with a character reference or an escaped character leads to is bounded in
-    /// any case: by this bound or 16 megabytes, or by 256 if there is none, for all links that may use it.
+    /// out, for its protocol. What a definition with a character reference or an escaped character leads to is bounded
+    /// in any case: by this bound or 16 megabytes, or by 256 if there is none, for all links that may use it.
     pub max_output: Option<usize>,
 }
 
@@ -98,14 +98,14 @@ impl MarkdownOptions {
     }
 }
 
-/// The HTML of a Markdown document, with tables, strikethrough, tasks, footnotes and bare links. A byte order mark before
-/// it is passed over.
+/// The HTML of a Markdown document, with tables, strikethrough, tasks, footnotes and bare links. A byte order mark
+/// before it is passed over.
 ///
 /// # Errors
 ///
 /// [`Error::InputTooLong`] and [`Error::OutputTooLong`] where a bound of the options is passed, [`Error::Memory`] where
-/// the library finds no memory. [`Error::Refused`] would be a fault of this crate or of the parser: no document is known
-/// that gets it.
+/// the library finds no memory. [`Error::Refused`] would be a fault of this crate or of the parser: no document is
+/// known that gets it.
 ///
 /// ```
 /// use bivdrazo::{markdown_to_html, MarkdownOptions};
@@ -133,8 +133,8 @@ pub fn markdown_to_html(text: &str, options: &MarkdownOptions) -> Result<String,
 const MOST_COPIED: usize = 1 << 28;
 const LEAST_COPIED: usize = 1 << 24;
 
-/// At most so many bytes does the parser copy for links: it does so for each one whose definition has a character reference
-/// or an escaped character in its URL or title. A link has a bracket at least.
+/// At most so many bytes does the parser copy for links: it does so for each one whose definition has a character
+/// reference or an escaped character in its URL or title. A link has a bracket at least.
 fn copied(parser: &Parser, text: &str) -> usize {
     let own = |text: &CowStr| match text {
         CowStr::Boxed(text) => text.len(),
