@@ -7,7 +7,7 @@
  *         fputs(html, stdout);          (prints <p><strong>a</strong> &lt;b&gt;</p>)
  *     bivdrazo_markdown_free(html);
  *
- * Link with libbivdrazo-markdown, which has all that it needs but the C library. Its parser is pulldown-cmark, in Rust;
+ * Link with libbivdrazo-markdown, which needs the C library and GCC's beside it. Its parser is pulldown-cmark, in Rust;
  * with it come tables, strikethrough, tasks, footnotes and bare links. Nothing is proved of the parser: whatever events
  * it makes, the library of bivdrazo.h judges them, and what is proved of that holds of the text.
  *
