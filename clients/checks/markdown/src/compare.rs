@@ -1,7 +1,7 @@
 //! The comparison with pulldown-cmark's own renderer.
 
-use crate::judge::judge;
-use bivdrazo::{markdown_to_html, MarkdownOptions};
+use crate::judge::{judge, judge_without_html};
+use bivdrazo::{markdown_to_html, DocumentHtml, MarkdownOptions};
 use std::collections::BTreeMap;
 use std::error::Error;
 use std::fs;
@@ -78,13 +78,22 @@ fn compare(text: &str) -> (Vec<&'static str>, Option<String>) {
             )
         }
     };
-    let fault =
-        (html != judged.wanted).then(|| format!("  wanted {:?}\n  is     {html:?}", judged.wanted));
+    options.html = DocumentHtml::LeftOut;
+    let without = markdown_to_html(text, &options);
+    let fault = told(&judged.wanted, &html).or_else(|| match without {
+        Ok(without) => told(&judge_without_html(text), &without),
+        Err(error) => Some(format!("  {error}")),
+    });
     let mut classes = judged.classes;
     if html == judged.plain {
         classes.push("equal");
     }
     (classes, fault)
+}
+
+/// How a text is another one than is wanted.
+fn told(wanted: &str, text: &str) -> Option<String> {
+    (wanted != text).then(|| format!("  wanted {wanted:?}\n  is     {text:?}"))
 }
 
 /// A text without the tags of links.

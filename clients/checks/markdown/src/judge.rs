@@ -28,7 +28,7 @@ type Change = for<'a> fn(Events<'a>) -> Events<'a>;
 
 /// The classes that change the events, in the order in which they do.
 const CHANGES: [(&str, Change); 11] = [
-    ("html", with_html_as_text),
+    ("html", |events| changed_html(events, true)),
     ("span", with_ended_spans),
     ("protocol", |events| with_urls(events, without_protocol)),
     ("url", |events| {
@@ -104,8 +104,19 @@ pub fn judge(document: &str) -> Judged {
     }
 }
 
-/// HTML of the document becomes text. A block of it begins a line, and has no line endings at its end but one.
-fn with_html_as_text(events: Events) -> Events {
+/// What is wanted of a document where its HTML is left out.
+pub fn judge_without_html(document: &str) -> String {
+    let events = Parser::new_ext(document, options()).collect();
+    let without = changed_html(events, false);
+    let changes = CHANGES.iter().skip(1);
+    let text = rendered(&changes.fold(without, |events, (_, change)| change(events)));
+    TEXT_CHANGES
+        .iter()
+        .fold(text, |text, (_, change)| change(&text))
+}
+
+/// HTML of the document becomes text, or goes. A block of it begins a line, and has no line endings at its end but one.
+fn changed_html(events: Events, is_kept: bool) -> Events {
     let mut changed = Events::new();
     let mut open = Vec::new();
     let mut events = events.into_iter().peekable();
@@ -129,7 +140,9 @@ fn with_html_as_text(events: Events) -> Events {
             whole.truncate(whole.trim_end_matches(['\r', '\n']).len());
             whole = format!("{NEEDED}{whole}\n");
         }
-        changed.push(Event::Text(whole.into()));
+        if is_kept {
+            changed.push(Event::Text(whole.into()));
+        }
     }
     changed
 }
