@@ -326,6 +326,27 @@ fn byte_order_mark() {
     assert_eq!(html("\u{feff}# a"), "<h1>a</h1>\n");
 }
 
+/// HTML that ends the document is a block in a loose list's item, also without a line ending after it.
+#[test]
+fn html_at_the_end_of_a_loose_list() {
+    let first = "<ul>\n<li>\n<p>a</p>\n</li>\n<li>\n";
+    assert_eq!(
+        html("- a\n\n- <div>"),
+        format!("{first}&lt;div&gt;\n</li>\n</ul>\n")
+    );
+    let in_text = "<ul>\n<li>a</li>\n<li>&lt;div&gt;</li>\n</ul>\n";
+    assert_eq!(html("- a\n- <div>"), in_text);
+}
+
+/// The line ending between a table's head and its body isn't lost to a tight paragraph before it.
+#[test]
+fn table_after_a_tight_paragraph() {
+    let table =
+        "<table>\n<thead>\n<tr>\n<th>c</th>\n</tr>\n</thead>\n<tbody>\n<tr>\n<td>d</td>\n</tr>\n";
+    let wanted = format!("<ul>\n<li>a\n<h1>b</h1>\n{table}</tbody>\n</table>\n</li>\n</ul>\n");
+    assert_eq!(html("- a\n  # b\n  | c |\n  |---|\n  | d |"), wanted);
+}
+
 /// In a tight list's item the parser tells spans around blocks.
 #[test]
 fn spans_around_blocks() {
