@@ -171,6 +171,8 @@ fn html_without_comments() {
         "&lt;div&gt;&lt;/div&gt;\n"
     );
     assert_eq!(without("<!-- a\n\nb"), "");
+    let left_of_tabs = without(">\t<!-- a\n>\tb -->\n");
+    assert_eq!(left_of_tabs, "<blockquote>\n</blockquote>\n");
 }
 
 #[test]
