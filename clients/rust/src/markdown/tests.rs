@@ -411,7 +411,7 @@ fn bare() {
             vec!["mailto:a@b.org", "mailto:c@d.org"],
         ),
         (
-            "a.org awww.a.org irc://a.org javascript://a.org a@b",
+            "a.org awww.a.org \"www.a.org :www.a.org irc://a.org javascript://a.org a@b",
             vec![],
         ),
     ] {
