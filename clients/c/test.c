@@ -183,12 +183,14 @@ static void test_status_texts(void) {
  * The events of a link or an image with a resource: its label is the byte after `open`, and its destination reaches
  * from the third byte after that to the last byte but one.
  */
-static void test_rule_texts(void) {
+static void test_rule_and_name_texts(void) {
     CHECK(strcmp(bivdrazo_rule_text(BIVDRAZO_RULE_MDX), "a name of MDX") == 0);
     CHECK(strcmp(bivdrazo_rule_text(BIVDRAZO_RULE_TARGET), "a link or an image leads nowhere") == 0);
     for (uint32_t rule = BIVDRAZO_RULE_ORDER; rule <= BIVDRAZO_RULE_TARGET; rule++)
         CHECK(strcmp(bivdrazo_rule_text(rule), "an unknown rule") != 0);
     CHECK(strcmp(bivdrazo_rule_text(0), "an unknown rule") == 0);
+    CHECK(strcmp(bivdrazo_name_text(BIVDRAZO_NAME_MDX_JSX_TEXT_TAG), "MdxJsxTextTag") == 0);
+    CHECK(bivdrazo_name_text(0) == NULL && bivdrazo_name_text(BIVDRAZO_NAME_OTHER) == NULL);
 }
 
 /* Some of HTML's names, each in a document of its own. */
@@ -413,7 +415,7 @@ int main(void) {
     test_refusals();
     test_defaults();
     test_status_texts();
-    test_rule_texts();
+    test_rule_and_name_texts();
     test_references();
     test_null_options();
     test_options();

@@ -270,6 +270,18 @@ fn numbers_of_names() {
 }
 
 #[test]
+fn texts_of_names() {
+    for &name in NAMES {
+        assert_eq!(Name::from_text(&format!("{name:?}")), Some(name));
+    }
+    assert_eq!(Name::from_text("Other3"), Some(Name::Other(3)));
+    assert_eq!(Name::from_text("Other65535"), Some(Name::Other(65535)));
+    for text in ["data", "", "Other", "Other+3", "Other65536", "Other000003"] {
+        assert_eq!(Name::from_text(text), None, "{text}");
+    }
+}
+
+#[test]
 fn threads() {
     let work = |number: usize| {
         let text = number.to_string();

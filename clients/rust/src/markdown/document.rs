@@ -24,7 +24,11 @@ impl Document {
     }
 
     /// The document's HTML, if it has at most so many bytes.
-    pub(super) fn compile_within(
+    ///
+    /// # Errors
+    ///
+    /// As [`compile`](crate::compile), and [`Error::OutputTooLong`].
+    pub fn compile_within(
         &self,
         options: &Options,
         limit: Option<usize>,
