@@ -5,7 +5,7 @@
 #include <string.h>
 
 static const char USAGE[] =
-    "Usage: bivdrazo-render-cmark [--page TITLE] [FILE]\n"
+    "Usage: bivdrazo-render-cmark [--page TITLE | --events] [FILE]\n"
     "\n"
     "Renders Markdown, from FILE or from standard input, as safe HTML on standard output: with tables,\n"
     "strikethrough, tasks, autolinks and footnotes as in GFM. HTML in the document is printed as text, and a link "
@@ -13,6 +13,7 @@ static const char USAGE[] =
     "an image whose protocol isn't permitted leads nowhere.\n"
     "\n"
     "  --page TITLE   a whole page with that title, in place of the document's HTML alone\n"
+    "  --events       the parser's events, as an event script, in place of HTML; the library isn't called\n"
     "  --help         this text\n"
     "\n"
     "Ends with status 0 where the HTML was written, 1 where the library refused the events or a title (one\n"
@@ -31,16 +32,19 @@ enum status {
 struct request {
     const char *title; /* of the page, or NULL */
     const char *path;  /* of the file, or NULL for standard input */
+    bool is_events;
     bool is_help;
     bool is_readable;
 };
 
 static struct request read_arguments(int count, char **arguments) {
-    struct request request = {NULL, NULL, false, true};
+    struct request request = {NULL, NULL, false, false, true};
     for (int at = 1; at < count && request.is_readable; at++) {
         const char *argument = arguments[at];
         if (strcmp(argument, "--help") == 0)
             request.is_help = true;
+        else if (strcmp(argument, "--events") == 0)
+            request.is_events = true;
         else if (strcmp(argument, "--page") == 0 && at + 1 < count && request.title == NULL)
             request.title = arguments[++at];
         else if (request.path == NULL && (argument[0] != '-' || argument[1] == 0))
@@ -48,6 +52,8 @@ static struct request read_arguments(int count, char **arguments) {
         else
             request.is_readable = false;
     }
+    if (request.is_events && request.title != NULL)
+        request.is_readable = false;
     if (request.path != NULL && strcmp(request.path, "-") == 0)
         request.path = NULL;
     return request;
@@ -113,6 +119,11 @@ static enum status compile_title(const char *title, struct text *text) {
     return status;
 }
 
+/* Ends what is written to standard output. */
+static enum status end_output(void) {
+    return fflush(stdout) != 0 || ferror(stdout) ? NO_INPUT_OUTPUT : DONE;
+}
+
 /* Writes a text, alone or in a page with a title. */
 static enum status write_text(bool is_page, const struct text *title, const struct text *text) {
     if (is_page) {
@@ -123,7 +134,37 @@ static enum status write_text(bool is_page, const struct text *title, const stru
     fwrite(text->bytes, 1, text->length, stdout);
     if (is_page)
         fputs("</body></html>\n", stdout);
-    return fflush(stdout) != 0 || ferror(stdout) ? NO_INPUT_OUTPUT : DONE;
+    return end_output();
+}
+
+/* Writes an event as a line of an event script. */
+static void write_event(const bivdrazo_event *event) {
+    putchar(event->kind == BIVDRAZO_ENTER ? '+' : '-');
+    if (event->name == BIVDRAZO_NAME_OTHER)
+        printf("Other%u", event->other);
+    else
+        fputs(bivdrazo_name_text(event->name), stdout);
+    printf(" %zu\n", event->index);
+}
+
+/* Writes a document as an event script: a line for each event, the line `--`, the bytes. */
+static enum status write_script(const struct document *document) {
+    for (size_t at = 0; at < document->events_length; at++)
+        write_event(&document->events[at]);
+    fputs("--\n", stdout);
+    if (document->bytes_length > 0)
+        fwrite(document->bytes, 1, document->bytes_length, stdout);
+    return end_output();
+}
+
+/* Writes the events of a Markdown file. */
+static enum status write_events(const char *path) {
+    struct document document = document_new();
+    enum status status = read_document(path, &document);
+    if (status == DONE)
+        status = write_script(&document);
+    document_free(&document);
+    return status;
 }
 
 static enum status render(const struct request *request) {
@@ -151,7 +192,7 @@ int main(int count, char **arguments) {
     }
     if (request.is_help)
         return fputs(USAGE, stdout) < 0 || fflush(stdout) != 0 ? NO_INPUT_OUTPUT : DONE;
-    const enum status status = render(&request);
+    const enum status status = request.is_events ? write_events(request.path) : render(&request);
     if (status == NO_MEMORY)
         fputs("bivdrazo-render-cmark: out of memory\n", stderr);
     if (status == NO_INPUT_OUTPUT)

@@ -1,8 +1,9 @@
 //! What the arguments ask for.
 
-use bivdrazo::{DocumentHtml, MarkdownOptions};
+use crate::parser::Limits;
+use bivdrazo::{DocumentHtml, MarkdownOptions, Options};
 use clap::error::ErrorKind;
-use clap::{CommandFactory, Parser, ValueEnum};
+use clap::{value_parser, CommandFactory, Parser, ValueEnum};
 use std::path::{Path, PathBuf};
 
 /// Renders Markdown as safe HTML.
@@ -69,6 +70,18 @@ pub struct Arguments {
     #[arg(long, value_name = "URL")]
     pub base: Option<String>,
 
+    /// The parser. The one of cmark-gfm, which is written in C, runs in a process of its own with limits.
+    #[arg(long, value_enum, default_value_t = ParserName::PulldownCmark)]
+    pub parser: ParserName,
+
+    /// How many seconds of processor time cmark-gfm's parser may take, and three times as many by the clock; 10.
+    #[arg(long, value_name = "SECONDS", value_parser = value_parser!(u32).range(1..))]
+    pub parser_seconds: Option<u32>,
+
+    /// How much memory cmark-gfm's parser may take, and its events here as much once more; 512.
+    #[arg(long, value_name = "MEGABYTES", value_parser = value_parser!(u32).range(1..))]
+    pub parser_memory: Option<u32>,
+
     /// How many bytes a document may have.
     #[arg(long, value_name = "BYTES")]
     pub max_input: Option<usize>,
@@ -78,8 +91,17 @@ pub struct Arguments {
     pub max_output: Option<usize>,
 }
 
+/// A parser of Markdown.
+#[derive(Clone, Copy, Debug, Eq, PartialEq, ValueEnum)]
+pub enum ParserName {
+    /// pulldown-cmark, in Rust.
+    PulldownCmark,
+    /// cmark-gfm, for GFM to the byte.
+    CmarkGfm,
+}
+
 /// What becomes of HTML in the document.
-#[derive(Clone, Copy, Debug, ValueEnum)]
+#[derive(Clone, Copy, Debug, Eq, PartialEq, ValueEnum)]
 pub enum Html {
     /// It is printed as text.
     Text,
@@ -95,11 +117,55 @@ impl Arguments {
         let arguments = Arguments::parse();
         if arguments.files.len() > 1 && arguments.out_dir.is_none() {
             let told = "several files need --out-dir <DIR>";
-            Arguments::command()
-                .error(ErrorKind::MissingRequiredArgument, told)
-                .exit();
+            Arguments::end(ErrorKind::MissingRequiredArgument, told);
+        }
+        if let Some(option) = arguments.of_another_parser() {
+            let told = format!("{option} isn't there with this --parser");
+            Arguments::end(ErrorKind::ArgumentConflict, &told);
         }
         arguments
+    }
+
+    /// Ends the program, since the arguments can't be followed.
+    fn end(kind: ErrorKind, told: &str) -> ! {
+        Arguments::command().error(kind, told).exit()
+    }
+
+    /// An option that the parser doesn't have.
+    fn of_another_parser(&self) -> Option<&'static str> {
+        let options = match self.parser {
+            ParserName::PulldownCmark => vec![
+                ("--parser-seconds", self.parser_seconds.is_some()),
+                ("--parser-memory", self.parser_memory.is_some()),
+            ],
+            ParserName::CmarkGfm => vec![
+                ("--hard-breaks", self.hard_breaks),
+                ("--no-bare-links", self.no_bare_links),
+                ("--html", self.html != Html::Text),
+                ("--base", self.base.is_some()),
+            ],
+        };
+        let given = options.into_iter().find(|(_, is_given)| *is_given);
+        given.map(|(option, _)| option)
+    }
+
+    /// What cmark-gfm's parser may take.
+    pub fn limits(&self) -> Limits {
+        Limits {
+            seconds: self.parser_seconds.unwrap_or(10),
+            megabytes: self.parser_memory.unwrap_or(512),
+        }
+    }
+
+    /// The library's options, for the events of cmark-gfm's parser; they are safe.
+    pub fn library_options(&self) -> Options {
+        Options {
+            gfm_footnote_clobber_prefix: self.footnote_prefix.clone(),
+            gfm_footnote_number_ids: self.number_ids,
+            gfm_footnote_label: self.footnote_label.clone(),
+            gfm_footnote_back_label: self.footnote_back_label.clone(),
+            ..Options::default()
+        }
     }
 
     /// The file to render, where there is one.

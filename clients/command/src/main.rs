@@ -3,10 +3,13 @@
 mod arguments;
 mod files;
 mod page;
+mod parser;
+mod script;
 
-use arguments::Arguments;
+use arguments::{Arguments, ParserName};
 use bivdrazo::markdown_to_html;
 use page::Page;
+use parser::ParserError;
 use rayon::prelude::*;
 use std::error::Error;
 use std::path::Path;
@@ -64,12 +67,24 @@ fn render(
     target: Option<&Path>,
 ) -> Result<(), Failure> {
     let text = files::read(source, arguments.max_input)?;
-    let html = markdown_to_html(&text, &arguments.options())?;
-    let html = page.around(&html);
+    let html = page.around(&html_of(text, arguments)?);
     match target {
         Some(target) => files::write(target, html.as_bytes())
             .map_err(|error| format!("{}: {error}", target.display()).into()),
         None => files::print(html.as_bytes())
             .map_err(|error| format!("standard output: {error}").into()),
     }
+}
+
+/// The HTML of a text, by the parser that is asked for.
+fn html_of(text: String, arguments: &Arguments) -> Result<String, Failure> {
+    if arguments.parser == ParserName::PulldownCmark {
+        return Ok(markdown_to_html(&text, &arguments.options())?);
+    }
+    let document = parser::events_of(text, arguments.limits())?;
+    let html = document.compile_within(&arguments.library_options(), arguments.max_output);
+    html.map_err(|error| match error {
+        bivdrazo::Error::Refused { .. } => ParserError::Refused(error).into(),
+        _ => error.into(),
+    })
 }
