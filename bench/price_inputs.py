@@ -183,6 +183,16 @@ def references(count, label):
     return script(events, label + b"d\n")
 
 
+def images(count, label):
+    """So many images in one another, with this label in the innermost."""
+    size = len(label)
+    events = leaf("Data", 0, size)
+    resource = node("Resource", 0, 1, node("ResourceDestinationString", 0, 1, leaf("Data", 0, 1)))
+    head = ["+Image 0", "+Label 0", "+LabelText 0"] * count
+    tail = [f"-LabelText {size}", f"-Label {size}", *resource, f"-Image {size}"] * count
+    return script(["+Paragraph 0", *head, *events, *tail, f"-Paragraph {size}"], label)
+
+
 def cells(columns, rows, text):
     """A table with a text in each cell, empty where there is none."""
     size = len(text)
@@ -199,6 +209,8 @@ ENCODED = encoded(TEXTS["Cyrillic"].replace(" ", "_").replace(",", "").replace("
 INPUTS = {
     **{f"200 kB of {kind}": lambda text=text: paragraph(characters(text, 200_000)) for kind, text in TEXTS.items()},
     **{f"2,000 lines of {kind}": lambda text=text: lines(characters(text, 75), 2_000) for kind, text in TEXTS.items()},
+    "5,000 lines of six bytes, Cyrillic": lambda: lines("три".encode(), 5_000),
+    "5,000 lines of three bytes": lambda: lines(b"abc", 5_000),
     "every byte escaped": lambda: paragraph(b"&" * 50_000),
     "every byte escaped by turns": lambda: paragraph(b'<>"&' * 12_500),
     "every second byte escaped": lambda: paragraph(b"a<" * 25_000),
@@ -230,6 +242,10 @@ INPUTS = {
         f"a URL of 50 kB of {part.decode()!r}": lambda part=part: links(repeated(part, 50_000), 1)
         for part in (b"%41", b"a%41", b"a&", b"a ", b"a%", b"aa&", b"[a]", b"&", b" ", b"%zz", b"%%41", b"&key=value")
     },
+    **{
+        f"a path of 50 kB of {part.decode()!r}": lambda part=part: links(repeated(part, 50_000, b"/w/"), 1)
+        for part in (b"%41", b"a&", b"a ", b"a%", b"aa&", b"[a]", b"&", b" ")
+    },
     **{f"200 links, {kind}, 200 bytes": lambda text=text: links(characters(text.replace(" ", "-"), 200), 200)
        for kind, text in TEXTS.items()},
     "2,000 links of 10 bytes": lambda: links(b"/a/b?c=d#e", 2_000),
@@ -240,6 +256,8 @@ INPUTS = {
     "1,000 references, a label with spaces": lambda: references(1_000, b"  a   label  of many   words "),
     "1,000 references, a label past ASCII": lambda: references(1_000, "Метка ПРИМЕР".encode()),
     "1,000 references, a label of 500 bytes": lambda: references(1_000, b"l" * 500),
+    "1,000 images in one another, a label of 10 bytes": lambda: images(1_000, b"l" * 10),
+    "1,000 images in one another, a label of 500 bytes": lambda: images(1_000, b"l" * 500),
     "a table of empty cells": lambda: cells(100, 50, b""),
     "a table of cells": lambda: cells(20, 200, b"a cell"),
 }
