@@ -1,0 +1,14 @@
+-- Lemmas.
+mod Symbols
+mod Fitting
+mod Past
+mod Laid
+mod Places
+mod Sides
+mod Standing
+mod Inside
+mod Leaving
+mod Quiet
+mod Runs
+mod Defined
+mod Whole

@@ -1,0 +1,90 @@
+-- A call's number is its place among the calls so far: later ones don't change it.
+use Rattle.std.proofs.Common.{◌≡◌, ℕ, suc, Bool, true, false, not, ◌||◌, List, [], ◌∷◌, ◌++◌, refl, ap, sym, ◌∙◌, subst, bytes_eq, filter}
+use Rattle.std.specs.Prelude.{if◌then◌else◌}
+use Rattle.std.specs.List.{list_any}
+use Rattle.std.proofs.lemmas.Slice.Eq.{bytes_eq-Decides}
+use Rattle.md_base.proofs.Lies.{lie}
+use Rattle.md_meaning.specs.Meaning.Footnotes.{distinct, place_among}
+
+abbrev Identifier : Type 0
+Identifier = List ℕ
+
+abbrev is_other : Identifier → Identifier → Bool
+is_other first other = not (bytes_eq other first)
+
+-- an identifier is among others
+abbrev among : List Identifier → Identifier → Bool
+among xs x = list_any (λ y. bytes_eq y x) xs
+
+filter-append : (p : Identifier → Bool) (xs ys : List Identifier) → filter p (xs ++ ys) ≡ filter p xs ++ filter p ys
+filter-append p [] ys = refl
+filter-append p (x ∷ xs) ys = elim (p x) as (λ b. (if b then x ∷ filter p (xs ++ ys) else filter p (xs ++ ys))
+    ≡ (if b then x ∷ filter p xs else filter p xs) ++ filter p ys) [
+      | true ↦ ap (λ l. x ∷ l) (filter-append p xs ys)
+      | false ↦ filter-append p xs ys
+    ]
+
+-- the distinct ones of more begin with those of fewer
+distinct-append : (xs ys : List Identifier) → (more : List Identifier) × (distinct (xs ++ ys) ≡ distinct xs ++ more)
+distinct-append [] ys = (distinct ys, refl)
+distinct-append (x ∷ xs) ys =
+    let rest = distinct-append xs ys in (
+      filter (is_other x) rest.0,
+      ap (λ l. x ∷ filter (is_other x) l) rest.1
+          ∙ ap (λ l. x ∷ l) (filter-append (is_other x) (distinct xs) rest.0),
+    )
+
+place-append : (xs more : List Identifier) (x : Identifier) → among xs x ≡ true →
+    place_among (xs ++ more) x ≡ place_among xs x
+place-append [] more x h = lie h
+place-append (y ∷ xs) more x h = elim (bytes_eq y x) as (λ b. (b || among xs x) ≡ true →
+    (if b then 1 else suc (place_among (xs ++ more) x)) ≡ (if b then 1 else suc (place_among xs x))) [
+      | true ↦ λ e. refl
+      | false ↦ λ e. ap (λ n. suc n) (place-append xs more x e)
+    ] h
+
+same-self : (x : Identifier) → bytes_eq x x ≡ true
+same-self x = (bytes_eq-Decides x x).1 refl
+
+filter-keeps : (p : Identifier → Bool) (xs : List Identifier) (x : Identifier) → among xs x ≡ true → p x ≡ true →
+    among (filter p xs) x ≡ true
+filter-keeps p [] x h k = lie h
+filter-keeps p (y ∷ xs) x h k = elim (bytes_eq y x) as (λ b. bytes_eq y x ≡ b → (b || among xs x) ≡ true →
+    among (if p y then y ∷ filter p xs else filter p xs) x ≡ true) [
+      | true ↦ λ e g. subst (λ c. among (if c then y ∷ filter p xs else filter p xs) x ≡ true)
+          (sym (ap p ((bytes_eq-Decides y x).0 e) ∙ k)) (ap (λ b. b || among (filter p xs) x) e)
+      | false ↦ λ e g. elim (p y) as (λ c. among (if c then y ∷ filter p xs else filter p xs) x ≡ true) [
+        | true ↦ ap (λ b. b || among (filter p xs) x) e ∙ filter-keeps p xs x g k
+        | false ↦ filter-keeps p xs x g k
+      ]
+    ] refl h
+
+-- what is among some is among the distinct ones
+distinct-has : (xs : List Identifier) (x : Identifier) → among xs x ≡ true → among (distinct xs) x ≡ true
+distinct-has [] x h = lie h
+distinct-has (y ∷ xs) x h = elim (bytes_eq y x) as (λ b. bytes_eq y x ≡ b → (b || among xs x) ≡ true →
+    (b || among (filter (is_other y) (distinct xs)) x) ≡ true) [
+      | true ↦ λ e g. refl
+      | false ↦ λ e g. filter-keeps (is_other y) (distinct xs) x (distinct-has xs x g) (other e)
+    ] refl h
+  where
+    other : bytes_eq y x ≡ false → is_other y x ≡ true
+    other e = elim (bytes_eq x y) as (λ b. bytes_eq x y ≡ b → not b ≡ true) [
+      | true ↦ λ f. lie (sym e ∙ (ap (λ z. bytes_eq z x) (sym ((bytes_eq-Decides x y).0 f)) ∙ same-self x))
+      | false ↦ λ f. refl
+    ] refl
+
+last-among : (xs : List Identifier) (x : Identifier) → among (xs ++ x ∷ []) x ≡ true
+last-among [] x = ap (λ b. b || false) (same-self x)
+last-among (y ∷ xs) x = elim (bytes_eq y x) as (λ b. (b || among (xs ++ x ∷ []) x) ≡ true) [
+  | true ↦ refl
+  | false ↦ last-among xs x
+]
+
+pub place-so-far : (calls : List Identifier) (x : Identifier) (later : List Identifier) →
+    place_among (distinct ((calls ++ x ∷ []) ++ later)) x ≡ place_among (distinct (calls ++ x ∷ [])) x
+place-so-far calls x later =
+    let whole = distinct-append (calls ++ x ∷ []) later in
+    ap (λ l. place_among l x) whole.1
+    ∙ place-append (distinct (calls ++ x ∷ [])) whole.0 x
+    (distinct-has (calls ++ x ∷ []) x (last-among calls x))
