@@ -1,0 +1,125 @@
+#!/usr/bin/env python3
+"""Compares docs/API.md with what the code exports.
+
+    bench/api.py
+
+Of md_base, md_text, md_tree, md_html, md_script and md_page: the names at the root and the methods of the types among
+them are those of the crate's table, and of the last table, and no others. md_html hands on exactly the names of the
+tables of md_base, md_text and md_tree. The C header has each name of its table and declares no function but these and
+those that its own functions call. Each other crate's README says that it is internal. The status is 1 where something
+differs, and it says what.
+"""
+
+import pathlib
+import re
+import sys
+
+ROOT = pathlib.Path(__file__).resolve().parents[1]
+CRATES = ["md_base", "md_text", "md_tree", "md_html", "md_script", "md_page"]
+BELOW_HTML = ["md_base", "md_text", "md_tree"]
+# The C interface and the program, and what the README of each other crate says.
+OTHERS = ["md_ffi", "mdevents"]
+INTERNAL = "Internal: users call nothing of it ([docs/API.md](../../docs/API.md))."
+# What the inline functions of the header call.
+HELPERS = {"bivdrazo_answer_memory", "bivdrazo_is_too_long", "bivdrazo_first_size", "bivdrazo_grow", "bivdrazo_settle"}
+
+
+def named(cell):
+    """The names in a cell of a table, without their arguments."""
+    return {re.sub(r"\(.*", "", name) for name in re.findall(r"`([^`]*)`", cell)}
+
+
+def tables(page):
+    """Of each heading of the page the rows of its table, as lists of cells."""
+    found, heading = {}, ""
+    for line in page.split("\n"):
+        if line.startswith("## "):
+            heading = line[3:].strip("`")
+        elif line.startswith("| ") and not line.startswith(("| name |", "| crate |", "| you ")):
+            found.setdefault(heading, []).append(line.strip("| ").split(" | "))
+    return found
+
+
+def sources(crate):
+    """The texts of a crate's sources, without comments."""
+    for path in sorted((ROOT / "crates" / crate / "src").rglob("*.rt")):
+        yield path, re.sub(r"//.*", "", path.read_text())
+
+
+def exported(crate):
+    """The names that a crate's root makes public itself, and those that it hands on from the crates below, by crate."""
+    root = re.sub(r"//.*", "", (ROOT / "crates" / crate / "src" / "lib.rt").read_text())
+    own, handed = set(), {}
+    for path, names in re.findall(r"^pub use ([\w:]+)::(\{[^}]*\}|\w+);", root, re.MULTILINE):
+        below = path.split("::")[0]
+        into = handed.setdefault(below, set()) if below.startswith("md_") else own
+        into.update(re.findall(r"\w+", names))
+    own.update(re.findall(r"^pub (?:const fn|fn|struct|enum|trait|type|const|static|mod) (\w+)", root, re.MULTILINE))
+    return own, handed
+
+
+def methods(crate, types):
+    """The public methods of these types that a crate writes."""
+    blocks = re.compile(r"^impl(?:<[^{]*?>)? (\w+)(?:<[^{]*?>)? \{\n(.*?)^\}", re.MULTILINE | re.DOTALL)
+    found = set()
+    for _, text in sources(crate):
+        for kind, body in blocks.findall(text):
+            if kind in types:
+                found |= {f"{kind}::{name}" for name in re.findall(r"^    pub (?:const )?fn (\w+)", body, re.MULTILINE)}
+    return found
+
+
+def told(what, expected, found):
+    """A fault for each name that is only on one side."""
+    return [f"{what}: {name} isn't in docs/API.md" for name in sorted(found - expected)] + [
+        f"{what}: docs/API.md has {name}, which isn't there" for name in sorted(expected - found)]
+
+
+def crates_faults(found):
+    """What differs of the six crates."""
+    public = {crate: {name for row in found[crate] for name in named(row[0])} for crate in CRATES}
+    inner = [(named(row[0]), named(row[1])) for row in found["Exported, and not for users"]]
+    faults = []
+    for crate in CRATES:
+        others = {name for crates, names in inner if crate in crates for name in names}
+        own, handed = exported(crate)
+        faults += told(crate, public[crate] | others, own | methods(crate, own))
+        if crate == "md_html":
+            for below in BELOW_HTML:
+                roots = {name for name in public[below] if "::" not in name}
+                faults += told(f"md_html, of {below}", roots, handed.get(below, set()))
+        if set(handed) - (set(BELOW_HTML) if crate == "md_html" else set()):
+            faults.append(f"{crate} hands on names of {', '.join(sorted(handed))}")
+    return faults
+
+
+def header_faults(found):
+    """What differs of the C header, and of what the library exports to it."""
+    header = re.sub(r"/\*.*?\*/", "", (ROOT / "clients" / "c" / "bivdrazo.h").read_text(), flags=re.DOTALL)
+    expected = {name for row in found["The C interface"] for name in named(row[0])}
+    types = set(re.findall(r"^\} (bivdrazo_\w+);", header, re.MULTILINE))
+    functions = set(re.findall(r"^(?:static inline )?[\w ]+?[ *](bivdrazo_\w+)\(", header, re.MULTILINE))
+    faults = told("bivdrazo.h", expected, types | functions - HELPERS)
+    made = "".join(text for _, text in sources("md_ffi"))
+    given = set(re.findall(r'extern "C" fn (\w+)', made))
+    declared = set(re.findall(r"^(?!static)\w[\w ]*?[ *](bivdrazo_\w+)\(", header, re.MULTILINE))
+    return faults + [f"md_ffi and bivdrazo.h differ in {name}" for name in sorted(given ^ declared)]
+
+
+def readme_faults():
+    """The READMEs of internal crates that don't say that they are."""
+    for folder in sorted((ROOT / "crates").iterdir()):
+        if folder.name not in [*CRATES, *OTHERS] and INTERNAL not in (folder / "README.md").read_text():
+            yield f"crates/{folder.name}/README.md lacks: {INTERNAL}"
+
+
+def main():
+    """Says what differs."""
+    found = tables((ROOT / "docs" / "API.md").read_text())
+    faults = [*crates_faults(found), *header_faults(found), *readme_faults()]
+    print("\n".join(faults) if faults else "the public interface is as docs/API.md says")
+    sys.exit(1 if faults else 0)
+
+
+if __name__ == "__main__":
+    main()
