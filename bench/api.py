@@ -5,9 +5,9 @@
 
 Of md_base, md_text, md_tree, md_html, md_script and md_page: the names at the root and the methods of the types among
 them are those of the crate's table, and of the last table, and no others. md_html hands on exactly the names of the
-tables of md_base, md_text and md_tree. The C header has each name of its table and declares no function but these and
-those that its own functions call. Each other crate's README says that it is internal. The status is 1 where something
-differs, and it says what.
+tables of md_base, md_text and md_tree. The C headers have each name of their table, and declare no function but these
+and those that their own functions call. Each other crate's README says that it is internal. The status is 1 where
+something differs, and it says what.
 """
 
 import pathlib
@@ -20,7 +20,7 @@ BELOW_HTML = ["md_base", "md_text", "md_tree"]
 # The C interface and the program, and what the README of each other crate says.
 OTHERS = ["md_ffi", "mdevents"]
 INTERNAL = "Internal: users call nothing of it ([docs/API.md](../../docs/API.md))."
-# What the inline functions of the header call.
+# What the inline functions of the headers call.
 HELPERS = {"bivdrazo_answer_memory", "bivdrazo_is_too_long", "bivdrazo_first_size", "bivdrazo_grow", "bivdrazo_settle"}
 
 
@@ -94,12 +94,13 @@ def crates_faults(found):
 
 
 def header_faults(found):
-    """What differs of the C header, and of what the library exports to it."""
-    header = re.sub(r"/\*.*?\*/", "", (ROOT / "clients" / "c" / "bivdrazo.h").read_text(), flags=re.DOTALL)
+    """What differs of the C headers, and of what the library exports to them."""
+    headers = [(ROOT / "clients" / "c" / name).read_text() for name in ("bivdrazo.h", "bivdrazo_numbers.h")]
+    header = re.sub(r"/\*.*?\*/", "", "\n".join(headers), flags=re.DOTALL)
     expected = {name for row in found["The C interface"] for name in named(row[0])}
     types = set(re.findall(r"^\} (bivdrazo_\w+);", header, re.MULTILINE))
     functions = set(re.findall(r"^(?:static inline )?[\w ]+?[ *](bivdrazo_\w+)\(", header, re.MULTILINE))
-    faults = told("bivdrazo.h", expected, types | functions - HELPERS)
+    faults = told("C headers", expected, types | functions - HELPERS)
     made = "".join(text for _, text in sources("md_ffi"))
     given = set(re.findall(r'extern "C" fn (\w+)', made))
     declared = set(re.findall(r"^(?!static)\w[\w ]*?[ *](bivdrazo_\w+)\(", header, re.MULTILINE))
