@@ -1,8 +1,5 @@
 //! What names and spines are to the grammar.
 
-ghost use Rattle.std.specs.Prelude.{◌≡◌};
-ghost use Rattle.md_pattern.specs.Pattern.{class_of};
-
 /// What patterns see of a node. Names that all patterns treat alike share one symbol.
 #[derive(Clone, Copy, PartialEq, Eq)]
 pub enum Symbol {
@@ -217,16 +214,4 @@ pub enum Item {
     Maybe(Class),
     /// Any number, or none.
     Many(Class),
-}
-
-impl Item {
-    /// The class whose symbols it takes.
-    #[inline(always)]
-    pub fn class(self) -> Class
-        ensures { result ≡ class_of self }
-    {
-        match self {
-            Item::Once(class) | Item::Maybe(class) | Item::Many(class) => class,
-        }
-    }
 }

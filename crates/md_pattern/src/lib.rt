@@ -3,16 +3,13 @@
 #![tactic(auto)]
 
 mod kinds;
-mod patterns;
 mod places;
 mod shape;
 mod standings;
 mod state;
-mod steps;
 
 pub use kinds::{Reading, Role, Standing, Symbol};
 pub use places::Place;
 pub use shape::role_for;
 pub use standings::standing_of;
 pub use state::State;
-pub use steps::{advance, can_be_leaf, is_complete, may_hold, start_of};

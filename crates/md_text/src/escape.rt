@@ -1,6 +1,6 @@
 //! Escaping of texts that stand in HTML.
 
-ghost use Rattle.std.specs.Prelude.{◌≡◌, ◌+◌, ◌∷◌, ◌++◌, ◌<◌, ◌≤◌, [], false, IfOk, OnOk, is_ok, if◌then◌else◌, MatchOption, length, get_or, take, drop, min, encode_utf8_all};
+ghost use Rattle.std.specs.Prelude.{◌≡◌, ◌+◌, ◌∷◌, ◌++◌, ◌<◌, ◌≤◌, [], false, IfOk, OnOk, is_ok, if◌then◌else◌, length, get_or, take, drop, min, encode_utf8_all};
 ghost use Rattle.std.specs.String.{string_bytes};
 ghost use Rattle.std.specs.List.{flat_map, prefix_len};
 ghost use Rattle.std.specs.Str.{chars};
@@ -82,31 +82,6 @@ fn push_replacement(out: &mut String, byte: u8, encode_html: bool) -> Result<(),
     }
 }
 
-/// The index of the first byte that doesn't stay, and what stands in its place; what is before it stays.
-///
-/// # Examples
-///
-/// ```
-/// assert_eq!(first_replaced(b"a<b", true), Some((1, "&lt;")));
-/// assert_eq!(first_replaced(b"a<b", false), None);
-/// ```
-#[inline(always)]
-pub fn first_replaced(bytes: &[u8], encode_html: bool) -> Option<(usize, &'static str)>
-    ensures { MatchOption result (encoded encode_html bytes.now ≡ bytes.now)
-        (λ found. (found.0 < length bytes.now) × (get_or bytes.now found.0 0 < 128)
-        × (encoded encode_html (take found.0 bytes.now) ≡ take found.0 bytes.now)
-        × (encoded_byte encode_html (get_or bytes.now found.0 0) ≡ found.1.now)) }
-{
-    let index = run_length(Kept { encode_html }, bytes);
-    if index >= bytes.len() {
-        return None;
-    }
-    match replacement(bytes[index], encode_html) {
-        Some(other) => Some((index, other)),
-        None => None,
-    }
-}
-
 /// The test that a byte stays.
 #[derive(Clone, Copy)]
 struct Kept {
@@ -148,24 +123,4 @@ fn is_kept(byte: u8, encode_html: bool) -> bool
     ensures { result ≡ is_kept encode_html byte }
 {
     byte != 0 && !(encode_html && matches!(byte, b'&' | b'"' | b'<' | b'>'))
-}
-
-/// What stands in place of a byte, if it doesn't stay.
-fn replacement(byte: u8, encode_html: bool) -> Option<&'static str>
-    ensures { MatchOption result (encoded_byte encode_html byte ≡ byte ∷ []) (λ text. (byte < 128)
-        × (encoded_byte encode_html byte ≡ text.now)) }
-{
-    if byte == 0 {
-        return Some("\u{FFFD}");
-    }
-    if !encode_html {
-        return None;
-    }
-    match byte {
-        b'&' => Some("&amp;"),
-        b'"' => Some("&quot;"),
-        b'<' => Some("&lt;"),
-        b'>' => Some("&gt;"),
-        _ => None,
-    }
 }

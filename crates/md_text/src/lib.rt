@@ -11,7 +11,7 @@ mod names;
 mod options;
 mod url;
 
-pub use escape::{encode, first_replaced, push_encoded};
+pub use escape::{encode, push_encoded};
 pub use filter::gfm_tagfilter;
 pub use line_ending::{LineEnding, LineEndingError};
 pub use options::CompileOptions;
