@@ -8,6 +8,7 @@ pub mod Stands
 pub mod Leading
 pub mod Resolved
 pub mod Listed
+pub mod Alike
 pub mod Decoding
 pub mod Fitting
 pub mod Grammatical

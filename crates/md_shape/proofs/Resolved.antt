@@ -40,7 +40,7 @@ use Rattle.md_shape.proofs.Firsts.{IsFine, AreFine, fine, shaped}
 use Rattle.md_shape.proofs.Leading.{media-refers, call-refers, call-label, definition-label, footnote-label}
 
 -- a claim that a fine node meets holds of each
-everywhere : (bytes : List ℕ) (names : List (List ℕ × List ℕ)) (holds : Name → Point → Point → Forest → Type 0) →
+pub everywhere : (bytes : List ℕ) (names : List (List ℕ × List ℕ)) (holds : Name → Point → Point → Forest → Type 0) →
     ((around : Role) (before : Option Symbol) (name : Name) (start end : Point) (children : Forest) →
     IsFine bytes names around before name start end children →
     AreFine bytes names children (inner_role (standing_of name) around before)
@@ -254,7 +254,7 @@ definition-adds bytes GfmFootnoteDefinition children around before start end is 
 definition-adds bytes _ children around before start end is inner ds = refl
 
 -- the identifiers of definitions are the same to both
-definitions-known : (bytes : List ℕ) (forest : Forest) (around : Role) (before : Option Symbol) →
+pub definitions-known : (bytes : List ℕ) (forest : Forest) (around : Role) (before : Option Symbol) →
     AreShaped forest around before → map known (defined bytes (mentions_of forest)) ≡ defined_in bytes forest
 definitions-known bytes Empty around before shaped = refl
 definitions-known bytes (Node name start end children rest) around before shaped =
@@ -306,7 +306,7 @@ footnote-adds bytes Definition children around before start end is inner ds =
     ap (map known) (unnoted-definition bytes (target_of children Missing) ds)
 footnote-adds bytes _ children around before start end is inner ds = refl
 
-footnotes-known : (bytes : List ℕ) (forest : Forest) (around : Role) (before : Option Symbol) →
+pub footnotes-known : (bytes : List ℕ) (forest : Forest) (around : Role) (before : Option Symbol) →
     AreShaped forest around before → map known (footnoted bytes (mentions_of forest))
     ≡ footnotes_defined_in bytes forest
 footnotes-known bytes Empty around before shaped = refl

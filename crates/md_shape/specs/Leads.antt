@@ -1,5 +1,5 @@
 -- By what nodes of a document refer to one another, and that what the meaning reads of a document is there.
-use Rattle.std.specs.Prelude.{◌≡◌, ℕ, ◌⊎◌, ◌-◌, List, [], ◌∷◌, ◌++◌, Option, Some, None, is_some, IsTrue, Contains, length, slice_get}
+use Rattle.std.specs.Prelude.{◌≡◌, ℕ, ◌⊎◌, ◌-◌, List, [], ◌∷◌, ◌++◌, Option, Some, None, is_some, IsTrue, Contains, length, slice_get, suc, if◌then◌else◌, bytes_eq, option_map, option_and_then}
 use Rattle.md_base.specs.declared.event.Name.{Name}
 use Rattle.md_base.specs.declared.event.Name.TheVariants.{Link, Image, Definition, GfmFootnoteCall, GfmFootnoteDefinition, CharacterReferenceValue}
 use Rattle.md_base.specs.declared.event.Point.{Point}
@@ -15,6 +15,9 @@ use Rattle.md_tree.specs.declared.mention.Target.TheVariants.{Missing, Label, Re
 use Rattle.md_base.specs.Is.{is}
 use Rattle.md_base.specs.Tree.{Forest, Empty, Node}
 use Rattle.md_tree.specs.Rules.{target_of}
+use Rattle.md_tree.specs.declared.mention.Mention.TheVariants.{Reference, Call}
+use Rattle.md_tree.specs.Mentions.{mentions_of}
+use Rattle.md_tree.specs.Numbers.{definition_for, footnote_for}
 use Rattle.md_tree.specs.Texts.{is_text_name, is_identifier_name}
 use Rattle.md_meaning.specs.Meaning.Layout.{when}
 use Rattle.md_meaning.specs.Meaning.At.{identifier_of}
@@ -99,3 +102,22 @@ LeadsSomewhere bytes document Image start end children =
 LeadsSomewhere bytes document GfmFootnoteCall start end children =
     Contains (footnotes_defined_in bytes document) (identifier_of bytes children)
 LeadsSomewhere bytes document _ start end children = Unit {0}
+
+-- which of some identifiers, counted from 0, is the first that is this one
+abbrev pub first_of : List (List ℕ) → List ℕ → Option ℕ
+first_of [] wanted = None
+first_of (identifier ∷ others) wanted =
+    if bytes_eq identifier wanted then Some 0 else option_map (λ place. suc place) (first_of others wanted)
+
+-- the check and the meaning mean one definition, or footnote definition, by a label
+abbrev pub LeadsAlike : List ℕ → Forest → Name → Point → Point → Forest → Type 0
+LeadsAlike bytes document name start end children =
+    (label : Position) → target_of children Missing ≡ Label label →
+    (definition_for bytes (mentions_of document) (Reference label)
+    ≡ first_of (defined_in bytes document) (identifier_of bytes children))
+    × (footnote_for bytes (mentions_of document) (Call label)
+    ≡ first_of (footnotes_defined_in bytes document) (identifier_of bytes children))
+
+-- where they are found
+abbrev pub found_at : {A : Type 0} → List A → Option ℕ → Option A
+found_at found place = option_and_then (λ there. slice_get found there) place

@@ -1,14 +1,14 @@
 //! What holds of every document of the grammar, as the contracts of functions that do nothing.
 
-ghost use Rattle.std.specs.Prelude.{◌≡◌, ℕ, List, [], map, false};
+ghost use Rattle.std.specs.Prelude.{◌≡◌, ℕ, List, [], map, false, find, bytes_eq};
 ghost use Rattle.md_base.specs.Tree.{Forest};
 ghost use Rattle.md_tree.specs.Grammar.{IsGrammatical};
 ghost use Rattle.md_meaning.specs.declared.context.Surroundings.{Surroundings};
-ghost use Rattle.md_meaning.specs.Meaning.At.{Given, Before};
+ghost use Rattle.md_meaning.specs.Meaning.At.{Given, Before, Defined, Footnote};
 ghost use Rattle.md_meaning.specs.Meaning.Nodes.{outcome};
 ghost use Rattle.md_shape.specs.Built.{Blocks, IsBuilt};
 ghost use Rattle.md_shape.specs.Underlined.{IsUnderlined};
-ghost use Rattle.md_shape.specs.Leads.{Everywhere, EverywhereAfter, HasItsText, HasItsLabel, Decodes, RefersAlike, LeadsSomewhere, defined_in, footnotes_defined_in};
+ghost use Rattle.md_shape.specs.Leads.{Everywhere, EverywhereAfter, HasItsText, HasItsLabel, Decodes, RefersAlike, LeadsSomewhere, LeadsAlike, first_of, found_at, defined_in, footnotes_defined_in};
 
 /// Each document of the grammar is built of what may stand where it is, beginning with blocks.
 pub fn grammatical_documents_are_built()
@@ -46,6 +46,14 @@ pub fn printer_finds_the_labels()
 pub fn references_lead_somewhere()
     ensures found { (bytes : List ℕ) (names : List (List ℕ × List ℕ)) (document : Forest)
         → IsGrammatical bytes names document → Everywhere (LeadsSomewhere bytes document) document }
+    ensures alike { (bytes : List ℕ) (names : List (List ℕ × List ℕ)) (document : Forest)
+        → IsGrammatical bytes names document → Everywhere (LeadsAlike bytes document) document }
+    ensures first { (definitions : List Defined) (identifier : List ℕ)
+        → find (λ defined. bytes_eq defined.identifier identifier) definitions
+        ≡ found_at definitions (first_of (map (λ defined. defined.identifier) definitions) identifier) }
+    ensures first_footnote { (footnotes : List Footnote) (identifier : List ℕ)
+        → find (λ footnote. bytes_eq footnote.identifier identifier) footnotes
+        ≡ found_at footnotes (first_of (map (λ footnote. footnote.identifier) footnotes) identifier) }
     ensures definitions { (given : Given) (around : Surroundings) (before : Before) (document : Forest)
         → map (λ defined. defined.identifier) (outcome given around before document).definitions
         ≡ defined_in given.bytes document }

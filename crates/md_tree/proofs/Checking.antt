@@ -1,7 +1,7 @@
 -- What a check may say of a list of events: why each refusal is one, and that a list that passes is of the grammar.
 -- The contracts of `check` and of `Reader` follow from it.
 use Rattle.std.proofs.Common.{◌≡◌, ◌⊎◌, inl, inr, ℕ, suc, ◌<◌, ◌≤◌, false, Option, Some, None, List, [], ◌∷◌, ◌++◌, length, take, drop, get_or, refl, sym, ap, ◌∙◌, subst, arith}
-use Rattle.std.specs.Prelude.{slice_get}
+use Rattle.std.specs.Prelude.{map, slice_get}
 use Rattle.std.specs.List.{All}
 use Rattle.std.proofs.Math.Seq.{take-suc, drop-cons}
 use Rattle.std.proofs.lemmas.List.{take-append-drop}
@@ -32,10 +32,14 @@ use Rattle.md_tree.specs.Machine.{Reads, Course, Runs, Steps, StepsBy, beginning
 use Rattle.md_tree.specs.Walk.{Anything, Unbroken, BreaksWhere, BreaksAtExit, StopsBy, IsStop}
 use Rattle.md_tree.specs.Resolve.{LeadsNowhere, IsUnresolvedBy, IsUnresolved}
 use Rattle.md_tree.proofs.Indexed.{flatten_one}
-use Rattle.md_tree.proofs.Listing.{resolved-listed, all-resolved, got-listed}
+use Rattle.md_tree.proofs.Listing.{listed, resolved-listed, all-resolved, got-listed}
 use Rattle.md_tree.proofs.Breaks.{IsOfNode, of_node}
 use Rattle.md_tree.proofs.Trees.{Runs-append}
 use Rattle.md_tree.proofs.Verdicts.{Reached-runs, BeginNoTree-stuck, outside-stopped}
+use Rattle.md_base.specs.Tree.{Forest, flatten}
+use Rattle.md_infer.specs.Facts.{facts_at}
+use Rattle.md_tree.specs.Numbers.{all_numbered, number_for, facts_with}
+use Rattle.md_tree.proofs.Numbers.{all_numbered-listed}
 use Rattle.md_tree.proofs.Endings.{EndsBroken-exit, LeaveOpen-undone, outside-undone, IsWalked}
 
 -- ---- one event more
@@ -318,3 +322,13 @@ IsChecked-walked given mentioned walked resolved = (
     };
   },
 )
+
+pub AreNumbered-walked : (given : Handed) (mentioned : List Mentioned) → IsWalked given mentioned →
+    (forest : Forest) → flatten forest ≡ given.events →
+    all_numbered given.bytes (mentions_among mentioned) mentioned (facts_at given.events)
+    ≡ facts_with (map (number_for given.bytes (mentions_of forest)) (mentions_of forest)) (facts_at given.events)
+AreNumbered-walked given mentioned walked forest flattens =
+    ap (λ ms. all_numbered given.bytes (mentions_among ms) ms (facts_at given.events)) (walked.mentions_are
+    ∙ ap (λ f. listed 0 (mentions_of f)) (flatten_one Data somewhere walked.forest forest (walked.flattened
+    ∙ sym flattens)))
+    ∙ all_numbered-listed given.bytes (mentions_of forest) (facts_at given.events)

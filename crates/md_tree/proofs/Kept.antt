@@ -21,6 +21,14 @@ use Rattle.md_tree.specs.Checked.{handed_of, IsKept}
 use Rattle.md_infer.specs.Facts.{facts_at, tables_at, definitions_at, fact_at}
 use Rattle.md_tree.specs.Found.{EntersSome, IsFactAt, position_ended}
 use Rattle.md_tree.specs.Indices.{AreDefinitions}
+use Rattle.md_tree.specs.Mentions.{mentions_of, mention_of}
+use Rattle.md_base.specs.declared.event.Event.{Event}
+use Rattle.md_base.specs.declared.event.Kind.TheVariants.{Exit}
+use Rattle.md_tree.specs.declared.mention.Mention.{Mention}
+use Rattle.md_tree.specs.declared.mention.Target.{Target}
+use Rattle.md_tree.specs.Rules.{reading_of}
+use Rattle.md_tree.specs.Numbers.{number_for, with_number, facts_with, AreNumbered, ExitsOf, is_of_definitions, is_of_footnotes, definition_for, footnote_for, place_of}
+use Rattle.md_tree.proofs.Numbers.{told-at, got-with, ended-with, length-with, kept-number, number-definition, number-footnote}
 use Rattle.md_tree.proofs.Defining.{definitions-entered}
 use Rattle.md_infer.proofs.Passing.{definitions-flatten}
 use Rattle.md_tree.proofs.Indexed.{HaveText, EndedAt, EndedAt-checked}
@@ -31,8 +39,22 @@ module _ (inside : Inside) (given : Handed) (index : ℕ) (kept : IsKept inside)
   flattened : flatten kept.0.0 ≡ given.events
   flattened = IsReadAs.flattened kept.0.1 ∙ ap (λ (g : Handed). g.events) same
 
-  pub facts_are : inside.facts.items ≡ facts_at given.events
-  facts_are = kept.1 ∙ ap (λ (g : Handed). facts_at g.events) same
+  abbrev pub numbers : List ℕ
+  numbers = map (number_for given.bytes (mentions_of kept.0.0)) (mentions_of kept.0.0)
+
+  pub facts_are : inside.facts.items ≡ facts_with numbers (facts_at given.events)
+  facts_are = subst (λ g. AreNumbered g inside.facts.items) same kept.1 kept.0.0 flattened
+
+  -- at an entry no number is kept
+  entry-got : (name : Name) → EntersAt given.events index name → (fact : Fact) →
+      slice_get inside.facts.items index ≡ Some fact → slice_get (facts_at given.events) index ≡ Some fact
+  entry-got name enters fact got =
+      let here = told-at kept.0.0 given.events index enters.0 flattened enters.1 in
+      let kept_here = got-with (number_for given.bytes (mentions_of kept.0.0)) (mentions_of kept.0.0)
+      (facts_at given.events) index here.0 here.1 here.2 here.3 in
+      here.2
+      ∙ ap (λ m. Some (with_number (number_for given.bytes (mentions_of kept.0.0) m) here.0)) (sym (here.4.0 enters.2))
+      ∙ sym kept_here ∙ ap (λ xs. slice_get xs index) (sym facts_are) ∙ got
 
   tables_are : map (λ t. t.items) inside.tables.items ≡ tables_at given.events
   tables_are = kept.2 ∙ ap (λ (g : Handed). tables_at g.events) same
@@ -60,18 +82,20 @@ module _ (inside : Inside) (given : Handed) (index : ℕ) (kept : IsKept inside)
   ended-place there found are is =
       is ∙ ap (λ (g : Handed). position_ended g.events there index) same
       ∙ ap (λ fs. position_ended given.events fs index) (are ∙ facts_are)
+      ∙ ended-with given.events numbers (facts_at given.events) index
 
   pub facts-inside : EntersSome given.events index → index < length inside.facts.items
   facts-inside enters =
-      subst (λ xs. index < length xs) (sym facts_are) (facts_at-inside given index enters.0 enters.1 kept.0.0 flattened)
+      subst (λ xs. index < length xs) (sym facts_are)
+      (subst (λ n. index < n) (sym (length-with numbers (facts_at given.events)))
+      (facts_at-inside given index enters.0 enters.1 kept.0.0 flattened))
 
   pub node-entered : EntersSome given.events index → EntersNode given index
   node-entered enters = EntersNode-entered given index enters.0 enters.1 kept.0.0 flattened
 
   pub fact-kept : (fact : Fact) → slice_get inside.facts.items index ≡ Some fact → IsFactAt given index fact
   fact-kept fact got name children enters entered =
-      let found = found-entered given index name enters children fact entered
-      (ap (λ xs. slice_get xs index) (sym facts_are) ∙ got) in
+      let found = found-entered given index name enters children fact entered (entry-got name enters fact got) in
       (found.0, found.1)
 
   -- a table's columns
@@ -80,7 +104,7 @@ module _ (inside : Inside) (given : Handed) (index : ℕ) (kept : IsKept inside)
       slice_get (map (λ t. t.items) inside.tables.items) fact.read_at ≡ Some (alignments children)
   columns-kept enters fact got children entered =
       let found = found-entered given index GfmTable enters children fact entered
-      (ap (λ xs. slice_get xs index) (sym facts_are) ∙ got) in
+      (entry-got GfmTable enters fact got) in
       ap (λ (f : Fact). slice_get (map (λ t. t.items) inside.tables.items) f.read_at) found.1
       ∙ ap (λ ts. slice_get ts (Fact.read_at (fact_at index found.0 GfmTable children))) tables_are ∙ found.2 refl
 
@@ -91,3 +115,61 @@ module _ (inside : Inside) (given : Handed) (index : ℕ) (kept : IsKept inside)
       subst (λ n. fact.read_at < n) (length-map inside.tables.items (λ t. t.items))
       (got_inside (map (λ t. t.items) inside.tables.items) fact.read_at (alignments node.0)
       (columns-kept enters fact got node.0 node.1))
+
+  -- the number at an exit
+  pub exit-inside : (is : Name → Bool) → ExitsOf is given.events index → index < length inside.facts.items
+  exit-inside is exits =
+      let here = told-at kept.0.0 given.events index exits.1.0 flattened exits.1.1 in
+      got_inside inside.facts.items index (with_number (number_for given.bytes (mentions_of kept.0.0) here.1) here.0)
+      (ap (λ xs. slice_get xs index) facts_are
+      ∙ got-with (number_for given.bytes (mentions_of kept.0.0)) (mentions_of kept.0.0) (facts_at given.events) index
+      here.0 here.1 here.2 here.3)
+
+  number-kept : (event : Event) → slice_get given.events index ≡ Some event → event.kind ≡ Exit → (fact : Fact) →
+      slice_get inside.facts.items index ≡ Some fact → (forest : Forest) (mention : Mention) →
+      flatten forest ≡ given.events → slice_get (mentions_of forest) index ≡ Some mention →
+      (fact.read_at ≡ number_for given.bytes (mentions_of forest) mention)
+      × ((target : Target) × (mention ≡ mention_of (reading_of (standing_of event.name)) target))
+  number-kept event there exits fact got forest mention flattens here =
+      let told = told-at forest given.events index event flattens there in
+      let number = number_for given.bytes (mentions_of forest) in
+      let one : told.1 ≡ mention = one_some told.1 mention (sym told.3 ∙ here) in
+      let two : with_number (number told.1) told.0 ≡ fact = one_some (with_number (number told.1) told.0) fact
+      (sym (got-with number (mentions_of forest) (facts_at given.events) index told.0 told.1 told.2 told.3)
+      ∙ ap (λ xs. slice_get xs index) (sym (subst (λ g. AreNumbered g inside.facts.items) same kept.1 forest flattens))
+      ∙ got) in
+      let at_exit = told.4.1 exits in (
+        ap (λ (f : Fact). f.read_at) (sym two) ∙ kept-number (number told.1) told.0 at_exit.0 ∙ ap number one,
+        (at_exit.1.0, sym one ∙ at_exit.1.1),
+      )
+    where
+      one_some : {A : Type 0} (x y : A) → Some x ≡ Some y → x ≡ y
+      one_some x y e = cc
+
+  pub definition-kept : (exits : ExitsOf is_of_definitions given.events index) (fact : Fact) →
+      slice_get inside.facts.items index ≡ Some fact → (forest : Forest) (mention : Mention) →
+      flatten forest ≡ given.events → slice_get (mentions_of forest) index ≡ Some mention →
+      place_of fact.read_at ≡ definition_for given.bytes (mentions_of forest) mention
+  definition-kept exits fact got forest mention flattens here =
+      let all = mentions_of forest in
+      let kept_here = number-kept exits.1.0 exits.1.1 exits.1.2 fact got forest mention flattens here in
+      let reads = reading_of (standing_of exits.0) in
+      let is : mention ≡ mention_of reads kept_here.1.0 = kept_here.1.1
+      ∙ ap (λ n. mention_of (reading_of (standing_of n)) kept_here.1.0) exits.1.3 in
+      ap place_of (kept_here.0 ∙ ap (number_for given.bytes all) is)
+      ∙ number-definition given.bytes all exits.0 kept_here.1.0 exits.2
+      ∙ ap (definition_for given.bytes all) (sym is)
+
+  pub footnote-kept : (exits : ExitsOf is_of_footnotes given.events index) (fact : Fact) →
+      slice_get inside.facts.items index ≡ Some fact → (forest : Forest) (mention : Mention) →
+      flatten forest ≡ given.events → slice_get (mentions_of forest) index ≡ Some mention →
+      place_of fact.read_at ≡ footnote_for given.bytes (mentions_of forest) mention
+  footnote-kept exits fact got forest mention flattens here =
+      let all = mentions_of forest in
+      let kept_here = number-kept exits.1.0 exits.1.1 exits.1.2 fact got forest mention flattens here in
+      let reads = reading_of (standing_of exits.0) in
+      let is : mention ≡ mention_of reads kept_here.1.0 = kept_here.1.1
+      ∙ ap (λ n. mention_of (reading_of (standing_of n)) kept_here.1.0) exits.1.3 in
+      ap place_of (kept_here.0 ∙ ap (number_for given.bytes all) is)
+      ∙ number-footnote given.bytes all exits.0 kept_here.1.0 exits.2
+      ∙ ap (footnote_for given.bytes all) (sym is)

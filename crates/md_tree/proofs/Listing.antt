@@ -59,7 +59,7 @@ mentions_over-listed forest =
     ∙ ap (listed 0) (append-nil (mentions_of forest))
 
 -- what is defined stands in the list
-defined_listed : (bytes : List ℕ) (mentions : List Mention) (index : ℕ) →
+pub defined_listed : (bytes : List ℕ) (mentions : List Mention) (index : ℕ) →
     defined bytes (mentions_among (listed index mentions)) ≡ defined bytes mentions
 defined_listed bytes [] index = refl
 defined_listed bytes (Definition label ∷ mentions) index =
@@ -69,7 +69,7 @@ defined_listed bytes (Reference label ∷ mentions) index = defined_listed bytes
 defined_listed bytes (Call label ∷ mentions) index = defined_listed bytes mentions (suc index)
 defined_listed bytes (FootnoteDefinition label ∷ mentions) index = defined_listed bytes mentions (suc index)
 
-footnoted_listed : (bytes : List ℕ) (mentions : List Mention) (index : ℕ) →
+pub footnoted_listed : (bytes : List ℕ) (mentions : List Mention) (index : ℕ) →
     footnoted bytes (mentions_among (listed index mentions)) ≡ footnoted bytes mentions
 footnoted_listed bytes [] index = refl
 footnoted_listed bytes (FootnoteDefinition label ∷ mentions) index =

@@ -2,19 +2,20 @@
 use Rattle.std.specs.Prelude.{◌≡◌, map, length}
 use Rattle.md_tree.specs.declared.checked.Checked.TheInside.{Inside}
 use Rattle.md_tree.specs.Grammar.{Handed, handed, IsChecked}
+use Rattle.md_tree.specs.Numbers.{AreNumbered}
 use Rattle.md_infer.specs.Ending.{first_index}
-use Rattle.md_infer.specs.Facts.{facts_at, tables_at, definitions_at}
+use Rattle.md_infer.specs.Facts.{tables_at, definitions_at}
 
 -- what was handed in
 abbrev pub handed_of : Inside → Handed
 handed_of inside = handed inside.events.now inside.texts inside.names.now
 
--- the events are a document's of the grammar, each has what is found at it, the tables, the definitions and the
+-- the events are a document's of the grammar, each has what is found at it and its number, the tables, the definitions and the
 -- first line ending are theirs, and each was visited once
 abbrev pub IsKept : Inside → Type 0
 IsKept inside =
     IsChecked (handed_of inside)
-    × (inside.facts.items ≡ facts_at inside.events.now)
+    × AreNumbered (handed_of inside) inside.facts.items
     × (map (λ t. t.items) inside.tables.items ≡ tables_at inside.events.now)
     × (inside.definitions.items ≡ definitions_at inside.events.now)
     × (inside.first_ending ≡ first_index inside.events.now)

@@ -5,6 +5,7 @@ pub mod Grammar
 pub mod Machine
 pub mod Mentions
 pub mod Names
+pub mod Numbers
 pub mod Reader
 pub mod Reads
 pub mod Refusal

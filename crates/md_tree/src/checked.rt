@@ -6,6 +6,7 @@ ghost use Rattle.md_base.specs.declared.event.Event.{Event};
 ghost use Rattle.md_infer.specs.declared.facts.Fact.{Fact};
 ghost use Rattle.md_tree.specs.Found.{index_if, position_at, position_there, position_ended};
 ghost use Rattle.md_tree.specs.Texts.{IsEventAt};
+ghost use Rattle.md_tree.specs.Numbers.{place_of};
 
 use crate::texts::Texts;
 use md_base::{AlignKind, Event, Kind, Name, Point, Position, is_same_name};
@@ -52,12 +53,13 @@ impl<'a> Checked<'a> {
     ghost use Rattle.md_infer.specs.Alignments.{alignments};
     ghost use Rattle.md_infer.specs.Partners.{last_contributing_at};
     ghost use Rattle.md_tree.specs.Indices.{IsPartnerAt, AreDefinitions};
-    ghost use Rattle.md_infer.specs.Facts.{facts_at, tables_at, definitions_at};
+    ghost use Rattle.md_infer.specs.Facts.{tables_at, definitions_at};
     ghost use Rattle.md_infer.specs.Ending.{first_index};
     ghost use Rattle.std.specs.List.{All};
     ghost use Rattle.md_tree.specs.Entered.{IsEnteredAt, EntersNode};
     ghost use Rattle.md_tree.specs.Found.{EntersSome, IsFactAt};
     ghost use Rattle.md_tree.specs.Reads.{IsReadAt};
+    ghost use Rattle.md_tree.specs.Numbers.{AreNumbered, ExitsOf, is_of_definitions, is_of_footnotes, IsDefinitionFor, IsFootnoteFor};
     ghost use Rattle.md_base.specs.declared.event.Name.TheVariants as name;
 
     /// What has passed a check, with what is found at its events.
@@ -68,7 +70,7 @@ impl<'a> Checked<'a> {
         found: Facts,
     ) -> Checked<'a>
         requires grammatical { IsChecked (handed events.now texts names.now) }
-        requires facts { found.facts.items ≡ facts_at events.now }
+        requires facts { AreNumbered (handed events.now texts names.now) found.facts.items }
         requires tables { map (λ t. t.items) found.tables.items ≡ tables_at events.now }
         requires definitions { found.definitions.items ≡ definitions_at events.now }
         requires first_ending { found.first_ending ≡ first_index events.now }
@@ -229,6 +231,39 @@ impl<'a> Checked<'a> {
         ensures entered { All (λ index. EntersAt self.now.events index name.Definition) result.now }
     {
         self.definitions.as_slice()
+    }
+
+    /// Which of the definitions, counted from 0 in the order of their exits, is the first with the identifier of the
+    /// link or the image that the event at the index exits: the one to which it leads. None where it has a resource.
+    ///
+    /// # Examples
+    ///
+    /// ```
+    /// // Of `[a]: b`, a line ending and `[A]`, where 30 exits the link:
+    /// assert_eq!(checked.definition_of(30), Some(0));
+    /// ```
+    pub fn definition_of(&self, index: usize) -> Option<usize>
+        requires { ExitsOf is_of_definitions self.now.events index }
+        ensures { IsDefinitionFor self.now index result }
+    {
+        place_of(fact_at(&self.facts, index).read_at)
+    }
+
+    /// Which of the footnote definitions, counted from 0 in the order of their exits, is the first with the identifier
+    /// of the footnote call or the footnote definition that the event at the index exits.
+    ///
+    /// # Examples
+    ///
+    /// ```
+    /// // Of a document whose only footnote definition is exited at 9, and called by a call that is exited at 20:
+    /// assert_eq!(checked.footnote_of(9), Some(0));
+    /// assert_eq!(checked.footnote_of(20), Some(0));
+    /// ```
+    pub fn footnote_of(&self, index: usize) -> Option<usize>
+        requires { ExitsOf is_of_footnotes self.now.events index }
+        ensures { IsFootnoteFor self.now index result }
+    {
+        place_of(fact_at(&self.facts, index).read_at)
     }
 
     /// The index of the event that enters the last contributing child of the item that the event at
@@ -399,6 +434,13 @@ fn table_at(tables: &[Vec<AlignKind>], index: usize) -> &[AlignKind]
     ensures { slice_get (map (λ t. t.items) tables.now) index ≡ Some result.now }
 {
     tables[index].as_slice()
+}
+
+/// The place that a number stands for: one less, and none for 0.
+fn place_of(number: usize) -> Option<usize>
+    ensures { result ≡ place_of number }
+{
+    number.checked_sub(1)
 }
 
 /// An index that is there.

@@ -5,6 +5,7 @@ ghost use Rattle.md_base.specs.Reference.{name_table};
 ghost use Rattle.md_infer.specs.Ending.{first_index};
 ghost use Rattle.md_tree.specs.Grammar.{handed, IsChecked};
 ghost use Rattle.md_tree.specs.Refusal.{IsOrder, IsMdx, IsOfNode, IsLost, IsOutside, IsRefusal};
+ghost use Rattle.md_tree.specs.Numbers.{AreNumbered};
 ghost use Rattle.md_pattern.specs.Steps.{is_complete};
 ghost use Rattle.md_pattern.specs.Places.{state_of};
 ghost use Rattle.md_tree.specs.Machine.{Runs, beginning};
@@ -81,7 +82,7 @@ fn find<'a>(
 ) -> Result<Found<'a>, CompileError>
     ensures grammatical { OnOk result (IsChecked (handed events.now bytes.now names.now)) }
     ensures texts { IfOk result (λ found. found.texts ≡ bytes.now) }
-    ensures facts { IfOk result (λ found. found.facts.facts.items ≡ facts_at events.now) }
+    ensures facts { IfOk result (λ found. AreNumbered (handed events.now bytes.now names.now) found.facts.facts.items) }
     ensures tables { IfOk result (λ found. map (λ t. t.items) found.facts.tables.items ≡ tables_at events.now) }
     ensures definitions { IfOk result (λ found. found.facts.definitions.items ≡ definitions_at events.now) }
     ensures first_ending { IfOk result (λ found. found.facts.first_ending ≡ first_index events.now) }
@@ -102,10 +103,10 @@ fn find<'a>(
             rule: Rule::Order,
         });
     }
-    let Read { walk, found } = read;
+    let Read { walk, mut found } = read;
     // Identifiers may be long, and each is of a text that is read once: the list of other texts makes room for them.
     let texts = texts.with_front_alone(alloc);
-    resolve(alloc, &texts, &walk.mentions)?;
+    resolve(alloc, &texts, &walk.mentions, &mut found.facts)?;
     Ok(Found {
         texts,
         facts: found,

@@ -4,10 +4,11 @@ ghost use Rattle.md_base.specs.Tree.{Forest, flatten};
 ghost use Rattle.md_base.specs.declared.event.Event.{Event};
 ghost use Rattle.md_tree.specs.Refusal.{BeginNoTree, LeaveOpen};
 ghost use Rattle.md_tree.specs.Tables.{IsTable};
-ghost use Rattle.std.specs.Prelude.{◌≡◌, ℕ, List, Option, take};
+ghost use Rattle.std.specs.Prelude.{◌≡◌, ℕ, List, Option, Some, take};
 ghost use Rattle.md_pattern.specs.declared.kinds.Role.{Role};
 ghost use Rattle.md_pattern.specs.declared.kinds.Symbol.{Symbol};
 ghost use Rattle.md_pattern.specs.Shape.{AreShaped};
+ghost use Rattle.md_tree.specs.Numbers.{which};
 ghost use Rattle.md_tree.specs.Laws.{HasOneAlignmentForEachValue, HasOneSpine, IsLooseWithItemsToo};
 
 /// A list of events is the flattening of one document at most.
@@ -34,4 +35,11 @@ pub fn loose_without_items_is_loose()
 /// A table of the grammar has one alignment for each cell value of its delimiter row, in order.
 pub fn one_alignment_for_each_cell_value()
     ensures { (children : Forest) → IsTable children → HasOneAlignmentForEachValue children }
+{}
+
+/// Identifiers of which one definition is the first that has them are one: so those of two references, or two calls,
+/// are equal exactly where `Checked` says the same of them.
+pub fn one_identifier_for_each_place()
+    ensures { (identifiers : List (Option (List ℕ))) (one other : Option (List ℕ)) (place : ℕ)
+        → which identifiers one ≡ Some place → which identifiers other ≡ Some place → one ≡ other }
 {}

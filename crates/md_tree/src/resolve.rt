@@ -1,21 +1,23 @@
 //! Whether the definitions are there to which links, images and footnote calls lead.
 
-ghost use Rattle.std.specs.Prelude.{◌≡◌, ◌↔◌, option_map, string_bytes, IfOk, OnOk, IfErr, IsTrue};
-ghost use Rattle.std.specs.List.{All, Contains};
+ghost use Rattle.std.specs.Prelude.{◌≡◌, ◌∷◌, ◌<◌, ◌^◌, suc, length, List, Option, ℕ, option_map, string_bytes, IfOk, OnOk, IfErr};
+ghost use Rattle.std.specs.List.{All};
 ghost use Rattle.md_tree.specs.Mentions.{identifier_at, defined, footnoted, mentions_among, IsResolved};
-ghost use Rattle.md_tree.specs.Resolve.{IsUnresolved, identifiers_of, HaveSame, IsJudged, IsMentionJudged};
-ghost use Rattle.md_tree.specs.declared.rule.Rule.TheVariants as rule;
+ghost use Rattle.md_tree.specs.Resolve.{IsUnresolved};
+ghost use Rattle.md_tree.specs.declared.mention.Mention.{Mention};
+ghost use Rattle.md_tree.specs.Numbers as spec;
 
-use crate::judge::rule_unless;
 use crate::mention::{Mention, Mentioned};
 use crate::rule::{CompileError, Rule};
 use crate::texts::Texts;
 use md_base::{Position, normalize_identifier};
+use md_infer::Fact;
 use std::alloc::{AllocError, Global};
-use std::collections::BTreeSet;
+use std::collections::BTreeMap;
 
-/// Identifiers in their order, so that one is found in few steps, whoever chose them.
-type Identifiers = BTreeSet<Option<String>>;
+/// The number of each identifier: which of the definitions is the first that has it, counted from 1. They are in their
+/// order, so that one is found in few steps, whoever chose them.
+type Numbers = BTreeMap<Option<String>, usize>;
 
 /// The identifier at a label's place, where it is a text.
 fn identifier(alloc: Global, bytes: &Texts, label: Position) -> Result<Option<String>, AllocError>
@@ -27,132 +29,162 @@ fn identifier(alloc: Global, bytes: &Texts, label: Position) -> Result<Option<St
     }
 }
 
-/// The identifiers of the definitions.
-fn definitions(
-    alloc: Global,
-    bytes: &Texts,
-    mentions: &[Mentioned],
-) -> Result<Identifiers, AllocError>
-    ensures { IfOk result
-        (λ found. HaveSame (identifiers_of found) (defined bytes.now (mentions_among mentions.now))) }
+/// Keeps a number in the fact at an index, if there is one.
+fn keep_number(facts: &mut Vec<Fact>, index: usize, number: usize)
+    ensures { facts.new.items ≡ spec.put_number index number facts.old.items }
 {
-    let mut found = BTreeSet::new(alloc);
-    for mentioned in mentions {
-        if let Mention::Definition(label) = mentioned.mention {
-            found.insert(identifier(alloc, bytes, label)?)?;
-        }
+    if number > 0 && index < facts.len() {
+        facts[index].read_at = number;
     }
-    Ok(found)
 }
 
-/// The identifiers of the footnote definitions.
+/// How many definitions are mentioned.
+fn definition_count(mentions: &[Mentioned]) -> usize
+    ensures { (bytes : List ℕ) → result ≡ length (defined bytes (mentions_among mentions.now)) }
+{
+    let mut count = 0;
+    for mentioned in mentions {
+        if let Mention::Definition(_) = mentioned.mention {
+            count += 1;
+        }
+    }
+    count
+}
+
+/// The numbers of the definitions.
+fn definitions(alloc: Global, bytes: &Texts, mentions: &[Mentioned]) -> Result<Numbers, AllocError>
+    ensures { IfOk result
+        (λ numbers. spec.Numbers numbers (defined bytes.now (mentions_among mentions.now))) }
+{
+    let mut numbers = BTreeMap::new(alloc);
+    let mut number = definition_count(mentions);
+    let mut rest = mentions;
+    // From the last on, so that of those with one identifier the first one's number stays.
+    while let Some((mentioned, before)) = rest.split_last() {
+        if let Mention::Definition(label) = mentioned.mention {
+            let identifier = identifier(alloc, bytes, label)?;
+            numbers.insert(identifier, number)?;
+            number -= 1;
+        }
+        rest = before;
+    }
+    Ok(numbers)
+}
+
+/// The number of an identifier: the next one where it has none yet.
+fn number(
+    numbers: &mut Numbers,
+    identifier: Option<String>,
+    next: usize,
+) -> Result<usize, AllocError>
+    ensures number { IfOk result (λ number. (left all : List (Option (List ℕ)))
+        → spec.NumbersBefore numbers.old next (option_map string_bytes identifier ∷ left) all
+        → number ≡ spec.number_of (spec.which all (option_map string_bytes identifier))) }
+    ensures numbers { OnOk result ((left all : List (Option (List ℕ)))
+        → spec.NumbersBefore numbers.old next (option_map string_bytes identifier ∷ left) all
+        → spec.NumbersBefore numbers.new (suc next) left all) }
+{
+    if let Some(number) = numbers.get(&identifier) {
+        return Ok(*number);
+    }
+    numbers.insert(identifier, next)?;
+    Ok(next)
+}
+
+/// The numbers of the footnote definitions, each kept at its exit as well.
 fn footnotes(
     alloc: Global,
     bytes: &Texts,
     mentions: &[Mentioned],
-) -> Result<Identifiers, AllocError>
-    ensures { IfOk result
-        (λ found. HaveSame (identifiers_of found) (footnoted bytes.now (mentions_among mentions.now))) }
+    facts: &mut Vec<Fact>,
+) -> Result<Numbers, AllocError>
+    ensures found { IfOk result
+        (λ numbers. spec.Numbers numbers (footnoted bytes.now (mentions_among mentions.now))) }
+    ensures kept { OnOk result (facts.new.items
+        ≡ spec.numbered (spec.footnote_number bytes.now (mentions_among mentions.now)) mentions.now facts.old.items) }
 {
-    let mut found = BTreeSet::new(alloc);
+    let mut numbers = BTreeMap::new(alloc);
+    let mut next = 1;
     for mentioned in mentions {
         if let Mention::FootnoteDefinition(label) = mentioned.mention {
-            found.insert(identifier(alloc, bytes, label)?)?;
+            let identifier = identifier(alloc, bytes, label)?;
+            let number = number(&mut numbers, identifier, next)?;
+            keep_number(facts, mentioned.index, number);
+            next += 1;
         }
     }
-    Ok(found)
+    Ok(numbers)
 }
 
-/// Whether an identifier is among others.
-fn is_among(found: &Identifiers, wanted: &Option<String>) -> bool
-    ensures { IsTrue result ↔ Contains (identifiers_of found.now) (option_map string_bytes wanted.now) }
+/// The number of the identifier at a label's place, if it has one.
+fn number_at(
+    alloc: Global,
+    bytes: &Texts,
+    label: Position,
+    numbers: &Numbers,
+) -> Result<Option<usize>, AllocError>
+    ensures { IfOk result (λ number. (all : List (Option (List ℕ))) → spec.Numbers numbers.now all
+        → number ≡ option_map (λ place. suc place) (spec.which all (identifier_at bytes.now label))) }
 {
-    found.contains(wanted)
+    let wanted = identifier(alloc, bytes, label)?;
+    Ok(numbers.get(&wanted).copied())
 }
 
-/// Refuses what leads to a definition or a footnote definition that isn't there.
+/// The number of the definition or the footnote definition to which a mention leads, 0 where it is no such mention, or
+/// the rule that it breaks.
+fn lead(
+    alloc: Global,
+    bytes: &Texts,
+    mention: Mention,
+    definitions: &Numbers,
+    footnotes: &Numbers,
+) -> Result<Result<usize, Rule>, AllocError>
+    ensures { IfOk result (λ led. (mentions : List Mention)
+        → spec.Numbers definitions.now (defined bytes.now mentions)
+        → spec.Numbers footnotes.now (footnoted bytes.now mentions)
+        → spec.IsLed bytes.now mentions mention led) }
+{
+    match mention {
+        Mention::Reference(label) => {
+            let number = number_at(alloc, bytes, label, definitions)?;
+            Ok(number.ok_or(Rule::Definition))
+        }
+        Mention::Call(label) => {
+            let number = number_at(alloc, bytes, label, footnotes)?;
+            Ok(number.ok_or(Rule::Footnote))
+        }
+        _ => Ok(Ok(0)),
+    }
+}
+
+/// Numbers definitions, and footnote definitions, each by the first one with its identifier, counted from 1. The number of
+/// a footnote definition, and of what leads to one of either, is kept in the fact of its exit. Refuses what leads to one
+/// that isn't there.
 ///
 /// # Errors
 ///
 /// `CompileError::Memory` where memory runs out, and `CompileError::Event` with the index at which
 /// what leads nowhere exits: with `Rule::Definition` for a link or an image, and with
 /// `Rule::Footnote` for a footnote call.
-pub fn resolve(alloc: Global, bytes: &Texts, mentions: &[Mentioned]) -> Result<(), CompileError>
+pub fn resolve(
+    alloc: Global,
+    bytes: &Texts,
+    mentions: &[Mentioned],
+    facts: &mut Vec<Fact>,
+) -> Result<(), CompileError>
     ensures ok { OnOk result (All (IsResolved bytes.now (mentions_among mentions.now)) (mentions_among mentions.now)) }
+    ensures numbered { OnOk result (facts.new.items
+        ≡ spec.all_numbered bytes.now (mentions_among mentions.now) mentions.now facts.old.items) }
     ensures refused { IfErr result (IsUnresolved bytes.now mentions.now) }
 {
     let definitions = definitions(alloc, bytes, mentions)?;
-    let footnotes = footnotes(alloc, bytes, mentions)?;
+    let footnotes = footnotes(alloc, bytes, mentions, facts)?;
     for mentioned in mentions {
-        if let Some(rule) = unresolved(alloc, bytes, mentioned.mention, &definitions, &footnotes)? {
-            return Err(CompileError::Event {
-                index: mentioned.index,
-                rule,
-            });
+        let index = mentioned.index;
+        match lead(alloc, bytes, mentioned.mention, &definitions, &footnotes)? {
+            Ok(number) => keep_number(facts, index, number),
+            Err(rule) => return Err(CompileError::Event { index, rule }),
         }
     }
     Ok(())
-}
-
-/// The rule that a mention breaks whose identifier isn't among those defined.
-fn unresolved(
-    alloc: Global,
-    bytes: &Texts,
-    mention: Mention,
-    definitions: &Identifiers,
-    footnotes: &Identifiers,
-) -> Result<Option<Rule>, AllocError>
-    ensures { IfOk result
-        (λ broken. IsMentionJudged bytes.now (identifiers_of definitions.now) (identifiers_of footnotes.now)
-        mention broken) }
-{
-    match mention {
-        Mention::Reference(label) => broken_reference(alloc, bytes, label, definitions),
-        Mention::Call(label) => broken_call(alloc, bytes, label, footnotes),
-        _ => Ok(None),
-    }
-}
-
-/// The rule that a link or an image breaks whose definition isn't among these.
-fn broken_reference(
-    alloc: Global,
-    bytes: &Texts,
-    label: Position,
-    definitions: &Identifiers,
-) -> Result<Option<Rule>, AllocError>
-    ensures { IfOk result
-        (λ broken. IsJudged (Contains (identifiers_of definitions.now) (identifier_at bytes.now label))
-        rule.Definition broken) }
-{
-    let is_defined = is_found(alloc, bytes, label, definitions)?;
-    Ok(rule_unless(is_defined, Rule::Definition))
-}
-
-/// The rule that a footnote call breaks whose footnote definition isn't among these.
-fn broken_call(
-    alloc: Global,
-    bytes: &Texts,
-    label: Position,
-    footnotes: &Identifiers,
-) -> Result<Option<Rule>, AllocError>
-    ensures { IfOk result
-        (λ broken. IsJudged (Contains (identifiers_of footnotes.now) (identifier_at bytes.now label))
-        rule.Footnote broken) }
-{
-    let is_defined = is_found(alloc, bytes, label, footnotes)?;
-    Ok(rule_unless(is_defined, Rule::Footnote))
-}
-
-/// Whether the identifier at a label's place is among these.
-fn is_found(
-    alloc: Global,
-    bytes: &Texts,
-    label: Position,
-    among: &Identifiers,
-) -> Result<bool, AllocError>
-    ensures { IfOk result
-        (λ found. IsTrue found ↔ Contains (identifiers_of among.now) (identifier_at bytes.now label)) }
-{
-    let wanted = identifier(alloc, bytes, label)?;
-    Ok(is_among(among, &wanted))
 }

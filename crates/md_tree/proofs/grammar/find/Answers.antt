@@ -10,10 +10,11 @@ use Rattle.md_tree.specs.declared.open_nodes.Aim.{Aim}
 use Rattle.md_tree.specs.declared.open_nodes.Open.{Open}
 use Rattle.md_tree.specs.Mentions.{mentions_among, IsResolved}
 use Rattle.md_tree.specs.Resolve.{IsUnresolved}
+use Rattle.md_tree.specs.Numbers.{all_numbered}
 use Rattle.md_tree.specs.Grammar.{handed}
 use Rattle.md_tree.specs.Walk.{opens_at, opens_seen, course_of}
 use Rattle.md_tree.proofs.Endings.{IsWalked, IsWalked-done}
-use Rattle.md_tree.proofs.Checking.{IsRefusal-undone, IsRefusal-lost, IsChecked-walked}
+use Rattle.md_tree.proofs.Checking.{IsRefusal-undone, IsRefusal-lost, IsChecked-walked, AreNumbered-walked}
 use Rattle.md_tree.proofs.grammar.find.Goals as goal
 
 -- no node of a course is open, and so none of a walk
@@ -62,3 +63,17 @@ returns-clause-grammatical c =
     IsChecked-walked given mentions walked (subst (λ ms. All (IsResolved c.args.bytes.now (mentions_among ms))
     (mentions_among ms)) c.deref.ensures.value
     (rw (c.with_front_alone-texts.ensures, c.in_ok-texts.ensures) at c.in_ok-resolve.ensures.ok))
+
+pub returns-clause-facts : goal.returns-clause-facts
+returns-clause-facts c = λ forest flattens.
+    let given = handed c.args.events.now c.args.bytes.now c.args.names.now in
+    let mentions = c.in_ok-read.read.walk.mentions.items in
+    let done = c.is_done.ensures.done c.if-not-is_done.false in
+    let walked : IsWalked given mentions = IsWalked-done given
+    (course_of c.args.events.now (length c.args.events.now) c.in_ok-read.read.walk)
+    (rw c.in_ok-texts.ensures at c.in_ok-read.ensures.walked)
+    (ap (λ opens. opens_seen c.args.events.now (reverse c.in_ok-read.read.walk.targets.items) opens) done.0) done.1 in
+    rw (c.with_front_alone-texts.ensures, c.in_ok-texts.ensures) at c.in_ok-resolve.ensures.numbered
+    ∙ ap (λ ms. all_numbered given.bytes (mentions_among ms) ms c.in_ok-read.read.found.facts.items) c.deref.ensures.value
+    ∙ ap (λ fs. all_numbered given.bytes (mentions_among mentions) mentions fs) c.in_ok-read.ensures.facts
+    ∙ AreNumbered-walked given mentions walked forest flattens

@@ -1,33 +1,85 @@
--- The set has the identifiers of all definitions, in its own order: a definition puts one in, another mention none.
--- The search doesn't show that two lists have the same in whatever order.
-use Rattle.std.proofs.Common.{ℕ, ◌+◌, List, Option, drop, ap, refl}
+-- A definition gets its number in the map, another mention none. The search can't take a mention off the end of the
+-- list.
+use Rattle.std.proofs.Common.{◌≡◌, ◌+◌, ◌-◌, ◌++◌, ◌∷◌, [], ℕ, suc, List, length, ap, sym, subst, ◌∙◌, append_assoc, arith}
+use Rattle.md_base.specs.declared.event.Position.{Position}
+use Rattle.md_tree.specs.declared.mention.Mention.{Mention}
+use Rattle.md_tree.specs.declared.mention.Mention.TheVariants.{Definition}
 use Rattle.md_tree.specs.declared.mention.Mentioned.{Mentioned}
-use Rattle.md_tree.specs.Mentions.{mentions_among, defined, defined_by}
-use Rattle.md_tree.proofs.Identifiers.{HaveSame-put, HaveSame-passed, HaveSame-all, defined_by-other}
+use Rattle.md_tree.specs.Mentions.{defined, defined_by, mentions_among}
+use Rattle.md_tree.specs.Numbers.{NumbersFrom}
+use Rattle.md_tree.proofs.Numbering.{NumbersFrom-put, defined-last, defined_by-other}
 use Rattle.md_tree.proofs.resolve.definitions.Goals as goal
-use Rattle.md_tree.proofs.resolve.definitions.Goals.{in-Definition+in_ok-identifier+in_ok-insert, in_default}
 
--- what is defined
-abbrev read : List ℕ → List Mentioned → List (Option (List ℕ))
-read bytes mentioned = defined bytes (mentions_among mentioned)
+-- how many definitions there are up to a mention
+module _ (bytes : List ℕ) (rest before : List Mentioned) (last : Mentioned) (number : ℕ)
+    (split : rest ≡ before ++ last ∷ []) (counted : number ≡ length (defined bytes (mentions_among rest))) where
+  all_counted : number ≡ length (defined bytes (mentions_among before)) + length (defined_by bytes last.mention [])
+  all_counted = counted ∙ ap (λ r. length (defined bytes (mentions_among r))) split ∙ defined-last bytes before last
+
+  at_definition : (label : Position) → last.mention ≡ Definition label →
+      number ≡ suc (length (defined bytes (mentions_among before)))
+  at_definition label is = plus_one (length (defined bytes (mentions_among before))) number
+      (all_counted ∙ ap (λ m. length (defined bytes (mentions_among before)) + length (defined_by bytes m [])) is)
+    where
+      plus_one : (n total : ℕ) → total ≡ n + 1 → total ≡ suc n
+      plus_one n total e = omega (arith, e)
+
+  at_another : ((label : Position) → last.mention ≡ Definition label → ⊥) →
+      number ≡ length (defined bytes (mentions_among before))
+  at_another no_such = plus_none (length (defined bytes (mentions_among before))) number
+      (all_counted ∙ ap (λ l. length (defined bytes (mentions_among before)) + length l)
+      (defined_by-other bytes last.mention [] no_such))
+    where
+      plus_none : (n total : ℕ) → total ≡ n + 0 → total ≡ n
+      plus_none n total e = omega (arith, e)
+
+one_less : (number left : ℕ) → number ≡ suc left → number - 1 ≡ left
+one_less number left e = omega (arith, e)
+
+pub overflow_sub-number : goal.overflow_sub-number
+overflow_sub-number c =
+    let e = at_definition c.args.bytes.now c.loop-mentioned.rest.now c.in-Some.before.now c.in-Some.mentioned.now
+    c.loop-mentioned.number c.in-Some.ensures.cases.0 c.loop-mentioned.invariant.2 c.in-Definition.label
+    c.in-Definition.is in
+    omega (arith, e)
+
+pub loop-mentioned-preserved-in_ok-insert : goal.loop-mentioned-preserved-in_ok-insert
+loop-mentioned-preserved-in_ok-insert c =
+    let bytes = c.args.bytes.now in
+    let before = c.in-Some.before.now in
+    let last = c.in-Some.mentioned.now in
+    let passed = c.loop-mentioned.invariant.0 in
+    let left = length (defined bytes (mentions_among before)) in
+    let later = defined bytes (mentions_among passed) in
+    let e = at_definition bytes c.loop-mentioned.rest.now before last c.loop-mentioned.number
+    c.in-Some.ensures.cases.0 c.loop-mentioned.invariant.2 c.in-Definition.label c.in-Definition.is in (
+      last ∷ passed,
+      c.loop-mentioned.invariant.1 ∙ ap (λ r. r ++ passed) c.in-Some.ensures.cases.0
+          ∙ append_assoc before (last ∷ []) passed,
+      one_less c.loop-mentioned.number left e,
+      subst (λ n. NumbersFrom c.insert.new.self n (defined_by bytes last.mention later))
+          (sym (one_less c.loop-mentioned.number left e))
+          (subst (λ l. NumbersFrom c.insert.new.self left l)
+          (ap (λ i. i ∷ later) c.in_ok-identifier.ensures
+          ∙ sym (ap (λ m. defined_by bytes m later) c.in-Definition.is))
+          (NumbersFrom-put c.loop-mentioned.numbers c.insert.new.self c.in_ok-identifier.identifier left later
+          (subst (λ n. NumbersFrom c.loop-mentioned.numbers n later) e c.loop-mentioned.invariant.3)
+          (rw e at c.in_ok-insert.ensures.updates))),
+    )
 
 pub loop-mentioned-preserved : goal.loop-mentioned-preserved
 loop-mentioned-preserved c =
-    let later : List (Option (List ℕ)) = read c.args.bytes.now
-    (drop (c.loop-mentioned.mentioned-index + 1) c.args.mentions.now) in
-    elim c.match-mentioned.branch [
-      | in-Definition+in_ok-identifier+in_ok-insert w ↦ rw (
-        w.found-is,
-        w.in_ok-insert.ensures.keys,
-      ) (HaveSame-put (read c.args.bytes.now) c.args.mentions.now
-          c.loop-mentioned.mentioned-index c.loop-mentioned.found.keys c.loop-mentioned.invariant _
-          w.in_ok-identifier.field-0 _ c.loop-mentioned-test.true
-          (ap (λ mention. defined_by c.args.bytes.now mention later) w.in-Definition.is) w.in_ok-identifier.ensures)
-      | in_default w ↦ rw w.found-is (HaveSame-passed (read c.args.bytes.now) c.args.mentions.now
-          c.loop-mentioned.mentioned-index c.loop-mentioned.found.keys c.loop-mentioned.invariant _
-          c.loop-mentioned-test.true (defined_by-other c.args.bytes.now _ later w.in_default.not-Definition))
-    ]
-
-pub returns : goal.returns
-returns c = HaveSame-all (read c.args.bytes.now) c.args.mentions.now c.loop-mentioned.mentioned-index
-    c.loop-mentioned.found.keys c.loop-mentioned.invariant c.loop-mentioned-test.false refl
+    let bytes = c.args.bytes.now in
+    let before = c.in-Some.before.now in
+    let last = c.in-Some.mentioned.now in
+    let passed = c.loop-mentioned.invariant.0 in
+    let e = at_another bytes c.loop-mentioned.rest.now before last c.loop-mentioned.number
+    c.in-Some.ensures.cases.0 c.loop-mentioned.invariant.2 c.in_default-mention.not-Definition in (
+      last ∷ passed,
+      c.loop-mentioned.invariant.1 ∙ ap (λ r. r ++ passed) c.in-Some.ensures.cases.0
+          ∙ append_assoc before (last ∷ []) passed,
+      e,
+      subst (λ l. NumbersFrom c.loop-mentioned.numbers c.loop-mentioned.number l)
+          (sym (defined_by-other bytes last.mention (defined bytes (mentions_among passed))
+          c.in_default-mention.not-Definition)) c.loop-mentioned.invariant.3,
+    )

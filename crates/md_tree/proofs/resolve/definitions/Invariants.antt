@@ -1,10 +1,16 @@
--- At each turn: what was found, with what the mentions from here on define, is what all mentions define.
-use Rattle.std.proofs.Common.{◌++◌, drop}
-use Rattle.md_tree.specs.Resolve.{identifiers_of, HaveSame}
+-- At each turn: as many definitions are left as the number says, and the map has the numbers of those that were passed.
+use Rattle.std.proofs.Common.{◌≡◌, ◌++◌, ℕ, List, length}
+use Rattle.md_tree.specs.declared.mention.Mentioned.{Mentioned}
 use Rattle.md_tree.specs.Mentions.{defined, mentions_among}
+use Rattle.md_tree.specs.Numbers.{NumbersFrom}
 use Rattle.md_tree.proofs.resolve.definitions.Given as goal
 
 abbrev pub invariant-loop-mentioned : goal.invariant-loop-mentioned
 invariant-loop-mentioned l =
-    HaveSame (identifiers_of l.found ++ defined l.bytes (mentions_among (drop l.mentioned-index l.mentions)))
-    (defined l.bytes (mentions_among l.mentions))
+    (passed : List Mentioned)
+    × (l.mentions ≡ l.rest ++ passed)
+    × (l.number ≡ length (defined l.bytes (mentions_among l.rest)))
+    × NumbersFrom l.numbers l.number (defined l.bytes (mentions_among passed))
+
+abbrev pub decreases-loop-mentioned : goal.decreases-loop-mentioned
+decreases-loop-mentioned l = length l.rest

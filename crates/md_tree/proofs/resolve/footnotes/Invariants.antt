@@ -1,10 +1,14 @@
--- At each turn: what was found, with the footnotes that the mentions from here on define, is all that are defined.
-use Rattle.std.proofs.Common.{◌++◌, drop}
-use Rattle.md_tree.specs.Resolve.{identifiers_of, HaveSame}
+-- At each turn: the map has the numbers of the footnote definitions before this mention, and with the numbers of the mentions
+-- from here on the facts are those with all of them.
+use Rattle.std.proofs.Common.{◌≡◌, ◌+◌, ◌≤◌, drop}
 use Rattle.md_tree.specs.Mentions.{footnoted, mentions_among}
+use Rattle.md_tree.specs.Numbers.{NumbersBefore, numbered, footnote_number}
 use Rattle.md_tree.proofs.resolve.footnotes.Given as goal
 
 abbrev pub invariant-loop-mentioned : goal.invariant-loop-mentioned
 invariant-loop-mentioned l =
-    HaveSame (identifiers_of l.found ++ footnoted l.bytes (mentions_among (drop l.mentioned-index l.mentions)))
+    (l.next ≤ l.mentioned-index + 1)
+    × NumbersBefore l.numbers l.next (footnoted l.bytes (mentions_among (drop l.mentioned-index l.mentions)))
     (footnoted l.bytes (mentions_among l.mentions))
+    × (numbered (footnote_number l.bytes (mentions_among l.mentions)) (drop l.mentioned-index l.mentions)
+    l.facts.items ≡ numbered (footnote_number l.bytes (mentions_among l.mentions)) l.mentions l.fn.facts.items)

@@ -1,6 +1,6 @@
 -- The partner in the fact is the one that the tree of the events gives. The search doesn't name that tree, the one
 -- that the check has read.
-use Rattle.std.proofs.Common.{◌≡◌, ℕ, Option, ap, ◌∙◌}
+use Rattle.std.proofs.Common.{◌≡◌, ℕ, Option, ap, ◌∙◌, refl}
 use Rattle.std.specs.Prelude.{option_map, slice_get}
 use Rattle.md_tree.specs.declared.checked.Checked.TheInside.{Inside}
 use Rattle.md_infer.specs.declared.facts.Fact.{Fact}
@@ -8,6 +8,8 @@ use Rattle.md_tree.specs.Grammar.{Handed, IsReadAs}
 use Rattle.md_tree.specs.Checked.{handed_of, IsKept}
 use Rattle.md_infer.specs.Facts.{facts_at}
 use Rattle.md_tree.specs.Indices.{IsPartnerAt}
+use Rattle.md_tree.proofs.Kept.{facts_are, numbers}
+use Rattle.md_tree.proofs.Numbers.{partner-with}
 use Rattle.md_tree.proofs.Entering.{partners_there}
 use Rattle.md_tree.proofs.checked.Checked.partner.Goals as goal
 
@@ -18,8 +20,10 @@ partner_is inside given index partner kept same found =
     let flattened = IsReadAs.flattened kept.0.1 ∙ ap (λ (g : Handed). g.events) same in (
       kept.0.0,
       flattened,
-      found ∙ partners_there kept.0.0 given.events inside.facts.items index flattened (kept.1
-          ∙ ap (λ (g : Handed). facts_at g.events) same),
+      found ∙ ap (λ fs. option_map (λ (f : Fact). f.partner) (slice_get fs index))
+          (facts_are inside given index kept same)
+          ∙ partner-with (numbers inside given index kept same) (facts_at given.events) index
+          ∙ partners_there kept.0.0 given.events (facts_at given.events) index flattened refl,
     )
 
 pub returns : goal.returns

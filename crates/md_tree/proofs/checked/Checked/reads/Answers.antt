@@ -10,7 +10,8 @@ use Rattle.md_tree.specs.Reads.{is_reader}
 use Rattle.md_infer.specs.Seeking.{search_of}
 use Rattle.md_infer.specs.Facts.{read_at_of, tables_after, contributing_over, sought_over, facts_at}
 use Rattle.md_tree.specs.Found.{position_at}
-use Rattle.md_tree.proofs.Kept.{facts_are}
+use Rattle.md_tree.proofs.Kept.{facts_are, numbers}
+use Rattle.md_tree.proofs.Numbers.{at-with}
 use Rattle.md_tree.proofs.Placing.{children-placed}
 use Rattle.md_tree.proofs.Searching.{reads-found}
 use Rattle.md_tree.proofs.checked.Checked.reads.Goals as goal
@@ -38,6 +39,8 @@ returns-clause-reads c = λ name children enters reader entered.
     ∙ ap (λ (g : Handed). position_at g.events c.deref.result.now c.fact.result.read_at) c.self.view_is
     ∙ ap (λ fs. position_at given.events fs c.fact.result.read_at) (c.deref.ensures.value
     ∙ facts_are c.self.inside given index c.self.invariant c.self.view_is)
+    ∙ at-with given.events (numbers c.self.inside given index c.self.invariant c.self.view_is)
+    (facts_at given.events) c.fact.result.read_at
     ∙ ap (λ (f : Fact). position_at given.events (facts_at given.events) f.read_at) found.1
     ∙ ap (λ n. position_at given.events (facts_at given.events) n)
     (reader_place name (tables_after found.0 children) (contributing_over (suc index) children 0)

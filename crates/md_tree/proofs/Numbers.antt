@@ -1,0 +1,278 @@
+-- What is kept of a document's events: what is found at them, with a number at each exit of a mention.
+use Rattle.std.proofs.Common.{◌≡◌, ℕ, zero, suc, ◌+◌, ◌≤◌, ◌<◌, Bool, true, false, Option, Some, None, List, [], ◌∷◌, ◌++◌, length, refl, sym, ap, ◌∙◌, subst, append_assoc, append-nil, arith}
+use Rattle.std.specs.Prelude.{map, slice_get, option_map, IsTrue}
+use Rattle.md_base.specs.declared.event.Name.{Name}
+use Rattle.md_base.specs.declared.event.Name.TheVariants.{Link, Image, GfmFootnoteCall, GfmFootnoteDefinition}
+use Rattle.md_base.specs.declared.event.Name.TheVariants as names
+use Rattle.md_base.specs.declared.event.Kind.TheVariants.{Enter, Exit}
+use Rattle.md_base.specs.declared.event.Event.{Event}
+use Rattle.md_base.specs.declared.event.Position.{Position}
+use Rattle.md_infer.specs.declared.facts.Fact.{Fact}
+use Rattle.md_infer.specs.Partners.{index_after}
+use Rattle.md_infer.specs.Facts.{facts_at, facts_of, fact_at, partner_alone, tables_with, tables_after}
+use Rattle.md_infer.proofs.Passing.{facts-flatten}
+use Rattle.md_pattern.specs.Standing.{standing_of}
+use Rattle.md_base.specs.Tree.{Forest, Empty, Node, flatten, entering, exiting}
+use Rattle.md_tree.specs.declared.mention.Target.{Target}
+use Rattle.md_tree.specs.declared.mention.Target.TheVariants.{Missing, Resource, Label}
+use Rattle.md_tree.specs.declared.mention.Mention.{Mention}
+use Rattle.md_tree.specs.declared.mention.Mention.TheVariants.{Nothing, Reference, Call, Definition, FootnoteDefinition}
+use Rattle.md_tree.specs.declared.mention.Mentioned.{Mentioned}
+use Rattle.md_tree.specs.Rules.{reading_of, target_of}
+use Rattle.md_tree.specs.Grammar.{Handed}
+use Rattle.md_tree.specs.Texts.{IsEventAt, ExitsAt}
+use Rattle.md_tree.specs.Found.{position_from, partner_event, position_there, position_at, position_ended, index_if}
+use Rattle.md_tree.specs.Mentions.{mention_of, mentions_of, mentions_among, defined, footnoted, identifier_at}
+use Rattle.md_tree.specs.Numbers.{which, number_of, with_number, put_number, numbered, footnote_number, leading_number, all_numbered, number_for, facts_with, place_of, definition_for, footnote_for, is_of_definitions, is_of_footnotes}
+use Rattle.md_tree.proofs.Listing.{listed, defined_listed, footnoted_listed}
+use Rattle.md_tree.proofs.Numbering.{put-none, put-past}
+
+-- ---- numbers that are put one by one are those of the list
+
+-- a mention of nothing puts none
+module _ (number : Mention → ℕ) (none : number Nothing ≡ 0) where
+  one_listed : (mention : Mention) (mentions : List Mention) (index : ℕ) (facts : List Fact) →
+      numbered number (listed index (mention ∷ mentions)) facts
+      ≡ numbered number (listed (suc index) mentions) (put_number index (number mention) facts)
+  one_listed Nothing mentions index facts =
+      ap (λ fs. numbered number (listed (suc index) mentions) fs) (sym (put-none facts index (number Nothing) none))
+  one_listed (Reference label) mentions index facts = refl
+  one_listed (Call label) mentions index facts = refl
+  one_listed (Definition label) mentions index facts = refl
+  one_listed (FootnoteDefinition label) mentions index facts = refl
+
+  past_listed : (mentions : List Mention) (index : ℕ) (facts : List Fact) → length facts ≤ index →
+      numbered number (listed index mentions) facts ≡ facts
+  past_listed [] index facts past = refl
+  past_listed (mention ∷ mentions) index facts past =
+      let more : length facts ≤ suc index = omega (arith, past) in
+      one_listed mention mentions index facts
+      ∙ ap (λ fs. numbered number (listed (suc index) mentions) fs) (put-past facts index (number mention) past)
+      ∙ past_listed mentions (suc index) facts more
+
+  put_after : (before facts : List Fact) (n index : ℕ) → length before ≡ index →
+      put_number index n (before ++ facts) ≡ before ++ put_number 0 n facts
+  put_after [] facts n index e = ap (λ i. put_number i n facts) (sym e)
+  put_after (fact ∷ before) facts n index e =
+      ap (λ i. put_number i n (fact ∷ (before ++ facts))) (sym e)
+      ∙ ap (λ fs. fact ∷ fs) (put_after before facts n (length before) refl)
+
+  all_listed : (mentions : List Mention) (index : ℕ) (before facts : List Fact) → length before ≡ index →
+      numbered number (listed index mentions) (before ++ facts) ≡ before ++ facts_with (map number mentions) facts
+  all_listed [] index before facts e = refl
+  all_listed (mention ∷ mentions) index before [] e =
+      ap (λ fs. numbered number (listed index (mention ∷ mentions)) fs) (append-nil before)
+      ∙ past_listed (mention ∷ mentions) index before (within e) ∙ sym (append-nil before)
+    where
+      within : length before ≡ index → length before ≤ index
+      within e = omega (arith, e)
+  all_listed (mention ∷ mentions) index before (fact ∷ facts) e =
+      let here = with_number (number mention) fact in
+      one_listed mention mentions index (before ++ fact ∷ facts)
+      ∙ ap (λ fs. numbered number (listed (suc index) mentions) fs) (put_after before (fact ∷ facts) (number mention)
+      index e ∙ sym (append_assoc before (here ∷ []) facts))
+      ∙ all_listed mentions (suc index) (before ++ here ∷ []) facts (longer before here index e)
+      ∙ append_assoc before (here ∷ []) (facts_with (map number mentions) facts)
+    where
+      longer : (xs : List Fact) (x : Fact) (n : ℕ) → length xs ≡ n → length (xs ++ x ∷ []) ≡ suc n
+      longer [] x n e = ap suc e
+      longer (y ∷ xs) x n e = ap suc (longer xs x (length xs) refl) ∙ ap suc e
+
+-- two kinds of numbers, of which a mention has one at most
+module _ (two three all : Mention → ℕ) (joined : (mention : Mention) (fact : Fact) →
+    with_number (three mention) (with_number (two mention) fact) ≡ with_number (all mention) fact) where
+  joined_all : (mentions : List Mention) (facts : List Fact) →
+      facts_with (map three mentions) (facts_with (map two mentions) facts) ≡ facts_with (map all mentions) facts
+  joined_all [] facts = refl
+  joined_all (mention ∷ mentions) [] = refl
+  joined_all (mention ∷ mentions) (fact ∷ facts) =
+      ap (λ f. f ∷ facts_with (map three mentions) (facts_with (map two mentions) facts)) (joined mention fact)
+      ∙ ap (λ fs. with_number (all mention) fact ∷ fs) (joined_all mentions facts)
+
+pub all_numbered-listed : (bytes : List ℕ) (mentions : List Mention) (facts : List Fact) →
+    all_numbered bytes (mentions_among (listed 0 mentions)) (listed 0 mentions) facts
+    ≡ facts_with (map (number_for bytes mentions) mentions) facts
+all_numbered-listed bytes mentions facts =
+    let some = mentions_among (listed 0 mentions) in
+    let two = footnote_number bytes some in
+    let three = leading_number bytes some in
+    ap (λ fs. numbered three (listed 0 mentions) fs) (all_listed two refl mentions 0 [] facts refl)
+    ∙ all_listed three refl mentions 0 [] (facts_with (map two mentions) facts) refl
+    ∙ joined_all two three (number_for bytes mentions) joined mentions facts
+  where
+    joined : (mention : Mention) (fact : Fact) →
+        with_number (leading_number bytes (mentions_among (listed 0 mentions)) mention)
+        (with_number (footnote_number bytes (mentions_among (listed 0 mentions)) mention) fact)
+        ≡ with_number (number_for bytes mentions mention) fact
+    joined Nothing fact = refl
+    joined (Reference label) fact =
+        ap (λ ds. with_number (number_of (which ds (identifier_at bytes label))) fact) (defined_listed bytes mentions 0)
+    joined (Definition label) fact = refl
+    joined (Call label) fact =
+        ap (λ ds. with_number (number_of (which ds (identifier_at bytes label))) fact)
+        (footnoted_listed bytes mentions 0)
+    joined (FootnoteDefinition label) fact =
+        ap (λ ds. with_number (number_of (which ds (identifier_at bytes label))) fact)
+        (footnoted_listed bytes mentions 0)
+
+-- ---- what doesn't change by numbers
+
+partner_with : (number : ℕ) (fact : Fact) → Fact.partner (with_number number fact) ≡ fact.partner
+partner_with zero fact = refl
+partner_with (suc place) fact = refl
+
+pub partner-with : (numbers : List ℕ) (facts : List Fact) (index : ℕ) →
+    option_map (λ (f : Fact). f.partner) (slice_get (facts_with numbers facts) index)
+    ≡ option_map (λ (f : Fact). f.partner) (slice_get facts index)
+partner-with [] facts index = refl
+partner-with (number ∷ numbers) [] index = refl
+partner-with (number ∷ numbers) (fact ∷ facts) zero = ap Some (partner_with number fact)
+partner-with (number ∷ numbers) (fact ∷ facts) (suc index) = partner-with numbers facts index
+
+by_partner : (events : List Event) (one other : Option Fact) → option_map (λ (f : Fact). f.partner) one
+    ≡ option_map (λ (f : Fact). f.partner) other → partner_event events one ≡ partner_event events other
+by_partner events None None e = refl
+by_partner events None (Some other) e = cc
+by_partner events (Some one) None e = cc
+by_partner events (Some one) (Some other) e = let same : one.partner ≡ other.partner = cc in
+    ap (λ i. slice_get events i) same
+
+pub ended-with : (events : List Event) (numbers : List ℕ) (facts : List Fact) (index : ℕ) →
+    position_ended events (facts_with numbers facts) index ≡ position_ended events facts index
+ended-with events numbers facts index =
+    ap (λ o. position_from o (slice_get events index)) (by_partner events (slice_get (facts_with numbers facts) index)
+    (slice_get facts index) (partner-with numbers facts index))
+
+pub there-with : (events : List Event) (numbers : List ℕ) (facts : List Fact) (index : ℕ) →
+    position_there events (facts_with numbers facts) index ≡ position_there events facts index
+there-with events numbers facts index =
+    ap (λ o. position_from (slice_get events index) o) (by_partner events
+    (slice_get (facts_with numbers facts) index) (slice_get facts index) (partner-with numbers facts index))
+
+pub at-with : (events : List Event) (numbers : List ℕ) (facts : List Fact) (index : ℕ) →
+    position_at events (facts_with numbers facts) index ≡ position_at events facts index
+at-with events numbers facts zero = refl
+at-with events numbers facts (suc index) = there-with events numbers facts (suc index)
+
+pub length-with : (numbers : List ℕ) (facts : List Fact) → length (facts_with numbers facts) ≡ length facts
+length-with [] facts = refl
+length-with (number ∷ numbers) [] = refl
+length-with (number ∷ numbers) (fact ∷ facts) = ap suc (length-with numbers facts)
+
+-- ---- events, facts and mentions of a document, one beside another
+
+-- an entry mentions nothing; an exit mentions what its name does, and nothing but the partner is found at it
+abbrev pub IsTold : Event → Fact → Mention → Type 0
+IsTold event fact mention =
+    (event.kind ≡ Enter → mention ≡ Nothing)
+    × (event.kind ≡ Exit → (fact.read_at ≡ 0)
+    × ((target : Target) × (mention ≡ mention_of (reading_of (standing_of event.name)) target)))
+
+abbrev Told : List Event → List Fact → List Mention → Type 0
+Told [] [] [] = Unit {0}
+Told (event ∷ events) (fact ∷ facts) (mention ∷ mentions) = IsTold event fact mention × Told events facts mentions
+Told _ _ _ = ⊥
+
+told_append : (xs ys : List Event) (fs gs : List Fact) (ms ns : List Mention) → Told xs fs ms → Told ys gs ns →
+    Told (xs ++ ys) (fs ++ gs) (ms ++ ns)
+told_append [] ys [] gs [] ns one two = two
+told_append (x ∷ xs) ys (f ∷ fs) gs (m ∷ ms) ns one two = (one.0, told_append xs ys fs gs ms ns one.1 two)
+told_append [] ys [] gs (m ∷ ms) ns one two = absurd one
+told_append [] ys (f ∷ fs) gs ms ns one two = absurd one
+told_append (x ∷ xs) ys [] gs ms ns one two = absurd one
+told_append (x ∷ xs) ys (f ∷ fs) gs [] ns one two = absurd one
+
+told : (forest : Forest) (index tables : ℕ) → Told (flatten forest) (facts_of index tables forest) (mentions_of forest)
+told Empty index tables = tt
+told (Node name start end children rest) index tables =
+    let exit = index_after (suc index) children in
+    let more = tables_with name (tables_after tables children) in
+    let entry_told : IsTold (entering name start) (fact_at index tables name children) Nothing =
+    (λ e. refl, λ e. cc) in
+    let exit_told : IsTold (exiting name end) (partner_alone index)
+    (mention_of (reading_of (standing_of name)) (target_of children Missing)) =
+    (λ e. cc, λ e. (refl, (target_of children Missing, refl))) in (
+      entry_told,
+      told_append (flatten children) (exiting name end ∷ flatten rest) (facts_of (suc index) tables children)
+          (partner_alone index ∷ facts_of (suc exit) more rest) (mentions_of children)
+          (mention_of (reading_of (standing_of name)) (target_of children Missing) ∷ mentions_of rest)
+          (told children (suc index) tables) (exit_told, told rest (suc exit) more),
+    )
+
+-- the three at an index
+abbrev pub ToldAt : List Event → List Fact → List Mention → ℕ → Event → Type 0
+ToldAt events facts mentions index event =
+    (fact : Fact) × (mention : Mention) × (slice_get facts index ≡ Some fact)
+    × (slice_get mentions index ≡ Some mention) × IsTold event fact mention
+
+told_at : (events : List Event) (facts : List Fact) (mentions : List Mention) (index : ℕ) (event : Event) →
+    Told events facts mentions → slice_get events index ≡ Some event → ToldAt events facts mentions index event
+told_at [] facts mentions index event all e = cc
+told_at (x ∷ events) (f ∷ facts) (m ∷ mentions) zero event all e =
+    let same : x ≡ event = cc in
+    subst (λ y. ToldAt (x ∷ events) (f ∷ facts) (m ∷ mentions) 0 y) same (f, m, refl, refl, all.0)
+told_at (x ∷ events) (f ∷ facts) (m ∷ mentions) (suc index) event all e =
+    told_at events facts mentions index event all.1 e
+told_at (x ∷ events) [] mentions index event all e = absurd all
+told_at (x ∷ events) (f ∷ facts) [] index event all e = absurd all
+
+pub told-at : (forest : Forest) (events : List Event) (index : ℕ) (event : Event) → flatten forest ≡ events →
+    slice_get events index ≡ Some event → ToldAt events (facts_at events) (mentions_of forest) index event
+told-at forest events index event flattened here =
+    told_at events (facts_at events) (mentions_of forest) index event
+    (subst (λ es. Told es (facts_at events) (mentions_of forest)) flattened
+    (subst (λ fs. Told (flatten forest) fs (mentions_of forest)) (sym (facts-flatten forest events flattened))
+    (told forest 0 0))) here
+
+-- what is kept at an index
+pub got-with : (number : Mention → ℕ) (mentions : List Mention) (facts : List Fact) (index : ℕ) (fact : Fact)
+    (mention : Mention) → slice_get facts index ≡ Some fact → slice_get mentions index ≡ Some mention →
+    slice_get (facts_with (map number mentions) facts) index ≡ Some (with_number (number mention) fact)
+got-with number [] facts index fact mention f m = cc
+got-with number (n ∷ mentions) [] index fact mention f m = cc
+got-with number (n ∷ mentions) (g ∷ facts) zero fact mention f m =
+    let one : g ≡ fact = cc in
+    let two : n ≡ mention = cc in
+    ap (λ x. Some (with_number (number x) g)) two ∙ ap (λ x. Some (with_number (number mention) x)) one
+got-with number (n ∷ mentions) (g ∷ facts) (suc index) fact mention f m =
+    got-with number mentions facts index fact mention f m
+
+-- ---- what a number stands for
+
+pub kept-number : (number : ℕ) (fact : Fact) → fact.read_at ≡ 0 → Fact.read_at (with_number number fact) ≡ number
+kept-number zero fact none = none
+kept-number (suc place) fact none = refl
+
+pub place-number : (place : Option ℕ) → place_of (number_of place) ≡ place
+place-number None = refl
+place-number (Some place) = refl
+
+lie : false ≡ true → ⊥
+lie h = cc
+
+pub number-definition : (bytes : List ℕ) (mentions : List Mention) (name : Name) (target : Target) →
+    is_of_definitions name ≡ true →
+    place_of (number_for bytes mentions (mention_of (reading_of (standing_of name)) target))
+    ≡ definition_for bytes mentions (mention_of (reading_of (standing_of name)) target)
+number-definition bytes mentions Link Missing is = refl
+number-definition bytes mentions Link Resource is = refl
+number-definition bytes mentions Link (Label label) is = place-number (definition_for bytes mentions (Reference label))
+number-definition bytes mentions Image Missing is = refl
+number-definition bytes mentions Image Resource is = refl
+number-definition bytes mentions Image (Label label) is =
+    place-number (definition_for bytes mentions (Reference label))
+number-definition bytes mentions _ target is = absurd (lie is)
+
+pub number-footnote : (bytes : List ℕ) (mentions : List Mention) (name : Name) (target : Target) →
+    is_of_footnotes name ≡ true →
+    place_of (number_for bytes mentions (mention_of (reading_of (standing_of name)) target))
+    ≡ footnote_for bytes mentions (mention_of (reading_of (standing_of name)) target)
+number-footnote bytes mentions GfmFootnoteCall Missing is = refl
+number-footnote bytes mentions GfmFootnoteCall Resource is = refl
+number-footnote bytes mentions GfmFootnoteCall (Label label) is =
+    place-number (footnote_for bytes mentions (Call label))
+number-footnote bytes mentions GfmFootnoteDefinition Missing is = refl
+number-footnote bytes mentions GfmFootnoteDefinition Resource is = refl
+number-footnote bytes mentions GfmFootnoteDefinition (Label label) is =
+    place-number (footnote_for bytes mentions (FootnoteDefinition label))
+number-footnote bytes mentions _ target is = absurd (lie is)

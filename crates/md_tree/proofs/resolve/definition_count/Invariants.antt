@@ -1,0 +1,10 @@
+-- At each turn: what is counted, and the definitions from here on, are all of them.
+use Rattle.std.proofs.Common.{◌≡◌, ◌+◌, ◌≤◌, ℕ, List, drop, length}
+use Rattle.md_tree.specs.Mentions.{defined, mentions_among}
+use Rattle.md_tree.proofs.resolve.definition_count.Given as goal
+
+abbrev pub invariant-loop-mentioned : goal.invariant-loop-mentioned
+invariant-loop-mentioned l =
+    (l.count ≤ l.mentioned-index)
+    × ((bytes : List ℕ) → l.count + length (defined bytes (mentions_among (drop l.mentioned-index l.mentions)))
+    ≡ length (defined bytes (mentions_among l.mentions)))
