@@ -8,8 +8,8 @@ use Rattle.md_pattern.specs.declared.kinds.Symbol.{Symbol}
 use Rattle.md_pattern.specs.declared.kinds.Role.{Role}
 use Rattle.md_pattern.specs.declared.kinds.Role.TheVariants as role
 use Rattle.md_base.specs.Tree.{Forest, Empty, Node}
-use Rattle.md_tree.specs.declared.mention.Target.{Target}
-use Rattle.md_tree.specs.declared.mention.Target.TheVariants.{Missing, Label}
+use Rattle.md_tree.specs.declared.mention.Referral.{Referral}
+use Rattle.md_tree.specs.declared.mention.Referral.TheVariants.{Missing, Label}
 use Rattle.md_tree.specs.declared.mention.Mention.TheVariants.{Reference}
 use Rattle.md_tree.specs.Rules.{target_of, MeetRules}
 use Rattle.md_tree.specs.Mentions.{mentions_of, defined, footnoted}
@@ -50,7 +50,10 @@ named : (bytes : List ℕ) (children : Forest) (label : Position) (text : List �
     target_of children Missing ≡ Label label → label_identifier bytes label ≡ Some text →
     label_identifier bytes label ≡ Some (identifier_of bytes children)
 named bytes children label text is there =
-    there ∙ sym (ap (λ (target : Target). Some (elim target [ Label at ↦ known (label_identifier bytes at) | _ ↦ [] ])) is
+    there ∙ sym (ap (λ (target : Referral). Some (elim target [
+      | Label at ↦ known (label_identifier bytes at)
+      | _ ↦ []
+    ])) is
     ∙ ap (λ o. Some (known o)) there)
 
 looked_up : (found : List (Option (List ℕ))) (identifiers : List (List ℕ)) (wanted : Option (List ℕ)) (text : List ℕ) →
@@ -82,7 +85,7 @@ each bytes names document is (Node name start end children rest) around before m
   each bytes names document is rest _ _ meets.2,
 )
   where
-    has_label : (target : Target) (label : Position) → target ≡ Label label → HasIdentifier bytes target →
+    has_label : (target : Referral) (label : Position) → target ≡ Label label → HasIdentifier bytes target →
         HasIdentifier bytes (Label label)
     has_label target label leads has = subst (λ t. HasIdentifier bytes t) leads has
 

@@ -21,8 +21,8 @@ use Rattle.md_pattern.specs.declared.kinds.Role.{Role}
 use Rattle.md_pattern.specs.declared.kinds.Role.TheVariants as role
 use Rattle.md_pattern.specs.declared.kinds.Standing.{Standing}
 use Rattle.md_pattern.specs.declared.kinds.Standing.TheVariants.{Through, Space, Solid, Mdx}
-use Rattle.md_tree.specs.declared.mention.Target.{Target}
-use Rattle.md_tree.specs.declared.mention.Target.TheVariants.{Missing, Label, Resource}
+use Rattle.md_tree.specs.declared.mention.Referral.{Referral}
+use Rattle.md_tree.specs.declared.mention.Referral.TheVariants.{Missing, Label, Resource}
 use Rattle.md_base.specs.Tree.{Forest, Empty, Node}
 use Rattle.md_pattern.specs.Standing.{standing_of}
 use Rattle.md_pattern.specs.Pattern.{members, takes, Fits}
@@ -56,7 +56,7 @@ is_neutral symbol.FootnotePrefix = false
 is_neutral symbol.Resource = false
 is_neutral _ = true
 
-neutral-leaves : (seen : Symbol) (found inner : Target) (there : Position) → is_neutral seen ≡ true →
+neutral-leaves : (seen : Symbol) (found inner : Referral) (there : Position) → is_neutral seen ≡ true →
     target_by seen found inner there ≡ found
 neutral-leaves symbol.LabelText found inner there h = lie h
 neutral-leaves symbol.ReferenceString found inner there h = lie h
@@ -67,7 +67,7 @@ neutral-leaves symbol.FootnotePrefix found inner there h = lie h
 neutral-leaves symbol.Resource found inner there h = lie h
 neutral-leaves _ found inner there h = refl
 
-sought-neutral : (nodes : List Stand) (found : Target) → list_all is_neutral (seen_of nodes) ≡ true →
+sought-neutral : (nodes : List Stand) (found : Referral) → list_all is_neutral (seen_of nodes) ≡ true →
     sought nodes found ≡ found
 sought-neutral [] found h = refl
 sought-neutral (node ∷ nodes) found h =
@@ -579,7 +579,7 @@ media-refers children shaped match = elim (media-spine children shaped match) [
 
 -- nodes that begin with a symbol, after which nothing leaves a target
 after-neutral : (seen : Symbol) (start end : Point) (children : Forest) (rest : List Stand) (others : List Symbol) →
-    seen_of rest ≡ others → list_all is_neutral others ≡ true → (found : Target) → sought rest found ≡ found
+    seen_of rest ≡ others → list_all is_neutral others ≡ true → (found : Referral) → sought rest found ≡ found
 after-neutral seen start end children rest others e h found =
     sought-neutral rest found (ap (list_all is_neutral) e ∙ h)
 

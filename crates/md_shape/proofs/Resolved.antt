@@ -17,8 +17,8 @@ use Rattle.md_pattern.specs.declared.kinds.Role.TheVariants as role
 use Rattle.md_pattern.specs.declared.kinds.Reading.TheVariants as reading
 use Rattle.md_pattern.specs.declared.kinds.Standing.{Standing}
 use Rattle.md_pattern.specs.declared.kinds.Standing.TheVariants.{Solid}
-use Rattle.md_tree.specs.declared.mention.Target.{Target}
-use Rattle.md_tree.specs.declared.mention.Target.TheVariants.{Missing, Label, Resource}
+use Rattle.md_tree.specs.declared.mention.Referral.{Referral}
+use Rattle.md_tree.specs.declared.mention.Referral.TheVariants.{Missing, Label, Resource}
 use Rattle.md_tree.specs.declared.mention.Mention.{Mention}
 use Rattle.md_tree.specs.declared.mention.Mention.TheVariants as mention
 use Rattle.md_tree.specs.declared.rule.Rule.{Rule}
@@ -73,7 +73,7 @@ text_there None judged e = cc
 text_there (Some text) judged e = refl
 
 text-read : (bytes : List ℕ) (names : List (List ℕ × List ℕ)) (standing : Standing) (around : Role)
-    (before : Option Symbol) (start end : Point) (target : Target) →
+    (before : Option Symbol) (start end : Point) (target : Referral) →
     broken_rule bytes names (reading_of standing) around before start end target ≡ None →
     has_reading is_text standing ≡ true → is_some (text_between bytes start end) ≡ true
 text-read bytes names (Solid symbol usual reading.Text) around before start end target e h =
@@ -87,7 +87,7 @@ text-read bytes names (Solid symbol usual reading.Value) around before start end
 text-read bytes names _ around before start end target e h = lie h
 
 label-read : (bytes : List ℕ) (names : List (List ℕ × List ℕ)) (standing : Standing) (around : Role)
-    (before : Option Symbol) (start end : Point) (target : Target) →
+    (before : Option Symbol) (start end : Point) (target : Referral) →
     broken_rule bytes names (reading_of standing) around before start end target ≡ None →
     has_reading is_identifier standing ≡ true → is_some (label_between bytes start end) ≡ true
 label-read bytes names (Solid symbol usual reading.Identifier) around before start end target e h =
@@ -189,7 +189,7 @@ abbrev known : Option (List ℕ) → List ℕ
 known identifier = unwrap_or identifier []
 
 -- and by the target of what it identifies
-abbrev named : List ℕ → Target → List ℕ
+abbrev named : List ℕ → Referral → List ℕ
 named bytes target = elim target [ Label there ↦ known (label_identifier bytes there) | _ ↦ [] ]
 
 defined_by-append : (bytes : List ℕ) (m : Mention) (xs ys : List (Option (List ℕ))) →
@@ -215,17 +215,17 @@ footnoted-append bytes (m ∷ ms) others = ap (footnoted_by bytes m) (footnoted-
     ∙ footnoted_by-append bytes m (footnoted bytes ms) (footnoted bytes others)
 
 -- what a node adds to the identifiers
-undefined-media : (bytes : List ℕ) (target : Target) (ds : List (Option (List ℕ))) →
+undefined-media : (bytes : List ℕ) (target : Referral) (ds : List (Option (List ℕ))) →
     defined_by bytes (mention_of reading.Media target) ds ≡ ds
 undefined-media bytes (Label label) ds = refl
 undefined-media bytes _ ds = refl
 
-undefined-call : (bytes : List ℕ) (target : Target) (ds : List (Option (List ℕ))) →
+undefined-call : (bytes : List ℕ) (target : Referral) (ds : List (Option (List ℕ))) →
     defined_by bytes (mention_of reading.Call target) ds ≡ ds
 undefined-call bytes (Label label) ds = refl
 undefined-call bytes _ ds = refl
 
-undefined-footnote : (bytes : List ℕ) (target : Target) (ds : List (Option (List ℕ))) →
+undefined-footnote : (bytes : List ℕ) (target : Referral) (ds : List (Option (List ℕ))) →
     defined_by bytes (mention_of reading.FootnoteDefinition target) ds ≡ ds
 undefined-footnote bytes (Label label) ds = refl
 undefined-footnote bytes _ ds = refl
@@ -271,17 +271,17 @@ definitions-known bytes (Node name start end children rest) around before shaped
     ++ xs) (definitions-known bytes rest _ _ shaped.2))
 
 -- the same of footnote definitions
-unnoted-media : (bytes : List ℕ) (target : Target) (ds : List (Option (List ℕ))) →
+unnoted-media : (bytes : List ℕ) (target : Referral) (ds : List (Option (List ℕ))) →
     footnoted_by bytes (mention_of reading.Media target) ds ≡ ds
 unnoted-media bytes (Label label) ds = refl
 unnoted-media bytes _ ds = refl
 
-unnoted-call : (bytes : List ℕ) (target : Target) (ds : List (Option (List ℕ))) →
+unnoted-call : (bytes : List ℕ) (target : Referral) (ds : List (Option (List ℕ))) →
     footnoted_by bytes (mention_of reading.Call target) ds ≡ ds
 unnoted-call bytes (Label label) ds = refl
 unnoted-call bytes _ ds = refl
 
-unnoted-definition : (bytes : List ℕ) (target : Target) (ds : List (Option (List ℕ))) →
+unnoted-definition : (bytes : List ℕ) (target : Referral) (ds : List (Option (List ℕ))) →
     footnoted_by bytes (mention_of reading.Definition target) ds ≡ ds
 unnoted-definition bytes (Label label) ds = refl
 unnoted-definition bytes _ ds = refl
@@ -331,7 +331,7 @@ contains-map f xs x there = (
       ∙ ap f there.2,
 )
 
-contains-known : (bytes : List ℕ) (found : List (Option (List ℕ))) (identifiers : List (List ℕ)) (target : Target)
+contains-known : (bytes : List ℕ) (found : List (Option (List ℕ))) (identifiers : List (List ℕ)) (target : Referral)
     (there : Position) → map known found ≡ identifiers → target ≡ Label there →
     Contains found (label_identifier bytes there) → Contains identifiers (named bytes target)
 contains-known bytes found identifiers target there e is contained =
@@ -340,7 +340,7 @@ contains-known bytes found identifiers target there e is contained =
     (contains-map known found (label_identifier bytes there) contained))
 
 -- a link or an image
-media-leads : (bytes : List ℕ) (mentions : List Mention) (identifiers : List (List ℕ)) (target : Target)
+media-leads : (bytes : List ℕ) (mentions : List Mention) (identifiers : List (List ℕ)) (target : Referral)
     (referring : Option Position) → map known (defined bytes mentions) ≡ identifiers → broken_by_target target ≡ None →
     IsResolved bytes mentions (mention_of reading.Media target) →
     (target ≡ Resource) ⊎ (target ≡ label_target referring) →
@@ -355,7 +355,7 @@ media-leads bytes mentions identifiers target (Some there) e rules resolved (inr
     inr (contains-known bytes (defined bytes mentions) identifiers target there e alike
     (subst (λ t. IsResolved bytes mentions (mention_of reading.Media t)) alike resolved))
 
-call-leads : (bytes : List ℕ) (mentions : List Mention) (identifiers : List (List ℕ)) (target : Target)
+call-leads : (bytes : List ℕ) (mentions : List Mention) (identifiers : List (List ℕ)) (target : Referral)
     (label : Option Position) (there : Position) → map known (footnoted bytes mentions) ≡ identifiers →
     target ≡ label_target label → label ≡ Some there →
     IsResolved bytes mentions (mention_of reading.Call target) → Contains identifiers (named bytes target)

@@ -12,8 +12,8 @@ use Rattle.md_pattern.specs.declared.kinds.Symbol.TheVariants as symbol
 use Rattle.md_pattern.specs.declared.kinds.Role.{Role}
 use Rattle.md_pattern.specs.declared.kinds.Standing.{Standing}
 use Rattle.md_pattern.specs.declared.kinds.Standing.TheVariants.{Through, Space, Solid, Mdx}
-use Rattle.md_tree.specs.declared.mention.Target.{Target}
-use Rattle.md_tree.specs.declared.mention.Target.TheVariants.{Missing, Label, Resource}
+use Rattle.md_tree.specs.declared.mention.Referral.{Referral}
+use Rattle.md_tree.specs.declared.mention.Referral.TheVariants.{Missing, Label, Resource}
 use Rattle.md_base.specs.Tree.{Forest, Empty, Node}
 use Rattle.md_pattern.specs.Standing.{standing_of}
 use Rattle.md_pattern.specs.Spine.{spine, shown}
@@ -67,7 +67,7 @@ spine-stands (Node name start end children rest) =
     ∙ sym (map-append (λ (node : Stand). node.seen) here (stands rest))
 
 -- what a node leaves as the target of the node around it, by its symbol
-abbrev pub target_by : Symbol → Target → Target → Position → Target
+abbrev pub target_by : Symbol → Referral → Referral → Position → Referral
 target_by symbol.LabelText found inner there = Label there
 target_by symbol.ReferenceString found inner there = Label there
 target_by symbol.DefinitionLabel found inner there = Label there
@@ -78,7 +78,7 @@ target_by symbol.Resource found inner there = Resource
 target_by _ found inner there = found
 
 abbrev Leaves : Standing → Type 0
-Leaves (Solid symbol usual reading) = (found inner : Target) (there : Position) →
+Leaves (Solid symbol usual reading) = (found inner : Referral) (there : Position) →
     target_at reading found inner there ≡ target_by symbol found inner there
 Leaves _ = Unit {0}
 
@@ -94,18 +94,18 @@ leaves MdxJsxTextTag = tt
 leaves _ = λ found inner there. refl
 
 -- the target that nodes leave, one after another
-abbrev pub sought : List Stand → Target → Target
+abbrev pub sought : List Stand → Referral → Referral
 sought [] found = found
 sought (node ∷ nodes) found = sought nodes (target_by node.seen found (target_of node.children Missing)
     (place node.start node.end))
 
-sought-append : (nodes others : List Stand) (found : Target) →
+sought-append : (nodes others : List Stand) (found : Referral) →
     sought (nodes ++ others) found ≡ sought others (sought nodes found)
 sought-append [] others found = refl
 sought-append (node ∷ nodes) others found = sought-append nodes others
     (target_by node.seen found (target_of node.children Missing) (place node.start node.end))
 
-target_here : (standing : Standing) (start end : Point) (children : Forest) (found : Target) → Leaves standing →
+target_here : (standing : Standing) (start end : Point) (children : Forest) (found : Referral) → Leaves standing →
     target_of children found ≡ sought (stands children) found →
     target_after standing found (target_of children) (place start end)
     ≡ sought (stand_here standing start end children (stands children)) found
@@ -115,7 +115,7 @@ target_here (Solid symbol usual reading) start end children found leaves inner =
 target_here Space start end children found leaves inner = refl
 target_here Mdx start end children found leaves inner = refl
 
-pub target-stands : (forest : Forest) (found : Target) → target_of forest found ≡ sought (stands forest) found
+pub target-stands : (forest : Forest) (found : Referral) → target_of forest found ≡ sought (stands forest) found
 target-stands Empty found = refl
 target-stands (Node name start end children rest) found =
     let here : List Stand = stand_here (standing_of name) start end children (stands children) in

@@ -10,8 +10,8 @@ use Rattle.std.specs.Option.{option_map_or}
 use Rattle.md_meaning.specs.Given.{text_of}
 use Rattle.md_meaning.specs.Surroundings.{spine_inside, spine_after_node}
 use Rattle.md_meaning.specs.Meaning.Spans.{marker}
-use Rattle.md_tree.specs.declared.mention.Target.{Target}
-use Rattle.md_tree.specs.declared.mention.Target.TheVariants.{Missing, Label, Resource}
+use Rattle.md_tree.specs.declared.mention.Referral.{Referral}
+use Rattle.md_tree.specs.declared.mention.Referral.TheVariants.{Missing, Label, Resource}
 use Rattle.md_base.specs.Is.{is}
 use Rattle.md_base.specs.Tree.{Forest, Empty, Node}
 use Rattle.md_tree.specs.Rules.{target_of}
@@ -58,7 +58,7 @@ HasItsLabel bytes name start end children = IsTrue (is_identifier_name name) →
     IsTrue (is_some (label_between bytes start end))
 
 -- the target that the place of a label is, if there is one
-abbrev pub label_target : Option Position → Target
+abbrev pub label_target : Option Position → Referral
 label_target None = Missing
 label_target (Some place) = Label place
 

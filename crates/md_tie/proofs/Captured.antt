@@ -12,8 +12,8 @@ use Rattle.md_base.specs.Identifier.{normalized}
 use Rattle.md_base.specs.Place.{label_between}
 use Rattle.md_base.specs.declared.event.Position.{Position}
 use Rattle.md_base.specs.Tree.{Forest}
-use Rattle.md_tree.specs.declared.mention.Target.{Target as Leads}
-use Rattle.md_tree.specs.declared.mention.Target.TheVariants.{Label}
+use Rattle.md_tree.specs.declared.mention.Referral.{Referral as Leads}
+use Rattle.md_tree.specs.declared.mention.Referral.TheVariants.{Label}
 use Rattle.md_tree.specs.Mentions.{identifier_at as label_identifier}
 use Rattle.md_base.specs.Children.{or_else}
 use Rattle.md_base.specs.NameTests.{is_call, is_cell}

@@ -8,8 +8,8 @@ use Rattle.md_pattern.specs.declared.kinds.Symbol.{Symbol}
 use Rattle.md_pattern.specs.declared.kinds.Role.{Role}
 use Rattle.md_pattern.specs.declared.kinds.Reading.{Reading}
 use Rattle.md_pattern.specs.declared.kinds.Reading.TheVariants as reading
-use Rattle.md_tree.specs.declared.mention.Target.{Target}
-use Rattle.md_tree.specs.declared.mention.Target.TheVariants.{Missing, Resource, Label}
+use Rattle.md_tree.specs.declared.mention.Referral.{Referral}
+use Rattle.md_tree.specs.declared.mention.Referral.TheVariants.{Missing, Resource, Label}
 use Rattle.md_tree.specs.declared.rule.Rule.{Rule}
 use Rattle.md_tree.specs.declared.rule.Rule.TheVariants as rule
 use Rattle.md_tree.specs.declared.rule.CompileError.{CompileError}
@@ -52,13 +52,13 @@ of_mark : (b c : Bool) (broken : Rule) → cond b (unless c rule.HeadingMark) (S
 of_mark true c broken e = of_unless c rule.HeadingMark broken tt e
 of_mark false c broken e = subst IsOfNode (some_rule rule.Place broken e) tt
 
-of_target : (target : Target) (broken : Rule) → broken_by_target target ≡ Some broken → IsOfNode broken
+of_target : (target : Referral) (broken : Rule) → broken_by_target target ≡ Some broken → IsOfNode broken
 of_target Missing broken e = subst IsOfNode (some_rule rule.Target broken e) tt
 of_target Resource broken e = cc
 of_target (Label label) broken e = cc
 
 pub of_node : (bytes : List ℕ) (names : List (List ℕ × List ℕ)) (reads : Reading) (around : Role)
-    (before : Option Symbol) (start end : Point) (target : Target) (broken : Rule) →
+    (before : Option Symbol) (start end : Point) (target : Referral) (broken : Rule) →
     broken_rule bytes names reads around before start end target ≡ Some broken → IsOfNode broken
 of_node bytes names reading.Text around before start end target broken e =
     of_text (text_between bytes start end) (λ text. None) broken (λ text f. of_none broken f) e
@@ -147,7 +147,7 @@ IsStop-inside bytes names index (error.Event named broken) others open_node oute
 
 -- the open nodes don't matter inside
 StopsInside-same : (bytes : List ℕ) (names : List (List ℕ × List ℕ)) (broken : Rule) (outer : Outer)
-    (position : Position) (state : State) (target : Target) (opens others : List Open) (count : ℕ)
+    (position : Position) (state : State) (target : Referral) (opens others : List Open) (count : ℕ)
     (mentions : List Mentioned) → StopsInside bytes names broken outer position (record {
       state = state;
       target = target;
@@ -166,7 +166,7 @@ StopsInside-same bytes names rule.Order outer position state target opens others
 StopsInside-same bytes names _ outer position state target opens others count mentions stops = stops
 
 pub IsStopInside-same : (bytes : List ℕ) (names : List (List ℕ × List ℕ)) (index : ℕ) (refusal : CompileError)
-    (outer : Outer) (position : Position) (state : State) (target : Target) (opens others : List Open) (count : ℕ)
+    (outer : Outer) (position : Position) (state : State) (target : Referral) (opens others : List Open) (count : ℕ)
     (mentions : List Mentioned) → IsStopInside bytes names index outer position (record {
       state = state;
       target = target;

@@ -27,8 +27,8 @@ use Rattle.md_pattern.specs.Standing.{standing_of}
 use Rattle.md_pattern.specs.Spine.{spine, Matches}
 use Rattle.md_pattern.specs.Shape.{EachNode, IsShapedNode, AreShaped, IsShaped, item_in, prefix_in, label_in, code_fence_after, math_fence_after, last_symbol, role_for}
 use Rattle.md_pattern.specs.Steps.{items_of, advance, is_whole, is_optional, is_complete, start_of, may_hold}
-use Rattle.md_tree.specs.declared.mention.Target.{Target}
-use Rattle.md_tree.specs.declared.mention.Target.TheVariants.{Missing}
+use Rattle.md_tree.specs.declared.mention.Referral.{Referral}
+use Rattle.md_tree.specs.declared.mention.Referral.TheVariants.{Missing}
 use Rattle.md_tree.specs.Machine.{Reads, Outer, Open, Entry, Course, Runs, StepsBy, Exits, ExitsWhere, after_entry, after_exit, after_through, entered_on, beginning}
 use Rattle.md_tree.specs.Walk.{Anything}
 use Rattle.md_tree.specs.Refusal.{BeginTree, opening}
@@ -443,7 +443,7 @@ held_settled : (state next : State) (one : Symbol) → may_hold state.role ≡ t
 held_settled state next one holds e childless =
     absurd (not_childless state.role holds (sym (advance_role state next one e).0 ∙ childless))
 
-entered_settled : (standing : Standing) (state : State) (target : Target) (entry : Entry) →
+entered_settled : (standing : Standing) (state : State) (target : Referral) (entry : Entry) →
     may_hold state.role ≡ true → IsSettled state → entered_on standing state target ≡ Some entry →
     EntersSettled entry
 entered_settled Through state target entry holds settled e =

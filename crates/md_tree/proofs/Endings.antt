@@ -9,8 +9,8 @@ use Rattle.md_pattern.specs.declared.kinds.Role.TheVariants.{Flow, Childless}
 use Rattle.md_pattern.specs.declared.kinds.Reading.TheVariants.{Free}
 use Rattle.md_pattern.specs.declared.kinds.Standing.{Standing}
 use Rattle.md_pattern.specs.declared.kinds.Standing.TheVariants.{Through, Space, Solid, Mdx}
-use Rattle.md_tree.specs.declared.mention.Target.{Target}
-use Rattle.md_tree.specs.declared.mention.Target.TheVariants.{Missing}
+use Rattle.md_tree.specs.declared.mention.Referral.{Referral}
+use Rattle.md_tree.specs.declared.mention.Referral.TheVariants.{Missing}
 use Rattle.md_tree.specs.declared.mention.Mentioned.{Mentioned}
 use Rattle.md_tree.specs.declared.rule.Rule.{Rule}
 use Rattle.md_pattern.specs.declared.state.State.{State}
@@ -58,7 +58,7 @@ none_some : {A : Type 0} (x : A) → None ≡ Some x → ⊥
 none_some x e = cc
 
 broken_there : (bytes : List ℕ) (names : List (List ℕ × List ℕ)) (broken : Rule) (standing : Standing) (name : Name)
-    (start end : Point) (children : Forest) (here after base : State) (found inner target : Target)
+    (start end : Point) (children : Forest) (here after base : State) (found inner target : Referral)
     (waiting : Option Outer) (course : Course) → entered_on standing here found
     ≡ Some (record { state = base; target = inner; outer = waiting }) →
     BreaksWhere bytes names broken waiting start end course →
@@ -158,7 +158,7 @@ begins holds events course reached =
           (fine_shaped holds reached.nodes reached.base.role reached.base.before reached.nodes_fine));
     }
 
-path_some : (path : List Level) (open_node : Open) (others : List Open) (state : State) (target : Target) →
+path_some : (path : List Level) (open_node : Open) (others : List Open) (state : State) (target : Referral) →
     Stands path (open_node ∷ others) state target → path ≢ []
 path_some [] open_node others state target stands = absurd stands
 path_some (level ∷ path) open_node others state target stands = λ e. cc

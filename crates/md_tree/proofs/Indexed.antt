@@ -19,8 +19,8 @@ use Rattle.md_pattern.specs.declared.kinds.Reading.{Reading}
 use Rattle.md_pattern.specs.declared.kinds.Reading.TheVariants as reading
 use Rattle.md_pattern.specs.declared.kinds.Standing.{Standing}
 use Rattle.md_pattern.specs.declared.kinds.Standing.TheVariants.{Through, Space, Solid, Mdx}
-use Rattle.md_tree.specs.declared.mention.Target.{Target}
-use Rattle.md_tree.specs.declared.mention.Target.TheVariants.{Missing}
+use Rattle.md_tree.specs.declared.mention.Referral.{Referral}
+use Rattle.md_tree.specs.declared.mention.Referral.TheVariants.{Missing}
 use Rattle.md_tree.specs.declared.rule.Rule.{Rule}
 use Rattle.md_base.specs.Tree.{Forest, Empty, Node, flatten, entering, exiting}
 use Rattle.md_pattern.specs.Standing.{standing_of}
@@ -98,7 +98,7 @@ IsEnded events is text row =
 -- names with the reading have the text, where they break no rule
 abbrev pub HaveText : List ℕ → List (List ℕ × List ℕ) → (Reading → Bool) → (Point → Point → Option (List ℕ)) → Type 0
 HaveText bytes names is text =
-    (standing : Standing) (around : Role) (before : Option Symbol) (start end : Point) (target : Target) →
+    (standing : Standing) (around : Role) (before : Option Symbol) (start end : Point) (target : Referral) →
     broken_rule bytes names (reading_of standing) around before start end target ≡ None →
     has_reading is standing ≡ true → (found : List ℕ) × (text start end ≡ Some found)
 
@@ -152,7 +152,7 @@ text_where None judged e = cc
 text_where (Some found) judged e = (found, refl)
 
 text_read : (bytes : List ℕ) (names : List (List ℕ × List ℕ)) (reads : Reading) (around : Role)
-    (before : Option Symbol) (start end : Point) (target : Target) →
+    (before : Option Symbol) (start end : Point) (target : Referral) →
     broken_rule bytes names reads around before start end target ≡ None → is_text reads ≡ true →
     (found : List ℕ) × (text_between bytes start end ≡ Some found)
 text_read bytes names reading.Text around before start end target e is = text_where (text_between bytes start end) _ e
@@ -163,7 +163,7 @@ text_read bytes names reading.Value around before start end target e is = text_w
 text_read bytes names _ around before start end target e is = cc
 
 label_read : (bytes : List ℕ) (names : List (List ℕ × List ℕ)) (reads : Reading) (around : Role)
-    (before : Option Symbol) (start end : Point) (target : Target) →
+    (before : Option Symbol) (start end : Point) (target : Referral) →
     broken_rule bytes names reads around before start end target ≡ None → is_identifier reads ≡ true →
     (found : List ℕ) × (label_between bytes start end ≡ Some found)
 label_read bytes names reading.Identifier around before start end target e is =

@@ -25,7 +25,7 @@ use Rattle.md_tree.specs.Mentions.{mentions_of, mention_of}
 use Rattle.md_base.specs.declared.event.Event.{Event}
 use Rattle.md_base.specs.declared.event.Kind.TheVariants.{Exit}
 use Rattle.md_tree.specs.declared.mention.Mention.{Mention}
-use Rattle.md_tree.specs.declared.mention.Target.{Target}
+use Rattle.md_tree.specs.declared.mention.Referral.{Referral}
 use Rattle.md_tree.specs.Rules.{reading_of}
 use Rattle.md_tree.specs.Numbers.{number_for, with_number, facts_with, AreNumbered, ExitsOf, is_of_definitions, is_of_footnotes, definition_for, footnote_for, place_of}
 use Rattle.md_tree.proofs.Numbers.{told-at, got-with, ended-with, length-with, kept-number, number-definition, number-footnote}
@@ -129,7 +129,7 @@ module _ (inside : Inside) (given : Handed) (index : ℕ) (kept : IsKept inside)
       slice_get inside.facts.items index ≡ Some fact → (forest : Forest) (mention : Mention) →
       flatten forest ≡ given.events → slice_get (mentions_of forest) index ≡ Some mention →
       (fact.read_at ≡ number_for given.bytes (mentions_of forest) mention)
-      × ((target : Target) × (mention ≡ mention_of (reading_of (standing_of event.name)) target))
+      × ((target : Referral) × (mention ≡ mention_of (reading_of (standing_of event.name)) target))
   number-kept event there exits fact got forest mention flattens here =
       let told = told-at forest given.events index event flattens there in
       let number = number_for given.bytes (mentions_of forest) in

@@ -16,15 +16,15 @@ use Rattle.md_pattern.specs.declared.kinds.Standing.TheVariants.{Through, Space,
 use Rattle.md_pattern.specs.Standing.{standing_of}
 use Rattle.md_pattern.specs.Shape.{inner_role, inner_before, last_symbol}
 use Rattle.md_base.specs.Tree.{Forest, Empty, Node}
-use Rattle.md_tree.specs.declared.mention.Target.{Target}
-use Rattle.md_tree.specs.declared.mention.Target.TheVariants.{Missing, Resource, Label}
+use Rattle.md_tree.specs.declared.mention.Referral.{Referral}
+use Rattle.md_tree.specs.declared.mention.Referral.TheVariants.{Missing, Resource, Label}
 use Rattle.md_tree.specs.declared.mention.Mention.{Mention}
 use Rattle.md_tree.specs.declared.mention.Mention.TheVariants.{Nothing, Reference, Call, Definition, FootnoteDefinition}
 use Rattle.md_tree.specs.Rules.{place, broken_by, broken_rule, reading_of, target_of, target_after, MeetRules}
 use Rattle.md_tree.specs.Mentions.{identifier_at, mention_of, mentions_of, defined, footnoted}
 
 -- a label's identifier is there
-abbrev pub HasIdentifier : List ℕ → Target → Type 0
+abbrev pub HasIdentifier : List ℕ → Referral → Type 0
 HasIdentifier bytes (Label label) = (text : List ℕ) × (identifier_at bytes label ≡ Some text)
 HasIdentifier bytes _ = Unit {0}
 
@@ -34,8 +34,9 @@ label_there : (bytes : List ℕ) (start end : Point) (read : Option (List ℕ)) 
 label_there bytes start end None e unbroken = cc
 label_there bytes start end (Some text) e unbroken = (normalized text, ap (option_map normalized) e)
 
-at_there : (bytes : List ℕ) (names : List (List ℕ × List ℕ)) (symbol : Symbol) (usual : _) (read : Reading) (around : Role)
-    (before : Option Symbol) (start end : Point) (target found : Target) (inner : Target → Target) →
+at_there : (bytes : List ℕ) (names : List (List ℕ × List ℕ)) (symbol : Symbol) (usual : _) (read : Reading) (around :
+    Role)
+    (before : Option Symbol) (start end : Point) (target found : Referral) (inner : Referral → Referral) →
     broken_rule bytes names read around before start end target ≡ None → HasIdentifier bytes found →
     HasIdentifier bytes (inner Missing) →
     HasIdentifier bytes (target_after (Solid symbol usual read) found inner (place start end))
@@ -46,7 +47,7 @@ at_there bytes names symbol usual reading.Resource around before start end targe
 at_there bytes names symbol usual _ around before start end target found inner unbroken has held = has
 
 after_there : (bytes : List ℕ) (names : List (List ℕ × List ℕ)) (standing : Standing) (around : Role)
-    (before : Option Symbol) (start end : Point) (target found : Target) (inner : Target → Target) →
+    (before : Option Symbol) (start end : Point) (target found : Referral) (inner : Referral → Referral) →
     broken_rule bytes names (reading_of standing) around before start end target ≡ None → HasIdentifier bytes found →
     HasIdentifier bytes (inner found) → HasIdentifier bytes (inner Missing) →
     HasIdentifier bytes (target_after standing found inner (place start end))
@@ -57,7 +58,7 @@ after_there bytes names Space around before start end target found inner unbroke
 after_there bytes names Mdx around before start end target found inner unbroken has through held = has
 
 pub target-there : (bytes : List ℕ) (names : List (List ℕ × List ℕ)) (forest : Forest) (around : Role)
-    (before : Option Symbol) (found : Target) → MeetRules bytes names forest around before →
+    (before : Option Symbol) (found : Referral) → MeetRules bytes names forest around before →
     HasIdentifier bytes found → HasIdentifier bytes (target_of forest found)
 target-there bytes names Empty around before found meets has = has
 target-there bytes names (Node name start end children rest) around before found meets has =
@@ -76,7 +77,7 @@ MentionsText bytes (Definition label) = HasIdentifier bytes (Label label)
 MentionsText bytes (FootnoteDefinition label) = HasIdentifier bytes (Label label)
 MentionsText bytes _ = Unit {0}
 
-mention_there : (bytes : List ℕ) (read : Reading) (target : Target) → HasIdentifier bytes target →
+mention_there : (bytes : List ℕ) (read : Reading) (target : Referral) → HasIdentifier bytes target →
     MentionsText bytes (mention_of read target)
 mention_there bytes reading.Media (Label label) has = has
 mention_there bytes reading.Media Missing has = tt

@@ -16,8 +16,8 @@ use Rattle.md_pattern.specs.declared.kinds.Reading.TheVariants.{Free}
 use Rattle.md_pattern.specs.declared.kinds.Standing.TheVariants.{Through, Space, Solid}
 use Rattle.md_pattern.specs.Standing.{standing_of}
 use Rattle.md_pattern.specs.Shape.{role_for}
-use Rattle.md_tree.specs.declared.mention.Target.{Target}
-use Rattle.md_tree.specs.declared.mention.Target.TheVariants.{Missing}
+use Rattle.md_tree.specs.declared.mention.Referral.{Referral}
+use Rattle.md_tree.specs.declared.mention.Referral.TheVariants.{Missing}
 use Rattle.md_pattern.specs.declared.state.State.{State}
 use Rattle.md_tree.specs.Rules.{place, target_at, broken_rule}
 use Rattle.md_tree.specs.declared.mention.Mention.TheVariants.{Nothing}
@@ -38,7 +38,7 @@ inside entry from = record {
 }
 
 -- where the children of a node begin, by how its name stands
-module _ (name : Name) (state : State) (target : Target) (holds : may_hold state.role ≡ true) where
+module _ (name : Name) (state : State) (target : Referral) (holds : may_hold state.role ≡ true) where
   pub entered-through : standing_of name ≡ Through →
       entered (standing_of name) state target ≡ Some (record { state = state; target = target; outer = None })
   entered-through stands = rw (stands, holds) refl
@@ -146,7 +146,7 @@ module _ (name : Name) (symbol : Symbol) (usual : Role) (reading : Reading) (nex
   exits-so =
       ap (λ m. record after { mentions = mentions_with (suc from.count) m from.mentions }) (sym (no-mention reading))
 
-  pub Passes-solid : (bytes : List ℕ) (names : List (List ℕ × List ℕ)) (target : Target) → is_complete inner ≡ true →
+  pub Passes-solid : (bytes : List ℕ) (names : List (List ℕ × List ℕ)) (target : Referral) → is_complete inner ≡ true →
       broken_rule bytes names reading next.role from.state.before start end Missing ≡ None →
       target ≡ target_at reading from.target Missing (place start end) →
       Passes (Unbroken bytes names) name start end from

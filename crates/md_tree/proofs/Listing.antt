@@ -7,7 +7,7 @@ use Rattle.std.proofs.lemmas.List.Elements.{All-cons, All-nil, All-head, All-tai
 use Rattle.md_tree.specs.declared.mention.Mention.{Mention}
 use Rattle.md_tree.specs.declared.mention.Mention.TheVariants.{Nothing, Reference, Call, Definition, FootnoteDefinition}
 use Rattle.md_tree.specs.declared.mention.Mentioned.{Mentioned}
-use Rattle.md_tree.specs.declared.mention.Target.TheVariants.{Missing}
+use Rattle.md_tree.specs.declared.mention.Referral.TheVariants.{Missing}
 use Rattle.md_base.specs.Tree.{Forest, Empty, Node}
 use Rattle.md_pattern.specs.Standing.{standing_of}
 use Rattle.md_tree.specs.Rules.{reading_of, target_of}

@@ -165,7 +165,8 @@ NumbersFrom-put old new text before later from updates wanted =
     updates.0 wanted
     ∙ ap (λ b. cond b (Some (suc before)) (found_in old wanted)) (compared text wanted)
     ∙ elim (is_same (identifier_of text) (identifier_of wanted)) as
-    (λ b. cond b (Some (suc before)) (found_in old wanted) ≡ option_map (λ place. suc (before + place)) (if b then Some 0
+    (λ b. cond b (Some (suc before)) (found_in old wanted) ≡ option_map (λ place. suc (before + place)) (if b then
+    Some 0
     else option_map (λ place. suc place) (which later (identifier_of wanted)))) [
       | true ↦ ap Some (at_first before)
       | false ↦ from wanted ∙ counted_on before (which later (identifier_of wanted))
@@ -174,7 +175,8 @@ NumbersFrom-put old new text before later from updates wanted =
 pub NumbersFrom-none : (numbers : Numbered) (before : ℕ) → numbers.entries ≡ [] → NumbersFrom numbers before []
 NumbersFrom-none numbers before none wanted = ap (λ es. lookup (is_at (text_cmp wanted)) es) none
 
-none_before : (places : Option ℕ) → option_map (λ place. suc (0 + place)) places ≡ option_map (λ place. suc place) places
+none_before : (places : Option ℕ) → option_map (λ place. suc (0 + place)) places ≡ option_map (λ place. suc place)
+    places
 none_before None = refl
 none_before (Some place) = ap Some (plus_zero place)
   where
@@ -200,7 +202,8 @@ defined-last bytes (one ∷ before) last =
     ∙ ap (λ n. length (defined_by bytes one.mention []) + n) (defined-last bytes before last)
     ∙ sums (length (defined_by bytes one.mention [])) (length (defined bytes (mentions_among before)))
     (length (defined_by bytes last.mention []))
-    ∙ ap (λ n. n + length (defined_by bytes last.mention [])) (sym (more one.mention (defined bytes (mentions_among before))))
+    ∙ ap (λ n. n + length (defined_by bytes last.mention [])) (sym (more one.mention (defined bytes (mentions_among
+    before))))
   where
     more : (mention : Mention) (later : List Identifier) →
         length (defined_by bytes mention later) ≡ length (defined_by bytes mention []) + length later
@@ -299,7 +302,8 @@ put-set (first ∷ facts) (suc index) number fact inside some is =
 -- a loop over mentions keeps their numbers
 module _ (number : Mention → ℕ) (mentioned : List Mentioned) (i : ℕ) (facts all : List Fact)
     (inside : i < length mentioned) (so_far : numbered number (drop i mentioned) facts ≡ all) where
-  pub numbered-kept : (n : Mentioned) (later : List Fact) (is : ℕ) → number (Mentioned.mention (get_or mentioned i n)) ≡ is →
+  pub numbered-kept : (n : Mentioned) (later : List Fact) (is : ℕ) → number (Mentioned.mention (get_or mentioned i n))
+      ≡ is →
       later ≡ put_number (Mentioned.index (get_or mentioned i n)) is facts →
       numbered number (drop (i + 1) mentioned) later ≡ all
   numbered-kept n later is same put =

@@ -13,8 +13,8 @@ use Rattle.md_infer.specs.Facts.{facts_at, facts_of, fact_at, partner_alone, tab
 use Rattle.md_infer.proofs.Passing.{facts-flatten}
 use Rattle.md_pattern.specs.Standing.{standing_of}
 use Rattle.md_base.specs.Tree.{Forest, Empty, Node, flatten, entering, exiting}
-use Rattle.md_tree.specs.declared.mention.Target.{Target}
-use Rattle.md_tree.specs.declared.mention.Target.TheVariants.{Missing, Resource, Label}
+use Rattle.md_tree.specs.declared.mention.Referral.{Referral}
+use Rattle.md_tree.specs.declared.mention.Referral.TheVariants.{Missing, Resource, Label}
 use Rattle.md_tree.specs.declared.mention.Mention.{Mention}
 use Rattle.md_tree.specs.declared.mention.Mention.TheVariants.{Nothing, Reference, Call, Definition, FootnoteDefinition}
 use Rattle.md_tree.specs.declared.mention.Mentioned.{Mentioned}
@@ -166,7 +166,7 @@ abbrev pub IsTold : Event → Fact → Mention → Type 0
 IsTold event fact mention =
     (event.kind ≡ Enter → mention ≡ Nothing)
     × (event.kind ≡ Exit → (fact.read_at ≡ 0)
-    × ((target : Target) × (mention ≡ mention_of (reading_of (standing_of event.name)) target)))
+    × ((target : Referral) × (mention ≡ mention_of (reading_of (standing_of event.name)) target)))
 
 abbrev Told : List Event → List Fact → List Mention → Type 0
 Told [] [] [] = Unit {0}
@@ -250,7 +250,7 @@ place-number (Some place) = refl
 lie : false ≡ true → ⊥
 lie h = cc
 
-pub number-definition : (bytes : List ℕ) (mentions : List Mention) (name : Name) (target : Target) →
+pub number-definition : (bytes : List ℕ) (mentions : List Mention) (name : Name) (target : Referral) →
     is_of_definitions name ≡ true →
     place_of (number_for bytes mentions (mention_of (reading_of (standing_of name)) target))
     ≡ definition_for bytes mentions (mention_of (reading_of (standing_of name)) target)
@@ -263,7 +263,7 @@ number-definition bytes mentions Image (Label label) is =
     place-number (definition_for bytes mentions (Reference label))
 number-definition bytes mentions _ target is = absurd (lie is)
 
-pub number-footnote : (bytes : List ℕ) (mentions : List Mention) (name : Name) (target : Target) →
+pub number-footnote : (bytes : List ℕ) (mentions : List Mention) (name : Name) (target : Referral) →
     is_of_footnotes name ≡ true →
     place_of (number_for bytes mentions (mention_of (reading_of (standing_of name)) target))
     ≡ footnote_for bytes mentions (mention_of (reading_of (standing_of name)) target)

@@ -10,8 +10,8 @@ use Rattle.md_pattern.specs.declared.kinds.Reading.{Reading}
 use Rattle.md_pattern.specs.declared.kinds.Reading.TheVariants.{Free}
 use Rattle.md_pattern.specs.declared.kinds.Standing.{Standing}
 use Rattle.md_pattern.specs.declared.kinds.Standing.TheVariants.{Through, Space, Solid, Mdx}
-use Rattle.md_tree.specs.declared.mention.Target.{Target}
-use Rattle.md_tree.specs.declared.mention.Target.TheVariants.{Missing}
+use Rattle.md_tree.specs.declared.mention.Referral.{Referral}
+use Rattle.md_tree.specs.declared.mention.Referral.TheVariants.{Missing}
 use Rattle.md_pattern.specs.declared.state.State.{State}
 use Rattle.md_tree.specs.Machine.{Entry}
 use Rattle.md_tree.specs.Machine.{Open}
@@ -45,7 +45,7 @@ spine-joined (Node name start end children rest) others =
     ap (λ s. shown (standing_of name) (spine children) ++ s) (spine-joined rest others)
     ∙ sym (append_assoc (shown (standing_of name) (spine children)) (spine rest) (spine others))
 
-target_of-joined : (forest others : Forest) (found : Target) →
+target_of-joined : (forest others : Forest) (found : Referral) →
     target_of (joined forest others) found ≡ target_of others (target_of forest found)
 target_of-joined Empty others found = refl
 target_of-joined (Node name start end children rest) others found =
@@ -70,12 +70,12 @@ EachNode-joined P (Node name start end children rest) others around before each 
 )
 
 -- the open nodes of a course are those of a path, and the innermost one's children begin with this state and target
-abbrev pub Stands : List Level → List Open → State → Target → Type 0
+abbrev pub Stands : List Level → List Open → State → Referral → Type 0
 Stands [] [] state target = (state ≡ start_of Flow) × (target ≡ Missing)
 Stands [] (open_node ∷ others) state target = ⊥
 Stands (level ∷ path) [] state target = ⊥
 Stands (level ∷ path) (open_node ∷ others) state target =
-    (around : State) × (found : Target) × (here : State) × Stands path others around found
+    (around : State) × (found : Referral) × (here : State) × Stands path others around found
     × Feeds around (spine level.before) here × (open_node.name ≡ level.name) × (open_node.start ≡ level.start)
     × (entered (standing_of level.name) here (target_of level.before found)
     ≡ Some (record { state = state; target = target; outer = open_node.outer }))
@@ -91,7 +91,7 @@ pub record Reached (holds : Reads) (events : List Event) (course : Course) : Typ
   pub path : List Level
   pub nodes : Forest
   pub base : State
-  pub found : Target
+  pub found : Referral
   pub stands : Stands path course.open_nodes base found
   pub feeds : Feeds base (spine nodes) course.state
   pub target_is : course.target ≡ target_of nodes found
@@ -122,7 +122,7 @@ pub some_entry : (a b : Entry) → Some a ≡ Some b → a ≡ b
 some_entry a b e = cc
 
 -- the context of a node's children
-entered_context : (standing : Standing) (state : State) (target : Target) (entry : Entry) →
+entered_context : (standing : Standing) (state : State) (target : Referral) (entry : Entry) →
     entered_on standing state target ≡ Some entry → (entry.state.role ≡ inner_role standing state.role state.before)
     × (entry.state.before ≡ inner_before standing state.before)
 entered_context Through state target entry e =
@@ -150,7 +150,7 @@ entered_context (Solid symbol usual reading) state target entry e =
 entered_context Mdx state target entry e = cc
 
 -- the context of the innermost open node's children
-level_context : (path : List Level) (level : Level) (around here state : State) (found target : Target)
+level_context : (path : List Level) (level : Level) (around here state : State) (found target : Referral)
     (outer : Option Outer) → around.role ≡ role_in path → around.before ≡ before_in path →
     Feeds around (spine level.before) here → entered (standing_of level.name) here found
     ≡ Some (record { state = state; target = target; outer = outer }) →
@@ -171,7 +171,7 @@ level_context path level around here state found target outer r b feeds e =
       inner.1 ∙ ap (λ b. inner_before st b) before_here,
     )
 
-pub Stands-context : (path : List Level) (opens : List Open) (state : State) (target : Target) →
+pub Stands-context : (path : List Level) (opens : List Open) (state : State) (target : Referral) →
     Stands path opens state target → (state.role ≡ role_in path) × (state.before ≡ before_in path)
 Stands-context [] [] state target stands = (ap (λ (s : State). s.role) stands.0, ap (λ (s : State). s.before) stands.0)
 Stands-context [] (open_node ∷ others) state target stands = absurd stands
@@ -181,7 +181,7 @@ Stands-context (level ∷ path) (open_node ∷ others) state target stands =
     level_context path level stands.0 stands.2 state (target_of level.before stands.1) target open_node.outer outer.0
     outer.1 stands.4 stands.7
 
-pub path_none : (path : List Level) (state : State) (target : Target) → Stands path [] state target →
+pub path_none : (path : List Level) (state : State) (target : Referral) → Stands path [] state target →
     (path ≡ []) × (state ≡ start_of Flow)
 path_none [] state target stands = (refl, stands.0)
 path_none (level ∷ path) state target stands = absurd stands
@@ -222,7 +222,7 @@ Reached-enter holds events from name start entry reached e =
 
 -- a node that ends is fine, and goes on the spine around it
 pub record Closed (holds : Reads) (standing : Standing) (name : Name) (start end : Point) (children : Forest)
-    (here after : State) (found : Target) (target : Target) : Type 0 where
+    (here after : State) (found : Referral) (target : Referral) : Type 0 where
   pub apart : here.role ≢ Childless
   pub shaped : IsStanding standing here.role here.before children
   pub read : IsReadWhere holds standing here.role here.before start end (target_of children Missing)
@@ -244,7 +244,7 @@ entry_is a b e =
     (ap (λ (n : Entry). n.state) same, ap (λ (n : Entry). n.target) same, ap (λ (n : Entry). n.outer) same)
 
 closed_through : (holds ending : Reads) (name : Name) (start end : Point) (children : Forest) (here base : State)
-    (found inner : Target) (outer : Option Outer) (others : List Open) (last to : Course) →
+    (found inner : Referral) (outer : Option Outer) (others : List Open) (last to : Course) →
     may_hold here.role ≡ true → entered_on Through here found
     ≡ Some (record { state = base; target = inner; outer = outer }) → Feeds base (spine children) last.state →
     last.target ≡ target_of children inner → ExitsWhere ending outer start end others last to →
@@ -267,7 +267,7 @@ closed_through holds ending name start end children here base found inner outer 
     }
 
 closed_space : (holds ending : Reads) (name : Name) (start end : Point) (children : Forest) (here base : State)
-    (found inner : Target) (outer : Option Outer) (others : List Open) (last to : Course) →
+    (found inner : Referral) (outer : Option Outer) (others : List Open) (last to : Course) →
     may_hold here.role ≡ true → entered_on Space here found
     ≡ Some (record { state = base; target = inner; outer = outer }) →
     EachNode (IsFine holds) children base.role base.before → ExitsWhere ending outer start end others last to →
@@ -287,7 +287,7 @@ closed_space holds ending name start end children here base found inner outer ot
     }
 
 closed_solid : (holds ending : Reads) (name : Name) (start end : Point) (children : Forest) (here base : State)
-    (found inner : Target) (outer : Option Outer) (others : List Open) (last to : Course) (symbol : Symbol)
+    (found inner : Referral) (outer : Option Outer) (others : List Open) (last to : Course) (symbol : Symbol)
     (usual : Role) (reading : Reading) → may_hold here.role ≡ true →
     entered_on (Solid symbol usual reading) here found ≡ Some (record { state = base; target = inner; outer = outer })
     → Feeds base (spine children) last.state → last.target ≡ target_of children inner →
@@ -323,7 +323,7 @@ closed_solid holds ending name start end children here base found inner outer ot
     }
 
 closed : (holds ending : Reads) (standing : Standing) (name : Name) (start end : Point) (children : Forest)
-    (here base : State) (found inner : Target) (outer : Option Outer) (others : List Open) (last to : Course) →
+    (here base : State) (found inner : Referral) (outer : Option Outer) (others : List Open) (last to : Course) →
     may_hold here.role ≡ true → entered_on standing here found
     ≡ Some (record { state = base; target = inner; outer = outer }) →
     EachNode (IsFine holds) children base.role base.before → Feeds base (spine children) last.state →
@@ -352,8 +352,8 @@ pub record Left (holds ending : Reads) (events : List Event) (name : Name) (poin
   pub around : State
   pub here : State
   pub base : State
-  pub found : Target
-  pub inner : Target
+  pub found : Referral
+  pub inner : Referral
   pub open_node : Open
   pub others : List Open
   pub stands : Stands path others around found
@@ -372,7 +372,7 @@ pub record Left (holds ending : Reads) (events : List Event) (name : Name) (poin
   pub nodes_fine : EachNode (IsFine holds) nodes base.role base.before
 
 left_from : (holds ending : Reads) (events : List Event) (name : Name) (point : Point) (from to : Course)
-    (path : List Level) (opens : List Open) (nodes : Forest) (base : State) (found : Target) →
+    (path : List Level) (opens : List Open) (nodes : Forest) (base : State) (found : Referral) →
     from.open_nodes ≡ opens → Stands path opens base found → Feeds base (spine nodes) from.state →
     from.target ≡ target_of nodes found → events ≡ opening path ++ flatten nodes → IsFinePath holds path →
     EachNode (IsFine holds) nodes base.role base.before → Exits ending opens name point from to →
@@ -455,7 +455,7 @@ Left-inner holds ending events name point from to left =
     (subst (λ r. EachNode (IsFine holds) left.nodes r left.base.before) context.0 left.nodes_fine)
 
 left_reached : (holds : Reads) (events : List Event) (point : Point) (from to : Course) (path : List Level)
-    (level : Level) (nodes : Forest) (around here : State) (found : Target) → Stands path to.open_nodes around found →
+    (level : Level) (nodes : Forest) (around here : State) (found : Referral) → Stands path to.open_nodes around found →
     Feeds around (spine level.before) here → Closed holds
     (standing_of level.name) level.name level.start point nodes here to.state (target_of level.before found) to.target
     → EachNode (IsFine holds) nodes (inner_role (standing_of level.name) here.role here.before)

@@ -11,8 +11,8 @@ use Rattle.md_pattern.specs.declared.kinds.Reading.{Reading}
 use Rattle.md_pattern.specs.declared.kinds.Reading.TheVariants.{Free}
 use Rattle.md_pattern.specs.declared.kinds.Standing.{Standing}
 use Rattle.md_pattern.specs.declared.kinds.Standing.TheVariants.{Through, Space, Solid, Mdx}
-use Rattle.md_tree.specs.declared.mention.Target.{Target}
-use Rattle.md_tree.specs.declared.mention.Target.TheVariants.{Missing}
+use Rattle.md_tree.specs.declared.mention.Referral.{Referral}
+use Rattle.md_tree.specs.declared.mention.Referral.TheVariants.{Missing}
 use Rattle.md_tree.specs.declared.mention.Mentioned.{Mentioned}
 use Rattle.md_pattern.specs.declared.state.State.{State}
 use Rattle.md_tree.specs.Machine.{Entry}
@@ -28,7 +28,7 @@ use Rattle.md_tree.specs.Machine.{Reads, Course, Runs, Exits, after_entry, enter
 use Rattle.md_tree.proofs.Groups.{Feeds, Feeds-split, Feeds-matches, advance_role}
 
 -- a claim about nodes that stand on a spine, of a node that stands so
-abbrev pub IsReadWhere : Reads → Standing → Role → Option Symbol → Point → Point → Target → Type 0
+abbrev pub IsReadWhere : Reads → Standing → Role → Option Symbol → Point → Point → Referral → Type 0
 IsReadWhere holds (Solid symbol usual reading) around before start end target =
     holds reading around before start end target
 IsReadWhere holds _ around before start end target = Unit {0}
@@ -41,7 +41,7 @@ IsFine holds around before name start end children =
 
 -- what is free is fine
 abbrev pub AllowsFree : Reads → Type 0
-AllowsFree holds = (around : Role) (before : Option Symbol) (start end : Point) (target : Target) →
+AllowsFree holds = (around : Role) (before : Option Symbol) (start end : Point) (target : Referral) →
     holds Free around before start end target
 
 pub Runs-append : (holds : Reads) (events others : List Event) (from middle to : Course) →

@@ -10,8 +10,8 @@ use Rattle.md_pattern.specs.declared.kinds.Role.{Role}
 use Rattle.md_pattern.specs.declared.kinds.Role.TheVariants.{Flow}
 use Rattle.md_pattern.specs.declared.kinds.Standing.{Standing}
 use Rattle.md_pattern.specs.declared.kinds.Standing.TheVariants.{Through, Space, Solid, Mdx}
-use Rattle.md_tree.specs.declared.mention.Target.{Target}
-use Rattle.md_tree.specs.declared.mention.Target.TheVariants.{Missing}
+use Rattle.md_tree.specs.declared.mention.Referral.{Referral}
+use Rattle.md_tree.specs.declared.mention.Referral.TheVariants.{Missing}
 use Rattle.md_tree.specs.declared.rule.Rule.{Rule}
 use Rattle.md_tree.specs.declared.rule.Rule.TheVariants as rule
 use Rattle.md_pattern.specs.declared.state.State.{State}
@@ -67,7 +67,7 @@ Runs-same holds also (event ∷ events) from one other e f =
 
 -- ---- claims on nodes
 
-reads_anything : (standing : Standing) (around : Role) (before : Option Symbol) (start end : Point) (target : Target)
+reads_anything : (standing : Standing) (around : Role) (before : Option Symbol) (start end : Point) (target : Referral)
     → IsReadWhere Anything standing around before start end target
 reads_anything Through around before start end target = tt
 reads_anything Space around before start end target = tt
@@ -96,7 +96,7 @@ EachNode-both P Q (Node name start end children rest) around before p q = (
 )
 
 reads_unbroken : (bytes : List ℕ) (names : List (List ℕ × List ℕ)) (standing : Standing) (around : Role)
-    (before : Option Symbol) (start end : Point) (target : Target) →
+    (before : Option Symbol) (start end : Point) (target : Referral) →
     broken_rule bytes names (reading_of standing) around before start end target ≡ None →
     IsReadWhere (Unbroken bytes names) standing around before start end target
 reads_unbroken bytes names Through around before start end target e = tt
@@ -105,7 +105,7 @@ reads_unbroken bytes names (Solid symbol usual reading) around before start end 
 reads_unbroken bytes names Mdx around before start end target e = tt
 
 unbroken_reads : (bytes : List ℕ) (names : List (List ℕ × List ℕ)) (standing : Standing) (around : Role)
-    (before : Option Symbol) (start end : Point) (target : Target) →
+    (before : Option Symbol) (start end : Point) (target : Referral) →
     IsReadWhere (Unbroken bytes names) standing around before start end target →
     broken_rule bytes names (reading_of standing) around before start end target ≡ None
 unbroken_reads bytes names Through around before start end target e = refl
@@ -197,7 +197,7 @@ BeginNoTree-stuck holds seen event course runs stuck = λ forest more shaped fla
 some_none : {A : Type 0} (x : A) (o : Option A) → o ≡ None → o ≡ Some x → ⊥
 some_none x o e f = cc
 
-mdx_enters : (standing : Standing) (state : State) (target : Target) (b : Bool) (P : Entry → Type 0) →
+mdx_enters : (standing : Standing) (state : State) (target : Referral) (b : Bool) (P : Entry → Type 0) →
     standing ≡ Mdx → MatchOption (cond b (entered_on standing state target) None) ⊥ P → ⊥
 mdx_enters standing state target true P e here = subst (λ st. MatchOption (entered_on st state target) ⊥ P) e here
 mdx_enters standing state target false P e here = here

@@ -12,8 +12,8 @@ use Rattle.md_pattern.specs.declared.kinds.Standing.{Standing}
 use Rattle.md_pattern.specs.declared.kinds.Standing.TheVariants.{Through, Space, Solid, Mdx}
 use Rattle.md_pattern.specs.declared.kinds.Reading.{Reading}
 use Rattle.md_pattern.specs.declared.kinds.Reading.TheVariants.{Free}
-use Rattle.md_tree.specs.declared.mention.Target.{Target}
-use Rattle.md_tree.specs.declared.mention.Target.TheVariants.{Missing}
+use Rattle.md_tree.specs.declared.mention.Referral.{Referral}
+use Rattle.md_tree.specs.declared.mention.Referral.TheVariants.{Missing}
 use Rattle.md_tree.specs.declared.mention.Mentioned.{Mentioned}
 use Rattle.md_pattern.specs.declared.state.State.{State}
 use Rattle.md_pattern.specs.Standing.{standing_of}
@@ -27,7 +27,7 @@ use Rattle.md_tree.specs.Mentions.{mention_of, mentions_with}
 pub record Outer : Type 0 where
   pub state : State
   pub before : Option Symbol
-  pub target : Target
+  pub target : Referral
   pub reading : Reading
 
 -- a node that is open; nothing waits for the end of a transparent one
@@ -39,11 +39,11 @@ pub record Open : Type 0 where
 -- where a node's children begin
 pub record Entry : Type 0 where
   pub state : State
-  pub target : Target
+  pub target : Referral
   pub outer : Option Outer
 
 -- where the children of a node begin, if it may stand on this spine
-abbrev pub entered_on : Standing → State → Target → Option Entry
+abbrev pub entered_on : Standing → State → Referral → Option Entry
 entered_on Through state target = Some (record { state = state; target = target; outer = None })
 entered_on Space state target =
     Some (record {
@@ -61,13 +61,13 @@ entered_on (Solid symbol usual reading) state target =
 entered_on Mdx state target = None
 
 -- the same, where the node around may have children
-abbrev pub entered : Standing → State → Target → Option Entry
+abbrev pub entered : Standing → State → Referral → Option Entry
 entered standing state target = if may_hold state.role then entered_on standing state target else None
 
 -- how far events have been read: how many, what they mention, and of the open nodes the innermost first
 pub record Course : Type 0 where
   pub state : State
-  pub target : Target
+  pub target : Referral
   pub open_nodes : List Open
   pub count : ℕ
   pub mentions : List Mentioned
@@ -105,7 +105,7 @@ after_exit outer start end others course = record {
 -- a claim about nodes that stand on a spine: what is read of each, the role around it, the symbol before it, its
 -- start, end and target
 abbrev pub Reads : Type 1
-Reads = Reading → Role → Option Symbol → Point → Point → Target → Type 0
+Reads = Reading → Role → Option Symbol → Point → Point → Referral → Type 0
 
 -- the exit of a node that waits so
 abbrev pub ExitsWhere : Reads → Option Outer → Point → Point → List Open → Course → Course → Type 0

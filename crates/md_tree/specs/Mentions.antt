@@ -6,8 +6,8 @@ use Rattle.md_base.specs.Place.{label_between}
 use Rattle.md_base.specs.Identifier.{normalized}
 use Rattle.md_pattern.specs.declared.kinds.Reading.{Reading}
 use Rattle.md_pattern.specs.declared.kinds.Reading.TheVariants as reading
-use Rattle.md_tree.specs.declared.mention.Target.{Target}
-use Rattle.md_tree.specs.declared.mention.Target.TheVariants.{Missing, Label}
+use Rattle.md_tree.specs.declared.mention.Referral.{Referral}
+use Rattle.md_tree.specs.declared.mention.Referral.TheVariants.{Missing, Label}
 use Rattle.md_tree.specs.declared.mention.Mention.{Mention}
 use Rattle.md_tree.specs.declared.mention.Mention.TheVariants.{Nothing, Reference, Call, Definition, FootnoteDefinition}
 use Rattle.md_tree.specs.declared.mention.Mentioned.{Mentioned}
@@ -16,7 +16,7 @@ use Rattle.md_pattern.specs.Standing.{standing_of}
 use Rattle.md_tree.specs.Rules.{reading_of, target_of}
 
 -- what a node mentions, by what is read of it and its target
-abbrev pub mention_of : Reading → Target → Mention
+abbrev pub mention_of : Reading → Referral → Mention
 mention_of reading.Media (Label label) = Reference label
 mention_of reading.Call (Label label) = Call label
 mention_of reading.Definition (Label label) = Definition label

@@ -69,8 +69,8 @@ ExitsOf is events index = (name : Name) × ExitsAt events index name × IsTrue (
 
 -- ---- what is kept: only contracts of private functions speak of it
 
--- by the identifiers of the definitions and of the footnote definitions, the number of a footnote definition and of what
--- leads to a definition of either kind: one more than which it is; 0 for another mention
+-- by the identifiers of the definitions and of the footnote definitions, the number of a footnote definition and of
+-- what leads to a definition of either kind: one more than which it is; 0 for another mention
 abbrev pub number_of : Option ℕ → ℕ
 number_of None = 0
 number_of (Some place) = suc place

@@ -15,8 +15,8 @@ use Rattle.md_pattern.specs.declared.kinds.Reading.{Reading}
 use Rattle.md_pattern.specs.declared.kinds.Reading.TheVariants as reading
 use Rattle.md_pattern.specs.declared.kinds.Standing.{Standing}
 use Rattle.md_pattern.specs.declared.kinds.Standing.TheVariants.{Through, Solid}
-use Rattle.md_tree.specs.declared.mention.Target.{Target}
-use Rattle.md_tree.specs.declared.mention.Target.TheVariants.{Missing, Resource, Label}
+use Rattle.md_tree.specs.declared.mention.Referral.{Referral}
+use Rattle.md_tree.specs.declared.mention.Referral.TheVariants.{Missing, Resource, Label}
 use Rattle.md_tree.specs.declared.rule.Rule.{Rule}
 use Rattle.md_tree.specs.declared.rule.Rule.TheVariants as rule
 use Rattle.md_base.specs.Tree.{Forest, Empty, Node}
@@ -33,20 +33,20 @@ place start end = record { start = start; end = end }
 
 -- what a node leaves as the target of the node around, by what is read of it, the target so far and what its own
 -- spine has
-abbrev pub target_at : Reading → Target → Target → Position → Target
+abbrev pub target_at : Reading → Referral → Referral → Position → Referral
 target_at reading.Identifier found inner where_it_is = Label where_it_is
 target_at reading.Holder found inner where_it_is = inner
 target_at reading.Resource found inner where_it_is = Resource
 target_at _ found inner where_it_is = found
 
 -- the same for each way to stand
-abbrev pub target_after : Standing → Target → (Target → Target) → Position → Target
+abbrev pub target_after : Standing → Referral → (Referral → Referral) → Position → Referral
 target_after Through found inner where_it_is = inner found
 target_after (Solid symbol usual reading) found inner where_it_is = target_at reading found (inner Missing) where_it_is
 target_after _ found inner where_it_is = found
 
 -- the target that a spine leaves: its resource, or its label's place, of which the last one counts
-abbrev pub target_of : Forest → Target → Target
+abbrev pub target_of : Forest → Referral → Referral
 target_of Empty found = found
 target_of (Node name start end children rest) found =
     target_of rest (target_after (standing_of name) found (target_of children) (place start end))
@@ -89,13 +89,13 @@ abbrev pub broken_by : Option (List ℕ) → (List ℕ → Option Rule) → Opti
 broken_by read judged = elim read [ None ↦ Some rule.Place | Some text ↦ judged text ]
 
 -- the target of a link or an image
-abbrev pub broken_by_target : Target → Option Rule
+abbrev pub broken_by_target : Referral → Option Rule
 broken_by_target target = elim target [ Missing ↦ Some rule.Target | _ ↦ None ]
 
 -- the rule that a node breaks, by what is read of it, the role around it, the symbol before it, its place and its
 -- target
 abbrev pub broken_rule : List ℕ → List (List ℕ × List ℕ) → Reading → Role → Option Symbol → Point →
-    Point → Target → Option Rule
+    Point → Referral → Option Rule
 broken_rule bytes names read around before start end target = elim read [
   | reading.Text ↦ broken_by (text_between bytes start end) (λ text. None)
   | reading.LineEnding ↦

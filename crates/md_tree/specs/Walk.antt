@@ -12,8 +12,8 @@ use Rattle.md_tree.specs.declared.rule.Rule.{Rule}
 use Rattle.md_tree.specs.declared.rule.Rule.TheVariants as rule
 use Rattle.md_tree.specs.declared.rule.CompileError.{CompileError}
 use Rattle.md_tree.specs.declared.rule.CompileError.TheVariants as error
-use Rattle.md_tree.specs.declared.mention.Target.{Target}
-use Rattle.md_tree.specs.declared.mention.Target.TheVariants.{Missing, Resource, Label}
+use Rattle.md_tree.specs.declared.mention.Referral.{Referral}
+use Rattle.md_tree.specs.declared.mention.Referral.TheVariants.{Missing, Resource, Label}
 use Rattle.md_tree.specs.declared.open_nodes.Aim.{Aim}
 use Rattle.md_tree.specs.declared.open_nodes.Aim.TheVariants as aim
 use Rattle.md_tree.specs.declared.open_nodes.Open.{Open as KeptOpen}
@@ -39,7 +39,7 @@ abbrev pub place_at : List Event → ℕ → ℕ → Position
 place_at events entry exit = place (point_at events entry) (point_at events exit)
 
 -- what a walk's records stand for, where these are the events
-abbrev pub target_seen : List Event → Aim → Target
+abbrev pub target_seen : List Event → Aim → Referral
 target_seen events aim.Missing = Missing
 target_seen events aim.Resource = Resource
 target_seen events (aim.Label entry exit) = Label (place_at events entry exit)

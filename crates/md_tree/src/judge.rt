@@ -8,7 +8,7 @@ ghost use Rattle.md_pattern.specs.Places.{state_of};
 ghost use Rattle.md_tree.specs.Mentions.{mention_of};
 ghost use Rattle.md_tree.specs.Walk.{point_at, place_at, target_seen};
 ghost use Rattle.md_base.specs.declared.event.Event.{Event};
-ghost use Rattle.md_tree.specs.declared.mention.Target.TheVariants.{Label};
+ghost use Rattle.md_tree.specs.declared.mention.Referral.TheVariants.{Label};
 ghost use Rattle.md_tree.specs.declared.rule.Rule.TheVariants as rule;
 
 use crate::input::{Input, place_at, point_at, text_of};

@@ -2,10 +2,10 @@
 
 use md_base::Position;
 
-/// What identifies a link, an image, a footnote call or a definition: a label by its place.
+/// By what a link, an image, a footnote call or a definition refers or is referred to: a label by its place.
 /// Contracts speak of it; while events are read, `Aim` is kept, which has indices of events.
 #[derive(Clone, Copy)]
-pub enum Target {
+pub enum Referral {
     Missing,
     Resource,
     /// The place of its label, of which only the indices are read.

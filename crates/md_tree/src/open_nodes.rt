@@ -4,7 +4,7 @@ use md_base::Name;
 use md_pattern::{Place, Reading, Symbol};
 
 /// What identifies a link, an image, a footnote call or a definition, as far as events have been
-/// read: a label by the indices of its two events. Contracts speak of `Target`, which has places.
+/// read: a label by the indices of its two events. Contracts speak of `Referral`, which has places.
 #[derive(Clone, Copy)]
 pub enum Aim {
     Missing,

@@ -157,9 +157,9 @@ fn lead(
     }
 }
 
-/// Numbers definitions, and footnote definitions, each by the first one with its identifier, counted from 1. The number of
-/// a footnote definition, and of what leads to one of either, is kept in the fact of its exit. Refuses what leads to one
-/// that isn't there.
+/// Numbers definitions, and footnote definitions, each by the first one with its identifier, counted from 1. The number
+/// of a footnote definition, and of what leads to one of either kind, is kept in the fact of its exit. Refuses what leads
+/// to one that isn't there.
 ///
 /// # Errors
 ///

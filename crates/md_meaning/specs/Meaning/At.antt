@@ -7,7 +7,7 @@ use Rattle.md_base.specs.Place.{text_between}
 use Rattle.md_base.specs.Tree.{Forest}
 use Rattle.md_meaning.specs.declared.context.Surroundings.{Surroundings}
 use Rattle.md_text.specs.declared.options.CompileOptions.{CompileOptions}
-use Rattle.md_tree.specs.declared.mention.Target.TheVariants.{Missing, Label}
+use Rattle.md_tree.specs.declared.mention.Referral.TheVariants.{Missing, Label}
 use Rattle.md_tree.specs.Mentions.{identifier_at}
 use Rattle.md_tree.specs.Rules.{target_of}
 

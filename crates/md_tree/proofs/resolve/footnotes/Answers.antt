@@ -35,7 +35,8 @@ loop-mentioned-preserved c =
           c.loop-mentioned-test.true c.loop-mentioned.invariant.1 _ w.in_ok-identifier.identifier _
           (ap (λ mention. footnoted_by bytes mention later) w.in-FootnoteDefinition.is) w.in_ok-identifier.ensures in (
             later_by c.match-mentioned.next c.loop-mentioned.next index w.next-is c.loop-mentioned.invariant.0,
-            rw (w.numbers-is, w.next-is ∙ one c.loop-mentioned.next) (w.in_ok-number.ensures.numbers later (read bytes mentions) before),
+            rw (w.numbers-is, w.next-is ∙ one c.loop-mentioned.next) (w.in_ok-number.ensures.numbers later (read bytes
+                mentions) before),
             rw w.facts-is (numbered-kept (footnote_number bytes all) mentions index c.loop-mentioned.facts.items _
                 c.loop-mentioned-test.true c.loop-mentioned.invariant.2 _ _ w.in_ok-number.number
                 (ap (footnote_number bytes all) w.in-FootnoteDefinition.is

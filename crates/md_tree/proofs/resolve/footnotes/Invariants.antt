@@ -1,5 +1,5 @@
--- At each turn: the map has the numbers of the footnote definitions before this mention, and with the numbers of the mentions
--- from here on the facts are those with all of them.
+-- At each turn: the map has the numbers of the footnote definitions before this mention, and with the numbers of the
+-- mentions from here on the facts are those with all of them.
 use Rattle.std.proofs.Common.{◌≡◌, ◌+◌, ◌≤◌, drop}
 use Rattle.md_tree.specs.Mentions.{footnoted, mentions_among}
 use Rattle.md_tree.specs.Numbers.{NumbersBefore, numbered, footnote_number}

@@ -16,7 +16,8 @@ nothing number none = omega (arith, none)
 pub returns-then-index-len : goal.returns-then-index-len
 returns-then-index-len c =
     put-set c.args.facts.now.items c.args.index c.args.number c.index_mut.result.now
-    (inside c.args.index c.len.result c.args.facts.now.len _ c.if-index-len.true c.len.ensures c.args.facts.now.ok.0) c.if-number-gt0.true
+    (inside c.args.index c.len.result c.args.facts.now.len _ c.if-index-len.true c.len.ensures c.args.facts.now.ok.0)
+    c.if-number-gt0.true
     c.index_mut.ensures.value
 
 pub returns-else-number-gt0 : goal.returns-else-number-gt0

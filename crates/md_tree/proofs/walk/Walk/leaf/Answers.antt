@@ -10,7 +10,7 @@ use Rattle.md_base.specs.Reference.{name_table}
 use Rattle.md_pattern.specs.declared.kinds.Standing.TheVariants.{Through, Space}
 use Rattle.md_tree.specs.declared.rule.Rule.TheVariants as rule
 use Rattle.md_tree.specs.declared.rule.CompileError.TheVariants as error
-use Rattle.md_tree.specs.declared.mention.Target.TheVariants.{Missing}
+use Rattle.md_tree.specs.declared.mention.Referral.TheVariants.{Missing}
 use Rattle.md_tree.specs.Rules.{target_at, broken_rule}
 use Rattle.md_tree.specs.Walk.{point_at, place_at, target_seen, course_of, IsStopAtLeaf}
 use Rattle.md_tree.proofs.Leaves.{passes-over, Passes-solid, IsStopAtLeaf-open, IsStopAtLeaf-broken}
