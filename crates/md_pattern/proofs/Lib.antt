@@ -1,3 +1,2 @@
 -- The lemmas on places in a pattern: each fits a byte, and which patterns let a spine be empty.
-pub mod Positions
 pub mod PlaceLemmas

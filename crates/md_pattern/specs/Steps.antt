@@ -74,30 +74,6 @@ is_complete state = is_whole state.stage && list_all is_optional (items_of state
 abbrev pub start_of : Role → State
 start_of role = record { role = role; before = None; position = 0; stage = Whole }
 
--- how many items of a role's pattern there are up to the last that must be there. Only contracts of private functions
--- speak of it.
-abbrev pub needed_by : Role → ℕ
-needed_by role.FootnoteDefinition = 1
-needed_by role.FootnotePrefix = 1
-needed_by role.OrderedList = 1
-needed_by role.UnorderedList = 1
-needed_by role.FirstOrderedItem = 1
-needed_by role.OrderedItem = 1
-needed_by role.Item = 1
-needed_by role.FirstOrderedPrefix = 2
-needed_by role.OrderedPrefix = 2
-needed_by role.Prefix = 1
-needed_by role.Heading = 1
-needed_by role.CodeFenced = 1
-needed_by role.Math = 1
-needed_by role.Media = 1
-needed_by role.FootnoteCall = 1
-needed_by role.CallLabel = 2
-needed_by role.Definition = 1
-needed_by role.Table = 1
-needed_by role.TableHead = 3
-needed_by _ = 0
-
 -- a node of this role may have children
 abbrev pub may_hold : Role → Bool
 may_hold role.Childless = false
