@@ -1,0 +1,12 @@
+-- Lemmas: pieces are tokenized as their tokens; one more attribute in a piece is one more in its token; and the program
+-- finds each tag that gets one.
+pub mod Plain
+pub mod PieceRuns
+pub mod FromForest
+pub mod Adding
+pub mod Scanning
+pub mod Parts
+pub mod Finding
+pub mod Rules
+pub mod LinkRule
+
