@@ -9,4 +9,6 @@ pub mod Parts
 pub mod Finding
 pub mod Rules
 pub mod LinkRule
+pub mod Numbers
+pub mod HeadingRule
 

@@ -2,6 +2,7 @@
 #![tactic(auto)]
 
 mod html;
+mod ids;
 mod rel;
 mod scan;
 
