@@ -11,4 +11,5 @@ pub mod Rules
 pub mod LinkRule
 pub mod Numbers
 pub mod HeadingRule
+pub mod Listing
 

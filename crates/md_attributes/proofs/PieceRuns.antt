@@ -19,7 +19,7 @@ use Rattle.md_attributes.specs.Pieces.{Piece, Words, Opening, Single, Closing, a
 use Rattle.md_attributes.proofs.Plain.{good_name, good_attributes, void-name}
 
 -- after a text no line feed comes
-after_words : (x : List Piece) → not (begins_with_words x) ≡ true → begins_with_line_feed (all_written x) ≡ false
+pub after_words : (x : List Piece) → not (begins_with_words x) ≡ true → begins_with_line_feed (all_written x) ≡ false
 after_words [] h = refl
 after_words (Words text ∷ more) h = lie h
 after_words (Opening name attributes ∷ more) h = refl

@@ -24,7 +24,7 @@ pub record IsRule (picks : List ℕ → Bool) (test : Token → Bool) (new : ℕ
   pub links : (n : ℕ) → is_permitted (codes "href") link_protocols (seen_attribute (new n)) ≡ true
   pub images : (n : ℕ) → is_permitted (codes "src") image_protocols (seen_attribute (new n)) ≡ true
 
-pub attributed : (text : List ℕ) → IsWritten text → IsAttributed text
+unfoldable pub attributed : (text : List ℕ) → IsWritten text → IsAttributed text
 attributed text w =
     let runs : IsTokenized text (all_tokens w.pieces) =
     subst (λ t. IsTokenized t (all_tokens w.pieces)) w.written_so (pieces-run w.pieces w.sound) in

@@ -142,12 +142,12 @@ attributes-append (a ∷ x) y =
     ∙ ap (λ z. 32 ∷ (a.name ++ (61 ∷ 34 ∷ z))) (sym (append_assoc a.value later (written_attributes y)))
     ∙ ap (λ z. 32 ∷ z) (sym (append_assoc a.name (61 ∷ 34 ∷ (a.value ++ later)) (written_attributes y)))
 
-name_bytes : (name : List ℕ) → is_tag_name name ≡ true → list_all is_name_byte name ≡ true
+pub name_bytes : (name : List ℕ) → is_tag_name name ≡ true → list_all is_name_byte name ≡ true
 name_bytes name h =
     (and_parts (list_all is_name_byte name) _ (and_parts (begins_with_letter name) _ h).1).0
 
 -- what stands between `<` and `>`, as it is written
-between : (name : List ℕ) (x : List Attribute) (r : List ℕ) →
+pub between : (name : List ℕ) (x : List Attribute) (r : List ℕ) →
     name ++ (written_attributes x ++ r) ≡ (name ++ written_attributes x) ++ r
 between name x r = sym (append_assoc name (written_attributes x) r)
 

@@ -1,13 +1,13 @@
 -- What the calls add, in the words of the HTML Standard's tokenizer: start tags with one more attribute.
 use Rattle.std.specs.Str.{bytes_eq}
-use Rattle.std.specs.Prelude.{ℕ, suc, Bool, false, not, ◌&&◌, if◌then◌else◌, nat_eq, List, [], ◌∷◌, ◌++◌, codes}
+use Rattle.std.specs.Prelude.{ℕ, suc, ◌-◌, Bool, true, false, not, ◌&&◌, if◌then◌else◌, nat_eq, slice_index, List, [], ◌∷◌, ◌++◌, codes}
 use Rattle.std.specs.List.{list_any, starts_with}
 use Rattle.std.specs.Fmt.{decimal}
 use Rattle.md_base.specs.Identifier.{is_nonempty}
 use Rattle.md_text.specs.Bytes.{is_one_of}
 use Rattle.md_text.specs.Encode.{encoded}
 use Rattle.md_standard.specs.Input.{with_line_feeds}
-use Rattle.md_standard.specs.Token.{Token, TokenAttribute, StartTag}
+use Rattle.md_standard.specs.Token.{Token, TokenAttribute, Doctype, Character, StartTag, EndTag, EndOfFile}
 
 -- a start tag with one more attribute, its last
 abbrev pub with_attribute : Token → TokenAttribute → Token
@@ -73,3 +73,39 @@ id_of prefix n = record { name = codes "id"; value = shown prefix ++ decimal (su
 -- tokens, each such heading with an `id` of this prefix and its number
 abbrev pub with_heading_ids : List ℕ → List Token → List Token
 with_heading_ids prefix tokens = added gets_id (id_of prefix) 0 tokens
+
+-- a heading that gets an `id`: its level, its number, and its text, escaped
+pub record Listed : Type 0 where
+  pub level : ℕ
+  pub number : ℕ
+  pub text : List ℕ
+
+-- the characters before the next end tag of this name
+abbrev pub characters_before : List ℕ → List Token → List ℕ
+characters_before name [] = []
+characters_before name (Character b ∷ more) = b ∷ characters_before name more
+characters_before name (EndTag other ∷ more) = if bytes_eq other name then [] else characters_before name more
+characters_before name (StartTag other attributes flag ∷ more) = characters_before name more
+characters_before name (Doctype other ∷ more) = characters_before name more
+characters_before name (EndOfFile ∷ more) = characters_before name more
+
+-- a heading by its start tag and what follows that; the level is the digit of the name
+abbrev pub heading_of : ℕ → Token → List Token → Listed
+heading_of n token more = elim token [
+  | StartTag name attributes flag ↦ record {
+    level = slice_index name 1 - 48;
+    number = suc n;
+    text = encoded true (characters_before name more);
+  }
+  | _ ↦ record { level = 0; number = suc n; text = [] }
+]
+
+-- the headings that get an `id`, after so many of them
+abbrev pub headings_after : ℕ → List Token → List Listed
+headings_after n [] = []
+headings_after n (t ∷ more) =
+    if gets_id t then heading_of n t more ∷ headings_after (suc n) more else headings_after n more
+
+-- all of them
+abbrev pub headings_of : List Token → List Listed
+headings_of tokens = headings_after 0 tokens

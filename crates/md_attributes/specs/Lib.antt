@@ -5,3 +5,4 @@ pub mod Attributed
 pub mod AttributedHtml
 pub mod Pieces
 pub mod Scan
+pub mod Headings

@@ -1,6 +1,6 @@
 -- How the program finds the tags: words of its own, which no public contract cites.
 use Rattle.std.specs.Str.{bytes_eq}
-use Rattle.std.specs.Prelude.{◌≡◌, ℕ, suc, ◌<◌, ◌==◌, IsTrue, length, take, slice_index, Bool, true, false, not, ◌&&◌, ◌||◌, if◌then◌else◌, List, [], ◌∷◌, ◌++◌, drop, Option, Some, None, option_map, is_none, is_some, codes}
+use Rattle.std.specs.Prelude.{◌≡◌, ℕ, suc, ◌<◌, ◌-◌, ◌==◌, IsTrue, length, take, slice_index, Bool, true, false, not, ◌&&◌, ◌||◌, if◌then◌else◌, List, [], ◌∷◌, ◌++◌, drop, Option, Some, None, option_map, is_none, is_some, codes}
 use Rattle.std.specs.Option.{option_map_or}
 use Rattle.std.specs.List.{list_all}
 use Rattle.std.specs.Fmt.{decimal}
@@ -9,6 +9,8 @@ use Rattle.md_text.specs.Bytes.{is_between}
 use Rattle.md_text.specs.Encode.{encoded}
 use Rattle.md_text.specs.Html.{Attribute, written_attributes}
 use Rattle.md_text.specs.References.{begins_with}
+use Rattle.md_standard.specs.Input.{begins_with_line_feed}
+use Rattle.md_attributes.specs.Added.{Listed}
 use Rattle.md_attributes.specs.declared.scan.Rule.{Rule}
 use Rattle.md_attributes.specs.declared.scan.Rule.TheVariants.{Link, Heading}
 
@@ -100,3 +102,41 @@ new_rel text n = record { name = codes "rel"; value = encoded true text }
 -- `id` with this prefix, escaped, and a number
 abbrev pub new_id : List ℕ → ℕ → Attribute
 new_id prefix n = record { name = codes "id"; value = encoded true prefix ++ decimal (suc n) }
+
+-- ---- the headings of a table of contents
+
+-- what comes after the first `>`
+abbrev pub past_angle : List ℕ → List ℕ
+past_angle [] = []
+past_angle (b ∷ rest) = if b == 62 then rest else past_angle rest
+
+-- what a byte is before what follows it, once newlines are normalized
+abbrev pub lined_byte : ℕ → List ℕ → List ℕ
+lined_byte b rest = if b == 13 then (if begins_with_line_feed rest then [] else 10 ∷ []) else b ∷ []
+
+-- the end tag of a heading with this digit, after its `<`
+abbrev pub closes_heading : ℕ → List ℕ → Bool
+closes_heading digit tag = begins_with (47 ∷ 104 ∷ digit ∷ 62 ∷ []) tag
+
+-- the texts before that end tag; `inside` says that a tag is open
+abbrev pub text_before : ℕ → Bool → List ℕ → List ℕ
+text_before digit inside [] = []
+text_before digit inside (b ∷ rest) =
+    if inside then text_before digit (not (b == 62)) rest
+    else (if b == 60 then (if closes_heading digit rest then [] else text_before digit true rest)
+    else lined_byte b rest ++ text_before digit false rest)
+
+-- a heading by what follows its `<`
+abbrev pub scanned_heading : ℕ → List ℕ → Listed
+scanned_heading number tag = record {
+  level = slice_index tag 1 - 48;
+  number = number;
+  text = text_before (slice_index tag 1) false (past_angle tag);
+}
+
+-- the headings that are picked, after so many of them
+abbrev pub scanned_headings : ℕ → List ℕ → List Listed
+scanned_headings n [] = []
+scanned_headings n (b ∷ rest) = if (b == 60) && picks_heading rest
+    then scanned_heading (suc n) rest ∷ scanned_headings (suc n) rest
+    else scanned_headings n rest

@@ -1,13 +1,62 @@
 //! Headings with an `id`.
 
+ghost use Rattle.std.specs.Prelude.{ℕ, List, map};
+ghost use Rattle.md_standard.specs.Token.{Token};
+ghost use Rattle.md_standard.specs.Tokenizer.{IsTokenized};
+ghost use Rattle.md_attributes.specs.Added.{with_heading_ids, headings_of};
+ghost use Rattle.md_attributes.specs.Attributed.{IsAttributed};
+ghost use Rattle.md_attributes.specs.Headings.{listed};
 ghost use Rattle.std.specs.Prelude.{◌≡◌, ◌++◌, ◌∷◌, [], IfOk, OnOk, string_bytes, codes, true};
 ghost use Rattle.std.specs.Fmt.{decimal};
 ghost use Rattle.md_text.specs.Encode.{encoded};
 ghost use Rattle.md_attributes.specs.Scan.{with_new, new_id, picks_heading};
 
+use crate::headings::{Heading, headings};
+use crate::html::{AttributedHtml, Html};
 use crate::scan::{Rule, next_end};
 use md_text::push_encoded;
 use std::alloc::{AllocError, Global};
+
+/// A text whose headings have ids, and these headings.
+#[derive(Drop)]
+pub struct WithHeadingIds {
+    /// The text.
+    pub html: AttributedHtml,
+    /// The headings that got an `id`, in their order.
+    pub headings: Vec<Heading>,
+}
+
+/// A safe text with an `id` in each heading that has none, and a list of these headings.
+///
+/// Each start tag from `h1` to `h6` without an `id` gets one as its last attribute: `prefix`, escaped, and the heading's
+/// number, from 1. Nothing else changes: whatever the HTML Standard's tokenizer emits of the text given, it emits of the
+/// text returned the same tokens with these attributes added. The headings are listed with their level, their number and
+/// their text: the characters up to their end tag, escaped.
+///
+/// # Errors
+///
+/// Only where memory runs out.
+///
+/// # Examples
+///
+/// ```
+/// // Of the safe text `<h2>a <em>b</em></h2>`:
+/// let answer = with_heading_ids(alloc, &html, "section-")?;
+/// assert_eq!(answer.html.as_str(), "<h2 id=\"section-1\">a <em>b</em></h2>");
+/// // `answer.headings` has one, of level 2, number 1 and text `a b`.
+/// ```
+pub fn with_heading_ids<H: Html>(alloc: Global, html: &H, prefix: &str) -> Result<WithHeadingIds, AllocError>
+    ensures tokens { IfOk result (λ after. (x : List Token) → IsTokenized (H.text html.now) x
+        → IsTokenized after.html (with_heading_ids prefix.now x)) }
+    ensures headings { IfOk result (λ after. (x : List Token) → IsTokenized (H.text html.now) x
+        → map listed after.headings.items ≡ headings_of x) }
+    ensures attributed { IfOk result (λ after. IsAttributed after.html) }
+{
+    let headings = headings(alloc, html.as_str())?;
+    let text = with_ids(alloc, html.as_str(), prefix)?;
+    let html = AttributedHtml::new(text);
+    Ok(WithHeadingIds { html, headings })
+}
 
 /// A text with an `id` in each heading that has none.
 pub(crate) fn with_ids(alloc: Global, text: &str, prefix: &str) -> Result<String, AllocError>

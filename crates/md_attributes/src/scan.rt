@@ -1,6 +1,6 @@
 //! The tags that get an attribute, found by their bytes.
 
-ghost use Rattle.std.specs.Prelude.{◌≡◌, ℕ, suc, false, ◌<◌, ◌++◌, ◌∷◌, [], List, IsTrue, IfSome, MatchOption, length, take, drop, slice_index, option_copied};
+ghost use Rattle.std.specs.Prelude.{◌≡◌, ℕ, suc, false, ◌<◌, ◌++◌, ◌∷◌, [], List, IsTrue, IfSome, MatchOption, length, take, drop, slice_index, option_copied, IsUtf8};
 ghost use Rattle.std.specs.List.{list_all};
 ghost use Rattle.md_attributes.specs.Scan.{differs, IsFirstOf, parts_of, value_of, before_angle, is_away, want_rel, want_id, picks_link, picks_heading, picks_of, scanned};
 
@@ -56,7 +56,7 @@ fn picks_link(tag: &[u8]) -> bool
 
 /// A heading without an `id`.
 #[inline(always)]
-fn picks_heading(tag: &[u8]) -> bool
+pub(crate) fn picks_heading(tag: &[u8]) -> bool
     ensures { result ≡ picks_heading tag.now }
 {
     match tag {
@@ -117,6 +117,18 @@ fn before_angle(bytes: &[u8]) -> Option<&[u8]>
 {
     let at = find_byte(b'>', bytes)?;
     Some(&bytes[..at])
+}
+
+/// What comes before the first of this ASCII byte, and what after it.
+pub(crate) fn split_at_byte(byte: u8, text: &str) -> Option<(&str, &str)>
+    requires { byte < 128 }
+    ensures parts { MatchOption result (IsTrue (list_all (differs byte) text.now))
+        (λ found. (text.now ≡ found.0.now ++ byte ∷ found.1.now)
+        × IsTrue (list_all (differs byte) found.0.now)) }
+    ensures texts { IfSome result (λ found. IsUtf8 found.0.now × IsUtf8 found.1.now) }
+{
+    let at = find_byte(byte, text.as_bytes())?;
+    Some((&text[..at], &text[at + 1..]))
 }
 
 /// The index of the first of this byte.
