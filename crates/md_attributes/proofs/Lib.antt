@@ -12,4 +12,5 @@ pub mod LinkRule
 pub mod Numbers
 pub mod HeadingRule
 pub mod Listing
+pub mod Distinct
 

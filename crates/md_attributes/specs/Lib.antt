@@ -6,3 +6,4 @@ pub mod AttributedHtml
 pub mod Pieces
 pub mod Scan
 pub mod Headings
+pub mod Ids

@@ -1,14 +1,16 @@
 //! Headings with an `id`.
 
-ghost use Rattle.std.specs.Prelude.{ℕ, List, map};
+ghost use Rattle.std.specs.Prelude.{ℕ, List, IsTrue, map};
 ghost use Rattle.md_standard.specs.Token.{Token};
 ghost use Rattle.md_standard.specs.Tokenizer.{IsTokenized};
-ghost use Rattle.md_attributes.specs.Added.{with_heading_ids, headings_of};
+ghost use Rattle.md_attributes.specs.Added.{shown, with_heading_ids, headings_of};
 ghost use Rattle.md_attributes.specs.Attributed.{IsAttributed};
 ghost use Rattle.md_attributes.specs.Headings.{listed};
+ghost use Rattle.md_attributes.specs.Ids.{ids_among, none_begins};
 ghost use Rattle.std.specs.Prelude.{◌≡◌, ◌++◌, ◌∷◌, [], IfOk, OnOk, string_bytes, codes, true};
 ghost use Rattle.std.specs.Fmt.{decimal};
 ghost use Rattle.md_text.specs.Encode.{encoded};
+ghost use Rattle.md_text.specs.Ids.{are_distinct};
 ghost use Rattle.md_attributes.specs.Scan.{with_new, new_id, picks_heading};
 
 use crate::headings::{Heading, headings};
@@ -33,6 +35,8 @@ pub struct WithHeadingIds {
 /// text returned the same tokens with these attributes added. The headings are listed with their level, their number and
 /// their text: the characters up to their end tag, escaped.
 ///
+/// Where no two `id`s of the text given are equal, and none begins with `prefix`, no two of the text returned are.
+///
 /// # Errors
 ///
 /// Only where memory runs out.
@@ -50,6 +54,9 @@ pub fn with_heading_ids<H: Html>(alloc: Global, html: &H, prefix: &str) -> Resul
         → IsTokenized after.html (with_heading_ids prefix.now x)) }
     ensures headings { IfOk result (λ after. (x : List Token) → IsTokenized (H.text html.now) x
         → map listed after.headings.items ≡ headings_of x) }
+    ensures distinct { IfOk result (λ after. (x : List Token) → IsTokenized (H.text html.now) x
+        → IsTrue (are_distinct (ids_among x)) → IsTrue (none_begins (shown prefix.now) (ids_among x))
+        → IsTrue (are_distinct (ids_among (with_heading_ids prefix.now x)))) }
     ensures attributed { IfOk result (λ after. IsAttributed after.html) }
 {
     let headings = headings(alloc, html.as_str())?;

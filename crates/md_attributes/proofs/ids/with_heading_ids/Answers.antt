@@ -1,10 +1,13 @@
 -- What comes of the text by its bytes, in the words of the Standard.
-use Rattle.std.proofs.Common.{◌≡◌, ℕ, List, sym, ap, ◌∙◌, subst, string_bytes}
+use Rattle.std.proofs.Common.{◌≡◌, ℕ, List, sym, ap, ◌∙◌, subst, string_bytes, length, ◌<◌, ◌^◌, arith}
+use Rattle.std.proofs.lemmas.List.{length-map}
 use Rattle.md_standard.specs.Tokenizer.{IsTokenized}
-use Rattle.md_attributes.specs.Added.{with_heading_ids}
+use Rattle.md_attributes.specs.Added.{with_heading_ids, headings_of}
 use Rattle.md_attributes.specs.Attributed.{IsAttributed}
+use Rattle.md_attributes.specs.Headings.{listed}
 use Rattle.md_attributes.specs.Pieces.{IsWritten}
 use Rattle.md_attributes.specs.Scan.{with_new, picks_heading, new_id, scanned_headings}
+use Rattle.md_attributes.proofs.Distinct.{distinct-headings}
 use Rattle.md_attributes.proofs.Listing.{listed-tokens}
 use Rattle.md_attributes.proofs.Rules.{attributed}
 use Rattle.md_attributes.proofs.HeadingRule.{heading-written, heading-tokens}
@@ -37,3 +40,16 @@ pub returns-clause-headings : goal.returns-clause-headings
 returns-clause-headings g c = λ x h.
     (c.in_ok-headings.ensures ∙ ap (scanned_headings 0) c.as_str.ensures.text
     ∙ listed-tokens (g.H.Html.text c.args.html.now) c.as_str.ensures.written x h)
+
+pub returns-clause-distinct : goal.returns-clause-distinct
+returns-clause-distinct g c = λ x h distinct none.
+    (let found = c.in_ok-headings.ensures ∙ ap (scanned_headings 0) c.as_str.ensures.text
+    ∙ listed-tokens (g.H.Html.text c.args.html.now) c.as_str.ensures.written x h in
+    let few : length (headings_of x) < 2 ^ 64 = omega (
+      arith,
+      ap length found,
+      length-map c.in_ok-headings.headings.items listed,
+      c.in_ok-headings.headings.small,
+      c.in_ok-headings.headings.ok.0,
+    ) in
+    distinct-headings c.args.prefix.now x few distinct none)
