@@ -1,19 +1,19 @@
 -- One more attribute in the pieces that a test picks is one more in their tokens.
 use Rattle.std.specs.Str.{bytes_eq}
-use Rattle.std.proofs.Common.{◌≡◌, ℕ, suc, Bool, true, false, not, ◌&&◌, ◌||◌, cond, List, [], ◌∷◌, ◌++◌, map, filter, refl, sym, ap, ◌∙◌, subst}
+use Rattle.std.proofs.Common.{◌≡◌, ℕ, suc, Bool, true, false, not, cond, List, [], ◌∷◌, ◌++◌, map, filter, refl, sym, ap, ◌∙◌, subst}
 use Rattle.std.specs.List.{list_all, list_any}
 use Rattle.std.specs.Cmp.Lexicographic.{bytes_decides}
 use Rattle.std.proofs.lemmas.Bool.{and_parts, and_from, or_parts, or_from, not-true, cond_both}
 use Rattle.md_base.proofs.Lies.{lie}
 use Rattle.md_text.specs.Bytes.{is_one_of}
 use Rattle.md_text.specs.References.{is_escaped}
-use Rattle.md_text.specs.Html.{Attribute, written_attributes}
+use Rattle.md_text.specs.Html.{Attribute}
 use Rattle.md_standard.specs.Token.{Token, Character, StartTag, EndTag, EndOfFile, Doctype, TokenAttribute}
 use Rattle.md_standard.specs.Tokens.{seen, seen_attributes, is_listed}
 use Rattle.md_standard.specs.SafeTokens.{attributes_pass}
 use Rattle.md_attributes.specs.Added.{with_attribute, added}
 use Rattle.md_attributes.specs.Attributed.{is_addition, is_listed_beside}
-use Rattle.md_attributes.specs.Pieces.{Piece, Words, Opening, Single, Closing, all_written, all_tokens, are_sound, are_plain, is_name, is_tag_name, void_names, begins_with_words}
+use Rattle.md_attributes.specs.Pieces.{Piece, Words, Opening, Single, Closing, all_tokens, are_sound, are_plain, is_name, is_tag_name, void_names, begins_with_words}
 
 -- an attribute as a tokenizer sees it
 abbrev pub seen_attribute : Attribute → TokenAttribute

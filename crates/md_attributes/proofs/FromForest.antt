@@ -1,15 +1,15 @@
 -- What a safe text is read as, piece by piece.
 use Rattle.std.specs.Str.{bytes_eq}
-use Rattle.std.proofs.Common.{◌≡◌, ℕ, Bool, true, false, not, ◌&&◌, ◌||◌, cond, List, [], ◌∷◌, ◌++◌, map, filter, refl, sym, ap, ◌∙◌, subst, append-nil, append_assoc, inl, inr}
-use Rattle.std.specs.List.{list_all, list_any}
+use Rattle.std.proofs.Common.{◌≡◌, ℕ, Bool, true, false, not, ◌&&◌, cond, List, [], ◌∷◌, ◌++◌, map, filter, refl, sym, ap, ◌∙◌, subst, append-nil, append_assoc, inl, inr}
+use Rattle.std.specs.List.{list_all}
 use Rattle.std.proofs.lemmas.Bool.{and_parts, and_from, or_cases, or_left, or_right}
 use Rattle.md_base.proofs.Lies.{lie}
 use Rattle.md_base.specs.Identifier.{is_nonempty}
 use Rattle.md_text.specs.Bytes.{is_one_of}
 use Rattle.md_text.specs.References.{is_escaped}
-use Rattle.md_text.specs.Html.{Attribute, Forest, Empty, Text, Void, Element, is_forest, is_tag, begins_with_text, elements, void_tags, written, written_attributes, HasOneReadingWith, all_attributes}
+use Rattle.md_text.specs.Html.{Forest, Empty, Text, Void, Element, is_forest, is_tag, begins_with_text, elements, void_tags, written, written_attributes, HasOneReadingWith, all_attributes}
 use Rattle.md_text.specs.Safe.{is_safe_link, is_safe_image}
-use Rattle.md_text.proofs.HtmlWriting.{attributes_before, forest_before, written_attributes-before, written-before}
+use Rattle.md_text.proofs.HtmlWriting.{forest_before, written_attributes-before, written-before}
 use Rattle.md_standard.specs.Token.{Token, Character, StartTag, EndTag, EndOfFile, Doctype, TokenAttribute}
 use Rattle.md_standard.specs.Tokens.{tokens, seen, seen_attributes, is_listed, is_tag_of}
 use Rattle.md_standard.specs.SafeTokens.{has_safe_links, has_safe_images}

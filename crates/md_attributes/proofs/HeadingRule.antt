@@ -1,28 +1,25 @@
 -- A heading that gets an `id`: its bytes tell what its token does.
 use Rattle.std.specs.Str.{bytes_eq}
 use Rattle.std.specs.Prelude.{is_none, nat_le}
-use Rattle.std.proofs.Common.{◌≡◌, ℕ, ◌+◌, ◌≤◌, ◌==◌, suc, Bool, true, false, not, ◌&&◌, ◌||◌, cond, List, [], ◌∷◌, ◌++◌, length, drop, refl, sym, ap, ap₂, ◌∙◌, subst, append_assoc, inl, inr, Some, codes, ne_eqb, arith}
-use Rattle.std.specs.List.{list_all, list_any}
+use Rattle.std.proofs.Common.{◌≡◌, ℕ, ◌+◌, ◌≤◌, ◌==◌, suc, Bool, true, false, not, ◌&&◌, cond, List, [], ◌∷◌, ◌++◌, length, drop, refl, sym, ap, ap₂, ◌∙◌, subst, append_assoc, inl, inr, codes, ne_eqb, arith}
+use Rattle.std.specs.List.{list_all}
 use Rattle.std.specs.Option.{option_map_or}
 use Rattle.std.specs.Fmt.{decimal}
 use Rattle.std.specs.Cmp.Lexicographic.{bytes_decides}
 use Rattle.std.proofs.lemmas.Bool.{and_parts, and_from, not-true, or_cases, or_right, cases_Bool, cases_eq, eqb-true, leb-true}
-use Rattle.std.proofs.lemmas.Bool.Decides.{nat_tests}
 use Rattle.md_base.proofs.Lies.{lie}
-use Rattle.md_base.specs.Identifier.{is_nonempty}
 use Rattle.md_text.specs.Bytes.{is_one_of, is_between}
 use Rattle.md_text.specs.Encode.{encoded}
-use Rattle.md_text.specs.References.{begins_with}
 use Rattle.md_text.specs.Html.{Attribute, written_attributes}
 use Rattle.md_text.proofs.EncodeLemmas.{and_false}
 use Rattle.md_standard.specs.Token.{Token, Doctype, Character, StartTag, EndTag, EndOfFile, TokenAttribute}
 use Rattle.md_standard.specs.Tokenizer.{IsTokenized}
-use Rattle.md_standard.specs.Tokens.{seen, seen_attributes}
-use Rattle.md_attributes.specs.Added.{added, with_attribute, id_of, gets_id, has_attribute, heading_names, shown, with_heading_ids}
-use Rattle.md_attributes.specs.Pieces.{are_plain, is_name, is_name_byte, is_tag_name, void_names, begins_with_letter, IsWritten}
+use Rattle.md_standard.specs.Tokens.{seen_attributes}
+use Rattle.md_attributes.specs.Added.{added, with_attribute, id_of, gets_id, has_attribute, heading_names, with_heading_ids}
+use Rattle.md_attributes.specs.Pieces.{are_plain, is_name_byte, begins_with_letter, IsWritten}
 use Rattle.md_attributes.specs.Scan.{before_angle, value_of, want_id, begins_heading, picks_heading, new_id, with_new}
 use Rattle.md_attributes.proofs.Parts.{before-run}
-use Rattle.md_attributes.proofs.Plain.{no_name, void-name}
+use Rattle.md_attributes.proofs.Plain.{void-name}
 use Rattle.md_attributes.proofs.Numbers.{numbered-escaped, numbered-seen}
 use Rattle.md_attributes.proofs.Adding.{PicksElements, MayAdd, seen_attribute, is_addition_to}
 use Rattle.md_attributes.proofs.Scanning.{PicksBy, name-differs, all-join, attributes-differ, closes}

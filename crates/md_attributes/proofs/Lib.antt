@@ -13,4 +13,4 @@ pub mod Numbers
 pub mod HeadingRule
 pub mod Listing
 pub mod Distinct
-
+pub mod Paging

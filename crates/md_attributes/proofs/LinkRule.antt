@@ -1,11 +1,11 @@
 -- A link that gets a `rel`: its bytes tell what its token does.
 use Rattle.std.specs.Str.{bytes_eq}
 use Rattle.std.specs.Prelude.{nat_eq, is_none}
-use Rattle.std.proofs.Common.{◌≡◌, ℕ, ◌==◌, suc, Bool, true, false, not, ◌&&◌, ◌||◌, cond, List, [], ◌∷◌, ◌++◌, drop, refl, sym, ap, ◌∙◌, subst, append_assoc, inl, inr, Option, Some, None, option_map, codes, ne_eqb}
+use Rattle.std.proofs.Common.{◌≡◌, ℕ, ◌==◌, Bool, true, false, not, ◌&&◌, ◌||◌, cond, List, [], ◌∷◌, ◌++◌, drop, refl, sym, ap, ◌∙◌, subst, append_assoc, inl, inr, Option, Some, None, codes, ne_eqb}
 use Rattle.std.specs.List.{list_all, list_any, starts_with}
 use Rattle.std.specs.Option.{option_map_or}
 use Rattle.std.specs.Cmp.Lexicographic.{bytes_decides}
-use Rattle.std.proofs.lemmas.Bool.{and_parts, and_from, not-true, or_parts, or_from, or_left, cases_Bool, eqb-true, cases_eq}
+use Rattle.std.proofs.lemmas.Bool.{and_parts, and_from, not-true, or_parts, or_from, or_left, cases_Bool, cases_eq}
 use Rattle.std.proofs.lemmas.List.{append_cancel_right}
 use Rattle.md_base.proofs.Lies.{lie}
 use Rattle.md_base.specs.Identifier.{is_nonempty}
@@ -16,17 +16,16 @@ use Rattle.md_text.specs.Encode.{encoded}
 use Rattle.md_text.proofs.EncodeLaws.{read_back-other, read_back-encoded, is_escaped-encoded}
 use Rattle.md_text.proofs.EncodeLemmas.{and_false}
 use Rattle.md_standard.specs.Input.{with_line_feeds, begins_with_line_feed}
-use Rattle.md_standard.specs.Token.{Token, Doctype, Character, StartTag, EndTag, EndOfFile, TokenAttribute}
+use Rattle.md_standard.specs.Token.{Token, Doctype, Character, StartTag, EndTag, EndOfFile}
 use Rattle.md_standard.specs.Tokenizer.{IsTokenized}
 use Rattle.md_standard.specs.Tokens.{seen, seen_attributes}
 use Rattle.md_standard.proofs.EscapedCases.{IsPlain, by_escaped}
 use Rattle.md_standard.proofs.Schemes.{seen-is}
-use Rattle.md_standard.proofs.Steps.{past, here}
 use Rattle.md_attributes.specs.Added.{added, gets_rel, leads_away, has_attribute, shown, with_link_rel, heading_names}
-use Rattle.md_attributes.specs.Pieces.{are_plain, is_name, is_name_byte, is_tag_name, void_names, begins_with_letter, IsWritten}
+use Rattle.md_attributes.specs.Pieces.{are_plain, is_name, is_name_byte, begins_with_letter, IsWritten}
 use Rattle.md_attributes.specs.Scan.{differs, before_angle, parts_of, value_in, value_of, is_away, want_rel, picks_link, new_rel, with_new}
 use Rattle.md_attributes.proofs.Parts.{parts-filled, parts-run, value_in-step, before-run}
-use Rattle.md_attributes.proofs.Plain.{no_name, void-name}
+use Rattle.md_attributes.proofs.Plain.{void-name}
 use Rattle.md_attributes.proofs.Adding.{PicksElements, MayAdd, seen_attribute, is_addition_to}
 use Rattle.md_attributes.proofs.Rules.{IsRule, keeps, becomes}
 use Rattle.md_attributes.proofs.Scanning.{escaped-differs, name-differs, all-join, attributes-differ, closes, PicksBy}

@@ -1,6 +1,6 @@
 -- The headings that are found by bytes are those of the tokens.
 use Rattle.std.specs.Str.{bytes_eq}
-use Rattle.std.proofs.Common.{◌≡◌, ℕ, ◌+◌, ◌-◌, ◌<◌, ◌≤◌, ◌==◌, suc, Bool, true, false, not, ◌&&◌, ◌||◌, cond, List, [], ◌∷◌, ◌++◌, map, length, get_or, take, drop, refl, sym, ap, ap₂, ◌∙◌, subst, append_assoc, append-nil, codes, ne_eqb, eqb, eq-eqb, arith}
+use Rattle.std.proofs.Common.{◌≡◌, ℕ, ◌+◌, ◌-◌, ◌≤◌, ◌==◌, suc, Bool, true, false, not, ◌&&◌, cond, List, [], ◌∷◌, ◌++◌, map, length, drop, refl, sym, ap, ap₂, ◌∙◌, subst, append_assoc, append-nil, codes, ne_eqb, eqb, eq-eqb, arith}
 use Rattle.std.specs.List.{list_all}
 use Rattle.std.specs.Cmp.Lexicographic.{bytes_decides}
 use Rattle.std.proofs.lemmas.Bool.{and_parts, and_from, not-true, eqb-true, cond_both}
@@ -14,17 +14,17 @@ use Rattle.md_text.proofs.EncodeLaws.{read_back-other}
 use Rattle.md_text.proofs.EncodeLemmas.{encoded-append, encoded_byte-plain}
 use Rattle.md_text.proofs.HtmlSplit.{split}
 use Rattle.md_standard.specs.Input.{with_line_feeds, begins_with_line_feed}
-use Rattle.md_standard.specs.Token.{Token, Character, StartTag, EndTag, EndOfFile}
+use Rattle.md_standard.specs.Token.{Token, Character, StartTag}
 use Rattle.md_standard.specs.Tokenizer.{IsTokenized}
 use Rattle.md_standard.specs.Tokens.{seen, seen_attributes}
-use Rattle.md_standard.proofs.EscapedCases.{IsPlain, by_escaped}
+use Rattle.md_standard.proofs.EscapedCases.{by_escaped}
 use Rattle.md_standard.proofs.LineFeeds.{line_feeds-escaped, line_feeds-name}
-use Rattle.md_standard.proofs.Steps.{past, here}
+use Rattle.md_standard.proofs.Steps.{past}
 use Rattle.md_attributes.specs.Added.{Listed, gets_id, heading_names, characters_before, heading_of, headings_after, headings_of}
 use Rattle.md_attributes.specs.Pieces.{Piece, Words, Opening, Single, Closing, all_written, all_tokens, are_sound, are_plain, is_name_byte, is_tag_name, void_names, begins_with_letter, begins_with_words, IsWritten}
 use Rattle.md_attributes.specs.Scan.{differs, past_angle, lined_byte, closes_heading, text_before, picks_heading, scanned_heading, scanned_headings}
 use Rattle.md_attributes.proofs.Plain.{void-name}
-use Rattle.md_attributes.proofs.PieceRuns.{after_words}
+use Rattle.md_attributes.proofs.PieceRuns.{after_text}
 use Rattle.md_attributes.proofs.Scanning.{escaped-differs, name-differs, all-join, tag-differs, opens, closes, name_bytes, between}
 use Rattle.md_attributes.proofs.Rules.{attributed}
 use Rattle.md_attributes.proofs.LinkRule.{both}
@@ -164,7 +164,7 @@ text-pieces digit (Words text ∷ more) d h =
     let r = and_parts (not (begins_with_words more)) (are_sound more) q.1 in
     let name = 104 ∷ digit ∷ [] in
     let later = characters_before name (all_tokens more) in
-    text-run digit text (all_written more) (escaped-differs 60 text opens.escaped q.0) (after_words more r.0)
+    text-run digit text (all_written more) (escaped-differs 60 text opens.escaped q.0) (after_text more r.0)
     ∙ ap₂ (λ y z. y ++ z) (sym (encoded-seen text q.0)) (text-pieces digit more d r.1)
     ∙ sym (encoded-append true (seen text) later)
     ∙ ap (encoded true) (sym (characters-run name (seen text) (all_tokens more)))

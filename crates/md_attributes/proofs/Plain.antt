@@ -1,9 +1,9 @@
 -- Names and attributes of pieces: the tokenizer takes them as they are, and so are those of the grammar's tables.
 use Rattle.std.specs.Str.{bytes_eq}
-use Rattle.std.proofs.Common.{◌≡◌, ℕ, ◌==◌, Bool, true, false, not, ◌&&◌, ◌||◌, List, [], ◌∷◌, ◌++◌, refl, sym, ap, ◌∙◌, subst, inl, inr, ne_eqb, codes}
+use Rattle.std.proofs.Common.{◌≡◌, ℕ, ◌==◌, Bool, true, false, not, ◌&&◌, ◌||◌, List, [], ◌∷◌, refl, sym, ap, ◌∙◌, subst, inl, inr, ne_eqb}
 use Rattle.std.specs.List.{list_all, list_any}
 use Rattle.std.specs.Cmp.Lexicographic.{bytes_decides}
-use Rattle.std.proofs.lemmas.Bool.{and_parts, and_from, or_cases, or_from, or_parts, not-true, cases_Bool}
+use Rattle.std.proofs.lemmas.Bool.{and_parts, and_from, or_cases, or_from}
 use Rattle.std.proofs.lemmas.Bool.Decides.{nat_tests}
 use Rattle.std.proofs.Common.{arith}
 use Rattle.md_base.proofs.Lies.{lie}

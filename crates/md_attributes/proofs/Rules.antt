@@ -1,17 +1,17 @@
 -- A rule by which attributes are added: what comes of a text that is written in sound pieces.
-use Rattle.std.proofs.Common.{◌≡◌, ℕ, Bool, true, false, List, [], ◌∷◌, ◌++◌, refl, sym, ap, ◌∙◌, subst, codes}
+use Rattle.std.proofs.Common.{◌≡◌, ℕ, Bool, true, List, sym, ap, ◌∙◌, subst, codes}
 use Rattle.std.specs.List.{list_all}
-use Rattle.md_text.specs.Html.{Attribute, written_attributes}
+use Rattle.md_text.specs.Html.{Attribute}
 use Rattle.md_text.specs.Url.{link_protocols, image_protocols}
 use Rattle.md_standard.specs.Input.{with_line_feeds}
-use Rattle.md_standard.specs.Token.{Token, TokenAttribute}
+use Rattle.md_standard.specs.Token.{Token}
 use Rattle.md_standard.specs.Tokenizer.{Data, IsTokenized}
 use Rattle.md_standard.specs.SafeTokens.{is_permitted, has_safe_links, has_safe_images}
 use Rattle.md_standard.proofs.OneRun.{one_run}
 use Rattle.md_attributes.specs.Added.{with_attribute, added}
 use Rattle.md_attributes.specs.Attributed.{IsAttributed, is_listed_beside}
 use Rattle.md_attributes.specs.Pieces.{Piece, all_written, all_tokens, are_sound, IsWritten}
-use Rattle.md_attributes.specs.Scan.{scanned, with_new}
+use Rattle.md_attributes.specs.Scan.{with_new}
 use Rattle.md_attributes.proofs.PieceRuns.{pieces-run}
 use Rattle.md_attributes.proofs.Adding.{PicksElements, MayAdd, seen_attribute, changed, changed-tokens, changed-sound, added-all, passes-more, is_addition_to, listed-more}
 use Rattle.md_attributes.proofs.Scanning.{PicksBy, scanned-pieces}

@@ -1,8 +1,8 @@
 -- What the program makes of sound pieces is written for the changed ones.
-use Rattle.std.proofs.Common.{◌≡◌, ℕ, ◌==◌, suc, Bool, true, false, not, ◌&&◌, ◌||◌, cond, List, [], ◌∷◌, ◌++◌, refl, sym, ap, ◌∙◌, subst, append_assoc}
+use Rattle.std.proofs.Common.{◌≡◌, ℕ, ◌==◌, suc, Bool, true, false, not, ◌&&◌, cond, List, [], ◌∷◌, ◌++◌, refl, sym, ap, ◌∙◌, append_assoc}
 use Rattle.std.specs.List.{list_all}
-use Rattle.std.proofs.lemmas.Bool.{and_parts, and_from, not-true, cases_eq}
-use Rattle.std.proofs.Common.{inl, inr, ne_eqb}
+use Rattle.std.proofs.lemmas.Bool.{and_parts, and_from, not-true}
+use Rattle.std.proofs.Common.{ne_eqb}
 use Rattle.md_base.proofs.Lies.{lie}
 use Rattle.md_base.specs.Identifier.{is_nonempty}
 use Rattle.md_text.specs.Bytes.{is_one_of}

@@ -7,3 +7,4 @@ pub mod Pieces
 pub mod Scan
 pub mod Headings
 pub mod Ids
+pub mod Page

@@ -30,10 +30,10 @@ pub struct WithHeadingIds {
 
 /// A safe text with an `id` in each heading that has none, and a list of these headings.
 ///
-/// Each start tag from `h1` to `h6` without an `id` gets one as its last attribute: `prefix`, escaped, and the heading's
-/// number, from 1. Nothing else changes: whatever the HTML Standard's tokenizer emits of the text given, it emits of the
-/// text returned the same tokens with these attributes added. The headings are listed with their level, their number and
-/// their text: the characters up to their end tag, escaped.
+/// Each start tag from `h1` to `h6` without an `id` gets one as its last attribute: `prefix`, escaped, and the
+/// heading's number, from 1. Nothing else changes: whatever the HTML Standard's tokenizer emits of the text given, it
+/// emits of the text returned the same tokens with these attributes added. The headings are listed with their level,
+/// their number and their text: the characters up to their end tag, escaped.
 ///
 /// Where no two `id`s of the text given are equal, and none begins with `prefix`, no two of the text returned are.
 ///
@@ -49,7 +49,11 @@ pub struct WithHeadingIds {
 /// assert_eq!(answer.html.as_str(), "<h2 id=\"section-1\">a <em>b</em></h2>");
 /// // `answer.headings` has one, of level 2, number 1 and text `a b`.
 /// ```
-pub fn with_heading_ids<H: Html>(alloc: Global, html: &H, prefix: &str) -> Result<WithHeadingIds, AllocError>
+pub fn with_heading_ids<H: Html>(
+    alloc: Global,
+    html: &H,
+    prefix: &str,
+) -> Result<WithHeadingIds, AllocError>
     ensures tokens { IfOk result (λ after. (x : List Token) → IsTokenized (H.text html.now) x
         → IsTokenized after.html (with_heading_ids prefix.now x)) }
     ensures headings { IfOk result (λ after. (x : List Token) → IsTokenized (H.text html.now) x

@@ -31,7 +31,11 @@ use std::alloc::{AllocError, Global};
 /// let comment = with_link_rel(alloc, &html, "nofollow ugc")?;
 /// assert_eq!(comment.as_str(), "<p><a href=\"https://example.com\" rel=\"nofollow ugc\">a</a></p>");
 /// ```
-pub fn with_link_rel<H: Html>(alloc: Global, html: &H, rel: &str) -> Result<AttributedHtml, AllocError>
+pub fn with_link_rel<H: Html>(
+    alloc: Global,
+    html: &H,
+    rel: &str,
+) -> Result<AttributedHtml, AllocError>
     ensures tokens { IfOk result (λ after. (x : List Token) → IsTokenized (H.text html.now) x
         → IsTokenized after (with_link_rel rel.now x)) }
     ensures attributed { IfOk result (λ after. IsAttributed after) }

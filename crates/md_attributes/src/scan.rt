@@ -76,7 +76,8 @@ fn want_rel(attributes: &[u8]) -> bool
 fn want_id(attributes: &[u8]) -> bool
     ensures { result ≡ want_id attributes.now }
 {
-    (attributes.is_empty() || attributes.starts_with(b" ")) && value_of(b" id=", attributes).is_none()
+    (attributes.is_empty() || attributes.starts_with(b" "))
+        && value_of(b" id=", attributes).is_none()
 }
 
 /// Whether an address isn't empty and doesn't begin with `#`.

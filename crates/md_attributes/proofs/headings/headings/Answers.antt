@@ -1,5 +1,5 @@
 -- A turn passes a tag, and adds the heading that it is.
-use Rattle.std.proofs.Common.{◌≡◌, ◌+◌, ◌++◌, [], ◌∷◌, map, length, vec_len, append-nil, sym, ap, ◌∙◌, arith}
+use Rattle.std.proofs.Common.{◌≡◌, ◌+◌, ◌++◌, [], ◌∷◌, map, vec_len, append-nil, sym, ap, ◌∙◌, arith}
 use Rattle.std.proofs.lemmas.List.{map-append}
 use Rattle.md_attributes.specs.Headings.{listed}
 use Rattle.md_attributes.specs.Scan.{picks_heading, scanned_heading}

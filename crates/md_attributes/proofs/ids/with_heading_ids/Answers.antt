@@ -1,5 +1,5 @@
 -- What comes of the text by its bytes, in the words of the Standard.
-use Rattle.std.proofs.Common.{◌≡◌, ℕ, List, sym, ap, ◌∙◌, subst, string_bytes, length, ◌<◌, ◌^◌, arith}
+use Rattle.std.proofs.Common.{sym, ap, ◌∙◌, subst, length, ◌<◌, ◌^◌, arith}
 use Rattle.std.proofs.lemmas.List.{length-map}
 use Rattle.md_standard.specs.Tokenizer.{IsTokenized}
 use Rattle.md_attributes.specs.Added.{with_heading_ids, headings_of}

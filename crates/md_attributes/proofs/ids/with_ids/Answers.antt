@@ -1,5 +1,5 @@
 -- A turn writes up to a tag's end, and its attribute.
-use Rattle.std.proofs.Common.{◌≡◌, ◌+◌, ℕ, suc, false, List, [], ◌∷◌, ◌++◌, length, string_bytes, take, drop, sym, ap, ◌∙◌, subst, arith}
+use Rattle.std.proofs.Common.{◌≡◌, ◌+◌, ℕ, suc, false, List, [], ◌∷◌, ◌++◌, length, string_bytes, ap, ◌∙◌, subst, arith}
 use Rattle.std.proofs.lemmas.List.{length-drop}
 use Rattle.md_text.specs.Html.{written_attributes}
 use Rattle.md_attributes.specs.Scan.{scanned, picks_heading, with_new, new_id}

@@ -1,5 +1,5 @@
 -- What is written, and after it what becomes of the rest, is the whole; no more are numbered than bytes are passed.
-use Rattle.std.proofs.Common.{◌≡◌, ◌≤◌, ◌+◌, ℕ, false, ◌++◌, [], ◌∷◌, length, string_bytes}
+use Rattle.std.proofs.Common.{◌≡◌, ◌≤◌, ◌+◌, false, ◌++◌, [], ◌∷◌, length, string_bytes}
 use denote.Text.{Utf8}
 use denote.Shadow.{shadow}
 use Rattle.md_text.specs.Html.{written_attributes}

@@ -1,7 +1,7 @@
 -- A turn writes up to a tag's end, and its attribute.
-use Rattle.std.proofs.Common.{◌≡◌, ℕ, suc, List, [], ◌∷◌, ◌++◌, string_bytes, take, ap, ◌∙◌}
+use Rattle.std.proofs.Common.{ℕ, suc, List, [], ◌∷◌, string_bytes, ◌∙◌}
 use Rattle.md_text.specs.Html.{written_attributes}
-use Rattle.md_attributes.specs.Scan.{scanned, picks_link, new_rel}
+use Rattle.md_attributes.specs.Scan.{picks_link, new_rel}
 use Rattle.md_attributes.proofs.Finding.{from_start, turned}
 use Rattle.md_attributes.proofs.rel.with_rel.Goals as goal
 
