@@ -4,6 +4,7 @@ ghost use Rattle.std.specs.Prelude.{◌≡◌, ℕ, List};
 ghost use Rattle.md_attributes.specs.Attributed.{IsAttributed};
 ghost use Rattle.md_attributes.specs.Pieces.{IsWritten};
 
+use md_html::SafeHtml;
 use std::marker::Model;
 
 /// A safe text, or one to whose tags attributes were added.
@@ -14,6 +15,14 @@ pub trait Html {
     fn as_str(&self) -> &str
         ensures text { result.now ≡ text self.now }
         ensures written { IsWritten (text self.now) };
+}
+
+impl Html for SafeHtml {
+    ghost text = { λ html. html };
+
+    fn as_str(&self) -> &str {
+        SafeHtml::as_str(self)
+    }
 }
 
 /// A safe text to whose tags attributes were added.
