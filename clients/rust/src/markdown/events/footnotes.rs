@@ -1,0 +1,50 @@
+//! Footnotes and their calls.
+
+use super::open::Call;
+use super::Walk;
+use crate::Name;
+
+impl Walk<'_, '_> {
+    pub(super) fn start_footnote(&mut self, label: &str) {
+        self.footnotes.insert(folded(label));
+        self.document.enter(Name::GfmFootnoteDefinition);
+        self.document.within(
+            Name::GfmFootnoteDefinitionPrefix,
+            Name::GfmFootnoteDefinitionLabelString,
+            label,
+        );
+    }
+
+    pub(super) fn call(&mut self, label: &str) {
+        self.before_phrasing();
+        self.calls.push(Call {
+            index: self.document.events.len(),
+            label: folded(label),
+        });
+        self.document.call(label);
+    }
+
+    /// Makes texts of the calls whose footnote isn't defined.
+    pub(super) fn settle_calls(&mut self) {
+        for call in &self.calls {
+            if !self.footnotes.contains(&call.label) {
+                self.document.uncall(call.index);
+            }
+        }
+    }
+}
+
+/// A label, folded so that those which are equal are so for the library too: case aside, with one space for each run of
+/// spaces and line endings.
+fn folded(label: &str) -> String {
+    let is_space = |each: char| matches!(each, '\t' | '\n' | '\r' | ' ');
+    let words: Vec<&str> = label
+        .split(is_space)
+        .filter(|word| !word.is_empty())
+        .collect();
+    words
+        .join(" ")
+        .chars()
+        .flat_map(char::to_lowercase)
+        .collect()
+}

@@ -1,0 +1,51 @@
+//! What is open on the way through a parser's events, and what its end settles.
+
+use crate::Name;
+use pulldown_cmark::Tag;
+
+/// A node that is open, as far as what follows depends on it.
+pub(super) enum Open {
+    /// A quote or a footnote's definition.
+    Flow,
+    List(List),
+    Item(Item),
+    Code {
+        has_chunk: bool,
+    },
+    Table {
+        has_body: bool,
+    },
+    /// A paragraph, a heading, a cell.
+    Text,
+}
+
+/// A list.
+pub(super) struct List {
+    pub(super) name: Name,
+    /// What the first item has to say.
+    pub(super) start: Option<u64>,
+    /// Whether a blank line was told, which makes it loose.
+    pub(super) is_told_loose: bool,
+}
+
+/// An item of a list.
+#[derive(Default)]
+pub(super) struct Item {
+    /// Whether a paragraph is open that the parser doesn't tell, since the list is tight.
+    pub(super) has_tight_paragraph: bool,
+    pub(super) has_paragraph: bool,
+    pub(super) has_block: bool,
+}
+
+/// A call of a footnote: the index of its first event, and its label.
+pub(super) struct Call {
+    pub(super) index: usize,
+    pub(super) label: String,
+}
+
+/// Emphasis, a link or an image that the parser began.
+pub(super) struct Span<'a> {
+    pub(super) tag: Tag<'a>,
+    /// Whether it was ended already, before a block.
+    pub(super) is_ended: bool,
+}
