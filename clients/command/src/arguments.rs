@@ -1,10 +1,13 @@
 //! What the arguments ask for.
 
+use crate::files;
 use crate::parser::Limits;
 use bivdrazo::{DocumentHtml, MarkdownOptions, Options};
 use clap::error::ErrorKind;
-use clap::{value_parser, CommandFactory, Parser, ValueEnum};
+use clap::{value_parser, CommandFactory, Parser, ValueEnum, ValueHint};
+use clap_complete::Shell;
 use std::path::{Path, PathBuf};
+use std::process;
 
 /// Renders Markdown as safe HTML.
 ///
@@ -15,15 +18,15 @@ use std::path::{Path, PathBuf};
 #[command(name = "bivdrazo-render", version = bivdrazo::VERSION_TEXT)]
 pub struct Arguments {
     /// The files to render; - or none: standard input. Several ones need --out-dir.
-    #[arg(value_name = "FILE")]
+    #[arg(value_name = "FILE", value_hint = ValueHint::FilePath)]
     pub files: Vec<PathBuf>,
 
     /// Write to this file instead of standard output.
-    #[arg(short, long, value_name = "FILE", conflicts_with = "out_dir")]
+    #[arg(short, long, value_name = "FILE", value_hint = ValueHint::FilePath, conflicts_with = "out_dir")]
     pub output: Option<PathBuf>,
 
     /// Write each FILE to this folder, with the ending .html, on all processors.
-    #[arg(long, value_name = "DIR", requires = "files")]
+    #[arg(long, value_name = "DIR", value_hint = ValueHint::DirPath, requires = "files")]
     pub out_dir: Option<PathBuf>,
 
     /// Write a whole page with this title.
@@ -35,7 +38,7 @@ pub struct Arguments {
     pub lang: Option<String>,
 
     /// The page's style: a file, or none; else a small one of its own.
-    #[arg(long, value_name = "FILE|none", requires = "page")]
+    #[arg(long, value_name = "FILE|none", value_hint = ValueHint::FilePath, requires = "page")]
     pub css: Option<PathBuf>,
 
     /// What the ids of footnotes begin with, instead of user-content-.
@@ -89,6 +92,10 @@ pub struct Arguments {
     /// How many bytes the HTML of a document may have.
     #[arg(long, value_name = "BYTES")]
     pub max_output: Option<usize>,
+
+    /// Print what makes this shell complete these options, and render nothing.
+    #[arg(long, value_name = "SHELL", value_enum, exclusive = true)]
+    pub completions: Option<Shell>,
 }
 
 /// A parser of Markdown.
@@ -112,23 +119,26 @@ pub enum Html {
 }
 
 impl Arguments {
-    /// What the program was called with; ends it where that can't be read.
+    /// What the program was called with; ends it where that can't be read, or only help or the version is wanted.
     pub fn read() -> Arguments {
-        let arguments = Arguments::parse();
+        let arguments = Arguments::try_parse().unwrap_or_else(|error| end(&error));
         if arguments.files.len() > 1 && arguments.out_dir.is_none() {
             let told = "several files need --out-dir <DIR>";
-            Arguments::end(ErrorKind::MissingRequiredArgument, told);
+            end(&Arguments::command().error(ErrorKind::MissingRequiredArgument, told));
         }
         if let Some(option) = arguments.of_another_parser() {
             let told = format!("{option} isn't there with this --parser");
-            Arguments::end(ErrorKind::ArgumentConflict, &told);
+            end(&Arguments::command().error(ErrorKind::ArgumentConflict, told));
         }
         arguments
     }
 
-    /// Ends the program, since the arguments can't be followed.
-    fn end(kind: ErrorKind, told: &str) -> ! {
-        Arguments::command().error(kind, told).exit()
+    /// What makes a shell complete the arguments.
+    pub fn completions(shell: Shell) -> String {
+        let mut script = Vec::new();
+        let name = env!("CARGO_PKG_NAME");
+        clap_complete::generate(shell, &mut Arguments::command(), name, &mut script);
+        String::from_utf8_lossy(&script).into_owned()
     }
 
     /// An option that the parser doesn't have.
@@ -192,4 +202,17 @@ impl Arguments {
         options.max_output = self.max_output;
         options
     }
+}
+
+/// Ends the program with what its arguments have wrong, or with the help or the version that they ask for.
+fn end(told: &clap::Error) -> ! {
+    let printed = told.print();
+    process::exit(match printed {
+        _ if told.use_stderr() => 2,
+        Ok(()) => 0,
+        Err(error) => {
+            files::tell(&format!("standard output: {error}"));
+            1
+        }
+    })
 }

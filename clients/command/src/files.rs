@@ -32,11 +32,21 @@ pub fn read(path: &Path, limit: Option<usize>) -> Result<String, Failure> {
         .map_err(|error| format!("not UTF-8 at byte {}", error.utf8_error().valid_up_to()).into())
 }
 
-/// Writes to standard output.
-pub fn print(bytes: &[u8]) -> io::Result<()> {
+/// Writes texts to standard output, one after another.
+pub fn print(texts: &[&str]) -> io::Result<()> {
     let mut output = io::stdout().lock();
-    output.write_all(bytes)?;
+    write_all(&mut output, texts)?;
     output.flush()
+}
+
+/// Tells what failed on standard error; where that fails too, the status alone says so.
+pub fn tell(what: &str) {
+    let _ = writeln!(io::stderr(), "bivdrazo-render: {what}");
+}
+
+fn write_all(output: &mut impl Write, texts: &[&str]) -> io::Result<()> {
+    let mut texts = texts.iter();
+    texts.try_for_each(|text| output.write_all(text.as_bytes()))
 }
 
 /// Where each file goes in a folder, which is made where it isn't there.
@@ -65,16 +75,24 @@ pub fn targets(sources: &[PathBuf], folder: &Path) -> Result<Vec<PathBuf>, Failu
     Ok(targets)
 }
 
-/// Writes a file: beside it, and then under its name, so that it is never there by half. What is there and is no file,
-/// such as a device, is written to as it is.
-pub fn write(path: &Path, bytes: &[u8]) -> io::Result<()> {
+/// Whether both are one file, which is there.
+pub fn is_same(source: &Path, target: &Path) -> bool {
+    match (fs::canonicalize(source), fs::canonicalize(target)) {
+        (Ok(source), Ok(target)) => source == target && source.is_file(),
+        _ => false,
+    }
+}
+
+/// Writes texts to a file: beside it, and then under its name, so that it is never there by half. What is there and is no
+/// file, such as a device, is written to as it is.
+pub fn write(path: &Path, texts: &[&str]) -> io::Result<()> {
     let path = fs::canonicalize(path).unwrap_or_else(|_| path.to_path_buf());
     let found = fs::metadata(&path);
     if matches!(&found, Ok(found) if !found.is_file()) {
-        return OpenOptions::new().write(true).open(&path)?.write_all(bytes);
+        return write_all(&mut OpenOptions::new().write(true).open(&path)?, texts);
     }
     let beside = beside(&path)?;
-    let written = write_new(&beside, bytes)
+    let written = write_new(&beside, texts)
         .and_then(|()| {
             found.map_or(Ok(()), |found| {
                 fs::set_permissions(&beside, found.permissions())
@@ -97,8 +115,8 @@ fn beside(path: &Path) -> io::Result<PathBuf> {
     Ok(path.with_file_name(name))
 }
 
-fn write_new(path: &Path, bytes: &[u8]) -> io::Result<()> {
+fn write_new(path: &Path, texts: &[&str]) -> io::Result<()> {
     let mut file = OpenOptions::new().write(true).create_new(true).open(path)?;
-    file.write_all(bytes)?;
+    write_all(&mut file, texts)?;
     file.sync_all()
 }

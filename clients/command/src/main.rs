@@ -4,6 +4,7 @@ mod arguments;
 mod files;
 mod page;
 mod parser;
+mod progress;
 mod script;
 
 use arguments::{Arguments, ParserName};
@@ -24,14 +25,16 @@ fn main() -> ExitCode {
         Ok(failed) => failed,
         Err(error) => vec![error.to_string()],
     };
-    failed
-        .iter()
-        .for_each(|each| eprintln!("bivdrazo-render: {each}"));
+    failed.iter().for_each(|each| files::tell(each));
     ExitCode::from(u8::from(!failed.is_empty()))
 }
 
-/// Renders what the arguments ask for; which files failed, each with its cause.
+/// Does what the arguments ask for; which files failed, each with its cause.
 fn run(arguments: &Arguments) -> Result<Vec<String>, Failure> {
+    if let Some(shell) = arguments.completions {
+        print(&[&Arguments::completions(shell)])?;
+        return Ok(Vec::new());
+    }
     let page = Page::of(arguments)?;
     let told = |name: &str| {
         let name = name.to_string();
@@ -40,12 +43,16 @@ fn run(arguments: &Arguments) -> Result<Vec<String>, Failure> {
     match &arguments.out_dir {
         Some(folder) => {
             let targets = files::targets(&arguments.files, folder)?;
+            let bar = progress::bar(targets.len());
             let jobs = arguments.files.par_iter().zip(&targets);
             let done = jobs.map(|(source, target)| {
-                render(arguments, &page, source, Some(target))
-                    .map_err(told(&source.display().to_string()))
+                let done = render(arguments, &page, source, Some(target));
+                bar.inc(1);
+                done.map_err(told(&source.display().to_string()))
             });
-            Ok(done.filter_map(Result::err).collect())
+            let failed = done.filter_map(Result::err).collect();
+            bar.finish_and_clear();
+            Ok(failed)
         }
         None => {
             let source = arguments.source();
@@ -66,14 +73,21 @@ fn render(
     source: &Path,
     target: Option<&Path>,
 ) -> Result<(), Failure> {
-    let text = files::read(source, arguments.max_input)?;
-    let html = page.around(&html_of(text, arguments)?);
-    match target {
-        Some(target) => files::write(target, html.as_bytes())
-            .map_err(|error| format!("{}: {error}", target.display()).into()),
-        None => files::print(html.as_bytes())
-            .map_err(|error| format!("standard output: {error}").into()),
+    if let Some(target) = target.filter(|target| files::is_same(source, target)) {
+        return Err(format!("{}: is the document itself", target.display()).into());
     }
+    let text = files::read(source, arguments.max_input)?;
+    let html = html_of(text, arguments)?;
+    match target {
+        Some(target) => files::write(target, &page.around(&html))
+            .map_err(|error| format!("{}: {error}", target.display()).into()),
+        None => print(&page.around(&html)),
+    }
+}
+
+/// Writes texts to standard output, one after another.
+fn print(texts: &[&str]) -> Result<(), Failure> {
+    files::print(texts).map_err(|error| format!("standard output: {error}").into())
 }
 
 /// The HTML of a text, by the parser that is asked for.

@@ -47,9 +47,9 @@ impl Page {
         })
     }
 
-    /// A text in the page.
-    pub fn around(&self, html: &str) -> String {
-        [&self.before, html, self.after].concat()
+    /// A text in the page: what is to be written, one after another.
+    pub fn around<'a>(&'a self, html: &'a str) -> [&'a str; 3] {
+        [&self.before, html, self.after]
     }
 }
 
