@@ -114,7 +114,7 @@ def markdown_to_html(
     if answer.status != Status.OK:
         raise markdown_error_of(answer, options)
     try:
-        return ctypes.string_at(made, answer.length).decode("utf-8")
+        return str((ctypes.c_char * answer.length).from_address(made.value), "utf-8")
     finally:
         library.bivdrazo_markdown_free(made)
 

@@ -57,7 +57,7 @@ struct COptions {
 }
 
 const _: () = assert!(size_of::<CAnswer>() == 24);
-const _: () = assert!(size_of::<CEvent>() == 16);
+const _: () = assert!(size_of::<CEvent>() == 16 && size_of::<Event>() == 16);
 const _: () = assert!(size_of::<CText>() == 24);
 const _: () = assert!(size_of::<CReference>() == 32);
 const _: () = assert!(size_of::<COptions>() == 128);
@@ -92,6 +92,28 @@ pub(crate) fn compile(
     limit: Option<usize>,
 ) -> Result<String, Error> {
     let events = collect(events.iter().map(c_event))?;
+    compile_c(&events, bytes, options, names, limit)
+}
+
+/// As [`compile`], of events that nobody needs any more. C's take the memory of these, since they are as large.
+#[cfg(feature = "markdown")]
+pub(crate) fn compile_owned(
+    events: Vec<Event>,
+    bytes: &[u8],
+    options: &Options,
+    limit: Option<usize>,
+) -> Result<String, Error> {
+    let events: Vec<CEvent> = events.into_iter().map(|event| c_event(&event)).collect();
+    compile_c(&events, bytes, options, &[], limit)
+}
+
+fn compile_c(
+    events: &[CEvent],
+    bytes: &[u8],
+    options: &Options,
+    names: &[(&str, &str)],
+    limit: Option<usize>,
+) -> Result<String, Error> {
     let names = collect(names.iter().map(c_reference))?;
     let options = c_options(options);
     let room = first_size(events.len(), bytes.len());

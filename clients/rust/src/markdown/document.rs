@@ -1,6 +1,7 @@
 //! A document as the library takes it.
 
 use crate::{compile, ffi, Error, Event, Kind, Name, Options};
+use std::borrow::Cow;
 use std::ops::Range;
 
 /// Events, and the bytes that they are over: not those of the Markdown, but the texts that were found in it.
@@ -34,6 +35,15 @@ impl Document {
         limit: Option<usize>,
     ) -> Result<String, Error> {
         ffi::compile(&self.events, &self.bytes, options, &[], limit)
+    }
+
+    /// As [`compile_within`](Document::compile_within), of a document that nobody needs any more.
+    pub(super) fn into_html(
+        self,
+        options: &Options,
+        limit: Option<usize>,
+    ) -> Result<String, Error> {
+        ffi::compile_owned(self.events, &self.bytes, options, limit)
     }
 
     /// Begins a node after the bytes so far.
@@ -82,7 +92,7 @@ impl Document {
         start..self.bytes.len()
     }
 
-    /// A call of a footnote: six events.
+    /// A call of a footnote: six events, of which the third and the fourth are those of its label.
     pub(super) fn call(&mut self, label: &str) {
         self.enter(Name::GfmFootnoteCall);
         self.enter(Name::Label);
@@ -91,6 +101,12 @@ impl Document {
         self.bytes.push(b']');
         self.exit(Name::Label);
         self.exit(Name::GfmFootnoteCall);
+    }
+
+    /// The label of the call whose first event has that index.
+    pub(super) fn label_of(&self, index: usize) -> Cow<'_, str> {
+        let [start, end] = [index + 2, index + 3].map(|each| self.events[each].index);
+        String::from_utf8_lossy(&self.bytes[start..end])
     }
 
     /// Makes a text of the call whose first event has that index.

@@ -13,7 +13,7 @@ use super::document::Document;
 use super::pieces::{whole_html, whole_text};
 use super::MarkdownOptions;
 use crate::{Error, Name};
-use open::{Call, Open, Span};
+use open::{Open, Span};
 use pulldown_cmark::{Alignment, Event, Tag};
 use std::collections::{HashMap, HashSet};
 use std::iter::Peekable;
@@ -74,7 +74,8 @@ struct Walk<'o, 'a> {
     images: usize,
     alignments: Vec<Alignment>,
     footnotes: HashSet<String>,
-    calls: Vec<Call>,
+    /// The indices of the first events of footnotes' calls.
+    calls: Vec<usize>,
     /// Where the destinations and titles that definitions share stand in the bytes, by their addresses and lengths.
     shared: HashMap<(usize, usize), Range<usize>>,
     /// How long the destinations and titles are together.

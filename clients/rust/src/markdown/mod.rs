@@ -8,6 +8,7 @@ mod base;
 mod comments;
 mod document;
 mod events;
+mod nests;
 mod pieces;
 mod tables;
 
@@ -101,6 +102,10 @@ impl MarkdownOptions {
 /// The HTML of a Markdown document, with tables, strikethrough, tasks, footnotes and bare links. A byte order mark
 /// before it is passed over.
 ///
+/// A document that would take the parser much time or memory is read otherwise: without tables or without footnotes, or
+/// with marks of quotes and lists that are text far from a line's beginning. No document that people wrote is known that
+/// is.
+///
 /// # Errors
 ///
 /// [`Error::InputTooLong`] and [`Error::OutputTooLong`] where a bound of the options is passed, [`Error::Memory`] where
@@ -119,14 +124,14 @@ pub fn markdown_to_html(text: &str, options: &MarkdownOptions) -> Result<String,
         let length = text.len();
         return Err(Error::InputTooLong { length, limit });
     }
-    let text = text.strip_prefix('\u{feff}').unwrap_or(text);
-    let parser = Parser::new_ext(text, parser_options(text));
+    let text = nests::bounded(text.strip_prefix('\u{feff}').unwrap_or(text));
+    let parser = Parser::new_ext(&text, parser_options(&text));
     let limit = options.max_output.unwrap_or(MOST_COPIED);
-    if copied(&parser, text) > limit.max(LEAST_COPIED) {
+    if copied(&parser, &text) > limit.max(LEAST_COPIED) {
         return Err(Error::OutputTooLong { limit });
     }
     let document = events::document_of(parser.into_offset_iter(), options)?;
-    document.compile_within(&options.for_library(), options.max_output)
+    document.into_html(&options.for_library(), options.max_output)
 }
 
 /// How many bytes the parser may copy for links, where no bound on the text says it, and where a bound says less.
@@ -148,16 +153,16 @@ fn copied(parser: &Parser, text: &str) -> usize {
     longest.unwrap_or(0).saturating_mul(links)
 }
 
-/// What the parser reads: no tables where they would have too many cells that nobody wrote.
+/// What the parser reads: no tables where they would have too many cells that nobody wrote, and no footnotes where too
+/// many could stand in one another.
 fn parser_options(text: &str) -> pulldown_cmark::Options {
-    let mut read = pulldown_cmark::Options::ENABLE_TABLES
-        | pulldown_cmark::Options::ENABLE_FOOTNOTES
-        | pulldown_cmark::Options::ENABLE_STRIKETHROUGH
-        | pulldown_cmark::Options::ENABLE_TASKLISTS;
+    use pulldown_cmark::Options;
+    let mut read = Options::ENABLE_STRIKETHROUGH | Options::ENABLE_TASKLISTS;
     read.set(
-        pulldown_cmark::Options::ENABLE_TABLES,
+        Options::ENABLE_TABLES,
         tables::missing_cells(text) <= tables::MOST_MISSING_CELLS,
     );
+    read.set(Options::ENABLE_FOOTNOTES, nests::has_few_footnotes(text));
     read
 }
 

@@ -383,6 +383,19 @@ fn wide_tables() {
 }
 
 #[test]
+fn nests() {
+    let deep = html(&("> ".repeat(40_000) + "a"));
+    assert_eq!(deep.matches("<blockquote>").count(), 64);
+    assert!(deep.contains("<p>&gt; &gt; ") && deep.contains("&gt; a</p>"));
+    let items = format!("{}a\n{}\\b", "- ".repeat(1000), "\n".repeat(100_000));
+    assert_eq!(html(&items).matches("<li>").count(), 64);
+    let notes = "[^a]:#\n".repeat(30_000);
+    assert_eq!(html(&format!("b[^a]\n\n{notes}")), "<p>b<a href=\"#\">^a</a></p>\n");
+    let few = html(&format!("b[^a]\n\n{}", &notes[..700]));
+    assert!(few.contains("id=\"user-content-fn-a\""));
+}
+
+#[test]
 fn bare() {
     let links = |text: &str| -> Vec<String> {
         bare_links(text)

@@ -1,6 +1,5 @@
 //! Footnotes and their calls.
 
-use super::open::Call;
 use super::Walk;
 use crate::Name;
 
@@ -17,18 +16,15 @@ impl Walk<'_, '_> {
 
     pub(super) fn call(&mut self, label: &str) {
         self.before_phrasing();
-        self.calls.push(Call {
-            index: self.document.events.len(),
-            label: folded(label),
-        });
+        self.calls.push(self.document.events.len());
         self.document.call(label);
     }
 
     /// Makes texts of the calls whose footnote isn't defined.
     pub(super) fn settle_calls(&mut self) {
-        for call in &self.calls {
-            if !self.footnotes.contains(&call.label) {
-                self.document.uncall(call.index);
+        for &call in &self.calls {
+            if !self.footnotes.contains(&folded(&self.document.label_of(call))) {
+                self.document.uncall(call);
             }
         }
     }

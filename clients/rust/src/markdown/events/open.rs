@@ -1,4 +1,4 @@
-//! What is open on the way through a parser's events, and what its end settles.
+//! What is open on the way through a parser's events.
 
 use crate::Name;
 use pulldown_cmark::Tag;
@@ -35,12 +35,6 @@ pub(super) struct Item {
     pub(super) has_tight_paragraph: bool,
     pub(super) has_paragraph: bool,
     pub(super) has_block: bool,
-}
-
-/// A call of a footnote: the index of its first event, and its label.
-pub(super) struct Call {
-    pub(super) index: usize,
-    pub(super) label: String,
 }
 
 /// Emphasis, a link or an image that the parser began.

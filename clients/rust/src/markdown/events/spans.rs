@@ -63,7 +63,7 @@ impl Walk<'_, '_> {
         self.document.enter(Name::Resource);
         self.destination(kind, url);
         if !title.is_empty() {
-            self.string(Name::ResourceTitleString, title, |title| title.into());
+            self.string(Name::ResourceTitleString, kind, title, |title| title.into());
         }
         self.document.exit(Name::Resource);
         self.document.exit(name);
@@ -71,7 +71,7 @@ impl Walk<'_, '_> {
 
     fn destination(&mut self, kind: LinkType, url: &CowStr) {
         let base = self.options.base.as_deref();
-        self.string(Name::ResourceDestinationString, url, |url| match base {
+        self.string(Name::ResourceDestinationString, kind, url, |url| match base {
             _ if kind == LinkType::Email => format!("mailto:{url}").into(),
             Some(base) => base::resolved(base, url).into(),
             None => url.into(),
@@ -81,9 +81,16 @@ impl Walk<'_, '_> {
     /// A destination or a title. The parser hands out the same text for each link that uses a definition: what is made
     /// of it stands in the bytes once. Two texts that are borrowed from the document are equal where their addresses
     /// and lengths are.
-    fn string(&mut self, name: Name, text: &CowStr, made: impl Fn(&str) -> Cow<str>) {
-        let place = match text {
-            CowStr::Borrowed(own) => Some((own.as_ptr() as usize, own.len())),
+    fn string(
+        &mut self,
+        name: Name,
+        kind: LinkType,
+        text: &CowStr,
+        made: impl Fn(&str) -> Cow<str>,
+    ) {
+        let place = match (kind, text) {
+            (LinkType::Inline | LinkType::Autolink | LinkType::Email, _) => None,
+            (_, CowStr::Borrowed(own)) => Some((own.as_ptr() as usize, own.len())),
             _ => None,
         };
         let known = place.and_then(|place| self.shared.get(&place).cloned());
