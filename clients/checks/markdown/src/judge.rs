@@ -10,8 +10,6 @@ use pulldown_cmark::{
     html, Alignment, CodeBlockKind, CowStr, Event, LinkType, Options, Parser, Tag,
 };
 use std::borrow::Cow;
-use std::error::Error;
-use std::io::{self, Read, Write};
 
 /// What pulldown-cmark renders, what is wanted here, and the classes of differences between the two.
 pub struct Judged {
@@ -67,15 +65,6 @@ pub fn rendered(events: &[Event]) -> String {
     let begun = format!("\n{NEEDED}");
     let text = text.trim_start_matches(NEEDED).replace(&begun, "\n");
     text.replace(NEEDED, "\n")
-}
-
-/// Writes what pulldown-cmark renders of the document on standard input.
-pub fn plain() -> Result<(), Box<dyn Error>> {
-    let mut document = String::new();
-    io::stdin().read_to_string(&mut document)?;
-    let mut text = String::new();
-    html::push_html(&mut text, Parser::new_ext(&document, options()));
-    Ok(io::stdout().write_all(text.as_bytes())?)
 }
 
 /// What pulldown-cmark renders of a document, and what is wanted here.

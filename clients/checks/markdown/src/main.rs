@@ -1,16 +1,18 @@
 //! Checks of `markdown_to_html`.
 //!
 //!     bivdrazo-checks compare LIST [--write] < DOCUMENTS    compares with pulldown-cmark's own renderer
-//!     bivdrazo-checks hostile SECONDS [SIZE]                times shapes of Markdown that make parsers slow
-//!     bivdrazo-checks plain < MARKDOWN                      writes what that renderer makes of a document
+//!     bivdrazo-checks shapes FOLDER [SIZE]                  writes shapes of Markdown that make parsers slow or large
+//!     bivdrazo-checks render < MARKDOWN                     writes what `markdown_to_html` makes of a document
+//!     bivdrazo-checks plain < MARKDOWN                      writes what pulldown-cmark's own renderer makes of it
 //!
-//! DOCUMENTS are frames: a count of bytes in decimal digits, a line feed, the document. Both end with status 1 for a
-//! difference that isn't permitted, another count than LIST has, a refusal, or a shape that takes more time.
+//! DOCUMENTS are frames: a count of bytes in decimal digits, a line feed, the document. The comparison ends with status 1
+//! for a difference that isn't permitted, another count than LIST has, or a refusal.
 
 mod compare;
 mod footnotes;
 mod hostile;
 mod judge;
+mod parts;
 
 use std::env;
 use std::process::ExitCode;
@@ -21,11 +23,13 @@ fn main() -> ExitCode {
     let is_right = match arguments[..] {
         ["compare", list] => compare::run(list, false),
         ["compare", list, "--write"] => compare::run(list, true),
-        ["plain"] => judge::plain().map(|()| true),
-        ["hostile", seconds] => hostile::run(seconds, "1048576"),
-        ["hostile", seconds, size] => hostile::run(seconds, size),
+        ["shapes", folder] => hostile::write(folder, "1048576").map(|()| true),
+        ["shapes", folder, size] => hostile::write(folder, size).map(|()| true),
+        ["render"] => parts::render().map(|()| true),
+        ["plain"] => parts::plain().map(|()| true),
         _ => Err(
-            "usage: bivdrazo-checks compare LIST [--write] | hostile SECONDS [SIZE] | plain".into(),
+            "usage: bivdrazo-checks compare LIST [--write] | shapes FOLDER [SIZE] | render | plain"
+                .into(),
         ),
     };
     match is_right {

@@ -1,0 +1,51 @@
+"""Renders attacks by every way in, and reads each text as browsers do.
+
+    attacks_test.py OUT
+
+OUT is the folder where clients/build put what it made, with bivdrazo-checks in target/release and markdown_file. All ways
+with pulldown-cmark's parser must make the same text, and no text may hold what isn't permitted. Wants html5lib.
+"""
+
+import pathlib
+import subprocess
+import sys
+import tempfile
+
+from attacks import ATTACKS, MORE, is_unsafe
+from hostile import environment, ways
+from reading import faults
+
+
+def rendered(command, path):
+    """What a command makes of a document."""
+    with open(path, "rb") as document:
+        done = subprocess.run(command, stdin=document, capture_output=True, env=environment(), check=True)
+    return done.stdout
+
+
+def main():
+    """Tries all attacks; the status to end with."""
+    out = pathlib.Path(sys.argv[1])
+    own = ways(out)
+    cmark = out / "bivdrazo-render-cmark"
+    others = {cmark.name: [cmark]} if cmark.exists() else {}
+    wrong = 0
+    attacks = [markdown for _, markdown in ATTACKS] + list(MORE)
+    with tempfile.TemporaryDirectory() as folder:
+        path = pathlib.Path(folder, "attack.md")
+        for attack in attacks:
+            path.write_bytes(attack.encode("utf-8"))
+            texts = {name: rendered(command, path) for name, command in (own | others).items()}
+            told = [f"{name}: {fault}" for name, text in texts.items() for fault in faults(text)]
+            told += [f"{name}: unsafe" for name, text in texts.items() if is_unsafe(text.decode("utf-8"))]
+            if len({texts[name] for name in own}) != 1:
+                told.append("the texts differ")
+            for fault in told:
+                wrong += 1
+                print(f"{attack!r}: {fault}")
+    print(f"attacks: {len(attacks)} by {len(own | others)} ways, {wrong} faults")
+    return 1 if wrong else 0
+
+
+if __name__ == "__main__":
+    sys.exit(main())

@@ -1,0 +1,143 @@
+"""Renders each shape of Markdown that makes parsers slow or large by every way in, and measures time and memory.
+
+    hostile.py OUT [--size BYTES] [--table]
+
+OUT is the folder where clients/build put what it made, with bivdrazo-checks in target/release and markdown_file. Each
+shape, of about a megabyte, is rendered by the crate for Rust, by C, by Python and by bivdrazo-render, as a process
+each. All four must make the same text, within SECONDS of a processor. The memory beyond input and text, which counts the
+program itself, must stay within MEGABYTES, or within what hostile.txt has for that shape. Ends with status 1 where that
+isn't so. --table prints all of it, and what pulldown-cmark's own renderer takes.
+"""
+
+import argparse
+import hashlib
+import os
+import pathlib
+import resource
+import subprocess
+import sys
+import tempfile
+from typing import NamedTuple
+
+HERE = pathlib.Path(__file__).resolve().parent
+MEGA = 1 << 20
+SECONDS = 5
+MEGABYTES = 64
+MOST_MEMORY = 4 << 30  # of address space: past it a program fails, and not the machine
+
+PYTHON = """
+import sys
+from bivdrazo import markdown_to_html
+text = sys.stdin.buffer.read().decode("utf-8")
+sys.stdout.write(markdown_to_html(text))
+"""
+
+
+class Run(NamedTuple):
+    """What a program took: its status, seconds of a processor, the most memory in bytes; and its text."""
+
+    status: int
+    seconds: float
+    memory: int
+    length: int
+    digest: str
+
+
+def ways(out):
+    """The commands, by the names of the ways in."""
+    return {
+        "Rust": [out / "target" / "release" / "bivdrazo-checks", "render"],
+        "C": [out / "markdown_file"],
+        "Python": [sys.executable, "-X", "utf8", "-c", PYTHON],
+        "bivdrazo-render": [out / "bivdrazo-render"],
+    }
+
+
+def environment():
+    """What Python finds our module by."""
+    return {**os.environ, "PYTHONPATH": str(HERE.parent / "python"), "PYTHONDONTWRITEBYTECODE": "1"}
+
+
+def limit():
+    """Sets the limits of the process that begins."""
+    resource.setrlimit(resource.RLIMIT_AS, (MOST_MEMORY, MOST_MEMORY))
+    resource.setrlimit(resource.RLIMIT_CPU, (2 * SECONDS, 2 * SECONDS))
+
+
+def run(command, path):
+    """Runs a command over a document."""
+    with tempfile.TemporaryFile() as output, open(path, "rb") as document:
+        process = subprocess.Popen(
+            command, stdin=document, stdout=output, stderr=subprocess.DEVNULL, preexec_fn=limit, env=environment()
+        )
+        _, status, used = os.wait4(process.pid, 0)
+        process.returncode = os.waitstatus_to_exitcode(status)
+        output.seek(0)
+        digest = hashlib.sha256()
+        while part := output.read(MEGA):
+            digest.update(part)
+        seconds = used.ru_utime + used.ru_stime
+        return Run(process.returncode, seconds, 1024 * used.ru_maxrss, output.tell(), digest.hexdigest())
+
+
+def beyond(path, found):
+    """The memory of a run beyond its input and its text, in megabytes."""
+    return (found.memory - os.path.getsize(path) - found.length) / MEGA
+
+
+def allowed():
+    """How many megabytes a shape may take that takes more than the others, by its name."""
+    lines = (HERE / "hostile.txt").read_text(encoding="utf-8").splitlines()
+    return {name: int(most) for name, most in (line.rsplit(": ", 1) for line in lines if not line.startswith("#"))}
+
+
+def faults(path, runs, most):
+    """What is wrong with the runs of a shape."""
+    first = next(iter(runs.values()))
+    for name, found in runs.items():
+        memory = beyond(path, found)
+        if found.status != 0:
+            yield f"{name} ends with status {found.status}"
+        elif found.digest != first.digest:
+            yield f"{name} makes another text"
+        elif found.seconds > SECONDS or memory > most:
+            yield f"{name} takes {found.seconds:.2f} seconds and {memory:.0f} megabytes"
+
+
+def row(path, runs, plain):
+    """A row of the table."""
+    text = next(iter(runs.values())).length
+    told = " | ".join(f"{found.seconds:.2f} | {beyond(path, found):.0f}" for found in runs.values())
+    own = f"{plain.seconds:.2f} | {beyond(path, plain):.0f}" if plain.status == 0 else "– | –"
+    return f"| {path.stem} | {os.path.getsize(path) / MEGA:.2f} | {text / MEGA:.2f} | {told} | {own} |"
+
+
+def main():
+    """Measures all shapes; the status to end with."""
+    parser = argparse.ArgumentParser()
+    parser.add_argument("out", type=pathlib.Path)
+    parser.add_argument("--size", default=str(MEGA))
+    parser.add_argument("--table", action="store_true")
+    arguments = parser.parse_args()
+    checks = arguments.out / "target" / "release" / "bivdrazo-checks"
+    more, wrong, worst = allowed(), 0, {}
+    with tempfile.TemporaryDirectory() as folder:
+        subprocess.run([checks, "shapes", folder, arguments.size], check=True)
+        paths = sorted(pathlib.Path(folder).glob("*.md"))
+        for path in paths:
+            runs = {name: run(command, path) for name, command in ways(arguments.out).items()}
+            if arguments.table:
+                print(row(path, runs, run([checks, "plain"], path)), flush=True)
+            for fault in faults(path, runs, more.get(path.stem, MEGABYTES)):
+                wrong += 1
+                print(f"{path.stem}: {fault}")
+            slowest = max(found.seconds for found in runs.values())
+            worst["seconds"] = max(worst.get("seconds", (0, "")), (slowest, path.stem))
+    unknown = more.keys() - {path.stem for path in paths}
+    told = worst["seconds"]
+    print(f"hostile: {len(paths)} shapes by {len(runs)} ways, {wrong} faults, at most {told[0]:.2f} seconds ({told[1]})")
+    return 1 if wrong or unknown else 0
+
+
+if __name__ == "__main__":
+    sys.exit(main())
