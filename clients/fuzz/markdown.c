@@ -4,32 +4,10 @@
  * document isn't UTF-8 or a bound is passed, and the text is of the HTML grammar.
  */
 #include "bivdrazo_markdown.h"
+#include "guard.h"
 #include "html.h"
 
-#include <stdio.h>
-#include <string.h>
-#include <sys/mman.h>
-#include <unistd.h>
-
 int LLVMFuzzerTestOneInput(const uint8_t *data, size_t size);
-
-/* A copy of some bytes at the end of a page before one that can't be read. */
-struct guarded {
-    uint8_t *pages;
-    size_t size;
-    uint8_t *bytes;
-};
-
-static struct guarded guard(const uint8_t *bytes, size_t length) {
-    const size_t page = (size_t)sysconf(_SC_PAGESIZE);
-    const size_t room = (length + page) / page * page;
-    struct guarded guarded = {NULL, room + page, NULL};
-    guarded.pages = mmap(NULL, guarded.size, PROT_READ | PROT_WRITE, MAP_PRIVATE | MAP_ANONYMOUS, -1, 0);
-    if (guarded.pages == MAP_FAILED || mprotect(guarded.pages + room, page, PROT_NONE) != 0)
-        abort();
-    guarded.bytes = memcpy(guarded.pages + room - length, bytes, length);
-    return guarded;
-}
 
 /* The options that two bytes stand for. */
 static bivdrazo_markdown_options options_of(uint8_t flags, uint8_t bounds) {
@@ -45,11 +23,6 @@ static bivdrazo_markdown_options options_of(uint8_t flags, uint8_t bounds) {
     if (flags >> 7 & 1)
         options.max_output = 8u * bounds;
     return options;
-}
-
-static void fail(const char *what, size_t where) {
-    fprintf(stderr, "fuzz: %s at %zu\n", what, where);
-    abort();
 }
 
 static void check_text(const char *html, size_t length, const bivdrazo_markdown_options *options) {
@@ -75,6 +48,6 @@ int LLVMFuzzerTestOneInput(const uint8_t *data, size_t size) {
     else if (!may_fail || html != NULL)
         fail(bivdrazo_markdown_status_text(answer.status), answer.index);
     bivdrazo_markdown_free(html);
-    munmap(document.pages, document.size);
+    unguard(document);
     return 0;
 }
