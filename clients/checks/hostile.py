@@ -4,9 +4,9 @@
 
 OUT is the folder where clients/build put what it made, with bivdrazo-checks in target/release and markdown_file. Each
 shape, of about a megabyte, is rendered by the crate for Rust, by C, by Python and by bivdrazo-render, as a process
-each. All four must make the same text, within SECONDS of a processor. The memory beyond input and text, which counts the
-program itself, must stay within MEGABYTES, or within what hostile.txt has for that shape. Ends with status 1 where that
-isn't so. --table prints all of it, and what pulldown-cmark's own renderer takes.
+each. All four must make the same text, within SECONDS of a processor. The memory beyond input and text, which counts
+the program itself, must stay within MEGABYTES, or within what hostile.txt has for that shape. Ends with status 1 where
+that isn't so. --table prints all of it, and what pulldown-cmark's own renderer takes.
 """
 
 import argparse
@@ -134,8 +134,8 @@ def main():
             slowest = max(found.seconds for found in runs.values())
             worst["seconds"] = max(worst.get("seconds", (0, "")), (slowest, path.stem))
     unknown = more.keys() - {path.stem for path in paths}
-    told = worst["seconds"]
-    print(f"hostile: {len(paths)} shapes by {len(runs)} ways, {wrong} faults, at most {told[0]:.2f} seconds ({told[1]})")
+    most, shape = worst["seconds"]
+    print(f"hostile: {len(paths)} shapes by {len(runs)} ways, {wrong} faults, {most:.2f} seconds at most ({shape})")
     return 1 if wrong or unknown else 0
 
 

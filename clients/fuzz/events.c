@@ -1,8 +1,9 @@
 /*
- * Event scripts by bivdrazo_run(), and their events by bivdrazo_compile(), for libFuzzer. The first byte of an input says
- * how large the first buffer is, the rest is the script. What is handed in and the buffer end at the end of a page before
- * one that can't be read or written. A call that gives no text leaves the buffer as it was, and one that does leaves what
- * lies after the text; where the script sets no option both calls answer the same, and the text is of the HTML grammar.
+ * Event scripts by bivdrazo_run(), and their events by bivdrazo_compile(), for libFuzzer. The first byte of an input
+ * says how large the first buffer is, the rest is the script. What is handed in and the buffer end at the end of a page
+ * before one that can't be read or written. A call that gives no text leaves the buffer as it was, and one that does
+ * leaves what lies after the text; where the script sets no option both calls answer the same, and the text is of the
+ * HTML grammar.
  */
 #include "bivdrazo.h"
 #include "guard.h"

@@ -17,6 +17,9 @@ pub(super) struct Bare {
 
 /// The bare links of a text, in their order.
 pub(super) fn bare_links(text: &str) -> Vec<Bare> {
+    if !may_hold_link(text) {
+        return Vec::new();
+    }
     let mut finder = LinkFinder::new();
     finder.url_must_have_scheme(false);
     words(text)
@@ -32,14 +35,16 @@ fn words(text: &str) -> impl Iterator<Item = (usize, &str)> {
         .map(move |word| (start_of(word), word))
 }
 
-fn may_hold_link(word: &str) -> bool {
-    word.contains('@') || word.contains("://") || word.contains('.') && contains_www(word)
-}
-
-fn contains_www(word: &str) -> bool {
-    word.as_bytes()
-        .windows(4)
-        .any(|four| four.eq_ignore_ascii_case(b"www."))
+/// Whether an address or a URL may stand in a text: it has an at sign, `://` or `www.`.
+fn may_hold_link(text: &str) -> bool {
+    let bytes = text.as_bytes();
+    let is_www = |dot: usize| bytes[dot.saturating_sub(3)..dot].eq_ignore_ascii_case(b"www");
+    bytes.iter().enumerate().any(|(at, &byte)| match byte {
+        b'@' => true,
+        b':' => bytes[at..].starts_with(b"://"),
+        b'.' => is_www(at),
+        _ => false,
+    })
 }
 
 fn links_of_word(finder: &LinkFinder, start: usize, word: &str) -> Vec<Bare> {

@@ -6,6 +6,7 @@
 mod autolinks;
 mod base;
 mod comments;
+mod counts;
 mod document;
 mod events;
 mod nests;
@@ -149,7 +150,7 @@ fn copied(parser: &Parser, text: &str) -> usize {
     let longest = definitions
         .map(|(_, definition)| own(&definition.dest) + definition.title.as_ref().map_or(0, own))
         .max();
-    let links = text.bytes().filter(|&byte| byte == b'[').count();
+    let links = counts::count(text, |byte| byte == b'[');
     longest.unwrap_or(0).saturating_mul(links)
 }
 
@@ -158,10 +159,7 @@ fn copied(parser: &Parser, text: &str) -> usize {
 fn parser_options(text: &str) -> pulldown_cmark::Options {
     use pulldown_cmark::Options;
     let mut read = Options::ENABLE_STRIKETHROUGH | Options::ENABLE_TASKLISTS;
-    read.set(
-        Options::ENABLE_TABLES,
-        tables::missing_cells(text) <= tables::MOST_MISSING_CELLS,
-    );
+    read.set(Options::ENABLE_TABLES, tables::has_few_missing_cells(text));
     read.set(Options::ENABLE_FOOTNOTES, nests::has_few_footnotes(text));
     read
 }

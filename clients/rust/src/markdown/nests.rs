@@ -1,6 +1,7 @@
 //! How deep a document could nest, which takes the parser time: for many a line it looks at each quote, list and
 //! footnote that is open, and a blank line, or a footnote's label, may stand in any number of them.
 
+use super::counts::{count, has_no_longer_line, is_line_end};
 use std::borrow::Cow;
 use std::iter;
 
@@ -16,9 +17,8 @@ const LONGEST_BEGINNING: usize = 128;
 
 /// A document that doesn't nest too deep: the text, or else the text with a backslash before marks that would.
 pub(super) fn bounded(text: &str) -> Cow<'_, str> {
-    let looks = |depth: usize| depth.saturating_mul(line_count(text));
-    let longest = || lines(text).map(longest_beginning).max().unwrap_or(0);
-    if looks(text.len()) <= MOST_LOOKS || looks(longest()) <= MOST_LOOKS {
+    let deepest = MOST_LOOKS / line_count(text);
+    if has_no_longer_line(text, deepest) || longest_beginning(text) <= deepest {
         return Cow::Borrowed(text);
     }
     let mut bounded = String::with_capacity(text.len());
@@ -36,29 +36,33 @@ pub(super) fn bounded(text: &str) -> Cow<'_, str> {
 
 /// Whether the footnotes that could be open, one in another, are few enough for the lines.
 pub(super) fn has_few_footnotes(text: &str) -> bool {
-    let looks = |depth: usize| depth.saturating_mul(line_count(text));
-    let most = || text.matches("[^").count().min(text.matches("]:").count());
-    let shortest = "[^a]:".len();
-    looks(text.len() / shortest) <= MOST_LOOKS_AT_FOOTNOTES
-        || looks(most()) <= MOST_LOOKS_AT_FOOTNOTES
+    let deepest = MOST_LOOKS_AT_FOOTNOTES / line_count(text);
+    let pairs = |pair| {
+        text.as_bytes()
+            .windows(2)
+            .filter(|&two| two == pair)
+            .count()
+    };
+    count(text, |byte| byte == b'^') <= deepest
+        || pairs(b"[^") <= deepest
+        || pairs(b"]:") <= deepest
 }
 
 /// The lines of a text, with what ends them.
 fn lines(text: &str) -> impl Iterator<Item = &str> {
-    text.split_inclusive(is_line_end)
+    text.split_inclusive(|each| each == '\n' || each == '\r')
 }
 
 fn line_count(text: &str) -> usize {
-    let ends = text.bytes().filter(|&byte| is_line_end(byte.into()));
-    LEAST_LINES.max(ends.count())
+    LEAST_LINES.max(count(text, is_line_end))
 }
 
-fn is_line_end(each: char) -> bool {
-    each == '\n' || each == '\r'
+/// The most bytes that reach, in a line of the text, from where marks may begin to the last mark.
+fn longest_beginning(text: &str) -> usize {
+    lines(text).map(beginning_of).max().unwrap_or(0)
 }
 
-/// How many bytes reach from where marks may begin to the last mark.
-fn longest_beginning(line: &str) -> usize {
+fn beginning_of(line: &str) -> usize {
     let of = |start| marks(line, start).last().map_or(0, |last| last + 1 - start);
     starts(line).map(of).max().unwrap_or(0)
 }
@@ -127,7 +131,7 @@ mod tests {
             ("[^a\\]: b]: > - c", 4),
             ("\u{e9}]: > \u{e9}", 2),
         ] {
-            assert_eq!(longest_beginning(line), length, "{line:?}");
+            assert_eq!(beginning_of(line), length, "{line:?}");
         }
     }
 

@@ -1,8 +1,17 @@
 //! How many cells of a document's tables nobody wrote.
 
+use super::counts::{count, is_line_end};
+
 /// A row that is too short is filled up with empty cells. A document that could have more of them than this is read
 /// without tables: else a short one could make the parser take all memory.
-pub(super) const MOST_MISSING_CELLS: usize = 1 << 19;
+const MOST_MISSING_CELLS: usize = 1 << 19;
+
+/// Whether few enough cells are missing.
+pub(super) fn has_few_missing_cells(text: &str) -> bool {
+    let rows = count(text, is_line_end) + 1;
+    let columns = count(text, |byte| byte == b'|') + 1;
+    columns.saturating_mul(rows) <= MOST_MISSING_CELLS || missing_cells(text) <= MOST_MISSING_CELLS
+}
 
 /// At most so many cells (and as many more as the text has bytes) does the parser add to rows that are too short.
 ///

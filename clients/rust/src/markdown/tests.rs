@@ -4,7 +4,7 @@ use super::autolinks::bare_links;
 use super::base::resolved;
 use super::comments::without_comments;
 use super::events::document_of;
-use super::tables::{missing_cells, MOST_MISSING_CELLS};
+use super::tables::{has_few_missing_cells, missing_cells};
 use crate::{events_of, markdown_to_html, DocumentHtml, Error, MarkdownOptions, Options};
 use pulldown_cmark::{CowStr, Event, Parser, Tag};
 
@@ -378,7 +378,7 @@ fn wide_tables() {
     }
     assert!(html(&table(10, 10)).contains("<table>"));
     let wide = table(2000, 1000);
-    assert!(missing_cells(&wide) > MOST_MISSING_CELLS);
+    assert!(!has_few_missing_cells(&wide));
     assert!(!html(&wide).contains("<table>"));
 }
 

@@ -23,7 +23,10 @@ impl Walk<'_, '_> {
     /// Makes texts of the calls whose footnote isn't defined.
     pub(super) fn settle_calls(&mut self) {
         for &call in &self.calls {
-            if !self.footnotes.contains(&folded(&self.document.label_of(call))) {
+            if !self
+                .footnotes
+                .contains(&folded(&self.document.label_of(call)))
+            {
                 self.document.uncall(call);
             }
         }

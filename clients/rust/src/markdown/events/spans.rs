@@ -71,11 +71,16 @@ impl Walk<'_, '_> {
 
     fn destination(&mut self, kind: LinkType, url: &CowStr) {
         let base = self.options.base.as_deref();
-        self.string(Name::ResourceDestinationString, kind, url, |url| match base {
-            _ if kind == LinkType::Email => format!("mailto:{url}").into(),
-            Some(base) => base::resolved(base, url).into(),
-            None => url.into(),
-        });
+        self.string(
+            Name::ResourceDestinationString,
+            kind,
+            url,
+            |url| match base {
+                _ if kind == LinkType::Email => format!("mailto:{url}").into(),
+                Some(base) => base::resolved(base, url).into(),
+                None => url.into(),
+            },
+        );
     }
 
     /// A destination or a title. The parser hands out the same text for each link that uses a definition: what is made
