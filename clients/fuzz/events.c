@@ -134,7 +134,7 @@ int LLVMFuzzerTestOneInput(const uint8_t *data, size_t size) {
     static bivdrazo_event events[MOST_EVENTS];
     if (size == 0)
         return 0;
-    const size_t room = data[0] < 128 ? data[0] : (size_t)(data[0] - 127) << 10;
+    const size_t room = data[0] < 128 ? data[0] : (size_t)(data[0] - 127) << 6;
     const struct guarded script = guard(data + 1, size - 1);
     struct job job = {script.bytes, size - 1, NULL, 0, NULL, 0};
     struct guarded text;
