@@ -76,15 +76,16 @@ static uint16_t name_of(const char *text, size_t length) {
     return 0;
 }
 
-/* Reads the line of an event without columns; whether it is one. */
+/* Reads the line of an event without columns: a sign, a name, a space, up to nine digits; whether it is one. */
 static int read_event(const char *line, bivdrazo_event *event) {
-    char name[64];
-    unsigned index;
-    int end = 0;
-    if ((line[0] != '+' && line[0] != '-') || sscanf(line + 1, "%63[A-Za-z] %9u%n", name, &index, &end) != 2 ||
-        line[1 + end] != '\0')
+    if (line[0] != '+' && line[0] != '-')
         return 0;
-    *event = (bivdrazo_event){.index = index, .name = name_of(name, strlen(name))};
+    const char *digits = strchr(line, ' ');
+    const size_t count = digits == NULL ? 0 : strspn(digits + 1, "0123456789");
+    if (count == 0 || count > 9 || digits[1 + count] != '\0')
+        return 0;
+    *event = (bivdrazo_event){.index = strtoul(digits + 1, NULL, 10)};
+    event->name = name_of(line + 1, (size_t)(digits - line) - 1);
     event->kind = line[0] == '+' ? BIVDRAZO_ENTER : BIVDRAZO_EXIT;
     return event->name != 0;
 }
@@ -101,12 +102,14 @@ static int read_script(const uint8_t *script, size_t length, struct job *job, bi
         memcpy(line, script + at, long_);
         line[long_] = '\0';
         at += long_ + 1;
+        if (strlen(line) != long_)
+            return 0;
         if (strcmp(line, "--") == 0) {
             job->document = script + at;
             job->document_length = length - at;
             return 1;
         }
-        if (strlen(line) != long_ || !read_event(line, &events[job->events_length]))
+        if (!read_event(line, &events[job->events_length]))
             return 0;
     }
     return 0;
