@@ -137,9 +137,13 @@ def place_tables():
     source = replaced(source, r"static ROWS: \[\[u8; \d+\]; \d+\] = \[\n.*?\n\];",
                       f"static ROWS: [[u8; {len(symbols)}]; {len(every)}] = [\n"
                       + "".join(f'    *b"{row}",\n' for row in rows) + "];")
-    for words, number in (("self.number < ", len(every) - 1), ("row < ", len(every)), ("fn starts() -> &'static [u8; ", len(roles)),
-                          ("fn rows() -> &'static [[u8; ", len(symbols))):
-        source = replaced(source, re.escape(words) + r"\d+", words + str(number))
+    for before, number in (("self\\.number < ", len(every) - 1), ("row < ", len(every)),
+                           ("fn starts\\(\\) -> &'static \\[u8; ", len(roles)),
+                           ("fn rows\\(\\) -> &'static \\[\\[u8; ", len(symbols)),
+                           ("fn column\\(.{0,150}?result < ", len(symbols)),
+                           ("fn number_of_role\\(.{0,150}?result < ", len(roles))):
+        words = re.search(before, source, re.S)
+        source = source[:words.end()] + re.sub(r"^\d+", str(number), source[words.end():])
     spec = read(PATTERN, "specs", "Places.antt")
     spec = replaced(spec, r"(?<=\nplaces =\n).*?(?=\n\n)",
                     list_of([f"at role.{role} {place[0]} {place[1]}" for role, place in every]))
