@@ -17,8 +17,8 @@ import sys
 ROOT = pathlib.Path(__file__).resolve().parents[1]
 CRATES = ["md_base", "md_text", "md_tree", "md_html", "md_script", "md_page", "md_attributes"]
 BELOW_HTML = ["md_base", "md_text", "md_tree"]
-# The C interface and the program, and what the README of each other crate says.
-OTHERS = ["md_ffi", "mdevents"]
+# The C interface, the program and the benchmark, whose folder stays as it is; what the README of each other crate says.
+OTHERS = ["md_ffi", "mdevents", "md_bench"]
 INTERNAL = "Internal: users call nothing of it ([docs/API.md](../../docs/API.md))."
 # What the inline functions of the headers call.
 HELPERS = {"bivdrazo_answer_memory", "bivdrazo_is_too_long", "bivdrazo_first_size", "bivdrazo_grow", "bivdrazo_settle"}

@@ -64,7 +64,8 @@ KnowsCells Cells spine cells = cells ≡ count_by (is GfmTableCell) spine
 KnowsCells _ spine cells = Unit {0}
 
 abbrev pub KnowsLines : Content → List Name → ℕ → Bool → Type 0
-KnowsLines Lines spine fences has_chunk = (fences ≡ count_by is_fence spine) × (has_chunk ≡ list_any is_chunk spine)
+KnowsLines Lines spine fences has_chunk =
+    (fences ≡ count_by is_fence spine) × (has_chunk ≡ list_any is_chunk spine)
 KnowsLines _ spine fences has_chunk = Unit {0}
 
 abbrev pub KnowsResource : Content → Option Target → Type 0
@@ -86,8 +87,10 @@ pub record Knows (content : Content) (waits : Bool) (around : Surroundings) (bef
 
 -- where the resource or the definition leads, after some of what is in it
 abbrev pub TargetAfter : Content → Found → Target → Target → Type 0
-TargetAfter Sources found before after = after
-    ≡ record { destination = unwrap_or found.destination before.destination; title = or_else found.title before.title }
+TargetAfter Sources found before after = after ≡ record {
+  destination = unwrap_or found.destination before.destination;
+  title = or_else found.title before.title;
+}
 TargetAfter Strings found before after = after ≡ before
 TargetAfter Nothing found before after = after ≡ before
 TargetAfter Childless found before after = after ≡ before
