@@ -67,14 +67,14 @@ fn is_same(answer: Result<String, CompileError>, wanted: &Result<String, RunErro
     answer.map_err(RunError::from) == *wanted
 }
 
-/// The text that was counted; `Memory` unless there are two visits of each event at least and three at most.
+/// The text that was counted; `Memory` unless each event was visited twice.
 fn text_of(
     script: &Script<'_>,
     answer: Result<Counted, CompileError>,
 ) -> Result<String, CompileError> {
     let counted = answer?;
     let (visits, events) = (counted.visits as u128, script.events.len() as u128);
-    if 2 * events <= visits && visits <= 3 * events {
+    if visits == 2 * events {
         Ok(counted.text)
     } else {
         Err(CompileError::Memory)

@@ -4,9 +4,7 @@
 
 mod compiled;
 mod endings;
-mod notes;
 mod places;
-mod sheets;
 mod texts;
 mod trees;
 
@@ -88,8 +86,6 @@ fn answer_to(alloc: Global, asked: &Asked<'_>, question: &str) -> Result<String,
         "ending" => endings::answer(alloc, asked, call),
         "place" => places::answer(alloc, asked, call),
         "tree" => trees::answer(alloc, asked, call),
-        "notes" => notes::answer(alloc, asked, call),
-        "sheet" => sheets::answer(alloc, asked, call),
         "compiled" => compiled::answer(alloc, asked, call),
         _ => no_such_call(alloc),
     }

@@ -81,12 +81,12 @@ fn compiled(
     let is_same = is_counted(&text, &counted, given.events.len());
     assert!(rt;
         is_same,
-        "what is counted is another answer, or has too many visits"
+        "what is counted is another answer, or has another number of visits"
     );
     text
 }
 
-/// Whether a counted answer is the same one, with two visits of each event at least and three at most.
+/// Whether a counted answer is the same one, with two visits of each event.
 fn is_counted(
     answer: &Result<String, CompileError>,
     counted: &Result<Counted, CompileError>,
@@ -95,7 +95,7 @@ fn is_counted(
     match (answer, counted) {
         (Ok(text), Ok(counted)) => {
             let (visits, events) = (counted.visits as u128, events as u128);
-            counted.text == *text && 2 * events <= visits && visits <= 3 * events
+            counted.text == *text && visits == 2 * events
         }
         (Err(refusal), Err(counted)) => counted == refusal,
         _ => false,

@@ -13,20 +13,17 @@ use Rattle.md_base.specs.Children.{is_empty}
 use Rattle.md_infer.specs.Looseness.{is_loose}
 use Rattle.md_text.specs.declared.options.CompileOptions.{CompileOptions}
 use Rattle.md_meaning.specs.declared.context.Surroundings.{Surroundings}
-use Rattle.md_meaning.specs.Surroundings.{inside, outermost}
+use Rattle.md_meaning.specs.Meaning.Around.{inside, outermost}
 use Rattle.md_tree.specs.Rules.{place}
-use Rattle.md_meaning.specs.Given.{Defined}
-use Rattle.md_meaning.specs.Footnotes.{Footnote}
-use Rattle.md_meaning.specs.Calls.{distinct, count_of}
-use Rattle.md_meaning.specs.Places.{first_ending}
+use Rattle.md_meaning.specs.Meaning.Finds.{first_ending}
 use Rattle.md_meaning.specs.Meaning.{meaning, ending_at}
 use Rattle.md_meaning.specs.Meaning.Layout.{Piece, Text, Forced, layout, when, on_own_line}
-use Rattle.md_meaning.specs.Meaning.At.{Given, At, Before, text_in}
+use Rattle.md_meaning.specs.Meaning.At.{Given, Defined, Footnote, At, Before, text_in}
 use Rattle.md_meaning.specs.Meaning.Before.{nothing_before, before_children}
 use Rattle.md_meaning.specs.Meaning.Spans.{html}
 use Rattle.md_meaning.specs.Meaning.Means.{prints}
 use Rattle.md_meaning.specs.Meaning.Nodes.{Outcome, outcome, node, both, continued, before_next}
-use Rattle.md_meaning.specs.Meaning.Footnotes.{backreference, backreferences, body, place_among, id_of, item, section_start, section}
+use Rattle.md_meaning.specs.Meaning.Footnotes.{distinct, count_of, backreference, backreferences, body, place_among, id_of, item, section_start, section}
 
 -- the options with the tag filter on or off
 abbrev pub filtering : Bool → CompileOptions → CompileOptions

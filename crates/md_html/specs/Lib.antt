@@ -1,7 +1,3 @@
 -- What a safe text is, and which options are refused; and what only contracts of private functions speak of.
 pub mod Safe
 pub mod SafeHtml
-pub mod OwnDefinitions
-pub mod Leaf
-pub mod Plain
-pub mod Noting

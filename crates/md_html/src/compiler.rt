@@ -4,25 +4,17 @@ ghost use Rattle.std.specs.Prelude.{◌≡◌, ◌≤◌, ◌<◌, ◌^◌, OnOk
 ghost use Rattle.md_base.specs.Reference.{name_table};
 ghost use Rattle.md_base.specs.Tree.{Forest, flatten};
 ghost use Rattle.md_tree.specs.Grammar.{IsChecked, handed};
-ghost use Rattle.md_tree.specs.Entered.{children_of};
 ghost use Rattle.md_tree.specs.Refusal.{IsOutside, IsOrder, IsMdx, IsOfNode, IsLost};
-ghost use Rattle.md_printer.specs.Machine as machine;
-ghost use Rattle.md_meaning.specs.Meaning.{meaning, ending_at};
+ghost use Rattle.md_meaning.specs.Meaning.{meaning};
 ghost use Rattle.md_text.specs.Html.{any_attribute, HasOneReadingWith};
 ghost use Rattle.md_text.specs.Safe.{is_safe_link, is_safe_image};
 ghost use Rattle.md_text.specs.Ids.{HasDistinctIds};
 ghost use Rattle.md_standard.specs.SafeTokens.{has_safe_links, has_safe_images};
 ghost use Rattle.md_standard.specs.Tokenized.{HasTokensWith, IsTokenizedAsRead};
 ghost use Rattle.md_safe.specs.Options.{KeepsGrammar, KeepsLinks, KeepsImages, KeepsIds};
-ghost use Rattle.md_printer.specs.Given.{given_of};
-ghost use Rattle.md_meaning.specs.Places.{first_ending as first_place};
 
-use crate::own_events::definitions_at;
-use crate::running::run;
 use md_base::Event;
-use md_printer::given::Given;
-use md_printer::printer::Printer;
-use md_sheet::Definitions;
+use md_render::render;
 use md_text::CompileOptions;
 use md_tree::{Checked, CompileError, check};
 use std::alloc::{AllocError, Global};
@@ -32,7 +24,7 @@ use std::alloc::{AllocError, Global};
 pub struct Counted {
     /// The text.
     pub text: String,
-    /// How often an event was visited: each at least twice, and at most three times.
+    /// How often an event was visited: each twice, once by the check and once for the text.
     pub visits: usize,
 }
 
@@ -134,6 +126,7 @@ pub fn compile_counted(
     ensures distinct_ids { IfOk result (λ counted. KeepsIds options.now → HasDistinctIds (string_bytes counted.text)) }
     ensures least { IfOk result (λ counted. 2 * length events.now ≤ counted.visits) }
     ensures most { IfOk result (λ counted. counted.visits ≤ 3 * length events.now) }
+    ensures exact { IfOk result (λ counted. counted.visits ≡ 2 * length events.now) }
 
     ensures outside { IfErr result (IsOutside (handed events.now bytes.now names.now)) }
     ensures order { IfErr result (IsOrder (handed events.now bytes.now names.now)) }
@@ -202,56 +195,19 @@ fn count_checked(
     ensures safe_image_tokens { IfOk result (λ counted. KeepsImages options.now
         → HasTokensWith has_safe_images (string_bytes counted.text)) }
     ensures distinct_ids { IfOk result (λ counted. KeepsIds options.now → HasDistinctIds (string_bytes counted.text)) }
-    ensures least { IfOk result (λ counted. 2 * length checked.now.events ≤ counted.visits) }
-    ensures most { IfOk result (λ counted. counted.visits ≤ 3 * length checked.now.events) }
+    ensures exact { IfOk result (λ counted. counted.visits ≡ 2 * length checked.now.events) }
 {
-    let none = Definitions::new(alloc);
-    let alone = Given {
-        alloc,
-        bytes: checked.bytes(),
-        names: checked.names(),
-        options,
-        ending: ending_of(checked, options),
-        definitions: &none,
-    };
-    let own = definitions_at(&alone, checked, checked.definitions())?;
-    let visits = checked.visits().saturating_add(own.visits);
-    let definitions = Definitions::first_of(alloc, own.definitions)?;
-    let given = Given {
-        definitions: &definitions,
-        ..alone
-    };
-    let printed = print(&given, checked)?;
-    let visits = visits.saturating_add(printed.visits);
-    let text = printed.text;
+    let text = render(alloc, checked, options)?;
+    let visits = visited(checked);
     Ok(Counted { text, visits })
 }
 
-/// The line ending that is used: the text of the document's first, else that of the options.
-fn ending_of<'a>(checked: &Checked<'a>, options: &'a CompileOptions) -> &'a str
-    ensures ending { (document : Forest) → flatten document ≡ checked.now.events
-        → result.now ≡ ending_at options.now checked.now.bytes (first_place document) }
+/// How often events are visited: each once by the check, and once for its text.
+fn visited(checked: &Checked) -> usize
+    ensures visits { result ≡ 2 * length checked.now.events }
     ensures grammatical { IsChecked checked.now }
+    ensures fits { length checked.now.events < 2 ^ 63 }
 {
-    match checked.first_ending() {
-        Some(index) => checked.text(index),
-        None => options.default_line_ending.as_str(),
-    }
-}
-
-/// The text of the events and of the footnotes' section, and how many events were visited for it.
-fn print(given: &Given, checked: &Checked) -> Result<Counted, AllocError>
-    requires bytes { given.now.bytes.now ≡ checked.now.bytes }
-    ensures text { IfOk result (λ counted. (document : Forest) → flatten document ≡ checked.now.events
-        → string_bytes counted.text ≡ (machine.finished (given_of given.now)
-        (machine.run (given_of given.now) checked.now.events (children_of document) machine.beginning)).text) }
-    ensures visits { IfOk result (λ counted. counted.visits ≡ length checked.now.events) }
-    ensures fits { OnOk result (length checked.now.events < 2 ^ 63) }
-{
-    let mut printer = Printer::new(given.alloc);
-    printer.reserve(given.bytes.len());
-    let ran = run(&mut printer, given, checked);
-    // The printer is used up before the run's error is answered, so that no path has its many parts to drop.
-    let text = printer.into_text(given.alloc, given.options, given.ending)?;
-    Ok(Counted { text, visits: ran? })
+    let events = checked.events();
+    checked.visits() + events.len()
 }

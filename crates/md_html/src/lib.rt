@@ -2,13 +2,7 @@
 #![tactic(auto)]
 
 mod compiler;
-mod entries;
-mod exits;
 pub mod laws;
-mod leaf_kinds;
-mod leaf_nodes;
-mod own_events;
-mod running;
 mod safe_html;
 
 pub use compiler::{Counted, compile, compile_checked, compile_counted};

@@ -5,7 +5,7 @@ use Rattle.std.specs.List.{list_any}
 use Rattle.std.specs.Bool.{one_answer}
 use Rattle.std.proofs.lemmas.Bool.{or_parts}
 use Rattle.std.proofs.lemmas.Slice.Eq.{bytes_eq-Decides}
-use Rattle.md_meaning.specs.Calls.{distinct, count_of}
+use Rattle.md_meaning.specs.Meaning.Footnotes.{distinct, count_of}
 
 -- an identifier is among some
 abbrev pub is_in : List ℕ → List (List ℕ) → Bool

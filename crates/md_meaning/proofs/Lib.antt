@@ -1,4 +1,3 @@
--- The lemmas on meanings that other crates share: identifiers, each once, that of no text, and pieces laid in parts.
+-- The lemmas on meanings that other crates share: identifiers, each once, and that of no text.
 pub mod Identifiers
 pub mod EmptyIdentifier
-pub mod Lays

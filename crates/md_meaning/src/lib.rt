@@ -4,4 +4,4 @@
 mod context;
 pub mod laws;
 
-pub use context::{Ahead, Container, Passed, Spine, Surroundings};
+pub use context::{Container, Surroundings};

@@ -10,11 +10,9 @@ use Rattle.md_base.specs.Is.{is}
 use Rattle.md_base.specs.declared.event.Name.TheVariants.{Definition, GfmFootnoteDefinition}
 use Rattle.md_tree.specs.Rules.{place}
 use Rattle.md_meaning.specs.declared.context.Surroundings.{Surroundings}
-use Rattle.md_meaning.specs.Surroundings.{inside}
-use Rattle.md_meaning.specs.Given.{Defined}
-use Rattle.md_meaning.specs.Footnotes.{Footnote}
+use Rattle.md_meaning.specs.Meaning.Around.{inside}
 use Rattle.md_meaning.specs.Meaning.Layout.{layout, when}
-use Rattle.md_meaning.specs.Meaning.At.{Given, At, Before, target_in, identifier_of}
+use Rattle.md_meaning.specs.Meaning.At.{Given, Defined, Footnote, At, Before, target_in, identifier_of}
 use Rattle.md_meaning.specs.Meaning.Before.{before_children}
 use Rattle.md_meaning.specs.Meaning.Nodes.{Outcome, outcome, node, before_next}
 use Rattle.md_shape.specs.Leads.{defined_in, footnotes_defined_in}

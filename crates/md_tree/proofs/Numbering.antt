@@ -23,7 +23,7 @@ use Rattle.md_tree.specs.declared.mention.Mentioned.{Mentioned}
 use Rattle.md_tree.specs.declared.rule.Rule.{Rule}
 use Rattle.md_tree.specs.declared.rule.Rule.TheVariants as rule
 use Rattle.md_tree.specs.Mentions.{identifier_at, defined, defined_by, footnoted, footnoted_by, mentions_among, IsResolved}
-use Rattle.md_tree.specs.Numbers.{is_same, which, number_of, with_number, put_number, numbered, footnote_number, found_in, found_or, NumbersBefore, NumbersFrom, Numbers, IsLost, IsLed}
+use Rattle.md_tree.specs.Numbers.{is_same, which, number_of, with_number, put_number, numbered, footnote_number, found_in, found_or, NumbersBefore, NumbersFrom, Numbers, IsNowhere, IsLed}
 use Rattle.md_tree.specs.Resolve.{IsUnresolvedBy}
 
 abbrev Text : Type 0
@@ -398,7 +398,7 @@ led-call bytes mentions label number is =
 -- what is lost leads nowhere
 lost : (bytes : List ℕ) (mentioned : List Mentioned) (mention : Mention) (at index : ℕ) (broken : Rule) →
     slice_get mentioned at ≡ Some (record { index = index; mention = mention }) →
-    IsLost bytes (mentions_among mentioned) mention broken → IsUnresolvedBy bytes mentioned index broken
+    IsNowhere bytes (mentions_among mentioned) mention broken → IsUnresolvedBy bytes mentioned index broken
 lost bytes mentioned (Reference label) at index broken here is =
     subst (λ r. IsUnresolvedBy bytes mentioned index r) (sym is.0) (label, (at, here, is.1))
 lost bytes mentioned (Call label) at index broken here is =
@@ -407,7 +407,7 @@ lost bytes mentioned _ at index broken here is = absurd is
 
 pub IsUnresolvedBy-at : (bytes : List ℕ) (mentioned : List Mentioned) (at : ℕ) (n : Mentioned) (broken : Rule) →
     at < length mentioned →
-    IsLost bytes (mentions_among mentioned) (Mentioned.mention (get_or mentioned at n)) broken →
+    IsNowhere bytes (mentions_among mentioned) (Mentioned.mention (get_or mentioned at n)) broken →
     IsUnresolvedBy bytes mentioned (Mentioned.index (get_or mentioned at n)) broken
 IsUnresolvedBy-at bytes mentioned at n broken inside is =
     let one = get_or mentioned at n in

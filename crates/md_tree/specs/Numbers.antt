@@ -131,16 +131,17 @@ Numbers numbers all = (wanted : Option (String Global)) →
     found_in numbers wanted ≡ option_map (λ place. suc place) (which all (option_map string_bytes wanted))
 
 -- what is said of a mention by these: its number, where what it leads to is there, else the rule that it breaks
-abbrev pub IsLost : List ℕ → List Mention → Mention → Rule → Type 0
-IsLost bytes mentions (Reference label) broken =
+abbrev pub IsNowhere : List ℕ → List Mention → Mention → Rule → Type 0
+IsNowhere bytes mentions (Reference label) broken =
     (broken ≡ rule.Definition) × (IsResolved bytes mentions (Reference label) → ⊥)
-IsLost bytes mentions (Call label) broken = (broken ≡ rule.Footnote) × (IsResolved bytes mentions (Call label) → ⊥)
-IsLost bytes mentions _ broken = ⊥
+IsNowhere bytes mentions (Call label) broken =
+    (broken ≡ rule.Footnote) × (IsResolved bytes mentions (Call label) → ⊥)
+IsNowhere bytes mentions _ broken = ⊥
 
 abbrev pub IsLed : List ℕ → List Mention → Mention → Result ℕ Rule → Type 0
 IsLed bytes mentions mention (Ok number) =
     IsResolved bytes mentions mention × (number ≡ leading_number bytes mentions mention)
-IsLed bytes mentions mention (Err broken) = IsLost bytes mentions mention broken
+IsLed bytes mentions mention (Err broken) = IsNowhere bytes mentions mention broken
 
 -- facts with the numbers of all mentions
 abbrev pub all_numbered : List ℕ → List Mention → List Mentioned → List Fact → List Fact
@@ -165,7 +166,8 @@ facts_with (number ∷ numbers) (fact ∷ facts) = with_number number fact ∷ f
 abbrev pub AreNumbered : Handed → List Fact → Type 0
 AreNumbered given facts =
     (forest : Forest) → flatten forest ≡ given.events →
-    facts ≡ facts_with (map (number_for given.bytes (mentions_of forest)) (mentions_of forest)) (facts_at given.events)
+    facts
+    ≡ facts_with (map (number_for given.bytes (mentions_of forest)) (mentions_of forest)) (facts_at given.events)
 
 -- what a number stands for
 abbrev pub place_of : ℕ → Option ℕ

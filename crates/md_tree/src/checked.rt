@@ -316,7 +316,14 @@ impl<'a> Checked<'a> {
     }
 
     /// The alignments of the columns of the table that the event at the index enters.
-    pub(crate) fn columns(&self, index: usize) -> &[AlignKind]
+    ///
+    /// # Examples
+    ///
+    /// ```
+    /// // Of `|a|b|` over `|:-|-|`, where 0 enters the table:
+    /// assert_eq!(checked.columns(0), [AlignKind::Left, AlignKind::None].as_slice());
+    /// ```
+    pub fn columns(&self, index: usize) -> &[AlignKind]
         requires { EntersAt self.now.events index name.GfmTable }
         ensures grammatical { IsChecked self.now }
         ensures entered { EntersNode self.now index }

@@ -6,7 +6,7 @@ use Rattle.std.specs.List.{list_any}
 use Rattle.std.proofs.lemmas.List.Sums.{sum_by-append}
 use Rattle.std.proofs.lemmas.List.Folds.{list_any-append}
 use Rattle.md_base.specs.declared.event.Name.{Name}
-use Rattle.md_base.specs.declared.event.Name.TheVariants.{LineEnding, SpaceOrTab, BlockQuotePrefix, Other, CodeFencedFence, MathFlowFence, HeadingSetextText, GfmFootnoteCall, GfmFootnoteDefinition, GfmTableCell, DefinitionDestinationString, DefinitionTitleString, ResourceDestinationString, ResourceTitleString, Label, Resource, ReferenceString}
+use Rattle.md_base.specs.declared.event.Name.TheVariants.{LineEnding, BlankLineEnding, BlockQuote, CodeIndented, CodeFenced, MathFlow, ListItem, Paragraph, Frontmatter, SpaceOrTab, BlockQuotePrefix, Other, CodeFencedFence, MathFlowFence, HeadingSetextText, GfmFootnoteCall, GfmFootnoteDefinition, GfmTableCell, DefinitionDestinationString, DefinitionTitleString, ResourceDestinationString, ResourceTitleString, Label, Resource, ReferenceString}
 use Rattle.md_base.proofs.Lies.{lie}
 use Rattle.md_base.specs.Is.{is}
 use Rattle.md_base.specs.Children.{or_else, spine_names}
@@ -21,8 +21,9 @@ use Rattle.md_meaning.specs.Surroundings.{last_of}
 use Rattle.md_shape.specs.Underlined.{waits_past}
 use Rattle.md_shape.proofs.Decoding.{last-got}
 use Rattle.md_writer.specs.Content.{Content, Strings, Lines, BeforeLabel, AfterLabel, Sources, Cells, Nothing, Childless, is_allowed, content_inside, content_past, content_after, content_after_node}
-use Rattle.md_writer.specs.Steps.{State, cells_after, target_after, resource_after, heading_after, calls_after, footnotes_after, slurps_after, nowhere, is_row, is_raw, begins_target, is_labelled}
-use Rattle.md_writer.specs.Claim.{KnowsCells, KnowsLines, KnowsResource, TargetAfter, ResourceAfter, has_marks, mark_after, keeps_cells, keeps_lines, seen}
+use Rattle.md_writer.specs.Steps.{State, cells_after, target_after, resource_after, heading_after, calls_after, noted, footnotes_after, slurps_after, nowhere, is_row, is_raw, begins_target, is_labelled}
+use Rattle.md_writer.specs.Claim.{KnowsCells, KnowsLines, KnowsResource, TargetAfter, ResourceAfter, noted_all, has_marks, mark_after, keeps_cells, keeps_lines, seen}
+use Rattle.md_writer.proofs.Noted.{noted-append}
 use Rattle.md_writer.proofs.Past.{or_else-none}
 use Rattle.md_writer.proofs.Sides.{none-counted, is_set_aside}
 use Rattle.md_writer.proofs.Standing.{Facts, keeps_target, is_label}
@@ -362,36 +363,105 @@ calls-known GfmFootnoteCall identifier before own inner k =
 calls-known _ identifier before own inner k = k ∙ ap (λ l. before ++ l) (sym (append-nil own))
 
 pub footnotes-known : (name : Name) (identifier text captured : List ℕ) (before own inner : List Footnote) →
-    (is GfmFootnoteDefinition name ≡ true → captured ≡ text) → inner ≡ before ++ own →
-    footnotes_after name identifier captured inner ≡ before ++ (own
+    (is GfmFootnoteDefinition name ≡ true → captured ≡ text) → inner ≡ noted_all before own →
+    footnotes_after name identifier captured inner ≡ noted_all before (own
     ++ when (is GfmFootnoteDefinition name) (record { identifier = identifier; text = text } ∷ []))
 footnotes-known GfmFootnoteDefinition identifier text captured before own inner same k =
-    ap (λ l. l ++ record { identifier = identifier; text = captured } ∷ []) k
-    ∙ append_assoc before own (record { identifier = identifier; text = captured } ∷ [])
-    ∙ ap (λ t. before ++ (own ++ record { identifier = identifier; text = t } ∷ [])) (same refl)
-footnotes-known _ identifier text captured before own inner same k = k ∙ ap (λ l. before ++ l) (sym (append-nil own))
+    ap (λ l. noted l (record { identifier = identifier; text = captured })) k
+    ∙ sym (noted-append before own (record { identifier = identifier; text = captured } ∷ []))
+    ∙ ap (λ t. noted_all before (own ++ record { identifier = identifier; text = t } ∷ [])) (same refl)
+footnotes-known _ identifier text captured before own inner same k =
+    k ∙ ap (λ l. noted_all before l) (sym (append-nil own))
 
 -- ---- whether the next line ending is slurped
+
+-- the names that set the mark and those that clear it, apart
+abbrev sets_slurp : Name → State → Bool
+sets_slurp name left = elim name [
+  | CodeFencedFence ↦ left.fences == 0
+  | MathFlowFence ↦ left.fences == 0
+  | HeadingSetextText ↦ true
+  | Frontmatter ↦ true
+  | Paragraph ↦ left.around.is_tight
+  | _ ↦ false
+]
+
+abbrev clears_slurp : Name → State → Bool
+clears_slurp name left = elim name [
+  | BlankLineEnding ↦ true
+  | BlockQuote ↦ true
+  | CodeIndented ↦ true
+  | CodeFenced ↦ true
+  | MathFlow ↦ true
+  | ListItem ↦ true
+  | LineEnding ↦ not left.around.in_code
+  | _ ↦ false
+]
+
+abbrev marked : Name → State → Bool
+marked name left = if left.around.in_definition then left.slurps
+    else sets_slurp name left || left.slurps && not (clears_slurp name left)
+
+setting : (d f s : Bool) → (if d then s else f || s) ≡ (if d then s else f || s && true)
+setting d f true = refl
+setting d f false = refl
+
+clearing : (d s : Bool) → (if d then s else false) ≡ (if d then s else false || s && false)
+clearing d true = refl
+clearing d false = refl
+
+ending : (d c s : Bool) → (if d then s else c && s) ≡ (if d then s else false || s && not (not c))
+ending d true true = refl
+ending d true false = refl
+ending d false true = refl
+ending d false false = refl
+
+staying : (d s : Bool) → s ≡ (if d then s else false || s && true)
+staying true s = refl
+staying false true = refl
+staying false false = refl
+
+slurps-marked : (name : Name) (left : State) → slurps_after name left ≡ marked name left
+slurps-marked CodeFencedFence left = setting left.around.in_definition (left.fences == 0) left.slurps
+slurps-marked MathFlowFence left = setting left.around.in_definition (left.fences == 0) left.slurps
+slurps-marked HeadingSetextText left = refl
+slurps-marked Frontmatter left = refl
+slurps-marked Paragraph left = setting left.around.in_definition left.around.is_tight left.slurps
+slurps-marked BlankLineEnding left = clearing left.around.in_definition left.slurps
+slurps-marked BlockQuote left = clearing left.around.in_definition left.slurps
+slurps-marked CodeIndented left = clearing left.around.in_definition left.slurps
+slurps-marked CodeFenced left = clearing left.around.in_definition left.slurps
+slurps-marked MathFlow left = clearing left.around.in_definition left.slurps
+slurps-marked ListItem left = clearing left.around.in_definition left.slurps
+slurps-marked LineEnding left = ending left.around.in_definition left.around.in_code left.slurps
+slurps-marked _ left = staying left.around.in_definition left.slurps
 
 fence_slurps : (a s : Bool) → not a || s && true ≡ not a || false || false || false || s && true
 fence_slurps true s = refl
 fence_slurps false s = refl
 
-pub slurps-known : (name : Name) (at : At) (left : State) (inner : Bool) → left.slurps ≡ inner →
+marked-known : (name : Name) (at : At) (left : State) (inner : Bool) → left.slurps ≡ inner →
     (is_fence name ≡ true → left.fences ≡ count_by is_fence at.before.spine) →
-    slurps_after name (record left { around = seen at.around at.before.columns })
+    marked name (record left { around = seen at.around at.before.columns })
     ≡ (if at.around.in_definition then inner else lets_slurp at name inner)
-slurps-known CodeFencedFence at left inner k fence =
+marked-known CodeFencedFence at left inner k fence =
     ap (λ b. if at.around.in_definition then left.slurps else b || left.slurps && true)
     (ap (λ n. n == 0) (fence refl) ∙ none-counted is_fence at.before.spine)
     ∙ ap (λ b. if at.around.in_definition then left.slurps else b)
     (fence_slurps (list_any is_fence at.before.spine) left.slurps)
     ∙ ap (λ s. if at.around.in_definition then s else lets_slurp at CodeFencedFence s) k
-slurps-known MathFlowFence at left inner k fence =
+marked-known MathFlowFence at left inner k fence =
     ap (λ b. if at.around.in_definition then left.slurps else b || left.slurps && true)
     (ap (λ n. n == 0) (fence refl) ∙ none-counted is_fence at.before.spine)
     ∙ ap (λ b. if at.around.in_definition then left.slurps else b)
     (fence_slurps (list_any is_fence at.before.spine) left.slurps)
     ∙ ap (λ s. if at.around.in_definition then s else lets_slurp at MathFlowFence s) k
-slurps-known name at left inner k fence =
+marked-known name at left inner k fence =
     ap (λ s. if at.around.in_definition then s else lets_slurp at name s) k
+
+pub slurps-known : (name : Name) (at : At) (left : State) (inner : Bool) → left.slurps ≡ inner →
+    (is_fence name ≡ true → left.fences ≡ count_by is_fence at.before.spine) →
+    slurps_after name (record left { around = seen at.around at.before.columns })
+    ≡ (if at.around.in_definition then inner else lets_slurp at name inner)
+slurps-known name at left inner k fence =
+    slurps-marked name (record left { around = seen at.around at.before.columns }) ∙ marked-known name at left inner k fence

@@ -1,11 +1,12 @@
--- Lemmas.
+-- Lemmas; other crates use those on pieces that are laid in parts.
 mod Symbols
 mod Fitting
 mod Past
-mod Laid
+pub mod Laid
 mod Places
 mod Sides
 mod Standing
+mod Noted
 mod Inside
 mod Leaving
 mod Quiet

@@ -23,9 +23,10 @@ use Rattle.md_shape.specs.Underlined.{is_underline, waits_past, waits_after, IsU
 use Rattle.md_writer.specs.Content.{Content, Blocks, Strings, Lines, BeforeLabel, AfterLabel, Sources, Cells, Nothing, Childless, Fits, is_allowed, content_of, content_inside, content_past, content_after, content_after_node}
 use Rattle.md_writer.specs.Steps.{State, Told, Around, told_of, entered, exited, restored, over, passed, is_passed, captures, turns, turned, opens, closes, first_or, others_of, outside, is_raw, slurps_after, heading_after, is_value, beginning}
 use Rattle.md_meaning.specs.Meaning.Spans.{marker}
-use Rattle.md_writer.specs.Claim.{Knows, KnowsEnded, KnowsCells, KnowsLines, TargetAfter, ResourceAfter, Continues, Done, has_marks, mark_after, keeps_cells, keeps_lines, is_laid, at_node, node_of, inner_of, next_before, before_past, seen}
+use Rattle.md_writer.specs.Claim.{Knows, KnowsEnded, KnowsCells, KnowsLines, TargetAfter, ResourceAfter, Continues, Done, noted_all, has_marks, mark_after, keeps_cells, keeps_lines, is_laid, at_node, node_of, inner_of, next_before, before_past, seen}
 use Rattle.md_writer.proofs.Past.{past-spine, past-columns, past-previous, past-calls, past-slurps, or_else-assoc, or_else-none, unwrap-else}
 use Rattle.md_writer.proofs.Laid.{laid-append, three}
+use Rattle.md_writer.proofs.Noted.{noted-append}
 use Rattle.md_writer.proofs.Sides.{Leaves, sides-seen, is_set_aside}
 use Rattle.md_writer.proofs.Standing.{Facts, allowed-facts, is_lines, is_nothing, node-same, node-stays, stays, past-cells, past-lines, past-marks, past-laid, childless}
 use Rattle.md_writer.proofs.Inside.{children_know, any_ended}
@@ -186,7 +187,7 @@ record NodeDone (given : Given) (c : Content) (waits : Bool) (around : Surroundi
   pub resource : ResourceAfter c (node_of given around before last name start end children).found state.resource
       done.resource
   pub footnotes : done.footnotes
-      ≡ state.footnotes ++ (node_of given around before last name start end children).footnotes
+      ≡ noted_all state.footnotes (node_of given around before last name start end children).footnotes
 
 ended-known : (c : Content) (name : Name) (previous ended : Option Name) → is_allowed c name ≡ true →
     KnowsEnded c previous ended → ended ≡ previous
@@ -510,8 +511,7 @@ definition-passed given waits around before last start end children state fits k
       target = tt;
       resource = tt;
       footnotes =
-          sym (append-nil state.footnotes)
-          ∙ ap (λ l. state.footnotes ++ l)
+          ap (λ l. noted_all state.footnotes l)
           (sym (append-nil (outcome given within first children).footnotes ∙ none.1));
     }
   where
@@ -641,7 +641,7 @@ nodes given c waits around before Empty state fits lines knows whole = record {
   heading = λ none. refl;
   target = no_target c state.target;
   resource = no_resource c state.resource;
-  footnotes = sym (append-nil state.footnotes);
+  footnotes = refl;
 }
   where
     no_target : (x : Content) (t : Target) → TargetAfter x (outcome given around before Empty).found t t
@@ -709,9 +709,9 @@ nodes given c waits around before (Node name start end children rest) state fits
           (outcome given around next rest).found state.resource after.resource
           (over given around.is_outermost rest after).resource here.resource later.resource;
       footnotes =
-          later.footnotes ∙ ap (λ l. l ++ (outcome given around next rest).footnotes) here.footnotes
-          ∙ append_assoc state.footnotes (node_of given around before last name start end children).footnotes
-          (outcome given around next rest).footnotes;
+          later.footnotes ∙ ap (λ l. noted_all l (outcome given around next rest).footnotes) here.footnotes
+          ∙ sym (noted-append state.footnotes (node_of given around before last name start end children).footnotes
+          (outcome given around next rest).footnotes);
     }
 
 -- nothing stands before the first event

@@ -18,13 +18,14 @@ use Rattle.md_meaning.specs.Meaning.Nodes.{outcome}
 use Rattle.md_shape.proofs.Underlines.{grammatical-underlined}
 use Rattle.md_writer.specs.Content.{Blocks}
 use Rattle.md_writer.specs.Steps.{State, Told, told_of, entered, exited, passed, is_passed, over, beginning}
-use Rattle.md_writer.specs.Claim.{Done, next_before}
+use Rattle.md_writer.specs.Claim.{Done, noted_all, next_before}
 use Rattle.md_writer.specs.Run.{Noticed, noticed, run, defined, stepped, passes, given_alone, printed}
 use Rattle.md_text.specs.declared.options.CompileOptions.{CompileOptions}
 use Rattle.md_meaning.specs.Meaning.{ending_at, meaning}
 use Rattle.md_meaning.specs.Meaning.Finds.{first_ending}
 use Rattle.md_meaning.specs.Meaning.Footnotes.{section}
 use Rattle.md_writer.proofs.Laid.{laid-append}
+use Rattle.md_writer.proofs.Noted.{section-noted}
 use Rattle.md_writer.proofs.Fitting.{shaped-fits}
 use Rattle.md_writer.proofs.Past.{past-calls}
 use Rattle.md_writer.proofs.Runs.{nodes, begins}
@@ -113,7 +114,7 @@ Says given document =
     let after : State = run given 0 (flatten document) (noticed given.bytes true document) beginning in
     (after.text ≡ layout given.ending (outcome given outermost nothing_before document).pieces)
     × (after.calls ≡ (outcome given outermost nothing_before document).calls)
-    × (after.footnotes ≡ (outcome given outermost nothing_before document).footnotes)
+    × (after.footnotes ≡ noted_all [] (outcome given outermost nothing_before document).footnotes)
 
 pub prints-meant : (given : Given) (document : Forest) → IsGrammatical given.bytes given.names document →
     given.calls ≡ (outcome given outermost nothing_before document).calls → Says given document
@@ -232,5 +233,7 @@ printed-meant options names bytes document grammatical =
     (section (record mine { calls = cs }) (after given).footnotes)) (says.1 ∙ sym (counted given refl))
     ∙ ap (λ fs. laid_after ending (layout ending (outcome given outermost nothing_before document).pieces)
     (section (record mine { calls = calls }) fs)) says.2
+    ∙ ap (λ ps. laid_after ending (layout ending (outcome given outermost nothing_before document).pieces) ps)
+    (section-noted given (outcome given outermost nothing_before document).footnotes)
     ∙ sym (laid-append ending [] (outcome given outermost nothing_before document).pieces
     (section given (outcome given outermost nothing_before document).footnotes))

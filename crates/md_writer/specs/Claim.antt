@@ -1,5 +1,5 @@
 -- What is claimed of the steps: what a state knows before some nodes, and what is so after them. Proofs alone use it.
-use Rattle.std.specs.Prelude.{◌≡◌, ℕ, ◌-◌, Bool, true, false, ◌&&◌, List, ◌++◌, Option, None, count_by, unwrap_or, length, slice_get}
+use Rattle.std.specs.Prelude.{◌≡◌, ℕ, ◌-◌, Bool, true, false, ◌&&◌, List, [], ◌∷◌, ◌++◌, Option, None, count_by, unwrap_or, length, slice_get}
 use Rattle.std.specs.Option.{option_map_or}
 use Rattle.std.specs.List.{list_any}
 use Rattle.md_base.specs.declared.event.AlignKind.{AlignKind}
@@ -16,12 +16,12 @@ use Rattle.md_meaning.specs.declared.context.Container.TheVariants as container
 use Rattle.md_meaning.specs.declared.context.Surroundings.{Surroundings}
 use Rattle.md_meaning.specs.Meaning.Around.{inside, is_tight}
 use Rattle.md_meaning.specs.Meaning.Layout.{laid_after}
-use Rattle.md_meaning.specs.Meaning.At.{Target, Given, At, Before, Found}
+use Rattle.md_meaning.specs.Meaning.At.{Target, Footnote, Given, At, Before, Found}
 use Rattle.md_meaning.specs.Meaning.Before.{before_children}
 use Rattle.md_meaning.specs.Meaning.Spans.{marker}
 use Rattle.md_meaning.specs.Meaning.Nodes.{Outcome, node, outcome, before_next}
 use Rattle.md_shape.specs.Underlined.{waits_after}
-use Rattle.md_writer.specs.Steps.{State, Around}
+use Rattle.md_writer.specs.Steps.{State, Around, noted}
 use Rattle.md_writer.specs.Content.{Content, Blocks, Strings, Lines, BeforeLabel, AfterLabel, Sources, Rows, Cells, Nothing, Childless, content_after}
 
 -- what the printer keeps of a node's surroundings
@@ -108,6 +108,11 @@ ResourceAfter _ found before after = Unit {0}
 abbrev pub is_laid : Content → Bool
 is_laid content = elim content [ Sources ↦ false | _ ↦ true ]
 
+-- some footnotes more, of which those that are there already change nothing
+abbrev pub noted_all : List Footnote → List Footnote → List Footnote
+noted_all before [] = before
+noted_all before (footnote ∷ footnotes) = noted_all (noted before footnote) footnotes
+
 -- ---- a node, as its meaning sees it
 
 abbrev pub inner_of : Given → Surroundings → Before → Name → Forest → Outcome
@@ -165,4 +170,4 @@ pub record Done (given : Given) (content : Content) (waits : Bool) (around : Sur
   pub heading : has_marks content ≡ false → done.heading ≡ state.heading
   pub target : TargetAfter content (outcome given around before forest).found state.target done.target
   pub resource : ResourceAfter content (outcome given around before forest).found state.resource done.resource
-  pub footnotes : done.footnotes ≡ state.footnotes ++ (outcome given around before forest).footnotes
+  pub footnotes : done.footnotes ≡ noted_all state.footnotes (outcome given around before forest).footnotes

@@ -46,7 +46,8 @@ pub record Around : Type 0 where
 -- the text since the innermost capture, and those before it; the surroundings, and those to come back to; whether the
 -- next line ending is slurped; the node that ended right before; the mark of a reference; the fences and whether there
 -- is a chunk of the code so far; the text of the latest heading; the cells of the row so far; where the resource or the
--- definition leads so far, and where the resource after the latest label leads; the calls and the footnotes so far
+-- definition leads so far, and where the resource after the latest label leads; the calls so far, and the first
+-- footnote with each identifier
 pub record State : Type 0 where
   pub text : List ℕ
   pub below : List (List ℕ)
@@ -258,15 +259,19 @@ autolink_closing given told plain prefix =
 abbrev pub cell_closing : Bool → List ℕ → List Piece
 cell_closing in_head text = Text text ∷ Text (if in_head then codes "</th>" else codes "</td>") ∷ []
 
--- a call, which is numbered among the calls so far and itself
+-- a call after others, which is numbered among these and itself
+abbrev pub call_pieces : CompileOptions → List (List ℕ) → List ℕ → List Piece
+call_pieces options calls identifier =
+    let number = place_among (distinct (calls ++ identifier ∷ [])) identifier in
+    Text (codes "<sup><a href=\"#")
+    ∷ Text (id_of options (codes "fn-") identifier number) ∷ Text (codes "\" id=\"")
+    ∷ Text (call_id options identifier number (suc (count_of calls identifier)))
+    ∷ Text (codes "\" data-footnote-ref=\"\" aria-describedby=\"footnote-label\">") ∷ Text (decimal number)
+    ∷ Text (codes "</a></sup>") ∷ []
+
 abbrev pub call_closing : Given → State → Told → List Piece
 call_closing given left told =
-    let number = place_among (distinct (left.calls ++ told.identifier ∷ [])) told.identifier in
-    when (not left.around.in_image) (Text (codes "<sup><a href=\"#")
-    ∷ Text (id_of given.options (codes "fn-") told.identifier number) ∷ Text (codes "\" id=\"")
-    ∷ Text (call_id given.options told.identifier number (suc (count_of left.calls told.identifier)))
-    ∷ Text (codes "\" data-footnote-ref=\"\" aria-describedby=\"footnote-label\">") ∷ Text (decimal number)
-    ∷ Text (codes "</a></sup>") ∷ [])
+    when (not left.around.in_image) (call_pieces given.options left.calls told.identifier)
 
 -- in a state that is back to what is around the node: `inner` is its captured text, `ended` its last child
 abbrev pub closes : Given → State → Option Name → Told → List ℕ → Name → List Piece
@@ -340,33 +345,25 @@ closes given left ended told inner _ = []
 
 -- ---- the rest of the state
 
--- after a node outside definitions the next line ending is slurped
-abbrev pub sets_slurp : Name → State → Bool
-sets_slurp name left = elim name [
-  | CodeFencedFence ↦ left.fences == 0
-  | MathFlowFence ↦ left.fences == 0
-  | HeadingSetextText ↦ true
-  | Frontmatter ↦ true
-  | Paragraph ↦ left.around.is_tight
-  | _ ↦ false
-]
-
--- or not any more
-abbrev pub clears_slurp : Name → State → Bool
-clears_slurp name left = elim name [
-  | BlankLineEnding ↦ true
-  | BlockQuote ↦ true
-  | CodeIndented ↦ true
-  | CodeFenced ↦ true
-  | MathFlow ↦ true
-  | ListItem ↦ true
-  | LineEnding ↦ not left.around.in_code
-  | _ ↦ false
-]
-
+-- outside definitions: after a node the next line ending is slurped, or not any more
 abbrev pub slurps_after : Name → State → Bool
-slurps_after name left = if left.around.in_definition then left.slurps
-    else sets_slurp name left || left.slurps && not (clears_slurp name left)
+slurps_after name left =
+    let outside : Bool → Bool = λ slurps. if left.around.in_definition then left.slurps else slurps in
+    elim name [
+      | CodeFencedFence ↦ outside ((left.fences == 0) || left.slurps)
+      | MathFlowFence ↦ outside ((left.fences == 0) || left.slurps)
+      | HeadingSetextText ↦ outside true
+      | Frontmatter ↦ outside true
+      | Paragraph ↦ outside (left.around.is_tight || left.slurps)
+      | BlankLineEnding ↦ outside false
+      | BlockQuote ↦ outside false
+      | CodeIndented ↦ outside false
+      | CodeFenced ↦ outside false
+      | MathFlow ↦ outside false
+      | ListItem ↦ outside false
+      | LineEnding ↦ outside (left.around.in_code && left.slurps)
+      | _ ↦ left.slurps
+    ]
 
 abbrev pub is_value : Name → Bool
 is_value name = elim name [ CharacterReferenceValue ↦ true | other ↦ is_transparent other ]
@@ -410,9 +407,15 @@ heading_after name inner heading = elim name [ HeadingSetextText ↦ inner | _ �
 abbrev pub calls_after : Name → List ℕ → List (List ℕ) → List (List ℕ)
 calls_after name identifier calls = elim name [ GfmFootnoteCall ↦ calls ++ identifier ∷ [] | _ ↦ calls ]
 
+-- a footnote more, unless one with its identifier is there
+abbrev pub noted : List Footnote → Footnote → List Footnote
+noted [] footnote = footnote ∷ []
+noted (first ∷ others) footnote =
+    first ∷ (if bytes_eq first.identifier footnote.identifier then others else noted others footnote)
+
 abbrev pub footnotes_after : Name → List ℕ → List ℕ → List Footnote → List Footnote
 footnotes_after name identifier inner footnotes = elim name [
-  | GfmFootnoteDefinition ↦ footnotes ++ record { identifier = identifier; text = inner } ∷ []
+  | GfmFootnoteDefinition ↦ noted footnotes (record { identifier = identifier; text = inner })
   | _ ↦ footnotes
 ]
 

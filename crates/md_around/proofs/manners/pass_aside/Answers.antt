@@ -1,6 +1,0 @@
--- What is passed is what the manner leaves of it.
-use Rattle.md_around.proofs.MannerLemmas.{aside-passed}
-use Rattle.md_around.proofs.manners.pass_aside.Goals as goal
-
-pub returns : goal.returns
-returns c = aside-passed c.args.name c.args.inner c.args.passed.now c.requires

@@ -1,0 +1,21 @@
+-- A text that is made first is put.
+use Rattle.std.proofs.Common.{◌≡◌, ◌∷◌, ◌++◌, [], ℕ, List, Bool, true, false, not, Option, Some, None, refl, ap, sym, ◌∙◌}
+use Rattle.std.specs.Prelude.{codes, if◌then◌else◌, unwrap_or, ◌||◌, ◌&&◌}
+use Rattle.md_writer.specs.Steps as steps
+use Rattle.md_writer.specs.Steps.{State, Told}
+use Rattle.md_meaning.specs.Meaning.Layout.{Needed, Text, laid_after, said, on_own_line, when}
+use Rattle.md_output.specs.Texts.{Texts}
+use Rattle.md_emit.proofs.LinkHeads.{call-laid}
+use Rattle.md_emit.proofs.Answering.{on_ok}
+use Rattle.md_emit.proofs.captured.put_call_on.Goals as goal
+
+pub returns : goal.returns
+returns c =
+    let old = c.args.output.now in
+    let calls = c.args.footnotes.now.calls in
+    let options = c.args.options.now in
+    let identifier = c.args.identifier.now in
+    let with : List ℕ → Texts = λ t. record { text = t; below = old.below } in
+    on_ok _ _ (λ e. e ∙ ap (λ t. with (old.text ++ t)) (c.as_str.ensures.value ∙ c.in_ok-push_call.ensures
+    ∙ ap (λ s. laid_after [] s (steps.call_pieces options calls identifier)) c.clear.ensures.bytes)
+    ∙ ap with (call-laid old.text options calls identifier)) c.put.result c.put.ensures

@@ -1,0 +1,23 @@
+-- Mathematics in a text.
+use Rattle.std.proofs.Common.{◌≡◌, ◌∷◌, ◌++◌, [], ℕ, List, Bool, true, false, not, Option, Some, None, refl, ap, sym, ◌∙◌}
+use Rattle.std.specs.Prelude.{codes, if◌then◌else◌, unwrap_or, ◌||◌}
+use Rattle.md_base.specs.declared.event.Name.TheVariants as names
+use Rattle.md_writer.specs.Steps as steps
+use Rattle.md_writer.specs.Steps.{State, Told}
+use Rattle.md_meaning.specs.Meaning.Layout.{Needed, Text, laid_after, said, on_own_line, when}
+use Rattle.md_emit.proofs.Answering.{on_ok}
+use Rattle.md_emit.proofs.printer.Printer.enter_captured.Goals as goal
+
+pub returns-in-MathText : goal.returns-in-MathText
+returns-in-MathText c =
+    let old = c.args.self.now in
+    let inside : List ℕ → State → State = λ ending s. record s {
+      text = [];
+      below = laid_after ending s.text (when (not s.around.in_image)
+          (said (codes "<code class=\"language-math math-inline\">"))) ∷ s.below;
+      around = record s.around { in_code = true };
+      arounds = s.around ∷ s.arounds;
+    } in
+    on_ok _ _ (λ e given told. e given.ending ∙ ap (inside given.ending) c.enters.ensures
+    ∙ ap (λ n. steps.entered given told n old) (sym c.in-MathText.is))
+    c.enter_code-in-MathText.result c.enter_code-in-MathText.ensures

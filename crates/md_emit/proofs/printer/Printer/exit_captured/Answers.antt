@@ -1,0 +1,14 @@
+-- The clause of the call.
+use Rattle.std.proofs.Common.{◌≡◌, ◌∷◌, ◌++◌, [], ℕ, List, Bool, true, false, not, Option, Some, None, refl, ap, sym, ◌∙◌}
+use Rattle.std.specs.Prelude.{codes, if◌then◌else◌, unwrap_or, ◌||◌}
+use Rattle.md_base.specs.declared.event.Name.TheVariants as names
+use Rattle.md_writer.specs.Steps as steps
+use Rattle.md_writer.specs.Steps.{State, Told}
+use Rattle.md_emit.proofs.Answering.{on_ok}
+use Rattle.md_emit.proofs.printer.Printer.exit_captured.Goals as goal
+
+pub returns-in-GfmFootnoteDefinition : goal.returns-in-GfmFootnoteDefinition
+returns-in-GfmFootnoteDefinition c =
+    on_ok _ _ (λ e given one supplies there. e given one supplies there
+    ∙ ap (λ n. steps.exited given one.told n c.args.self.now) (sym c.in-GfmFootnoteDefinition.is))
+    c.leave_footnote.result c.leave_footnote.ensures

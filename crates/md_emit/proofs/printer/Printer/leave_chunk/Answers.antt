@@ -1,0 +1,23 @@
+-- The line that is told.
+use Rattle.std.proofs.Common.{◌≡◌, ◌∷◌, ◌++◌, [], ℕ, List, Bool, true, false, not, Option, Some, None, refl, ap, sym, ◌∙◌}
+use Rattle.std.specs.Prelude.{codes, if◌then◌else◌, unwrap_or, ◌||◌}
+use Rattle.md_writer.specs.Steps as steps
+use Rattle.md_writer.specs.Steps.{State, Told}
+use Rattle.md_base.specs.declared.event.Position.{Position}
+use Rattle.md_base.specs.Place.{serialized_between}
+use Rattle.md_text.specs.Encode.{encoded}
+use Rattle.md_emit.proofs.Answering.{on_ok}
+use Rattle.md_emit.proofs.printer.Printer.leave_chunk.Goals as goal
+
+pub returns : goal.returns
+returns c =
+    let old = c.args.self.now in
+    let bytes = c.args.given.now.checked.now.bytes in
+    let line : State → Position → State = λ s place. record s {
+      text = s.text ++ encoded true (unwrap_or (serialized_between bytes place.start place.end) []);
+    } in
+    let ended : State = record old { ended = Some c.args.name; marker = 38; has_chunk = true } in
+    on_ok _ _ (λ e one there.
+    e ∙ ap (λ s. line s c.place_left_at-place.result) c.ends_chunk.ensures
+    ∙ ap (line ended) (c.place_left_at-place.ensures one there))
+    c.put_line_of_code.result c.put_line_of_code.ensures

@@ -1,0 +1,31 @@
+-- The code, and its tag outside images.
+use Rattle.std.proofs.Common.{◌≡◌, ◌∷◌, ◌++◌, [], ℕ, List, Bool, true, false, not, Option, Some, None, refl, ap, sym, ◌∙◌}
+use Rattle.std.specs.Prelude.{codes, if◌then◌else◌, unwrap_or, ◌||◌, ◌&&◌}
+use Rattle.md_base.specs.declared.event.Name.TheVariants as names
+use Rattle.md_writer.specs.Steps as steps
+use Rattle.md_writer.specs.Steps.{State, Told}
+use Rattle.md_meaning.specs.Meaning.Layout.{Needed, Text, laid_after, said, on_own_line, when}
+use Rattle.md_meaning.specs.Meaning.Spans.{trimmed, without_escapes}
+use Rattle.md_emit.proofs.Answering.{on_ok}
+use Rattle.md_emit.proofs.printer.Printer.leave_code.Goals as goal
+
+pub returns : goal.returns
+returns c =
+    let old = c.args.self.now in
+    let left : State = record old {
+      around = steps.first_or steps.outside old.arounds;
+      arounds = steps.others_of old.arounds;
+      ended = Some c.args.name;
+      marker = 38;
+    } in
+    let came : c.ends.new.self ≡ left =
+    c.ends.ensures ∙ ap (λ (s : State). record s { ended = Some c.args.name; marker = 38 }) c.turn_back.ensures in
+    let coded : State → State = λ s. record s {
+      text = steps.first_or [] s.below ++ trimmed (if s.around.in_table then without_escapes s.text else s.text);
+      below = steps.others_of s.below;
+    } in
+    on_ok _ _ (λ e ending. e ending
+    ∙ ap (λ (s : State). record s {
+      text = laid_after ending s.text (when (not s.around.in_image) (said (codes "</code>")));
+    }) (c.in_ok-put_code.ensures ∙ ap coded came))
+    c.tag.result c.tag.ensures

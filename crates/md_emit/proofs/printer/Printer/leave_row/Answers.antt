@@ -1,0 +1,27 @@
+-- The tag comes after the empty cells.
+use Rattle.std.proofs.Common.{◌≡◌, ◌∷◌, ◌++◌, [], ℕ, List, Bool, true, false, not, Option, Some, None, refl, ap, sym, ◌∙◌}
+use Rattle.std.specs.Prelude.{codes, if◌then◌else◌, unwrap_or, ◌||◌, ◌&&◌}
+use Rattle.md_base.specs.declared.event.Name.TheVariants as names
+use Rattle.md_writer.specs.Steps as steps
+use Rattle.md_writer.specs.Steps.{State, Told}
+use Rattle.md_meaning.specs.Meaning.Layout.{Needed, Text, laid_after, said, on_own_line, when}
+use Rattle.std.specs.Prelude.{drop}
+use Rattle.std.specs.List.{flat_map}
+use Rattle.md_meaning.specs.Meaning.Tables.{cell_of}
+use Rattle.md_writer.proofs.Laid.{laid-append}
+use Rattle.md_emit.proofs.Answering.{on_ok}
+use Rattle.md_emit.proofs.printer.Printer.leave_row.Goals as goal
+
+pub returns : goal.returns
+returns c =
+    let old = c.args.self.now in
+    let ending = c.args.ending.now in
+    let cells = flat_map (cell_of old.around.in_head []) (drop old.cells old.around.columns) in
+    let left : List ℕ → State = λ t. record old { text = t; ended = Some names.GfmTableRow; marker = 38 } in
+    on_ok _ _ (λ e.
+    e ∙ ap (λ (s : State). record s { text = laid_after ending s.text (on_own_line (codes "</tr>")) })
+    (c.in_ok-put_empty_cells.ensures ∙ ap (λ (s : State). record s {
+      text = laid_after ending s.text (flat_map (cell_of s.around.in_head []) (drop s.cells s.around.columns));
+    }) c.ends.ensures)
+    ∙ ap left (sym (laid-append ending old.text cells (on_own_line (codes "</tr>")))))
+    c.line.result c.line.ensures

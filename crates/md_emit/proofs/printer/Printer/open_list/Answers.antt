@@ -1,0 +1,22 @@
+-- The tag with the number in it.
+use Rattle.std.proofs.Common.{◌≡◌, ◌∷◌, ◌++◌, [], ℕ, List, Bool, true, false, not, Option, Some, None, refl, ap, sym, ◌∙◌}
+use Rattle.std.specs.Prelude.{codes, if◌then◌else◌, unwrap_or, ◌||◌}
+use Rattle.md_writer.specs.Steps as steps
+use Rattle.md_writer.specs.Steps.{State, Told}
+use Rattle.md_meaning.specs.Meaning.Layout.{Needed, Text, laid_after, said, on_own_line, when}
+use Rattle.md_writer.proofs.Laid.{laid-append}
+use Rattle.md_emit.proofs.Answering.{on_ok}
+use Rattle.md_emit.proofs.printer.Printer.open_list.Goals as goal
+
+pub returns : goal.returns
+returns c =
+    let old = c.args.self.now in
+    let ending = c.args.given.now.ending.now in
+    let tag : List ℕ = laid_after ending old.text (on_own_line (codes "<ol")) in
+    let entered : List ℕ → State = λ t. record old { text = t; ended = None; marker = 38 } in
+    on_ok _ _ (λ e all one supplies there.
+    let more = steps.list_opening all one.told in
+    e ∙ ap (λ (s : State). record s { text = s.text ++ codes ">" }) (c.in_ok-open_start.ensures all one supplies there ending
+    ∙ ap (λ (s : State). record s { text = laid_after ending s.text more }) c.in_ok-enter_line.ensures)
+    ∙ ap entered (sym (laid-append ending tag more (said (codes ">")))))
+    c.put.result c.put.ensures

@@ -1,0 +1,11 @@
+-- The alignments are those of the children of the node that is noticed.
+use Rattle.std.proofs.Common.{sym, ap, ◌∙◌}
+use Rattle.md_base.specs.declared.event.Name.TheVariants.{GfmTable}
+use Rattle.md_writer.specs.Run.{Noticed}
+use Rattle.md_told.proofs.Nodes.{entered}
+use Rattle.md_emit.proofs.told.columns_at.Goals as goal
+
+pub returns : goal.returns
+returns c = λ one there.
+    let seen = entered c.args.checked.now c.args.index GfmTable one c.requires there in
+    c.columns.ensures.aligned seen.node.children seen.entered ∙ ap (λ (n : Noticed). n.told.columns) (sym seen.is)

@@ -1,0 +1,34 @@
+-- What the code has of a document and of its nodes, as the steps name it.
+use Rattle.std.specs.Prelude.{◌≡◌, ℕ, Option, unwrap_or, option_and_then, List, slice_get}
+use Rattle.md_base.specs.declared.event.Name.{Name}
+use Rattle.md_base.specs.Reference.{name_table}
+use Rattle.md_meaning.specs.Meaning.At.{Given, Target}
+use Rattle.md_meaning.specs.Meaning.Media.{target_defined}
+use Rattle.md_writer.specs.Steps.{State, entered, exited, nowhere}
+use Rattle.md_writer.specs.Run.{Noticed}
+use Rattle.md_told.specs.Told.{IsNoticedAt}
+use Rattle.md_told.specs.Definitions.{IsLedTo}
+use Rattle.md_emit.specs.declared.given.Given.{Given as Supplied}
+
+-- the target at a place, if there is one
+abbrev pub target_at : List Target → Option ℕ → Target
+target_at targets place = unwrap_or (option_and_then (λ there. slice_get targets there) place) nowhere
+
+-- what the code is supplied with is what the steps are given
+pub record Supplies (code : Supplied) (given : Given) : Type 0 where
+  pub bytes : given.bytes ≡ code.checked.now.bytes
+  pub names : given.names ≡ name_table code.names.now
+  pub options : given.options ≡ code.options.now
+  pub ending : given.ending ≡ code.ending.now
+  pub finds : (index : ℕ) (one : Noticed) (place : Option ℕ) → IsNoticedAt code.checked.now index one →
+      IsLedTo code.checked.now index place →
+      target_at code.definitions.now place ≡ target_defined given one.told.identifier
+
+-- a node is entered as the steps do it, or left
+abbrev pub Enters : Supplied → ℕ → Name → State → State → Type 0
+Enters code index name before after = (given : Given) (one : Noticed) → Supplies code given →
+    IsNoticedAt code.checked.now index one → after ≡ entered given one.told name before
+
+abbrev pub Leaves : Supplied → ℕ → Name → State → State → Type 0
+Leaves code index name before after = (given : Given) (one : Noticed) → Supplies code given →
+    IsNoticedAt code.checked.now index one → after ≡ exited given one.told name before

@@ -1,0 +1,77 @@
+//! Before the first event and after the last one.
+
+ghost use Rattle.std.specs.Prelude.{◌≡◌, IfOk, string_bytes};
+ghost use Rattle.md_meaning.specs.Meaning.At as At;
+ghost use Rattle.md_meaning.specs.Meaning.Layout.{laid_after};
+ghost use Rattle.md_meaning.specs.Meaning.Footnotes.{section};
+ghost use Rattle.md_writer.specs.Steps as steps;
+
+use crate::printer::Printer;
+use crate::target::Target;
+use md_base::Name;
+use md_text::CompileOptions;
+use std::alloc::{AllocError, Global};
+
+impl<'a> Printer<'a> {
+    /// Makes room for the text of a document of so many bytes, where there is memory for it.
+    pub fn reserve(&mut self, bytes: usize)
+        ensures { self.new ≡ self.old }
+    {
+        self.output.reserve(bytes);
+    }
+
+    /// Passes a definition over, which is printed ahead of all else.
+    pub fn pass_definition(&mut self)
+        ensures { self.new ≡ steps.passed self.old }
+    {
+        self.ends(Name::Definition);
+    }
+
+    /// The whole text, with the section of footnotes.
+    ///
+    /// # Errors
+    ///
+    /// Only where memory runs out.
+    pub fn into_text(
+        self,
+        alloc: Global,
+        options: &CompileOptions,
+        ending: &str,
+    ) -> Result<String, AllocError>
+        ensures { IfOk result (λ text. (given : At.Given) → given.options ≡ options.now → given.ending ≡ ending.now
+            → given.calls ≡ self.entry.calls
+            → string_bytes text ≡ laid_after given.ending self.entry.text (section given self.entry.footnotes)) }
+    {
+        let Printer {
+            output,
+            around: _,
+            arounds: _,
+            is_slurping: _,
+            ended: _,
+            marker: _,
+            fences: _,
+            has_chunk: _,
+            heading: _,
+            cells: _,
+            target: _,
+            resource: _,
+            has_resource: _,
+            footnotes,
+            scratch: _,
+        } = self;
+        let mut text = output.into_text(alloc)?;
+        footnotes.push_section(alloc, &mut text, options, ending)?;
+        Ok(text)
+    }
+
+    /// Where the definition leads that was printed last.
+    ///
+    /// # Errors
+    ///
+    /// Only where memory runs out.
+    pub fn into_target(self, alloc: Global) -> Result<Target, AllocError>
+        ensures { IfOk result (λ target. target ≡ self.entry.target) }
+    {
+        self.target.copied(alloc)
+    }
+}

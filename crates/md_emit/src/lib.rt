@@ -1,0 +1,18 @@
+//! The printer's state, and what is done to it at each event, by the steps of `md_writer`.
+#![tactic(auto)]
+
+mod around;
+mod captured;
+mod code;
+mod entering;
+mod finishing;
+mod given;
+mod leaving;
+mod media;
+mod printer;
+mod target;
+mod told;
+
+pub use given::Given;
+pub use printer::Printer;
+pub use target::Target;

@@ -1,0 +1,330 @@
+//! The text so far, and what is kept of the open nodes.
+
+ghost use Rattle.std.specs.Prelude.{◌≡◌, ◌∷◌, ◌++◌, [], OnOk, IfOk, string_bytes, Some, None, true, false, not, ℕ, List, if◌then◌else◌};
+ghost use Rattle.md_meaning.specs.Meaning.Layout.{Needed, Forced, laid_after, said, on_own_line, when};
+ghost use Rattle.md_meaning.specs.Meaning.Spans.{marker};
+ghost use Rattle.md_base.specs.NameTests.{is_transparent};
+ghost use Rattle.md_text.specs.Encode.{encoded};
+ghost use Rattle.md_writer.specs.Steps as steps;
+ghost use Rattle.md_emit.specs.View.{around_of};
+
+use crate::around::{Around, OUTSIDE};
+use crate::target::Target;
+use md_base::Name;
+use md_base::name_tests::is_transparent;
+use md_footnotes::Footnotes;
+use md_output::Output;
+use std::alloc::{AllocError, Global};
+use std::marker::Model;
+
+/// The text so far, and what is kept of the open nodes.
+#[derive(Drop)]
+pub struct Printer<'a> {
+    pub(crate) output: Output,
+    pub(crate) around: Around<'a>,
+    /// The surroundings to come back to, the next ones last.
+    pub(crate) arounds: Vec<Around<'a>>,
+    /// The next line ending is slurped.
+    pub(crate) is_slurping: bool,
+    /// The node that ended right before.
+    pub(crate) ended: Option<Name>,
+    /// How the value of a character reference is read.
+    pub(crate) marker: u8,
+    /// How many fences the code has so far, and whether it has a line.
+    pub(crate) fences: usize,
+    pub(crate) has_chunk: bool,
+    /// The text of the latest setext heading.
+    pub(crate) heading: String,
+    /// How many cells the row has so far.
+    pub(crate) cells: usize,
+    /// Where the resource or the definition leads so far.
+    pub(crate) target: Target,
+    /// Where the resource after the latest label leads, if there is one.
+    pub(crate) resource: Target,
+    pub(crate) has_resource: bool,
+    pub(crate) footnotes: Footnotes,
+    /// A text that is made to be printed at once.
+    pub(crate) scratch: String,
+}
+
+impl<'a> Model for Printer<'a> {
+    ghost use Rattle.std.specs.Prelude.{map, reverse, string_bytes, Some, None, if◌then◌else◌};
+    ghost use Rattle.md_writer.specs.Steps as steps;
+    ghost use Rattle.md_emit.specs.View.{around_of};
+
+    ghost Value = { steps.State };
+
+    ghost view = { λ p. record {
+      text = p.output.text;
+      below = p.output.below;
+      around = around_of p.around;
+      arounds = reverse (map around_of p.arounds.items);
+      slurps = p.is_slurping;
+      ended = p.ended;
+      marker = p.marker;
+      fences = p.fences;
+      has_chunk = p.has_chunk;
+      heading = string_bytes p.heading;
+      cells = p.cells;
+      target = p.target;
+      resource = if p.has_resource then Some p.resource else None;
+      calls = p.footnotes.calls;
+      footnotes = p.footnotes.footnotes;
+    } };
+}
+
+impl<'a> Printer<'a> {
+    /// Nothing is printed yet.
+    pub fn new(alloc: Global) -> Printer<'a>
+        ensures { result ≡ steps.beginning }
+    {
+        Printer {
+            output: Output::new(alloc),
+            around: OUTSIDE,
+            arounds: Vec::new(alloc),
+            is_slurping: false,
+            ended: None,
+            marker: b'&',
+            fences: 0,
+            has_chunk: false,
+            heading: String::new(alloc),
+            cells: 0,
+            target: Target::new(alloc),
+            resource: Target::new(alloc),
+            has_resource: false,
+            footnotes: Footnotes::new(alloc),
+            scratch: String::new(alloc),
+        }
+    }
+
+    /// Prints a text.
+    ///
+    /// # Errors
+    ///
+    /// Only where memory runs out.
+    #[inline(always)]
+    pub(crate) fn put(&mut self, text: &str) -> Result<(), AllocError>
+        ensures { OnOk result (self.new ≡ record self.old { text = laid_after [] self.old.text (said text.now) }) }
+    {
+        self.output.put(text)
+    }
+
+    /// Prints a text, escaped where `escaping` says so.
+    ///
+    /// # Errors
+    ///
+    /// Only where memory runs out.
+    #[inline(always)]
+    pub(crate) fn put_encoded(&mut self, text: &str, escaping: bool) -> Result<(), AllocError>
+        ensures { OnOk result (self.new ≡ record self.old {
+          text = laid_after [] self.old.text (said (encoded escaping text.now));
+        }) }
+    {
+        self.output.put_encoded(text, escaping)
+    }
+
+    /// Prints a line ending, unless a line begins here.
+    ///
+    /// # Errors
+    ///
+    /// Only where memory runs out.
+    #[inline(always)]
+    pub(crate) fn need(&mut self, ending: &str) -> Result<(), AllocError>
+        ensures { OnOk result (self.new ≡ record self.old {
+          text = laid_after ending.now self.old.text (Needed ∷ []);
+        }) }
+    {
+        self.output.need(ending)
+    }
+
+    /// Prints a tag on a line of its own.
+    ///
+    /// # Errors
+    ///
+    /// Only where memory runs out.
+    #[inline(always)]
+    pub(crate) fn line(&mut self, ending: &str, tag: &str) -> Result<(), AllocError>
+        ensures { OnOk result (self.new ≡ record self.old {
+          text = laid_after ending.now self.old.text (on_own_line tag.now);
+        }) }
+    {
+        self.output.need(ending)?;
+        self.output.put(tag)
+    }
+
+    /// Prints a tag outside images.
+    ///
+    /// # Errors
+    ///
+    /// Only where memory runs out.
+    #[inline(always)]
+    pub(crate) fn tag(&mut self, tag: &str) -> Result<(), AllocError>
+        ensures { OnOk result ((ending : List ℕ) → self.new ≡ record self.old {
+          text = laid_after ending self.old.text (when (not self.old.around.in_image) (said tag.now));
+        }) }
+    {
+        if self.around.in_image {
+            Ok(())
+        } else {
+            self.output.put(tag)
+        }
+    }
+
+    /// Goes on in other surroundings.
+    ///
+    /// # Errors
+    ///
+    /// Only where memory runs out.
+    pub(crate) fn turn(&mut self, around: Around<'a>) -> Result<(), AllocError>
+        ensures { OnOk result (self.new ≡ record self.old {
+          around = around_of around.entry;
+          arounds = self.old.around ∷ self.old.arounds;
+        }) }
+    {
+        self.arounds.push(self.around)?;
+        self.around = around;
+        Ok(())
+    }
+
+    /// Comes back to the surroundings before.
+    pub(crate) fn turn_back(&mut self)
+        ensures { self.new ≡ record self.old {
+          around = steps.first_or steps.outside self.old.arounds;
+          arounds = steps.others_of self.old.arounds;
+        } }
+    {
+        match self.arounds.pop() {
+            Some(around) => self.around = around,
+            None => self.around = OUTSIDE,
+        }
+    }
+
+    /// Begins a text by itself.
+    ///
+    /// # Errors
+    ///
+    /// Only where memory runs out.
+    #[inline(always)]
+    pub(crate) fn capture(&mut self) -> Result<(), AllocError>
+        ensures { OnOk result (self.new ≡ record self.old { text = []; below = self.old.text ∷ self.old.below }) }
+    {
+        self.output.capture()
+    }
+
+    /// Drops the text by itself.
+    pub(crate) fn discard(&mut self)
+        ensures { self.new ≡ record self.old {
+          text = steps.first_or [] self.old.below;
+          below = steps.others_of self.old.below;
+        } }
+    {
+        self.output.discard();
+    }
+
+    /// The next line ending is slurped, outside definitions.
+    #[inline(always)]
+    pub(crate) fn slurp(&mut self)
+        ensures { self.new ≡ record self.old {
+          slurps = if self.old.around.in_definition then self.old.slurps else true;
+        } }
+    {
+        if !self.around.in_definition {
+            self.is_slurping = true;
+        }
+    }
+
+    /// The next line ending isn't slurped, outside definitions.
+    #[inline(always)]
+    pub(crate) fn stop_slurping(&mut self)
+        ensures { self.new ≡ record self.old {
+          slurps = if self.old.around.in_definition then self.old.slurps else false;
+        } }
+    {
+        if !self.around.in_definition {
+            self.is_slurping = false;
+        }
+    }
+
+    /// A node has been entered.
+    #[inline(always)]
+    pub(crate) fn enters(&mut self)
+        ensures { self.new ≡ record self.old { ended = None; marker = 38 } }
+    {
+        self.ended = None;
+        self.marker = b'&';
+    }
+
+    /// A node has ended.
+    #[inline(always)]
+    pub(crate) fn ends(&mut self, name: Name)
+        requires solid { is_transparent name ≡ false }
+        requires plain { marker name ≡ 38 }
+        ensures { self.new ≡ record self.old { ended = Some name; marker = 38 } }
+    {
+        self.ended = Some(name);
+        self.marker = b'&';
+    }
+
+    /// A node has ended after which the next line ending is slurped, outside definitions.
+    #[inline(always)]
+    pub(crate) fn ends_slurping(&mut self, name: Name)
+        requires solid { is_transparent name ≡ false }
+        requires plain { marker name ≡ 38 }
+        ensures { self.new ≡ record self.old {
+          slurps = if self.old.around.in_definition then self.old.slurps else true;
+          ended = Some name;
+          marker = 38;
+        } }
+    {
+        self.slurp();
+        self.ends(name);
+    }
+
+    /// A node has ended after which the next line ending isn't slurped, outside definitions.
+    #[inline(always)]
+    pub(crate) fn ends_unslurped(&mut self, name: Name)
+        requires solid { is_transparent name ≡ false }
+        requires plain { marker name ≡ 38 }
+        ensures { self.new ≡ record self.old {
+          slurps = if self.old.around.in_definition then self.old.slurps else false;
+          ended = Some name;
+          marker = 38;
+        } }
+    {
+        self.stop_slurping();
+        self.ends(name);
+    }
+
+    /// No resource comes after a label.
+    #[inline(always)]
+    pub(crate) fn forget_resource(&mut self)
+        ensures { self.new ≡ record self.old { resource = None } }
+    {
+        self.has_resource = false;
+    }
+
+    /// An image is around.
+    #[inline(always)]
+    pub(crate) fn is_in_image(&self) -> bool
+        ensures { result ≡ self.now.around.in_image }
+    {
+        self.around.in_image
+    }
+
+    /// Ends the text by itself, which is handed out.
+    ///
+    /// # Errors
+    ///
+    /// Only where memory runs out.
+    pub(crate) fn take_text(&mut self, alloc: Global) -> Result<String, AllocError>
+        ensures text { IfOk result (λ text. string_bytes text ≡ self.old.text) }
+        ensures left { OnOk result (self.new ≡ record self.old {
+          text = steps.first_or [] self.old.below;
+          below = steps.others_of self.old.below;
+        }) }
+    {
+        let mut text = String::new(alloc);
+        self.output.move_into(&mut text)?;
+        Ok(text)
+    }
+}

@@ -1,0 +1,136 @@
+-- Numbers and counts of calls: what is found in the tally of those so far is what the meaning finds in their list.
+use Rattle.std.proofs.Common.{◌≡◌, ◌≤◌, ℕ, ◌+◌, zero, suc, Bool, true, false, ◌||◌, not, cond, List, [], ◌∷◌, ◌++◌, map, refl, ap, sym, ◌∙◌, arith, unwrap_or, bytes_eq, length, Some}
+use Rattle.std.specs.Prelude.{if◌then◌else◌, find, slice_get}
+use Rattle.std.specs.Option.{option_map_or}
+use Rattle.std.proofs.lemmas.Bool.{or_parts}
+use Rattle.std.proofs.lemmas.Option.{none-some}
+use Rattle.md_meaning.specs.Meaning.Footnotes.{distinct, count_of, place_among}
+use Rattle.md_footnotes.specs.Entries.{Counted, tally}
+use Rattle.md_meaning.proofs.Identifiers.{is_in, others_than, Apart, same, itself, bytes_eq-sym, is_in-distinct, distinct-apart, count-missing}
+
+-- the place of an identifier among some, from 1; after them all where it isn't there
+abbrev pub number_among : List Counted → List ℕ → ℕ
+number_among [] identifier = 1
+number_among (first ∷ others) identifier = if bytes_eq first.identifier identifier then 1
+    else suc (number_among others identifier)
+
+-- how often an identifier is called
+abbrev pub count_among : List Counted → List ℕ → ℕ
+count_among others identifier = option_map_or (λ called. called.count)
+    (find (λ called. bytes_eq called.identifier identifier) others) 0
+
+-- the place in a tally is that among its identifiers
+number-placed : (f : List ℕ → ℕ) (xs : List (List ℕ)) (x : List ℕ) →
+    number_among (map (λ i. record { identifier = i; count = f i }) xs) x ≡ place_among xs x
+number-placed f [] x = refl
+number-placed f (y ∷ ys) x = ap (λ n. if bytes_eq y x then 1 else suc n) (number-placed f ys x)
+
+-- the identifiers before the first that is this one
+upto : List ℕ → List (List ℕ) → List (List ℕ)
+upto x [] = []
+upto x (y ∷ ys) = if bytes_eq y x then [] else y ∷ upto x ys
+
+placed-upto : (xs : List (List ℕ)) (x : List ℕ) → place_among xs x ≡ suc (length (upto x xs))
+unfolding upto
+placed-upto [] x = refl
+placed-upto (y ∷ ys) x =
+    ap (λ n. if bytes_eq y x then 1 else suc n) (placed-upto ys x)
+    ∙ elim (bytes_eq y x) as (λ b. (if b then 1 else suc (suc (length (upto x ys))))
+    ≡ suc (length (if b then [] else y ∷ upto x ys))) [ true ↦ refl | false ↦ refl ]
+
+upto-others : (y x : List ℕ) (zs : List (List ℕ)) → bytes_eq y x ≡ false →
+    upto x (others_than y zs) ≡ others_than y (upto x zs)
+unfolding upto
+upto-others y x [] h = refl
+upto-others y x (z ∷ zs) h =
+    elim (bytes_eq z y) as (λ b. bytes_eq z y ≡ b → upto x (cond (not b) (z ∷ others_than y zs) (others_than y zs))
+    ≡ others_than y (if bytes_eq z x then [] else z ∷ upto x zs)) [
+      | true ↦ λ e.
+          upto-others y x zs h
+          ∙ ap (λ b. cond (not b) (z ∷ others_than y (upto x zs)) (others_than y (upto x zs))) (sym e)
+          ∙ ap (λ b. others_than y (if b then [] else z ∷ upto x zs)) (sym (ap (λ w. bytes_eq w x) (same z y e) ∙ h))
+      | false ↦ λ e.
+          elim (bytes_eq z x) as (λ b. (if b then [] else z ∷ upto x (others_than y zs))
+          ≡ others_than y (if b then [] else z ∷ upto x zs)) [
+            | true ↦ refl
+            | false ↦
+                ap (λ ws. z ∷ ws) (upto-others y x zs h)
+                ∙ ap (λ b. cond (not b) (z ∷ others_than y (upto x zs)) (others_than y (upto x zs))) (sym e)
+          ]
+    ] refl
+
+-- before its first call after others, an identifier has the same ones before it
+upto-distinct : (xs : List (List ℕ)) (x : List ℕ) → upto x (distinct (xs ++ x ∷ [])) ≡ upto x (distinct xs)
+unfolding upto
+upto-distinct [] x = ap (λ b. if b then [] else x ∷ []) (itself x)
+upto-distinct (y ∷ xs) x =
+    elim (bytes_eq y x) as (λ b. bytes_eq y x ≡ b → (if b then [] else y
+    ∷ upto x (others_than y (distinct (xs ++ x ∷ []))))
+    ≡ (if b then [] else y ∷ upto x (others_than y (distinct xs)))) [
+      | true ↦ λ e. refl
+      | false ↦ λ e.
+          ap (λ ws. y ∷ ws) (upto-others y x (distinct (xs ++ x ∷ [])) e
+          ∙ ap (λ ws. others_than y ws) (upto-distinct xs x) ∙ sym (upto-others y x (distinct xs) e))
+    ] refl
+
+pub number-same : (xs : List (List ℕ)) (x : List ℕ) →
+    number_among (tally xs) x ≡ place_among (distinct (xs ++ x ∷ [])) x
+number-same xs x =
+    number-placed (count_of xs) (distinct xs) x
+    ∙ placed-upto (distinct xs) x
+    ∙ ap (λ ws. suc (length ws)) (sym (upto-distinct xs x))
+    ∙ sym (placed-upto (distinct (xs ++ x ∷ [])) x)
+
+count-found : (f : List ℕ → ℕ) (xs : List (List ℕ)) (x : List ℕ) →
+    count_among (map (λ i. record { identifier = i; count = f i }) xs) x ≡ (if is_in x xs then f x else 0)
+count-found f [] x = refl
+count-found f (y ∷ ys) x =
+    let found : Bool → Counted → ℕ = λ b first. option_map_or (λ (called : Counted). called.count) (if b then Some first
+    else find (λ called. bytes_eq called.identifier x) (map (λ i. record { identifier = i; count = f i }) ys)) 0 in
+    elim (bytes_eq y x) as (λ b. bytes_eq y x ≡ b → found b (record { identifier = y; count = f y })
+    ≡ (if b || is_in x ys then f x else 0)) [
+      | true ↦ λ e. ap f (same y x e)
+      | false ↦ λ e. count-found f ys x
+    ] refl
+
+-- how often an identifier was called
+pub count-same : (xs : List (List ℕ)) (x : List ℕ) → count_among (tally xs) x ≡ count_of xs x
+count-same xs x =
+    count-found (count_of xs) (distinct xs) x
+    ∙ ap (λ b. if b then count_of xs x else 0) (is_in-distinct xs x)
+    ∙ elim (is_in x xs) as (λ b. is_in x xs ≡ b → (if b then count_of xs x else 0) ≡ count_of xs x) [
+      | true ↦ λ e. refl
+      | false ↦ λ e. sym (count-missing xs x e)
+    ] refl
+
+-- no identifier is called more often than calls there are
+pub count-below : (xs : List (List ℕ)) (x : List ℕ) → count_of xs x ≤ length xs
+count-below [] x = omega arith
+count-below (y ∷ ys) x = more (bytes_eq y x) (count_of ys x) (length ys) (count-below ys x)
+  where
+    more : (b : Bool) (m n : ℕ) → m ≤ n → (if b then 1 else 0) + m ≤ suc n
+    more true m n h = omega (arith, h)
+    more false m n h = omega (arith, h)
+
+-- the place of what stands at an index, where no two are the same
+not_there : (y x : List ℕ) (ys : List (List ℕ)) (i : ℕ) → is_in y ys ≡ false → slice_get ys i ≡ Some x →
+    bytes_eq x y ≡ false
+not_there y x [] i h e = absurd (none-some x e)
+not_there y x (z ∷ zs) zero h e =
+    ap (λ o. bytes_eq (unwrap_or o z) y) (sym e) ∙ (or_parts (bytes_eq z y) (is_in y zs) h).0
+not_there y x (z ∷ zs) (suc i) h e = not_there y x zs i (or_parts (bytes_eq z y) (is_in y zs) h).1 e
+
+place-of : (xs : List (List ℕ)) (i : ℕ) (x : List ℕ) → Apart xs → slice_get xs i ≡ Some x →
+    place_among xs x ≡ suc i
+place-of [] i x apart e = absurd (none-some x e)
+place-of (y ∷ ys) zero x apart e =
+    ap (λ o. if bytes_eq y (unwrap_or o x) then 1 else suc (place_among ys x)) (sym e)
+    ∙ ap (λ b. if b then 1 else suc (place_among ys x)) (itself y)
+place-of (y ∷ ys) (suc i) x apart e =
+    ap (λ b. if b then 1 else suc (place_among ys x)) (bytes_eq-sym y x ∙ not_there y x ys i apart.0 e)
+    ∙ ap suc (place-of ys i x apart.1 e)
+
+-- the distinct identifiers are numbered from 1 in their order
+pub number-at-index : (calls : List (List ℕ)) (i : ℕ) (x : List ℕ) → slice_get (distinct calls) i ≡ Some x →
+    place_among (distinct calls) x ≡ suc i
+number-at-index calls i x e = place-of (distinct calls) i x (distinct-apart calls) e

@@ -1,0 +1,20 @@
+-- At each turn: to add the footnotes that are left is to add all of them to the text as it was at the start.
+-- It ends, as fewer are left each time.
+use Rattle.std.proofs.Common.{◌≡◌, ◌-◌, ◌≤◌, length, drop, string_bytes}
+use Rattle.std.specs.List.{flat_map}
+use Rattle.md_meaning.specs.Meaning.Layout.{laid_after}
+use Rattle.md_meaning.specs.Meaning.Footnotes as meaning
+use Rattle.md_footnotes.specs.Seen.{given_by}
+use Rattle.md_footnotes.proofs.section.push_items.Given as goal
+
+abbrev pub invariant-loop-called : goal.invariant-loop-called
+invariant-loop-called l =
+    (laid_after l.settings.ending.now (string_bytes l.out)
+    (flat_map (meaning.item (given_by l.settings.options.now l.calls) l.notes)
+    (drop l.index (meaning.distinct l.calls)))
+    ≡ laid_after l.settings.ending.now (string_bytes l.fn.out)
+    (flat_map (meaning.item (given_by l.settings.options.now l.calls) l.notes) (meaning.distinct l.calls)))
+    × (l.index ≤ length (meaning.distinct l.calls))
+
+abbrev pub decreases-loop-called : goal.decreases-loop-called
+decreases-loop-called l = length (meaning.distinct l.calls) - l.index

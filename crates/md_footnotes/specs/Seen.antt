@@ -1,0 +1,14 @@
+-- What is seen of footnotes while a document is printed.
+use Rattle.std.specs.Prelude.{ℕ, List, []}
+use Rattle.md_text.specs.declared.options.CompileOptions.{CompileOptions}
+use Rattle.md_meaning.specs.Meaning.At.{Footnote, Given}
+
+-- the identifiers of all calls, in their order, and the first footnote with each identifier
+pub record Seen : Type 0 where
+  pub calls : List (List ℕ)
+  pub footnotes : List Footnote
+
+-- what the section of footnotes is printed by: of what is given it reads the options and the calls alone
+abbrev pub given_by : CompileOptions → List (List ℕ) → Given
+given_by options calls =
+    record { bytes = []; names = []; options = options; ending = []; calls = calls; definitions = [] }

@@ -1,0 +1,104 @@
+//! The ids of footnotes and of their calls, and texts that options give.
+
+ghost use Rattle.std.specs.Prelude.{◌≡◌, ◌==◌, ◌&&◌, not, [], ◌++◌, if◌then◌else◌, codes, OnOk, string_bytes, option_map};
+ghost use Rattle.std.specs.Fmt.{decimal};
+ghost use Rattle.md_text.specs.Url.{sanitized};
+ghost use Rattle.md_meaning.specs.Meaning.Footnotes as meaning;
+
+use crate::called::Called;
+use md_text::{CompileOptions, push_encoded, push_sanitized};
+use std::alloc::{AllocError, Global};
+
+/// Adds a text that an option gives, escaped, or what stands where it gives none.
+///
+/// # Errors
+///
+/// Only where memory runs out.
+pub(crate) fn push_option(
+    out: &mut String,
+    given: &Option<String>,
+    unset: &str,
+) -> Result<(), AllocError>
+    ensures { OnOk result (string_bytes out.new
+        ≡ string_bytes out.old ++ meaning.option_or (option_map string_bytes given.now) unset.now) }
+{
+    match given {
+        Some(text) => push_encoded(out, text.as_str(), true),
+        None => out.push_str(unset),
+    }
+}
+
+/// Adds what an id is told apart by: the footnote's number where ids go by number, else its identifier as a URL.
+fn push_name(
+    alloc: Global,
+    out: &mut String,
+    options: &CompileOptions,
+    called: &Called,
+) -> Result<(), AllocError>
+    ensures { OnOk result (string_bytes out.new ≡ string_bytes out.old
+        ++ (if options.now.gfm_footnote_number_ids then decimal called.now.number
+        else sanitized called.now.identifier.now)) }
+{
+    if options.gfm_footnote_number_ids {
+        out.push_str(called.number.to_string(alloc)?.as_str())
+    } else {
+        push_sanitized(out, called.identifier)
+    }
+}
+
+/// Adds an id: the prefix, what it is the id of, and what it is told apart by.
+///
+/// # Errors
+///
+/// Only where memory runs out.
+pub(crate) fn push_id(
+    alloc: Global,
+    out: &mut String,
+    options: &CompileOptions,
+    kind: &str,
+    called: &Called,
+) -> Result<(), AllocError>
+    ensures { OnOk result (string_bytes out.new ≡ string_bytes out.old
+        ++ meaning.id_of options.now kind.now called.now.identifier.now called.now.number) }
+{
+    push_option(out, &options.gfm_footnote_clobber_prefix, "user-content-")?;
+    out.push_str(kind)?;
+    push_name(alloc, out, options, called)
+}
+
+/// Adds `-` and which of its footnote's calls it is; where ids go by identifier from the second one on.
+fn push_occurrence(
+    alloc: Global,
+    out: &mut String,
+    options: &CompileOptions,
+    occurrence: usize,
+) -> Result<(), AllocError>
+    ensures { OnOk result (string_bytes out.new ≡ string_bytes out.old
+        ++ (if not options.now.gfm_footnote_number_ids && occurrence == 1 then []
+        else codes "-" ++ decimal occurrence)) }
+{
+    if !options.gfm_footnote_number_ids && occurrence == 1 {
+        return Ok(());
+    }
+    out.push_str("-")?;
+    out.push_str(occurrence.to_string(alloc)?.as_str())
+}
+
+/// Adds the id of one of a footnote's calls, by its occurrence from 1.
+///
+/// # Errors
+///
+/// Only where memory runs out.
+pub(crate) fn push_call_id(
+    alloc: Global,
+    out: &mut String,
+    options: &CompileOptions,
+    called: &Called,
+    occurrence: usize,
+) -> Result<(), AllocError>
+    ensures { OnOk result (string_bytes out.new ≡ string_bytes out.old
+        ++ meaning.call_id options.now called.now.identifier.now called.now.number occurrence) }
+{
+    push_id(alloc, out, options, "fnref-", called)?;
+    push_occurrence(alloc, out, options, occurrence)
+}

@@ -1,0 +1,62 @@
+//! What a call prints.
+
+ghost use Rattle.std.specs.Prelude.{◌≡◌, ◌∷◌, [], codes, OnOk, string_bytes};
+ghost use Rattle.std.specs.Fmt.{decimal};
+ghost use Rattle.md_meaning.specs.Meaning.Layout.{laid_after, Text};
+ghost use Rattle.md_meaning.specs.Meaning.Footnotes as meaning;
+ghost use Rattle.md_footnotes.specs.Words.{tags};
+
+use crate::called::Called;
+use crate::ids::{push_call_id, push_id};
+use md_text::CompileOptions;
+use std::alloc::{AllocError, Global};
+
+/// Adds the beginning of a call, with the ids.
+fn push_ids(
+    alloc: Global,
+    out: &mut String,
+    options: &CompileOptions,
+    called: &Called,
+    occurrence: usize,
+) -> Result<(), AllocError>
+    ensures { OnOk result (string_bytes out.new ≡ laid_after [] (string_bytes out.old) (Text (codes "<sup><a href=\"#")
+        ∷ Text (meaning.id_of options.now (codes "fn-") called.now.identifier.now called.now.number)
+        ∷ Text (codes "\" id=\"")
+        ∷ Text (meaning.call_id options.now called.now.identifier.now called.now.number occurrence) ∷ [])) }
+{
+    out.push_str("<sup><a href=\"#")?;
+    push_id(alloc, out, options, "fn-", called)?;
+    out.push_str("\" id=\"")?;
+    push_call_id(alloc, out, options, called, occurrence)
+}
+
+/// Adds the rest of a call, around its number.
+fn push_number(out: &mut String, number: &str) -> Result<(), AllocError>
+    ensures { OnOk result (string_bytes out.new ≡ laid_after [] (string_bytes out.old)
+        (Text (codes "\" data-footnote-ref=\"\" aria-describedby=\"footnote-label\">") ∷ Text number.now
+        ∷ Text (codes "</a></sup>") ∷ [])) }
+{
+    out.push_str("\" data-footnote-ref=\"\" aria-describedby=\"footnote-label\">")?;
+    out.push_str(number)?;
+    out.push_str("</a></sup>")
+}
+
+/// Adds a call of a footnote, by its occurrence from 1 among its calls.
+///
+/// # Errors
+///
+/// Only where memory runs out.
+pub(crate) fn push_tags(
+    alloc: Global,
+    out: &mut String,
+    options: &CompileOptions,
+    called: &Called,
+    occurrence: usize,
+) -> Result<(), AllocError>
+    ensures { OnOk result (string_bytes out.new ≡ laid_after [] (string_bytes out.old)
+        (tags options.now called.now.identifier.now called.now.number occurrence)) }
+{
+    push_ids(alloc, out, options, called, occurrence)?;
+    let number = called.number.to_string(alloc)?;
+    push_number(out, number.as_str())
+}

@@ -1,0 +1,108 @@
+//! The ways back from a footnote to its calls.
+
+ghost use Rattle.std.specs.Prelude.{◌≡◌, ◌∷◌, [], ◌++◌, ◌==◌, codes, OnOk, string_bytes, if◌then◌else◌};
+ghost use Rattle.std.specs.Fmt.{decimal};
+ghost use Rattle.md_meaning.specs.Meaning.Footnotes as meaning;
+ghost use Rattle.md_footnotes.specs.Words as words;
+
+use crate::called::Called;
+use crate::ids::{push_call_id, push_option};
+use md_text::CompileOptions;
+use std::alloc::{AllocError, Global};
+
+/// Adds `<sup>` occurrence `</sup>`, from the second one on.
+fn push_mark(alloc: Global, out: &mut String, occurrence: usize) -> Result<(), AllocError>
+    ensures { OnOk result (string_bytes out.new ≡ string_bytes out.old
+        ++ (if occurrence == 1 then [] else codes "<sup>" ++ (decimal occurrence ++ codes "</sup>"))) }
+{
+    if occurrence == 1 {
+        return Ok(());
+    }
+    out.push_str("<sup>")?;
+    out.push_str(occurrence.to_string(alloc)?.as_str())?;
+    out.push_str("</sup>")
+}
+
+/// Adds the beginning of a way back to a call, up to its label.
+fn push_href(
+    alloc: Global,
+    out: &mut String,
+    options: &CompileOptions,
+    called: &Called,
+    occurrence: usize,
+) -> Result<(), AllocError>
+    ensures { OnOk result (string_bytes out.new ≡ string_bytes out.old
+        ++ (codes "<a href=\"#"
+        ++ (meaning.call_id options.now called.now.identifier.now called.now.number occurrence
+        ++ codes "\" data-footnote-backref=\"\" aria-label=\""))) }
+{
+    out.push_str("<a href=\"#")?;
+    push_call_id(alloc, out, options, called, occurrence)?;
+    out.push_str("\" data-footnote-backref=\"\" aria-label=\"")
+}
+
+/// Adds the label of a way back.
+fn push_label(out: &mut String, options: &CompileOptions) -> Result<(), AllocError>
+    ensures { OnOk result (string_bytes out.new ≡ string_bytes out.old ++ words.label_of options.now) }
+{
+    push_option(out, &options.gfm_footnote_back_label, "Back to content")
+}
+
+/// Adds the rest of a way back, from the end of its label on.
+fn push_arrow(alloc: Global, out: &mut String, occurrence: usize) -> Result<(), AllocError>
+    ensures { OnOk result (string_bytes out.new ≡ string_bytes out.old
+        ++ (codes "\" class=\"data-footnote-backref\">" ++ ((226 ∷ 134 ∷ 169 ∷ [])
+        ++ ((if occurrence == 1 then [] else codes "<sup>" ++ (decimal occurrence ++ codes "</sup>"))
+        ++ codes "</a>")))) }
+{
+    out.push_str("\" class=\"data-footnote-backref\">")?;
+    out.push_str("\u{21A9}")?;
+    push_mark(alloc, out, occurrence)?;
+    out.push_str("</a>")
+}
+
+/// Adds the way back to a call.
+fn push_backreference(
+    alloc: Global,
+    out: &mut String,
+    options: &CompileOptions,
+    called: &Called,
+    occurrence: usize,
+) -> Result<(), AllocError>
+    ensures { OnOk result (string_bytes out.new ≡ string_bytes out.old
+        ++ meaning.backreference options.now called.now.identifier.now called.now.number occurrence) }
+{
+    push_href(alloc, out, options, called, occurrence)?;
+    push_label(out, options)?;
+    push_arrow(alloc, out, occurrence)
+}
+
+/// Adds a space, unless nothing is done yet.
+fn push_space(out: &mut String, done: usize) -> Result<(), AllocError>
+    ensures { OnOk result (string_bytes out.new ≡ string_bytes out.old ++ (if done == 0 then [] else codes " ")) }
+{
+    if done == 0 { Ok(()) } else { out.push_str(" ") }
+}
+
+/// Adds the ways back from a footnote to its calls, with single spaces between.
+///
+/// # Errors
+///
+/// Only where memory runs out.
+pub(crate) fn push_backreferences(
+    alloc: Global,
+    out: &mut String,
+    options: &CompileOptions,
+    called: &Called,
+) -> Result<(), AllocError>
+    ensures { OnOk result (string_bytes out.new ≡ string_bytes out.old
+        ++ meaning.backreferences options.now called.now.identifier.now called.now.number called.now.count) }
+{
+    let mut done = 0;
+    while done < called.count {
+        push_space(out, done)?;
+        done += 1;
+        push_backreference(alloc, out, options, called, done)?;
+    }
+    Ok(())
+}

@@ -1,0 +1,3 @@
+-- A text with captured texts in it, and how it stands in memory.
+pub mod Texts
+pub mod Waiting

@@ -1,0 +1,386 @@
+//! One text in which captured texts begin one after another.
+
+ghost use Rattle.std.specs.Prelude.{◌≡◌, ◌≤◌, ◌∷◌, ◌++◌, [], OnOk, IfOk, if◌then◌else◌, length, string_bytes};
+ghost use Rattle.md_output.specs.Texts as texts;
+ghost use Rattle.md_output.specs.Texts.{first_or, others_of};
+ghost use Rattle.md_meaning.specs.Meaning.Layout.{Needed, laid_after, begins_line};
+ghost use Rattle.md_text.specs.Encode.{encoded};
+
+use crate::heads::{Head, forget_from, push_merged, wait_first, waits};
+use md_text::push_encoded;
+use std::alloc::{AllocError, Global};
+use std::marker::Model;
+
+/// Of how many bytes of a document room is made for at once: room that grows by doubling costs little after that.
+const MOST_ROOM: usize = 4096;
+
+/// Before a label up to this length a head is put at once: to put it in later, where all is copied, would cost more.
+const SHORT_LABEL: usize = 512;
+
+/// Where a text starts, which of the heads that wait is the first in it, and where their texts start.
+#[derive(Clone, Copy)]
+struct Start {
+    place: usize,
+    first: usize,
+    heads: usize,
+}
+
+/// One text, in which captured texts begin one after another.
+///
+/// A head is put before its label at once where the label is short. Before a long one, or one in which others wait, it
+/// waits until the text is taken out, when all that wait are put in by one copy: so labels in one another cost no more
+/// than others.
+///
+/// # Examples
+///
+/// ```
+/// let mut out = Output::new(alloc);
+/// out.capture_label()?;
+/// out.put("label")?;
+/// out.put_before("<a href=\"url\">")?;
+/// out.join();
+/// out.put("</a>")?;
+/// assert_eq!(out.into_text(alloc)?.as_str(), "<a href=\"url\">label</a>");
+/// ```
+#[derive(Drop)]
+pub struct Output {
+    bytes: String,
+    /// The texts of heads, one after another, and the heads that wait, in the order of their places.
+    heads: String,
+    waiting: Vec<Head>,
+    /// Where the innermost text starts, and where the ones before it do, the innermost last.
+    start: Start,
+    outers: Vec<Start>,
+}
+
+impl Model for Output {
+    ghost use Rattle.std.specs.Prelude.{reverse, string_bytes};
+    ghost use Rattle.md_output.specs.Texts as texts;
+    ghost use Rattle.md_output.specs.Waiting as placed;
+
+    ghost Value = { texts.Texts };
+
+    ghost view = { λ o. placed.texts_of (string_bytes o.bytes) (string_bytes o.heads) o.waiting.items o.start
+        (reverse o.outers.items) };
+
+    ghost invariant = { λ o. placed.IsSound (string_bytes o.bytes) (string_bytes o.heads) o.waiting.items o.start
+        (reverse o.outers.items) };
+}
+
+impl Output {
+    /// No text.
+    pub fn new(alloc: Global) -> Output
+        ensures { result ≡ record { text = []; below = [] } }
+    {
+        Output {
+            bytes: String::new(alloc),
+            heads: String::new(alloc),
+            waiting: Vec::new(alloc),
+            start: Start {
+                place: 0,
+                first: 0,
+                heads: 0,
+            },
+            outers: Vec::new(alloc),
+        }
+    }
+
+    /// Makes room for the text of a document of so many bytes, where there is memory for it.
+    pub fn reserve(&mut self, bytes: usize)
+        ensures { self.new ≡ self.old }
+    {
+        let _ = self
+            .bytes
+            .reserve(bytes.min(MOST_ROOM).saturating_mul(2).saturating_add(64));
+    }
+
+    /// Puts a text.
+    ///
+    /// # Errors
+    ///
+    /// Only where memory runs out.
+    #[inline(always)]
+    pub fn put(&mut self, text: &str) -> Result<(), AllocError>
+        ensures { OnOk result (self.new ≡ record { text = self.old.text ++ text.now; below = self.old.below }) }
+    {
+        self.bytes.push_str(text)?;
+        Ok(())
+    }
+
+    /// Puts a text, made safe to stand in HTML where `escaping` says so, and without NUL in any case.
+    ///
+    /// # Errors
+    ///
+    /// Only where memory runs out.
+    #[inline(always)]
+    pub fn put_encoded(&mut self, text: &str, escaping: bool) -> Result<(), AllocError>
+        ensures { OnOk result (self.new ≡ record {
+          text = self.old.text ++ encoded escaping text.now;
+          below = self.old.below;
+        }) }
+    {
+        push_encoded(&mut self.bytes, text, escaping)?;
+        Ok(())
+    }
+
+    /// Puts a line ending, unless a line starts here.
+    ///
+    /// # Errors
+    ///
+    /// Only where memory runs out.
+    #[inline(always)]
+    pub fn need(&mut self, ending: &str) -> Result<(), AllocError>
+        ensures { OnOk result (self.new ≡ record {
+          text = laid_after ending.now self.old.text (Needed ∷ []);
+          below = self.old.below;
+        }) }
+    {
+        if self.begins_line() {
+            Ok(())
+        } else {
+            self.put(ending)
+        }
+    }
+
+    /// Whether the innermost text is empty or ends in CR or LF: no head is at its end.
+    #[inline(always)]
+    fn begins_line(&self) -> bool
+        ensures { result ≡ begins_line self.now.text }
+    {
+        begins_line(&self.bytes.as_str()[self.start.place..])
+    }
+
+    /// Begins a text.
+    ///
+    /// # Errors
+    ///
+    /// Only where memory runs out.
+    #[inline(always)]
+    pub fn capture(&mut self) -> Result<(), AllocError>
+        ensures { OnOk result (self.new ≡ record { text = []; below = self.old.text ∷ self.old.below }) }
+    {
+        self.outers.push(self.start)?;
+        self.start = Start {
+            place: self.bytes.len(),
+            first: self.waiting.len(),
+            heads: self.heads.len(),
+        };
+        Ok(())
+    }
+
+    /// Begins a text that a head may be put before. Before a text that [`Output::capture`] began it may be put too, at
+    /// more cost where heads wait in that.
+    ///
+    /// # Errors
+    ///
+    /// Only where memory runs out.
+    #[inline(always)]
+    pub fn capture_label(&mut self) -> Result<(), AllocError>
+        ensures { OnOk result (self.new ≡ record { text = []; below = self.old.text ∷ self.old.below }) }
+    {
+        self.capture()?;
+        self.keep_place()
+    }
+
+    /// Keeps a place among the heads that wait, for one that may be put here.
+    #[inline(always)]
+    fn keep_place(&mut self) -> Result<(), AllocError>
+        ensures { OnOk result (self.new ≡ self.old) }
+    {
+        let place = self.bytes.len();
+        self.waiting.push(Head {
+            place,
+            from: 0,
+            to: 0,
+        })?;
+        Ok(())
+    }
+
+    /// Puts a head before the innermost text.
+    ///
+    /// # Errors
+    ///
+    /// Only where memory runs out.
+    pub fn put_before(&mut self, head: &str) -> Result<(), AllocError>
+        ensures { OnOk result (self.new ≡ record { text = head.now ++ self.old.text; below = self.old.below }) }
+    {
+        if self.length() > SHORT_LABEL {
+            return self.put_later(head);
+        }
+        if self.put_at_once(head)? {
+            return Ok(());
+        }
+        self.put_later(head)
+    }
+
+    /// Puts a head before the innermost text at once, unless one waits in that.
+    fn put_at_once(&mut self, head: &str) -> Result<bool, AllocError>
+        ensures { IfOk result (λ put. self.new ≡ (if put
+            then record { text = head.now ++ self.old.text; below = self.old.below }
+            else self.old)) }
+    {
+        if waits(&self.waiting.as_slice()[self.start.first..]) {
+            return Ok(false);
+        }
+        self.waiting.truncate(self.start.first);
+        self.bytes.insert_str(self.start.place, head)?;
+        Ok(true)
+    }
+
+    /// How long the innermost text is, without the heads that wait in it.
+    #[inline(always)]
+    fn length(&self) -> usize
+        ensures { result ≤ length self.now.text }
+    {
+        self.bytes.len() - self.start.place
+    }
+
+    /// Puts a head before the innermost text, unless that is empty, when the text is taken out.
+    #[cold]
+    fn put_later(&mut self, head: &str) -> Result<(), AllocError>
+        ensures { OnOk result (self.new ≡ record { text = head.now ++ self.old.text; below = self.old.below }) }
+    {
+        if self.bytes.len() == self.start.place {
+            return self.put(head);
+        }
+        let from = self.heads.len();
+        self.heads.push_str(head)?;
+        let waiting = Head {
+            place: self.start.place,
+            from,
+            to: self.heads.len(),
+        };
+        wait_first(&mut self.waiting, self.start.first, waiting)?;
+        Ok(())
+    }
+
+    /// Ends the innermost text, which stays where it is.
+    #[inline(always)]
+    pub fn join(&mut self)
+        ensures { self.new ≡ record {
+          text = first_or [] self.old.below ++ self.old.text;
+          below = others_of self.old.below;
+        } }
+    {
+        if self.waiting.len() > self.start.first {
+            self.close_label();
+        }
+        self.end();
+    }
+
+    /// Gives up the place of a head that wasn't put.
+    #[inline(never)]
+    fn close_label(&mut self)
+        ensures { self.new ≡ self.old }
+    {
+        if !waits(&self.waiting.as_slice()[self.start.first..]) {
+            self.waiting.truncate(self.start.first);
+        }
+    }
+
+    /// Ends the innermost text, which stays where it is.
+    #[inline(always)]
+    fn end(&mut self)
+        ensures { self.new ≡ record {
+          text = first_or [] self.old.below ++ self.old.text;
+          below = others_of self.old.below;
+        } }
+    {
+        if let Some(outer) = self.outers.pop() {
+            self.start = outer;
+        }
+    }
+
+    /// Ends the innermost text, which goes.
+    #[inline(always)]
+    pub fn discard(&mut self)
+        ensures { self.new ≡ record { text = first_or [] self.old.below; below = others_of self.old.below } }
+    {
+        self.clear();
+        self.end();
+    }
+
+    /// Ends the innermost text, and adds it to another.
+    ///
+    /// # Errors
+    ///
+    /// Only where memory runs out.
+    pub fn move_into(&mut self, out: &mut String) -> Result<(), AllocError>
+        ensures moved { OnOk result (string_bytes out.new ≡ string_bytes out.old ++ self.old.text) }
+        ensures left { OnOk result (self.new
+            ≡ record { text = first_or [] self.old.below; below = others_of self.old.below }) }
+    {
+        self.add_to(out)?;
+        self.discard();
+        Ok(())
+    }
+
+    /// The innermost text, as it is where nothing is captured and no head waits.
+    ///
+    /// # Errors
+    ///
+    /// Only where memory runs out.
+    pub fn into_text(self, alloc: Global) -> Result<String, AllocError>
+        ensures { IfOk result (λ text. string_bytes text ≡ self.text) }
+    {
+        if self.start.place == 0 && self.waiting.is_empty() {
+            let Output {
+                bytes,
+                heads: _,
+                waiting: _,
+                start: _,
+                outers: _,
+            } = self;
+            return Ok(bytes);
+        }
+        self.to_text(alloc)
+    }
+
+    /// A copy of the innermost text.
+    fn to_text(&self, alloc: Global) -> Result<String, AllocError>
+        ensures { IfOk result (λ text. string_bytes text ≡ self.now.text) }
+    {
+        let length = self.length().saturating_add(self.heads.len());
+        let mut text = String::with_capacity(alloc, length)?;
+        self.add_to(&mut text)?;
+        Ok(text)
+    }
+
+    /// Adds the innermost text to another.
+    fn add_to(&self, out: &mut String) -> Result<(), AllocError>
+        ensures { OnOk result (string_bytes out.new ≡ string_bytes out.old ++ self.now.text) }
+    {
+        push_merged(
+            out,
+            self.bytes.as_str(),
+            self.heads.as_str(),
+            &self.waiting.as_slice()[self.start.first..],
+            self.start.place,
+        )
+    }
+
+    /// Takes the innermost text away, and with it the heads that wait in it.
+    #[inline(always)]
+    fn clear(&mut self)
+        ensures { self.new ≡ record { text = []; below = self.old.below } }
+    {
+        forget_from(
+            &mut self.heads,
+            &mut self.waiting,
+            self.start.first,
+            self.start.heads,
+        );
+        self.bytes.truncate(self.start.place);
+    }
+}
+
+/// Whether a text is empty or ends in CR or LF.
+#[inline(always)]
+fn begins_line(text: &str) -> bool
+    ensures { result ≡ begins_line text.now }
+{
+    match text.as_bytes().last() {
+        Some(byte) => *byte == b'\r' || *byte == b'\n',
+        None => true,
+    }
+}

@@ -1,2 +1,0 @@
--- The groups in which the code prints names at their exits.
-pub mod Closings

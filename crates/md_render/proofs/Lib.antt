@@ -1,0 +1,8 @@
+-- Lemmas.
+pub mod Answered
+pub mod FirstEndings
+pub mod Windows
+pub mod Stepping
+pub mod Supplying
+pub mod Turns
+pub mod Owns

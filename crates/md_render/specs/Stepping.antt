@@ -1,0 +1,23 @@
+-- What is done at one event, as the steps over the events do it.
+use Rattle.std.specs.Prelude.{◌≡◌, ℕ, if◌then◌else◌}
+use Rattle.md_base.specs.declared.event.Event.{Event}
+use Rattle.md_base.specs.declared.event.Name.{Name}
+use Rattle.md_meaning.specs.Meaning.At.{Given}
+use Rattle.md_writer.specs.Run.{Noticed, stepped, passes}
+use Rattle.md_writer.specs.Steps.{State, entered, passed, is_passed}
+use Rattle.md_told.specs.Told.{IsNoticedAt}
+use Rattle.md_emit.specs.Supplies.{Supplies}
+use Rattle.md_emit.specs.declared.given.Given.{Given as Supplied}
+
+-- an event is gone over, and so many after it are passed over
+abbrev pub Steps : Supplied → ℕ → Event → ℕ → State → State → Type 0
+Steps code index event more before after =
+    (at : Given) (one : Noticed) → Supplies code at → IsNoticedAt code.checked.now index one →
+    (more ≡ passes event one.inside) × (after ≡ stepped at event one.told before)
+
+-- the same of an entry
+abbrev pub Opens : Supplied → ℕ → Name → ℕ → State → State → Type 0
+Opens code index name more before after =
+    (at : Given) (one : Noticed) → Supplies code at → IsNoticedAt code.checked.now index one →
+    (more ≡ (if is_passed name then one.inside else 0))
+    × (after ≡ (if is_passed name then passed before else entered at one.told name before))

@@ -1,0 +1,12 @@
+-- Lemmas.
+pub mod Rows
+pub mod Nodes
+pub mod Answered
+pub mod EndLemmas
+pub mod FoundLemmas
+pub mod Labelled
+pub mod Undefined
+pub mod Leading
+pub mod Running
+pub mod Own
+pub mod Unnamed

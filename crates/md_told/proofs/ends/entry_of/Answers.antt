@@ -1,0 +1,33 @@
+-- The partner of an exit is the entry of its node, at which the same is noticed.
+use Rattle.std.proofs.Common.{◌≡◌, ℕ, Option, Some, subst}
+use Rattle.md_tree.specs.Texts.{EntersAt}
+use Rattle.md_tree.specs.Indices.{IsPartnerAt}
+use Rattle.md_told.specs.Told.{IsNoticedAt}
+use Rattle.md_told.proofs.Nodes.{partner-exited}
+use Rattle.md_told.proofs.EndLemmas.{some-there}
+use Rattle.md_told.proofs.ends.entry_of.Goals as goal
+
+pub unwrap-requires : goal.unwrap-requires
+unwrap-requires c =
+    let found = partner-exited c.args.checked.now c.args.index c.requires.0 c.partner.result c.requires.1
+    c.partner.ensures in
+    some-there c.partner.result found.0 found.1
+
+same-place : (o : Option ℕ) (one other : ℕ) → o ≡ Some one → o ≡ Some other → one ≡ other
+same-place o one other e f = cc
+
+pub returns-clause-enters : goal.returns-clause-enters
+returns-clause-enters c = λ name exits.
+    let found = partner-exited c.args.checked.now c.args.index name c.partner.result exits c.partner.ensures in
+    subst (λ i. EntersAt c.args.checked.now.events i name)
+    (same-place c.partner.result found.0 c.unwrap.result found.1 c.unwrap.ensures) found.2
+
+pub returns-clause-noticed : goal.returns-clause-noticed
+returns-clause-noticed c = λ one there.
+    let found = partner-exited c.args.checked.now c.args.index c.requires.0 c.partner.result c.requires.1
+    c.partner.ensures in
+    subst (λ i. IsNoticedAt c.args.checked.now i one)
+    (same-place c.partner.result found.0 c.unwrap.result found.1 c.unwrap.ensures) (found.3 one there)
+
+pub returns-clause-partner : goal.returns-clause-partner
+returns-clause-partner c = subst (λ o. IsPartnerAt c.args.checked.now c.args.index o) c.unwrap.ensures c.partner.ensures

@@ -1,0 +1,152 @@
+//! Where a node lies: its two events, its text, and whether it is the last one.
+
+ghost use Rattle.std.specs.Prelude.{◌≡◌, ◌+◌, ◌<◌, ◌≤◌, [], Some, length, slice_get, unwrap_or};
+ghost use Rattle.md_base.specs.Place.{text_between};
+ghost use Rattle.md_base.specs.declared.event.Event.{Event as AnyEvent};
+ghost use Rattle.md_base.specs.declared.event.Name.{Name};
+ghost use Rattle.md_meaning.specs.Meaning.At.{text_in};
+ghost use Rattle.md_tree.specs.Found.{EntersSome};
+ghost use Rattle.md_tree.specs.Indices.{IsPartnerAt};
+ghost use Rattle.md_tree.specs.Texts.{EntersAt, ExitsAt};
+ghost use Rattle.md_writer.specs.Run.{Noticed};
+ghost use Rattle.md_told.specs.Told.{IsNoticedAt, ExitsSome};
+
+use md_base::{Event, Point, Position};
+use md_tree::Checked;
+
+/// Whether nothing follows in the document after the node that the event at the index exits.
+///
+/// # Examples
+///
+/// ```
+/// // Where two events are a thematic break, and no others come:
+/// assert!(is_last_at(&checked, 1));
+/// ```
+#[inline(always)]
+pub fn is_last_at(checked: &Checked, index: usize) -> bool
+    requires { ExitsSome checked.now.events index }
+    ensures { (one : Noticed) → IsNoticedAt checked.now index one → result ≡ one.told.last }
+{
+    let count = checked.events().len();
+    index + 1 == count
+}
+
+/// How many events come after the event at the index, which enters a node, up to the node's exit.
+///
+/// # Examples
+///
+/// ```
+/// // Where two events are a thematic break:
+/// assert_eq!(inside_at(&checked, 0), 1);
+/// ```
+#[inline(always)]
+pub fn inside_at(checked: &Checked, index: usize) -> usize
+    requires { EntersSome checked.now.events index }
+    ensures { (one : Noticed) → IsNoticedAt checked.now index one → result ≡ one.inside }
+{
+    exit_of(checked, index) - index
+}
+
+/// The place of the node that the event at the index exits.
+///
+/// # Examples
+///
+/// ```
+/// // Where two events are a thematic break from 0 to 3:
+/// assert_eq!(place_left_at(&checked, 1).end.index, 3);
+/// ```
+#[inline(always)]
+pub fn place_left_at(checked: &Checked, index: usize) -> Position
+    requires { ExitsSome checked.now.events index }
+    ensures { (one : Noticed) → IsNoticedAt checked.now index one → result ≡ one.told.place }
+{
+    Position {
+        start: start_of(checked, index),
+        end: end_of(checked, index),
+    }
+}
+
+/// The text of the node that the event at the index exits, without the spaces of tabs that are cut at its ends; empty
+/// where its place doesn't fit the bytes, or these aren't UTF-8.
+///
+/// # Examples
+///
+/// ```
+/// // Of `a`, where 1 enters its data, and 2 exits the data:
+/// assert_eq!(text_left_at(&checked, 2), "a");
+/// ```
+#[inline(always)]
+pub fn text_left_at<'a>(checked: &Checked<'a>, index: usize) -> &'a str
+    requires { ExitsSome checked.now.events index }
+    ensures { (one : Noticed) → IsNoticedAt checked.now index one
+        → result.now ≡ text_in checked.now.bytes one.told.place }
+{
+    text_of_leaf(checked, start_of(checked, index), end_of(checked, index))
+}
+
+/// The text between two points, as that of a node that lies there.
+///
+/// # Examples
+///
+/// ```
+/// // Of `a`, where 1 enters its data, and 2 exits the data:
+/// let events = checked.events();
+/// assert_eq!(text_of_leaf(&checked, events[1].point, events[2].point), "a");
+/// ```
+#[inline(always)]
+pub fn text_of_leaf<'a>(checked: &Checked<'a>, start: Point, end: Point) -> &'a str
+    ensures { result.now ≡ unwrap_or (text_between checked.now.bytes start end) [] }
+{
+    checked.text_between(start, end).unwrap_or("")
+}
+
+/// The index of the event that enters the node that the event at the index exits.
+#[inline(always)]
+pub(crate) fn entry_of(checked: &Checked, index: usize) -> usize
+    requires { ExitsSome checked.now.events index }
+    ensures enters { (name : Name) → ExitsAt checked.now.events index name → EntersAt checked.now.events result name }
+    ensures noticed { (one : Noticed) → IsNoticedAt checked.now index one → IsNoticedAt checked.now result one }
+    ensures partner { IsPartnerAt checked.now index (Some result) }
+{
+    checked.partner(index).unwrap()
+}
+
+/// The index of the event that exits the node that the event at the index enters.
+#[inline(always)]
+pub(crate) fn exit_of(checked: &Checked, index: usize) -> usize
+    requires { EntersSome checked.now.events index }
+    ensures later { index ≤ result }
+    ensures exits { (name : Name) → EntersAt checked.now.events index name → ExitsAt checked.now.events result name }
+    ensures noticed { (one : Noticed) → IsNoticedAt checked.now index one → IsNoticedAt checked.now result one }
+    ensures inside { (one : Noticed) → IsNoticedAt checked.now index one → result ≡ index + one.inside }
+    ensures partner { IsPartnerAt checked.now index (Some result) }
+{
+    checked.partner(index).unwrap()
+}
+
+/// Where the node begins that the event at the index exits.
+#[inline(always)]
+fn start_of(checked: &Checked, index: usize) -> Point
+    requires { ExitsSome checked.now.events index }
+    ensures { (one : Noticed) → IsNoticedAt checked.now index one → result ≡ one.told.place.start }
+{
+    point_at(checked.events(), entry_of(checked, index))
+}
+
+/// Where the node ends that the event at the index exits.
+#[inline(always)]
+fn end_of(checked: &Checked, index: usize) -> Point
+    requires { ExitsSome checked.now.events index }
+    ensures { (one : Noticed) → IsNoticedAt checked.now index one → result ≡ one.told.place.end }
+{
+    point_at(checked.events(), index)
+}
+
+/// The point of the event at an index.
+#[inline(always)]
+fn point_at(events: &[Event], index: usize) -> Point
+    requires { index < length events.now }
+    ensures { (event : AnyEvent) → slice_get events.now index ≡ Some event → result ≡ event.point }
+{
+    events[index].point
+}
