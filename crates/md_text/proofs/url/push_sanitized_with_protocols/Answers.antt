@@ -1,5 +1,6 @@
 -- What was added begins where the text ended, and is ASCII.
 use Rattle.std.proofs.Common.{rules, ◌≡◌, ◌<◌, ◌++◌, List, ℕ, length, get_or, sym, ap, subst, arith, string_bytes}
+use Rattle.std.proofs.lemmas.Grind.{common_steps}
 use Rattle.std.proofs.lemmas.List.{length-append}
 use Rattle.std.proofs.lemmas.List.Elements.{All-from_get_or}
 use Rattle.md_text.specs.Url.{sanitized}
@@ -25,3 +26,9 @@ truncate-requires c =
           (first-added before (sanitized value) ascii) (omega (arith, start, inside))) in
           absurd (omega (arith, low, high)),
     )
+
+pub returns-then-not-has_permitted_protocol : goal.returns-then-not-has_permitted_protocol
+returns-then-not-has_permitted_protocol c = grind (arith, common_steps)
+
+pub returns-else-not-has_permitted_protocol : goal.returns-else-not-has_permitted_protocol
+returns-else-not-has_permitted_protocol c = grind (arith, common_steps)
