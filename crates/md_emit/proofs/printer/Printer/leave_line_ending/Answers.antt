@@ -1,0 +1,13 @@
+-- The search that proves it, and no other: a wrong body is refused by it in a second, where all that is tried without
+-- an answer takes ten.
+use Rattle.std.proofs.Common.{rules}
+use Rattle.md_emit.proofs.printer.Printer.leave_line_ending.Goals as goal
+
+pub returns-then-self : goal.returns-then-self
+returns-then-self c = search rules
+
+pub returns-then-is_dropped : goal.returns-then-is_dropped
+returns-then-is_dropped c = search rules
+
+pub returns-else-is_dropped : goal.returns-else-is_dropped
+returns-else-is_dropped c = search rules

@@ -1,0 +1,10 @@
+-- The search that proves it, and no other: a wrong body is refused by it in a second, where all that is tried without
+-- an answer takes ten.
+use Rattle.std.proofs.Common.{rules}
+use Rattle.md_emit.proofs.printer.Printer.open_number.Goals as goal
+
+pub returns-then-eq : goal.returns-then-eq
+returns-then-eq c = search rules
+
+pub returns : goal.returns
+returns c = search rules
