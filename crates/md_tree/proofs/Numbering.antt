@@ -1,11 +1,10 @@
 -- Identifiers in an ordered map, each with its number: which of the definitions is the first that has it.
 use Rattle.std.proofs.Common.{arith, ◌≡◌, ◌⊎◌, ℕ, zero, suc, ◌+◌, ◌<◌, ◌≤◌, Bool, true, false, cond, Option, Some, None, List, [], ◌∷◌, ◌++◌, length, get_or, drop, inl, inr, true≢false, refl, sym, ap, ◌∙◌, subst}
-use Rattle.std.specs.Prelude.{option_map, string_bytes, map, String, if◌then◌else◌, bytes_eq, slice_index_or, slice_set, slice_get, Result, Ok, Err}
+use Rattle.std.specs.Prelude.{option_map, string_bytes, String, if◌then◌else◌, slice_index_or, slice_set, slice_get}
 use Rattle.std.specs.List.{Contains}
 use Rattle.std.specs.Option.{option_cmp, ok_or}
 use Rattle.std.specs.String.{string_cmp}
-use Rattle.std.specs.Cmp.Lexicographic.{slice_cmp}
-use Rattle.std.specs.Ordering.{is_eq, nat_cmp}
+use Rattle.std.specs.Ordering.{is_eq}
 use Rattle.std.specs.declared.cmp.Ordering.{Ordering}
 use Rattle.std.specs.declared.alloc.Global.{Global}
 use Rattle.std.specs.BTreeMap.{BTreeMap, is_at, UpdatesBy}

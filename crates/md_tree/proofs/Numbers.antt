@@ -1,12 +1,10 @@
 -- What is kept of a document's events: what is found at them, with a number at each exit of a mention.
-use Rattle.std.proofs.Common.{◌≡◌, ℕ, zero, suc, ◌+◌, ◌≤◌, ◌<◌, Bool, true, false, Option, Some, None, List, [], ◌∷◌, ◌++◌, length, refl, sym, ap, ◌∙◌, subst, append_assoc, append-nil, arith}
-use Rattle.std.specs.Prelude.{map, slice_get, option_map, IsTrue}
+use Rattle.std.proofs.Common.{◌≡◌, ℕ, zero, suc, ◌≤◌, true, false, Option, Some, None, List, [], ◌∷◌, ◌++◌, length, refl, sym, ap, ◌∙◌, subst, append_assoc, append-nil, arith}
+use Rattle.std.specs.Prelude.{map, slice_get, option_map}
 use Rattle.md_base.specs.declared.event.Name.{Name}
 use Rattle.md_base.specs.declared.event.Name.TheVariants.{Link, Image, GfmFootnoteCall, GfmFootnoteDefinition}
-use Rattle.md_base.specs.declared.event.Name.TheVariants as names
 use Rattle.md_base.specs.declared.event.Kind.TheVariants.{Enter, Exit}
 use Rattle.md_base.specs.declared.event.Event.{Event}
-use Rattle.md_base.specs.declared.event.Position.{Position}
 use Rattle.md_infer.specs.declared.facts.Fact.{Fact}
 use Rattle.md_infer.specs.Partners.{index_after}
 use Rattle.md_infer.specs.Facts.{facts_at, facts_of, fact_at, partner_alone, tables_with, tables_after}
@@ -17,12 +15,9 @@ use Rattle.md_tree.specs.declared.mention.Referral.{Referral}
 use Rattle.md_tree.specs.declared.mention.Referral.TheVariants.{Missing, Resource, Label}
 use Rattle.md_tree.specs.declared.mention.Mention.{Mention}
 use Rattle.md_tree.specs.declared.mention.Mention.TheVariants.{Nothing, Reference, Call, Definition, FootnoteDefinition}
-use Rattle.md_tree.specs.declared.mention.Mentioned.{Mentioned}
 use Rattle.md_tree.specs.Rules.{reading_of, target_of}
-use Rattle.md_tree.specs.Grammar.{Handed}
-use Rattle.md_tree.specs.Texts.{IsEventAt, ExitsAt}
-use Rattle.md_tree.specs.Found.{position_from, partner_event, position_there, position_at, position_ended, index_if}
-use Rattle.md_tree.specs.Mentions.{mention_of, mentions_of, mentions_among, defined, footnoted, identifier_at}
+use Rattle.md_tree.specs.Found.{position_from, partner_event, position_there, position_at, position_ended}
+use Rattle.md_tree.specs.Mentions.{mention_of, mentions_of, mentions_among, identifier_at}
 use Rattle.md_tree.specs.Numbers.{which, number_of, with_number, put_number, numbered, footnote_number, leading_number, all_numbered, number_for, facts_with, place_of, definition_for, footnote_for, is_of_definitions, is_of_footnotes}
 use Rattle.md_tree.proofs.Listing.{listed, defined_listed, footnoted_listed}
 use Rattle.md_tree.proofs.Numbering.{put-none, put-past}

@@ -6,7 +6,6 @@ use Rattle.std.specs.String.{string_cmp}
 use Rattle.std.specs.declared.alloc.Global.{Global}
 use Rattle.md_base.specs.declared.event.Name.{Name}
 use Rattle.md_base.specs.declared.event.Name.TheVariants.{Link, Image, GfmFootnoteCall, GfmFootnoteDefinition}
-use Rattle.md_base.specs.declared.event.Name.TheVariants as names
 use Rattle.md_base.specs.declared.event.Event.{Event}
 use Rattle.md_base.specs.Tree.{Forest, flatten}
 use Rattle.md_infer.specs.Facts.{facts_at}
@@ -14,7 +13,7 @@ use Rattle.md_tree.specs.Grammar.{Handed}
 use Rattle.md_tree.specs.Texts.{ExitsAt}
 use Rattle.md_infer.specs.declared.facts.Fact.{Fact}
 use Rattle.md_tree.specs.declared.mention.Mention.{Mention}
-use Rattle.md_tree.specs.declared.mention.Mention.TheVariants.{Reference, Call, Definition, FootnoteDefinition}
+use Rattle.md_tree.specs.declared.mention.Mention.TheVariants.{Reference, Call, FootnoteDefinition}
 use Rattle.md_tree.specs.declared.mention.Mentioned.{Mentioned}
 use Rattle.md_tree.specs.declared.rule.Rule.{Rule}
 use Rattle.md_tree.specs.declared.rule.Rule.TheVariants as rule

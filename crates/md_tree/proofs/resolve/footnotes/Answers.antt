@@ -1,7 +1,6 @@
 -- A footnote definition gets its number in the map and at its exit, another mention none. The search doesn't look each
 -- identifier up in the longer map.
-use Rattle.std.proofs.Common.{◌≡◌, ◌≤◌, ℕ, suc, ◌+◌, List, Option, drop, ap, sym, ◌∙◌, refl, arith}
-use Rattle.md_tree.specs.declared.mention.Mention.{Mention}
+use Rattle.std.proofs.Common.{◌≡◌, ◌≤◌, ℕ, suc, ◌+◌, List, Option, drop, ap, sym, ◌∙◌, arith}
 use Rattle.md_tree.specs.declared.mention.Mentioned.{Mentioned}
 use Rattle.md_tree.specs.Mentions.{mentions_among, footnoted, footnoted_by}
 use Rattle.md_tree.specs.Numbers.{which, number_of, footnote_number}

@@ -1,8 +1,8 @@
 -- A mention that is refused leads nowhere, and after one that passes all so far are resolved and numbered. The search
 -- doesn't go from the numbers to what the mentions define: `Numbering` does.
-use Rattle.std.proofs.Common.{◌≡◌, below_more, get_or, refl, sym, ap, ◌∙◌}
+use Rattle.std.proofs.Common.{below_more, get_or, sym}
 use Rattle.md_tree.specs.Mentions.{mentions_among, IsResolved}
-use Rattle.md_tree.specs.Numbers.{leading_number, IsLed}
+use Rattle.md_tree.specs.Numbers.{leading_number}
 use Rattle.md_tree.proofs.Numbering.{IsResolved-at, IsUnresolvedBy-at, numbered-kept}
 use Rattle.md_tree.proofs.resolve.resolve.Goals as goal
 

@@ -1,8 +1,7 @@
 -- The number at an exit is that of its mention. The search doesn't know what a `Checked` keeps: `Kept` says it.
 use Rattle.std.proofs.Common.{◌<◌, length, sym, ap, ◌∙◌, subst}
 use Rattle.std.specs.Prelude.{slice_get}
-use Rattle.md_infer.specs.declared.facts.Fact.{Fact}
-use Rattle.md_tree.specs.Numbers.{place_of, is_of_footnotes}
+use Rattle.md_tree.specs.Numbers.{is_of_footnotes}
 use Rattle.md_tree.proofs.Kept.{exit-inside, footnote-kept}
 use Rattle.md_tree.proofs.checked.Checked.footnote_of.Goals as goal
 
