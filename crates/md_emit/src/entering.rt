@@ -43,10 +43,7 @@ impl<'a> Printer<'a> {
             Name::Strong => self.enter_span("<strong>"),
             Name::GfmStrikethrough => self.enter_span("<del>"),
             Name::GfmTableCell => self.enter_cell(given.ending),
-            Name::GfmTableRow => {
-                self.cells = 0;
-                self.enter_line(given.ending, "<tr>")
-            }
+            Name::GfmTableRow => self.enter_row(given.ending),
             Name::Data | Name::CharacterEscapeValue | Name::CodeTextData | Name::MathTextData => {
                 self.enters();
                 Ok(())
@@ -164,11 +161,7 @@ impl<'a> Printer<'a> {
                 })
             }
             Name::DefinitionDestinationString | Name::ResourceDestinationString => {
-                self.capture()?;
-                self.turn(Around {
-                    is_escaping: false,
-                    ..self.around
-                })
+                self.enter_destination()
             }
             Name::GfmFootnoteDefinition => {
                 self.capture()?;
@@ -234,7 +227,22 @@ impl<'a> Printer<'a> {
         }) }
     {
         self.enters();
-        self.tag(tag)
+        let is_hidden = self.around.in_image;
+        if is_hidden { Ok(()) } else { self.put(tag) }
+    }
+
+    /// Enters a row, which has no cells yet.
+    #[inline(always)]
+    fn enter_row(&mut self, ending: &str) -> Result<(), AllocError>
+        ensures { OnOk result (self.new ≡ record self.old {
+          text = laid_after ending.now self.old.text (on_own_line (codes "<tr>"));
+          ended = None;
+          marker = 38;
+          cells = 0;
+        }) }
+    {
+        self.cells = 0;
+        self.enter_line(ending, "<tr>")
     }
 
     /// Enters a cell: its tag, where the table has its column.
@@ -465,6 +473,22 @@ impl<'a> Printer<'a> {
     {
         self.forget_resource();
         self.output.capture_label()
+    }
+
+    /// Begins where a resource or a definition leads, in which nothing is escaped yet.
+    fn enter_destination(&mut self) -> Result<(), AllocError>
+        ensures { OnOk result (self.new ≡ record self.old {
+          text = [];
+          below = self.old.text ∷ self.old.below;
+          around = record self.old.around { is_escaping = false };
+          arounds = self.old.around ∷ self.old.arounds;
+        }) }
+    {
+        self.capture()?;
+        self.turn(Around {
+            is_escaping: false,
+            ..self.around
+        })
     }
 
     /// Begins what tells where something leads.

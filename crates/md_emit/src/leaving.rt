@@ -16,6 +16,7 @@ ghost use Rattle.md_tree.specs.Texts.{ExitsAt};
 ghost use Rattle.md_writer.specs.Steps as steps;
 ghost use Rattle.md_writer.specs.Run.{Noticed};
 ghost use Rattle.md_emit.specs.Supplies.{Leaves, Supplies};
+ghost use Rattle.md_told.specs.Told.{IsNoticedAt};
 ghost use Rattle.md_emit.specs.Parts as parts;
 
 use crate::given::Given;
@@ -136,8 +137,8 @@ impl<'a> Printer<'a> {
             Name::HtmlTextData => self.leave_html(given, index, Name::HtmlTextData),
             Name::CodeText => self.leave_code(given.alloc, Name::CodeText),
             Name::MathText => self.leave_code(given.alloc, Name::MathText),
-            Name::HardBreakEscape => self.leave_span("<br />", Name::HardBreakEscape),
-            Name::HardBreakTrailing => self.leave_span("<br />", Name::HardBreakTrailing),
+            Name::HardBreakEscape => self.leave_break(Name::HardBreakEscape),
+            Name::HardBreakTrailing => self.leave_break(Name::HardBreakTrailing),
             Name::GfmTaskListItemCheck => self.leave_span("/>", Name::GfmTaskListItemCheck),
             Name::GfmTaskListItemValueChecked => {
                 self.leave_span("checked=\"\" ", Name::GfmTaskListItemValueChecked)
@@ -150,9 +151,7 @@ impl<'a> Printer<'a> {
                 let plain = self.around.in_image;
                 self.leave_autolink(given, index, "", plain, Name::AutolinkProtocol)
             }
-            Name::GfmAutolinkLiteralEmail => {
-                self.leave_literal(given, index, "mailto:", Name::GfmAutolinkLiteralEmail)
-            }
+            Name::GfmAutolinkLiteralEmail => self.leave_mail(given, index),
             Name::GfmAutolinkLiteralWww => {
                 self.leave_literal(given, index, "http://", Name::GfmAutolinkLiteralWww)
             }
@@ -207,8 +206,7 @@ impl<'a> Printer<'a> {
                 self.leave_dropped(Name::Definition)
             }
             Name::Frontmatter => {
-                self.discard();
-                self.ends_slurping(Name::Frontmatter);
+                self.leave_front();
                 Ok(())
             }
             Name::HtmlFlow => {
@@ -349,6 +347,47 @@ impl<'a> Printer<'a> {
     {
         self.ends(name);
         self.tag(tag)
+    }
+
+    /// Leaves a hard break: its tag, outside images.
+    fn leave_break(&mut self, name: Name) -> Result<(), AllocError>
+        requires solid { is_transparent name ≡ false }
+        requires plain { marker name ≡ 38 }
+        ensures { OnOk result ((ending : List ℕ) → self.new ≡ record self.old {
+          text = laid_after ending self.old.text (when (not self.old.around.in_image) (said (codes "<br />")));
+          ended = Some name;
+          marker = 38;
+        }) }
+    {
+        self.leave_span("<br />", name)
+    }
+
+    /// Leaves a mail address that stands as a link.
+    fn leave_mail(&mut self, given: &Given, index: usize) -> Result<(), AllocError>
+        requires { ExitsAt given.now.checked.now.events index names.GfmAutolinkLiteralEmail }
+        ensures { OnOk result ((all : At.Given) (one : Noticed) → Supplies given.now all
+            → IsNoticedAt given.now.checked.now index one → self.new ≡ record self.old {
+              text = laid_after all.ending self.old.text (steps.autolink_closing all one.told
+                  (self.old.around.in_image || self.old.around.in_link) (codes "mailto:"));
+              ended = Some names.GfmAutolinkLiteralEmail;
+              marker = 38;
+            }) }
+    {
+        self.leave_literal(given, index, "mailto:", Name::GfmAutolinkLiteralEmail)
+    }
+
+    /// Leaves the front matter, whose text is dropped.
+    fn leave_front(&mut self)
+        ensures { self.new ≡ record self.old {
+          text = steps.first_or [] self.old.below;
+          below = steps.others_of self.old.below;
+          slurps = if self.old.around.in_definition then self.old.slurps else true;
+          ended = Some names.Frontmatter;
+          marker = 38;
+        } }
+    {
+        self.discard();
+        self.ends_slurping(Name::Frontmatter);
     }
 
     /// Leaves a node whose tag stands on a line of its own.

@@ -3,5 +3,8 @@
 use Rattle.std.proofs.Common.{rules}
 use Rattle.md_emit.proofs.printer.Printer.enter_span.Goals as goal
 
-pub returns : goal.returns
-returns c = search rules
+pub returns-then-is_hidden : goal.returns-then-is_hidden
+returns-then-is_hidden c = search rules
+
+pub returns-else-is_hidden : goal.returns-else-is_hidden
+returns-else-is_hidden c = search rules

@@ -1,5 +1,5 @@
 -- The clause of the call.
-use Rattle.std.proofs.Common.{◌≡◌, ◌∷◌, ◌++◌, [], ℕ, List, Bool, true, false, not, Option, Some, None, refl, ap, sym, ◌∙◌}
+use Rattle.std.proofs.Common.{◌≡◌, ◌∷◌, ◌++◌, [], ℕ, List, Bool, true, false, not, Option, Some, None, refl, ap, sym, ◌∙◌, rules}
 use Rattle.std.specs.Prelude.{codes, if◌then◌else◌, unwrap_or, ◌||◌}
 use Rattle.md_base.specs.declared.event.Name.TheVariants as names
 use Rattle.md_writer.specs.Steps as steps
@@ -12,3 +12,6 @@ returns-in-GfmFootnoteDefinition c =
     on_ok _ _ (λ e given one supplies there. e given one supplies there
     ∙ ap (λ n. steps.exited given one.told n c.args.self.now) (sym c.in-GfmFootnoteDefinition.is))
     c.leave_footnote.result c.leave_footnote.ensures
+
+pub returns-in-Image : goal.returns-in-Image
+returns-in-Image c = search rules
