@@ -307,7 +307,8 @@ impl<'a> Printer<'a> {
           marker = 38;
         }) }
     {
-        if self.around.is_tight {
+        let is_hidden = self.around.is_tight;
+        if is_hidden {
             self.ends_slurping(Name::Paragraph);
             Ok(())
         } else {

@@ -3,8 +3,8 @@
 use Rattle.std.proofs.Common.{rules}
 use Rattle.md_emit.proofs.printer.Printer.leave_paragraph.Goals as goal
 
-pub returns-then-self : goal.returns-then-self
-returns-then-self c = search rules
+pub returns-then-is_hidden : goal.returns-then-is_hidden
+returns-then-is_hidden c = search rules
 
-pub returns-else-self : goal.returns-else-self
-returns-else-self c = search rules
+pub returns-else-is_hidden : goal.returns-else-is_hidden
+returns-else-is_hidden c = search rules
