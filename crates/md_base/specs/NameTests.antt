@@ -1,7 +1,7 @@
 -- Tests on names, each true for the names that it lists.
 use Rattle.std.specs.Prelude.{Bool, true, false, not, ◌||◌}
 use Rattle.md_base.specs.declared.event.Name.{Name}
-use Rattle.md_base.specs.declared.event.Name.TheVariants.{LineEnding, BlankLineEnding, BlockQuote, BlockQuotePrefix, ListItem, ListItemPrefix, ListItemValue, GfmFootnoteDefinition, GfmFootnoteDefinitionPrefix, GfmFootnoteDefinitionLabelString, GfmFootnoteCall, Definition, DefinitionLabelString, CodeFencedFence, MathFlowFence, CodeFlowChunk, MathFlowChunk, HeadingAtxSequence, GfmTable, GfmTableCell, GfmTableDelimiterMarker, GfmTableDelimiterCellValue, GfmTableDelimiterRow, GfmTableHead, ReferenceString, Label, LabelText, SpaceOrTab, Other, Paragraph}
+use Rattle.md_base.specs.declared.event.Name.TheVariants.{LineEnding, BlankLineEnding, BlockQuote, BlockQuotePrefix, ListItem, ListItemPrefix, ListItemValue, GfmFootnoteDefinition, GfmFootnoteDefinitionPrefix, GfmFootnoteDefinitionLabelString, GfmFootnoteCall, Definition, DefinitionLabelString, CodeFencedFence, MathFlowFence, CodeFlowChunk, MathFlowChunk, HeadingAtxSequence, GfmTable, GfmTableCell, GfmTableDelimiterMarker, GfmTableDelimiterCellValue, GfmTableDelimiterRow, GfmTableHead, ReferenceString, Label, LabelText, SpaceOrTab, Other}
 use Rattle.md_base.specs.Is.{is}
 
 -- a node that its parent's pattern looks through
@@ -33,9 +33,6 @@ is_block_quote name = elim name [ BlockQuote ↦ true | _ ↦ false ]
 
 abbrev pub is_block_quote_prefix : Name → Bool
 is_block_quote_prefix name = elim name [ BlockQuotePrefix ↦ true | _ ↦ false ]
-
-abbrev pub is_paragraph : Name → Bool
-is_paragraph name = elim name [ Paragraph ↦ true | _ ↦ false ]
 
 -- a child after which a line ending is dropped
 abbrev pub is_definition : Name → Bool

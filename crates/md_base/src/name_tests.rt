@@ -30,20 +30,6 @@ pub fn is_table(name: Name) -> bool
     matches!(name, Name::GfmTable)
 }
 
-/// The prefix of a list's item.
-pub fn is_item_prefix(name: Name) -> bool
-    ensures { result ≡ tests.is_item_prefix name }
-{
-    matches!(name, Name::ListItemPrefix)
-}
-
-/// A paragraph.
-pub fn is_paragraph(name: Name) -> bool
-    ensures { result ≡ tests.is_paragraph name }
-{
-    matches!(name, Name::Paragraph)
-}
-
 /// A definition of a link, or of a footnote; a line ending right after it is dropped.
 #[inline(always)]
 pub fn is_definition(name: Name) -> bool
@@ -75,20 +61,4 @@ pub fn is_fence(name: Name) -> bool
     ensures { result ≡ tests.is_fence name }
 {
     matches!(name, Name::CodeFencedFence | Name::MathFlowFence)
-}
-
-/// A line of code or of mathematics.
-#[inline(always)]
-pub fn is_chunk(name: Name) -> bool
-    ensures { result ≡ tests.is_chunk name }
-{
-    matches!(name, Name::CodeFlowChunk | Name::MathFlowChunk)
-}
-
-/// A cell of a table.
-#[inline(always)]
-pub fn is_cell(name: Name) -> bool
-    ensures { result ≡ tests.is_cell name }
-{
-    matches!(name, Name::GfmTableCell)
 }

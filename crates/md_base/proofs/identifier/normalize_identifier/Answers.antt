@@ -5,3 +5,6 @@ use Rattle.md_base.proofs.identifier.normalize_identifier.Goals as goal
 
 pub returns : goal.returns
 returns c = search rules
+
+pub returns-then-is_collapsed : goal.returns-then-is_collapsed
+returns-then-is_collapsed c = search rules
