@@ -1,0 +1,3 @@
+-- The content model of what is written, and what stands where in a document.
+pub mod Contents
+pub mod Placed
