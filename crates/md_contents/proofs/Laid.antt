@@ -5,14 +5,13 @@ use Rattle.std.proofs.lemmas.Bool.{and_from}
 use Rattle.std.proofs.lemmas.List.Folds.{list_all-append}
 use Rattle.md_text.proofs.EscapedLemmas.{escaped-append}
 use Rattle.md_meaning.specs.Meaning.Layout.{Piece, Text, Needed, Forced, begins_line, when}
-use Rattle.md_safe.proofs.Texts.{Escaped}
 use Rattle.md_safe.proofs.Laid.{Grows, Adds, adds-append, adds-text, adds-weaker, adds-nothing}
 use Rattle.md_contents.specs.Contents.{Content, Flow, Phrasing, is_space}
-use Rattle.md_contents.proofs.Stands.{Stands, stands-join, stands-nothing, stands-text, stands-wider, stands-white, IsWhite, is_spaced, Turns}
+use Rattle.md_contents.proofs.Stands.{Stands, stands-join, stands-nothing, stands-wider, stands-white, IsWhite, is_spaced, Turns}
 
 -- what pieces add stands as this content
-abbrev pub Lays : List ℕ → Content → List Piece → Type 0
-Lays ending content pieces = Adds ending (Stands content) pieces
+abbrev pub Lays : (nested : Bool) → List ℕ → Content → List Piece → Type 0
+Lays nested ending content pieces = Adds ending (Stands nested content) pieces
 
 pub white-append : (x y : List ℕ) → IsWhite x → IsWhite y → IsWhite (x ++ y)
 white-append x y a b = (
@@ -45,25 +44,26 @@ pub white-both : (ending : List ℕ) (xs ys : List Piece) → Adds ending IsWhit
     Adds ending IsWhite (xs ++ ys)
 white-both ending xs ys a b = adds-append ending IsWhite IsWhite IsWhite xs ys white-append a b
 
-pub lays-white : (ending : List ℕ) (content : Content) (pieces : List Piece) → is_spaced content ≡ true →
-    Adds ending IsWhite pieces → Lays ending content pieces
-lays-white ending content pieces is a =
-    adds-weaker ending IsWhite (Stands content) pieces (λ x h. stands-white content x is h) a
+pub lays-white : (nested : Bool) (ending : List ℕ) (content : Content) (pieces : List Piece) →
+    is_spaced content ≡ true →
+    Adds ending IsWhite pieces → Lays nested ending content pieces
+lays-white nested ending content pieces is a =
+    adds-weaker ending IsWhite (Stands nested content) pieces (λ x h. stands-white nested content x is h) a
 
-pub lays-nothing : (ending : List ℕ) (content : Content) → Lays ending content []
-lays-nothing ending content = adds-nothing ending (Stands content) (stands-nothing content)
+pub lays-nothing : (nested : Bool) (ending : List ℕ) (content : Content) → Lays nested ending content []
+lays-nothing nested ending content = adds-nothing ending (Stands nested content) (stands-nothing nested content)
 
-pub lays-both : (ending : List ℕ) (content : Content) (xs ys : List Piece) → Lays ending content xs →
-    Lays ending content ys → Lays ending content (xs ++ ys)
-lays-both ending content xs ys a b =
-    adds-append ending (Stands content) (Stands content) (Stands content) xs ys (stands-join content) a b
+pub lays-both : (nested : Bool) (ending : List ℕ) (content : Content) (xs ys : List Piece) →
+    Lays nested ending content xs →
+    Lays nested ending content ys → Lays nested ending content (xs ++ ys)
+lays-both nested ending content xs ys a b =
+    adds-append ending (Stands nested content) (Stands nested content) (Stands nested content) xs ys
+    (stands-join nested content) a b
 
-pub lays-wider : (ending : List ℕ) (pieces : List Piece) → Lays ending Phrasing pieces → Lays ending Flow pieces
-lays-wider ending pieces a = adds-weaker ending (Stands Phrasing) (Stands Flow) pieces stands-wider a
-
-pub lays-escaped : (ending : List ℕ) (pieces : List Piece) → Adds ending Escaped pieces → Lays ending Phrasing pieces
-lays-escaped ending pieces a =
-    adds-weaker ending Escaped (Stands Phrasing) pieces (λ x h. stands-text Phrasing x h refl) a
+pub lays-wider : (nested : Bool) (ending : List ℕ) (pieces : List Piece) → Lays nested ending Phrasing pieces →
+    Lays nested ending Flow pieces
+lays-wider nested ending pieces a = adds-weaker ending (Stands nested Phrasing) (Stands nested Flow) pieces
+    (stands-wider nested) a
 
 -- a text between white space
 pub record IsSpaced (c x : List ℕ) : Type 0 where
@@ -109,32 +109,37 @@ regrouped : (e o f y g c h : List ℕ) → e ++ ((o ++ (((f ++ y) ++ g) ++ c)) +
     ++ (y ++ (g ++ (c ++ h)))
 regrouped e o f y g c h = simp append_assoc
 
-enclosed : (held content : Content) (o c x y z : List ℕ) → is_spaced held ≡ true → is_spaced content ≡ true →
-    Turns held content o c → IsSpaced o x → Stands held y → IsSpaced c z → Stands content (x ++ (y ++ z))
-enclosed held content o c x y z hs cs turn a r b =
-    let inside : Stands held ((a.after ++ y) ++ b.before) =
-    stands-join held (a.after ++ y) b.before (stands-join held a.after y (stands-white held a.after hs a.white_after) r)
-    (stands-white held b.before hs b.white_before) in
-    let all : Stands content (a.before ++ ((o ++ (((a.after ++ y) ++ b.before) ++ c)) ++ b.after)) =
-    stands-join content a.before ((o ++ (((a.after ++ y) ++ b.before) ++ c)) ++ b.after)
-    (stands-white content a.before cs a.white_before)
-    (stands-join content (o ++ (((a.after ++ y) ++ b.before) ++ c)) b.after (turn ((a.after ++ y) ++ b.before) inside)
-    (stands-white content b.after cs b.white_after)) in
-    let parts : Stands content ((a.before ++ (o ++ a.after)) ++ (y ++ (b.before ++ (c ++ b.after)))) =
-    subst (Stands content) (regrouped a.before o a.after y b.before c b.after) all in
-    subst (λ x. Stands content (x ++ (y ++ z))) (sym a.whole)
-    (subst (λ z. Stands content ((a.before ++ (o ++ a.after)) ++ (y ++ z))) (sym b.whole) parts)
+enclosed : (nested : Bool) (held content : Content) (o c x y z : List ℕ) → is_spaced held ≡ true →
+    is_spaced content ≡ true →
+    Turns nested held content o c → IsSpaced o x → Stands nested held y → IsSpaced c z →
+    Stands nested content (x ++ (y ++ z))
+enclosed nested held content o c x y z hs cs turn a r b =
+    let inside : Stands nested held ((a.after ++ y) ++ b.before) =
+    stands-join nested held (a.after ++ y) b.before (stands-join nested held a.after y
+    (stands-white nested held a.after hs a.white_after) r)
+    (stands-white nested held b.before hs b.white_before) in
+    let all : Stands nested content (a.before ++ ((o ++ (((a.after ++ y) ++ b.before) ++ c)) ++ b.after)) =
+    stands-join nested content a.before ((o ++ (((a.after ++ y) ++ b.before) ++ c)) ++ b.after)
+    (stands-white nested content a.before cs a.white_before)
+    (stands-join nested content (o ++ (((a.after ++ y) ++ b.before) ++ c)) b.after (turn ((a.after ++ y)
+    ++ b.before) inside)
+    (stands-white nested content b.after cs b.white_after)) in
+    let parts : Stands nested content ((a.before ++ (o ++ a.after)) ++ (y ++ (b.before ++ (c ++ b.after)))) =
+    subst (Stands nested content) (regrouped a.before o a.after y b.before c b.after) all in
+    subst (λ x. Stands nested content (x ++ (y ++ z))) (sym a.whole)
+    (subst (λ z. Stands nested content ((a.before ++ (o ++ a.after)) ++ (y ++ z))) (sym b.whole) parts)
 
 -- pieces between those of two texts
-pub lays-turned : (ending : List ℕ) (held content : Content) (o c : List ℕ) (xs ys zs : List Piece) →
-    is_spaced held ≡ true → is_spaced content ≡ true → Turns held content o c → Adds ending (IsSpaced o) xs →
-    Lays ending held ys → Adds ending (IsSpaced c) zs → Lays ending content (xs ++ (ys ++ zs))
-lays-turned ending held content o c xs ys zs hs cs turn a r b =
-    adds-append ending (IsSpaced o) (λ w. (y : List ℕ) × (z : List ℕ) × (w ≡ y ++ z) × Stands held y × IsSpaced c z)
-    (Stands content) xs (ys ++ zs)
-    (λ x w f g. subst (λ w. Stands content (x ++ w)) (sym g.2)
-    (enclosed held content o c x g.0 g.1 hs cs turn f g.3 g.4))
+pub lays-turned : (nested : Bool) (ending : List ℕ) (held content : Content) (o c : List ℕ) (xs ys zs : List Piece) →
+    is_spaced held ≡ true → is_spaced content ≡ true → Turns nested held content o c → Adds ending (IsSpaced o) xs →
+    Lays nested ending held ys → Adds ending (IsSpaced c) zs → Lays nested ending content (xs ++ (ys ++ zs))
+lays-turned nested ending held content o c xs ys zs hs cs turn a r b =
+    adds-append ending (IsSpaced o) (λ w. (y : List ℕ) × (z : List ℕ) × (w ≡ y
+    ++ z) × Stands nested held y × IsSpaced c z)
+    (Stands nested content) xs (ys ++ zs)
+    (λ x w f g. subst (λ w. Stands nested content (x ++ w)) (sym g.2)
+    (enclosed nested held content o c x g.0 g.1 hs cs turn f g.3 g.4))
     a
-    (adds-append ending (Stands held) (IsSpaced c)
-    (λ w. (y : List ℕ) × (z : List ℕ) × (w ≡ y ++ z) × Stands held y × IsSpaced c z) ys zs
+    (adds-append ending (Stands nested held) (IsSpaced c)
+    (λ w. (y : List ℕ) × (z : List ℕ) × (w ≡ y ++ z) × Stands nested held y × IsSpaced c z) ys zs
     (λ y z f g. (y, z, refl, f, g)) r b)

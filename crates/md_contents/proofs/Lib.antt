@@ -2,6 +2,7 @@
 pub mod Placing
 pub mod Stands
 pub mod Laid
+pub mod Linking
 pub mod Spans
 pub mod Blocks
 pub mod Paragraphs

@@ -2,11 +2,13 @@
 use Rattle.std.proofs.Common.{◌≡◌, ◌⊎◌, ℕ, suc, Bool, true, false, not, ◌||◌, cond, List, [], ◌∷◌, ◌++◌, refl, sym, ap, ◌∙◌, subst, inl, inr, codes}
 use Rattle.std.specs.Prelude.{Option, Some, None}
 use Rattle.std.specs.Fmt.{decimal}
-use Rattle.std.proofs.lemmas.Bool.{cond_both, or_cases}
+use Rattle.std.proofs.lemmas.Bool.{cond_both, or_cases, or_parts}
 use Rattle.md_base.proofs.Lies.{lie}
+use Rattle.md_base.specs.Is.{is as named}
 use Rattle.md_base.specs.declared.event.Name.{Name}
-use Rattle.md_base.specs.declared.event.Name.TheVariants.{LineEnding, BlankLineEnding, Data, CharacterEscapeValue, CharacterReferenceMarker, CharacterReferenceMarkerNumeric, CharacterReferenceMarkerHexadecimal, CharacterReferenceValue, CodeTextData, MathTextData, HtmlText, HtmlTextData, HtmlFlowData, Emphasis, Strong, GfmStrikethrough, CodeText, MathText, Link, Image, HardBreakEscape, HardBreakTrailing, GfmTaskListItemCheck, GfmFootnoteCall, Label, LabelText, Resource, ReferenceString, AutolinkEmail, AutolinkProtocol, GfmAutolinkLiteralEmail, GfmAutolinkLiteralMailto, GfmAutolinkLiteralProtocol, GfmAutolinkLiteralWww, GfmAutolinkLiteralXmpp, ListItemPrefix, ListItemValue, ListItemMarker, HeadingAtxSequence, HeadingAtxText, HeadingSetextText, CodeFencedFenceMeta, MathFlowFenceMeta, CodeFlowChunk, MathFlowChunk, Frontmatter, Definition, GfmFootnoteDefinition, GfmFootnoteDefinitionPrefix, GfmTableDelimiterRow, GfmTableDelimiterCellValue, GfmTableDelimiterMarker, MdxEsm, MdxFlowExpression, MdxTextExpression, MdxJsxFlowTag, MdxJsxTextTag}
+use Rattle.md_base.specs.declared.event.Name.TheVariants.{BlockQuote, ListOrdered, ListUnordered, ListItem, CodeIndented, GfmTable, GfmTableHead, GfmTableBody, GfmTableRow, LineEnding, BlankLineEnding, Data, CharacterEscapeValue, CharacterReferenceMarker, CharacterReferenceMarkerNumeric, CharacterReferenceMarkerHexadecimal, CharacterReferenceValue, CodeTextData, MathTextData, HtmlText, HtmlTextData, HtmlFlowData, Emphasis, Strong, GfmStrikethrough, CodeText, MathText, Link, Image, HardBreakEscape, HardBreakTrailing, GfmTaskListItemCheck, GfmFootnoteCall, Label, LabelText, Resource, ReferenceString, AutolinkEmail, AutolinkProtocol, GfmAutolinkLiteralEmail, GfmAutolinkLiteralMailto, GfmAutolinkLiteralProtocol, GfmAutolinkLiteralWww, GfmAutolinkLiteralXmpp, ListItemPrefix, ListItemValue, ListItemMarker, HeadingAtxSequence, HeadingAtxText, HeadingSetextText, CodeFencedFenceMeta, MathFlowFenceMeta, CodeFlowChunk, MathFlowChunk, Frontmatter, Definition, GfmFootnoteDefinition, GfmFootnoteDefinitionPrefix, GfmTableDelimiterRow, GfmTableDelimiterCellValue, GfmTableDelimiterMarker, MdxEsm, MdxFlowExpression, MdxTextExpression, MdxJsxFlowTag, MdxJsxTextTag}
 use Rattle.md_text.specs.Encode.{encoded}
+use Rattle.md_text.specs.Bytes.{is_one_of}
 use Rattle.md_text.specs.Html.{Attribute, is_tag, elements, void_tags}
 use Rattle.md_text.proofs.HtmlWriting.{attributes_before}
 use Rattle.md_text.proofs.EncodeLaws.{is_escaped-encoded}
@@ -15,11 +17,11 @@ use Rattle.md_meaning.specs.Meaning.Layout.{Piece, Text, Needed, layout, said, w
 use Rattle.md_meaning.specs.Meaning.Blocks.{chunk}
 use Rattle.md_meaning.specs.Meaning.Means.{prints}
 use Rattle.md_meaning.specs.Meaning.Spans.{escaped, html, reference, line_ending, span, task_start, code, trimmed, without_escapes}
-use Rattle.md_meaning.specs.Meaning.Media.{href, src, anchor, picture, leads_to, autolink}
-use Rattle.md_meaning.specs.Meaning.Footnotes.{place_among, distinct, count_of, id_of, call_id}
+use Rattle.md_meaning.specs.Meaning.Media.{href, src, anchor, picture, leads_to, autolink, literal}
+use Rattle.md_meaning.specs.Meaning.Footnotes.{call, place_among, distinct, count_of, id_of, call_id}
 use Rattle.md_shape.specs.Built.{Blocks, content_of, is_string, is_span, is_in_media, is_autolink}
 use Rattle.md_safe.proofs.Texts.{Escaped, pipes-escaped, trimmed-escaped, decimal-escaped}
-use Rattle.md_safe.proofs.Laid.{Adds, adds-append, adds-text, adds-alone}
+use Rattle.md_safe.proofs.Laid.{Adds, adds-append, adds-text, adds-alone, adds-weaker}
 use Rattle.md_safe.proofs.Tags.{attribute, adds-flat, are_texts}
 use Rattle.md_safe.proofs.Tags.{flat as flattened}
 use Rattle.md_safe.proofs.Media.{href-escaped, src-escaped, IsEscapedTitle, id-escaped, call_id-escaped, call_text, call_tags, call-regrouped, a_call}
@@ -30,47 +32,107 @@ use Rattle.md_safe.proofs.StringNodes.{line_ending-escaped}
 use Rattle.md_safe.proofs.SpanNodes.{html-escaped}
 use Rattle.md_safe.proofs.BlockNodes.{is_hidden, is_silent, chunk-escaped, when-needed}
 use Rattle.md_safe.proofs.CountedForest.{Document, read_in}
-use Rattle.md_contents.specs.Contents.{Content, Phrasing, Characters}
+use Rattle.md_contents.specs.Contents.{Content, Phrasing, Linked, Characters, voids_in}
+use Rattle.md_contents.specs.Links.{prints_link}
 use Rattle.md_contents.specs.Placed.{place_of}
-use Rattle.md_contents.proofs.Stands.{Stands, stands-text, stands-void, stands-tag, Turns, turns-plain, IsWhite}
-use Rattle.md_contents.proofs.Laid.{Lays, lays-escaped, lays-nothing, lays-turned, spaced-text}
+use Rattle.md_contents.proofs.Linking.{is_linked, is_spans, without_links, in_link, place_in, place-other}
+use Rattle.md_contents.proofs.Stands.{Opens, is_spaced, Stands, stands-text, stands-void, stands-tag, Turns, turns-plain, IsWhite}
+use Rattle.md_contents.proofs.Laid.{Lays, lays-nothing, lays-turned, spaced-text}
 
 -- what pieces add in a document
-abbrev pub Prints : Document → Content → List Piece → Type 0
-Prints d content pieces = Lays d.given.ending content pieces
+abbrev pub Prints : (nested : Bool) → Document → Content → List Piece → Type 0
+Prints nested d content pieces = Lays nested d.given.ending content pieces
 
 -- what is known of a node that isn't looked through: what its children print, as content and as the grammar says
-pub record Known (d : Document) (t : At) (name : Name) (inner : List Piece) : Type 0 where
+pub record Known (nested : Bool) (d : Document) (t : At) (name : Name) (inner : List Piece) : Type 0 where
   pub white : IsWhite d.given.ending
   pub escaping : t.around.is_escaping ≡ true
   pub outside : t.around.in_image ≡ false
   pub fit : IsFitAt (read_in d) t name
   pub resource : IsGoodTarget t.found.resource
-  pub heading : Stands Phrasing t.before.heading
+  pub heading : Stands nested Phrasing t.before.heading
   pub within : Inside (read_in d) t Blocks name inner
 
 -- what children print as content, where to the grammar they are blocks
-abbrev pub Own : Document → Name → List Piece → Type 0
-Own d name inner = is_blocks (content_of name Blocks) ≡ true → Prints d (place_of name) inner
+abbrev pub Own : (nested : Bool) → Document → Content → Name → List Piece → Type 0
+Own nested d content name inner = is_blocks (content_of name Blocks) ≡ true →
+    Prints nested d (place_in nested content name) inner
+
+-- what is known of spans, with links or without
+record AreSpans (nested : Bool) (content : Content) : Type 0 where
+  text : (x : List ℕ) → Escaped x → Stands nested content x
+  em : Opens nested content content (codes "em")
+  strong : Opens nested content content (codes "strong")
+  del : Opens nested content content (codes "del")
+  sup : Opens nested content content (codes "sup")
+  code : Opens nested content Characters (codes "code")
+  br : is_one_of (voids_in content) (codes "br") ≡ true
+  img : is_one_of (voids_in content) (codes "img") ≡ true
+  input : is_one_of (voids_in content) (codes "input") ≡ true
+  spaced : is_spaced content ≡ true
+
+are-spans : (nested : Bool) (content : Content) → is_spans content ≡ true → AreSpans nested content
+are-spans nested Phrasing is = record {
+  text = λ x h. stands-text nested Phrasing x h refl;
+  em = refl;
+  strong = refl;
+  del = refl;
+  sup = refl;
+  code = refl;
+  br = refl;
+  img = refl;
+  input = refl;
+  spaced = refl;
+}
+are-spans nested Linked is = record {
+  text = λ x h. stands-text nested Linked x h refl;
+  em = refl;
+  strong = refl;
+  del = refl;
+  sup = refl;
+  code = refl;
+  br = refl;
+  img = refl;
+  input = refl;
+  spaced = refl;
+}
+are-spans nested _ is = lie is
+
+-- what a node's children print among spans, unless it is a link
+abbrev Inner : (nested : Bool) → Document → Content → Name → List Piece → Type 0
+Inner nested d content name inner = is_blocks (content_of name Blocks) ≡ true → named Link name ≡ false →
+    Prints nested d content inner
+
+-- where spans stand: what is known of them, what children print, and of a node that prints a link that it may
+record Here (nested : Bool) (d : Document) (t : At) (content : Content) (name : Name)
+    (inner : List Piece) : Type 0 where
+  spans : AreSpans nested content
+  own : Inner nested d content name inner
+  label : named Link name ≡ true → Prints nested d (in_link nested) inner
+  free : prints_link name ≡ true → content ≡ Phrasing
+  plain : t.around.in_link ≡ false → content ≡ Phrasing
 
 -- tags around what children print
-pair : (d : Document) (t : At) → t.around.in_image ≡ false → (o c : List ℕ) → Turns Phrasing Phrasing o c →
-    (inner : List Piece) → Prints d Phrasing inner → Prints d Phrasing (span t (said o) inner (said c))
-pair d t out o c turn inner a =
-    subst (λ b. Prints d Phrasing (cond b inner (said o ++ (inner ++ said c)))) (sym out)
-    (lays-turned d.given.ending Phrasing Phrasing o c (said o) inner (said c) refl refl turn
+pair : (nested : Bool) (d : Document) (t : At) (content : Content) → is_spaced content ≡ true →
+    t.around.in_image ≡ false →
+    (o c : List ℕ) → Turns nested content content o c → (inner : List Piece) → Prints nested d content inner →
+    Prints nested d content (span t (said o) inner (said c))
+pair nested d t content is out o c turn inner a =
+    subst (λ b. Prints nested d content (cond b inner (said o ++ (inner ++ said c)))) (sym out)
+    (lays-turned nested d.given.ending content content o c (said o) inner (said c) is is turn
     (spaced-text d.given.ending o) a (spaced-text d.given.ending c))
 
 -- some texts in a row
-pub flat : (d : Document) (content : Content) (pieces : List Piece) → are_texts pieces ≡ true →
-    Stands content (flattened pieces) → Prints d content pieces
-flat d content pieces texts h = adds-flat d.given.ending (Stands content) pieces texts h
+pub flat : (nested : Bool) (d : Document) (content : Content) (pieces : List Piece) → are_texts pieces ≡ true →
+    Stands nested content (flattened pieces) → Prints nested d content pieces
+flat nested d content pieces texts h = adds-flat d.given.ending (Stands nested content) pieces texts h
 
-pub phrase : (x : List ℕ) → Escaped x → Stands Phrasing x
-phrase x h = stands-text Phrasing x h refl
+pub phrase : (nested : Bool) (x : List ℕ) → Escaped x → Stands nested Phrasing x
+phrase nested x h = stands-text nested Phrasing x h refl
 
-prints-escaped : (d : Document) (x : List ℕ) → Escaped x → Prints d Phrasing (said x)
-prints-escaped d x h = adds-text d.given.ending (Stands Phrasing) x (phrase x h)
+prints-escaped : (nested : Bool) (d : Document) (content : Content) (f : AreSpans nested content) (x : List ℕ) →
+    Escaped x → Prints nested d content (said x)
+prints-escaped nested d content f x h = adds-text d.given.ending (Stands nested content) x (f.text x h)
 
 -- ---- links
 
@@ -90,110 +152,140 @@ img_title : (v t u : List ℕ) → Escaped v → Escaped t → Escaped u →
     ∷ attribute (codes "title") u ∷ []) ≡ true
 img_title v t u h g k = rw (h, g, k) refl
 
-link : (d : Document) (target : Target) (label : List ℕ) → IsEscapedTitle target.title → Stands Phrasing label →
-    Prints d Phrasing (anchor d.given.options target label)
-link d target label h r = by target.title h
+link : (nested : Bool) (d : Document) (target : Target) (label : List ℕ) → IsEscapedTitle target.title →
+    Stands nested (in_link nested) label →
+    Prints nested d Phrasing (anchor d.given.options target label)
+link nested d target label h r = by target.title h
   where
     by : (title : Option (List ℕ)) → IsEscapedTitle title →
-        Prints d Phrasing (anchor d.given.options (record { destination = target.destination; title = title }) label)
+        Prints nested d Phrasing (anchor d.given.options (record { destination = target.destination; title = title })
+        label)
     by None h =
-        flat d Phrasing (anchor d.given.options (record { destination = target.destination; title = None }) label) refl
-        (stands-tag Phrasing Phrasing (codes "a") (attribute (codes "href") (href d.given.options target.destination) ∷ [])
-        label (a_href (href d.given.options target.destination) (href-escaped d.given.options target.destination)) refl r)
+        flat nested d Phrasing (anchor d.given.options (record { destination = target.destination; title = None })
+        label) refl
+        (stands-tag nested Phrasing (in_link nested) (codes "a") (attribute (codes "href")
+        (href d.given.options target.destination) ∷ [])
+        label (a_href (href d.given.options target.destination) (href-escaped d.given.options target.destination))
+        refl r)
     by (Some title) h =
-        flat d Phrasing (anchor d.given.options (record { destination = target.destination; title = Some title }) label)
+        flat nested d Phrasing (anchor d.given.options (record {
+          destination = target.destination;
+          title = Some title;
+        }) label)
         refl
-        (stands-tag Phrasing Phrasing (codes "a") (attribute (codes "href") (href d.given.options target.destination)
+        (stands-tag nested Phrasing (in_link nested) (codes "a") (attribute (codes "href")
+        (href d.given.options target.destination)
         ∷ attribute (codes "title") title ∷ []) label
         (a_href_title (href d.given.options target.destination) title
         (href-escaped d.given.options target.destination) h) refl r)
 
-image : (d : Document) (target : Target) (label : List ℕ) → IsEscapedTitle target.title → Escaped label →
-    Prints d Phrasing (picture d.given.options target label)
-image d target label h e = by target.title h
+image : (nested : Bool) (d : Document) (content : Content) (f : AreSpans nested content) (target : Target)
+    (label : List ℕ) → IsEscapedTitle target.title → Escaped label →
+    Prints nested d content (picture d.given.options target label)
+image nested d content f target label h e = by target.title h
   where
     by : (title : Option (List ℕ)) → IsEscapedTitle title →
-        Prints d Phrasing (picture d.given.options (record { destination = target.destination; title = title }) label)
+        Prints nested d content (picture d.given.options (record { destination = target.destination; title = title })
+        label)
     by None h =
-        flat d Phrasing (picture d.given.options (record { destination = target.destination; title = None }) label) refl
-        (stands-void Phrasing (codes "img") (attribute (codes "src") (src d.given.options target.destination)
+        flat nested d content (picture d.given.options (record { destination = target.destination; title = None })
+        label) refl
+        (stands-void nested content (codes "img") (attribute (codes "src") (src d.given.options target.destination)
         ∷ attribute (codes "alt") label ∷ [])
-        (img (src d.given.options target.destination) label (src-escaped d.given.options target.destination) e) refl)
+        (img (src d.given.options target.destination) label (src-escaped d.given.options target.destination) e) f.img)
     by (Some title) h =
-        flat d Phrasing (picture d.given.options (record { destination = target.destination; title = Some title }) label)
+        flat nested d content (picture d.given.options (record {
+          destination = target.destination;
+          title = Some title;
+        }) label)
         refl
-        (stands-void Phrasing (codes "img") (attribute (codes "src") (src d.given.options target.destination)
+        (stands-void nested content (codes "img") (attribute (codes "src") (src d.given.options target.destination)
         ∷ attribute (codes "alt") label ∷ attribute (codes "title") title ∷ [])
         (img_title (src d.given.options target.destination) label title
-        (src-escaped d.given.options target.destination) e h) refl)
+        (src-escaped d.given.options target.destination) e h) f.img)
 
-autolinked : (d : Document) (t : At) (plain : Bool) (prefix : List ℕ) → Prints d Phrasing (autolink d.given t plain prefix)
-autolinked d t plain prefix =
+-- a text in a link
+pub linked-text : (nested : Bool) (x : List ℕ) → Escaped x → Stands nested (in_link nested) x
+linked-text true x h = stands-text true Phrasing x h refl
+linked-text false x h = stands-text false Linked x h refl
+
+autolinked : (nested : Bool) (d : Document) (content : Content) (f : AreSpans nested content) (t : At) (plain : Bool)
+    (prefix : List ℕ) → (plain ≡ false → content ≡ Phrasing) → Prints nested d content (autolink d.given t plain prefix)
+autolinked nested d content f t plain prefix free =
     let x : List ℕ = text_in d.given.bytes t.place in
     cond_both plain (said (encoded true x)) (anchor d.given.options (record {
       destination = prefix ++ x;
       title = None;
-    }) (encoded true x)) (Prints d Phrasing)
-    (λ _. prints-escaped d (encoded true x) (is_escaped-encoded x))
-    (λ _. link d (record { destination = prefix ++ x; title = None }) (encoded true x) tt
-    (phrase (encoded true x) (is_escaped-encoded x)))
+    }) (encoded true x)) (Prints nested d content)
+    (λ _. prints-escaped nested d content f (encoded true x) (is_escaped-encoded x))
+    (λ no. subst (λ c. Prints nested d c (anchor d.given.options (record {
+      destination = prefix ++ x;
+      title = None;
+    }) (encoded true x))) (sym (free no)) (link nested d (record { destination = prefix ++ x; title = None })
+    (encoded true x) tt (linked-text nested (encoded true x) (is_escaped-encoded x))))
 
 -- ---- code, breaks, tasks, calls
 
 -- the tag of code in a text
-coded : (d : Document) (attributes : List Attribute) (x : List ℕ) → is_tag elements (codes "code") attributes ≡ true →
-    Escaped x → Stands Phrasing (60 ∷ (codes "code" ++ attributes_before attributes
+coded : (nested : Bool) (d : Document) (content : Content) (f : AreSpans nested content) (attributes : List Attribute)
+    (x : List ℕ) → is_tag elements (codes "code") attributes ≡ true →
+    Escaped x → Stands nested content (60 ∷ (codes "code" ++ attributes_before attributes
     (62 ∷ (x ++ (60 ∷ 47 ∷ (codes "code" ++ (62 ∷ [])))))))
-coded d attributes x h e = stands-tag Phrasing Characters (codes "code") attributes x h refl
-    (stands-text Characters x e refl)
+coded nested d content f attributes x h e = stands-tag nested content Characters (codes "code") attributes x h f.code
+    (stands-text nested Characters x e refl)
 
-code-node : (d : Document) (t : At) → t.around.in_image ≡ false → (tag : List ℕ) →
-    ((x : List ℕ) → Escaped x → Prints d Phrasing (Text tag ∷ Text x ∷ Text (codes "</code>") ∷ [])) →
-    (x : List ℕ) → Escaped x → Prints d Phrasing (code t tag x)
-code-node d t out tag tagged x h =
+code-node : (nested : Bool) (d : Document) (content : Content) (f : AreSpans nested content) (t : At) →
+    t.around.in_image ≡ false → (tag : List ℕ) →
+    ((x : List ℕ) → Escaped x → Prints nested d content (Text tag ∷ Text x ∷ Text (codes "</code>") ∷ [])) →
+    (x : List ℕ) → Escaped x → Prints nested d content (code t tag x)
+code-node nested d content f t out tag tagged x h =
     let unescaped : List ℕ = cond t.around.in_table (without_escapes x) x in
     let shown : List ℕ = trimmed unescaped in
     let e : Escaped shown = trimmed-escaped unescaped
     (cond_both t.around.in_table (without_escapes x) x Escaped (λ _. pipes-escaped x h) (λ _. h)) in
-    subst (λ b. Prints d Phrasing (cond b (said shown) (Text tag ∷ Text shown ∷ Text (codes "</code>") ∷ []))) (sym out)
+    subst (λ b. Prints nested d content (cond b (said shown) (Text tag ∷ Text shown ∷ Text (codes "</code>") ∷ [])))
+    (sym out)
     (tagged shown e)
 
-break : (d : Document) (t : At) → t.around.in_image ≡ false →
-    Prints d Phrasing (when (not t.around.in_image) (said (codes "<br />")))
-break d t out =
-    subst (λ b. Prints d Phrasing (when (not b) (said (codes "<br />")))) (sym out)
-    (flat d Phrasing (said (codes "<br />")) refl (stands-void Phrasing (codes "br") [] refl refl))
+break : (nested : Bool) (d : Document) (content : Content) (f : AreSpans nested content) (t : At) →
+    t.around.in_image ≡ false →
+    Prints nested d content (when (not t.around.in_image) (said (codes "<br />")))
+break nested d content f t out =
+    subst (λ b. Prints nested d content (when (not b) (said (codes "<br />")))) (sym out)
+    (flat nested d content (said (codes "<br />")) refl (stands-void nested content (codes "br") [] refl f.br))
 
-task-stands : (checkable : Bool) (x : List ℕ) → (x ≡ []) ⊎ (x ≡ codes "checked=\"\" ") →
-    Stands Phrasing (task_tag checkable ++ (x ++ codes "/>"))
-task-stands checkable x done =
+task-stands : (nested : Bool) (content : Content) (f : AreSpans nested content) (checkable : Bool) (x : List ℕ) →
+    (x ≡ []) ⊎ (x ≡ codes "checked=\"\" ") →
+    Stands nested content (task_tag checkable ++ (x ++ codes "/>"))
+task-stands nested content f checkable x done =
     elim done [
-      | inl e ↦ subst (λ x. Stands Phrasing (task_tag checkable ++ (x ++ codes "/>"))) (sym e) (by checkable)
-      | inr e ↦ subst (λ x. Stands Phrasing (task_tag checkable ++ (x ++ codes "/>"))) (sym e) (on checkable)
+      | inl e ↦ subst (λ x. Stands nested content (task_tag checkable ++ (x ++ codes "/>"))) (sym e) (by checkable)
+      | inr e ↦ subst (λ x. Stands nested content (task_tag checkable ++ (x ++ codes "/>"))) (sym e) (on checkable)
     ]
   where
-    by : (checkable : Bool) → Stands Phrasing (task_tag checkable ++ codes "/>")
-    by true = stands-void Phrasing (codes "input") (attribute (codes "type") (codes "checkbox") ∷ []) refl refl
-    by false = stands-void Phrasing (codes "input") (attribute (codes "type") (codes "checkbox")
-        ∷ attribute (codes "disabled") [] ∷ []) refl refl
+    by : (checkable : Bool) → Stands nested content (task_tag checkable ++ codes "/>")
+    by true = stands-void nested content (codes "input") (attribute (codes "type") (codes "checkbox") ∷ []) refl f.input
+    by false = stands-void nested content (codes "input") (attribute (codes "type") (codes "checkbox")
+        ∷ attribute (codes "disabled") [] ∷ []) refl f.input
 
-    on : (checkable : Bool) → Stands Phrasing (task_tag checkable ++ (codes "checked=\"\" " ++ codes "/>"))
-    on true = stands-void Phrasing (codes "input") (attribute (codes "type") (codes "checkbox")
-        ∷ attribute (codes "checked") [] ∷ []) refl refl
-    on false = stands-void Phrasing (codes "input") (attribute (codes "type") (codes "checkbox")
-        ∷ attribute (codes "disabled") [] ∷ attribute (codes "checked") [] ∷ []) refl refl
+    on : (checkable : Bool) → Stands nested content (task_tag checkable ++ (codes "checked=\"\" " ++ codes "/>"))
+    on true = stands-void nested content (codes "input") (attribute (codes "type") (codes "checkbox")
+        ∷ attribute (codes "checked") [] ∷ []) refl f.input
+    on false = stands-void nested content (codes "input") (attribute (codes "type") (codes "checkbox")
+        ∷ attribute (codes "disabled") [] ∷ attribute (codes "checked") [] ∷ []) refl f.input
 
 -- a task outside images
-tasked : (d : Document) (checkable in_image : Bool) (inner : List Piece) →
-    Adds d.given.ending (IsDone in_image) inner → Prints d Phrasing ((Text (codes "<input type=\"checkbox\" ")
+tasked : (nested : Bool) (d : Document) (content : Content) (f : AreSpans nested content) (checkable in_image : Bool)
+    (inner : List Piece) →
+    Adds d.given.ending (IsDone in_image) inner → Prints nested d content ((Text (codes "<input type=\"checkbox\" ")
     ∷ (when (not checkable) (said (codes "disabled=\"\" ")))) ++ (inner ++ said (codes "/>")))
-tasked d checkable in_image inner a =
+tasked nested d content f checkable in_image inner a =
     adds-append d.given.ending (λ x. x ≡ task_tag checkable) (λ w. (x : List ℕ) × (w ≡ x ++ codes "/>")
-    × ((x ≡ []) ⊎ (x ≡ codes "checked=\"\" "))) (Stands Phrasing)
+    × ((x ≡ []) ⊎ (x ≡ codes "checked=\"\" "))) (Stands nested content)
     (Text (codes "<input type=\"checkbox\" ") ∷ (when (not checkable) (said (codes "disabled=\"\" ")))) (inner
     ++ said (codes "/>"))
-    (λ x w f g. subst (Stands Phrasing) (ap (λ w. task_tag checkable ++ w) (sym g.1)
-    ∙ ap (λ x. x ++ w) (sym f)) (task-stands checkable g.0 g.2))
+    (λ x w h g. subst (Stands nested content) (ap (λ w. task_tag checkable ++ w) (sym g.1)
+    ∙ ap (λ x. x ++ w) (sym h)) (task-stands nested content f checkable g.0 g.2))
     (first checkable)
     (adds-append d.given.ending (IsDone in_image) (λ x. x ≡ codes "/>") (λ w. (x : List ℕ) × (w ≡ x ++ codes "/>")
     × ((x ≡ []) ⊎ (x ≡ codes "checked=\"\" "))) inner (said (codes "/>"))
@@ -202,121 +294,163 @@ tasked d checkable in_image inner a =
   where
     first : (checkable : Bool) → Adds d.given.ending (λ x. x ≡ task_tag checkable)
         (Text (codes "<input type=\"checkbox\" ") ∷ (when (not checkable) (said (codes "disabled=\"\" "))))
-    first true = adds-flat d.given.ending (λ x. x ≡ task_tag true) (Text (codes "<input type=\"checkbox\" ") ∷ []) refl refl
+    first true = adds-flat d.given.ending (λ x. x ≡ task_tag true) (Text (codes "<input type=\"checkbox\" ")
+        ∷ []) refl refl
     first false = adds-flat d.given.ending (λ x. x ≡ task_tag false) (Text (codes "<input type=\"checkbox\" ")
         ∷ Text (codes "disabled=\"\" ") ∷ []) refl refl
 
-task-node : (d : Document) (t : At) → t.around.in_image ≡ false → (inner : List Piece) →
+task-node : (nested : Bool) (d : Document) (content : Content) (f : AreSpans nested content) (t : At) →
+    t.around.in_image ≡ false → (inner : List Piece) →
     Adds d.given.ending (IsDone t.around.in_image) inner →
-    Prints d Phrasing (span t (task_start d.given) inner (said (codes "/>")))
-task-node d t out inner a =
-    subst (λ b. Prints d Phrasing (cond b inner (task_start d.given ++ (inner ++ said (codes "/>"))))) (sym out)
-    (tasked d d.given.options.gfm_task_list_item_checkable t.around.in_image inner a)
+    Prints nested d content (span t (task_start d.given) inner (said (codes "/>")))
+task-node nested d content f t out inner a =
+    subst (λ b. Prints nested d content (cond b inner (task_start d.given ++ (inner ++ said (codes "/>"))))) (sym out)
+    (tasked nested d content f d.given.options.gfm_task_list_item_checkable t.around.in_image inner a)
 
-call-stands : (v w n : List ℕ) → Escaped v → Escaped w → Escaped n → Stands Phrasing (call_text v w n)
-call-stands v w n h g k =
-    subst (Stands Phrasing) (call-regrouped v w n)
-    (stands-tag Phrasing Phrasing (codes "sup") []
+call-stands : (nested : Bool) (v w n : List ℕ) → Escaped v → Escaped w → Escaped n →
+    Stands nested Phrasing (call_text v w n)
+call-stands nested v w n h g k =
+    subst (Stands nested Phrasing) (call-regrouped v w n)
+    (stands-tag nested Phrasing Phrasing (codes "sup") []
     (codes "<a href=\"#" ++ (v ++ (codes "\" id=\"" ++ (w
     ++ (codes "\" data-footnote-ref=\"\" aria-describedby=\"footnote-label\">" ++ (n ++ codes "</a>"))))))
     refl refl
-    (stands-tag Phrasing Phrasing (codes "a") (attribute (codes "href") (35 ∷ v) ∷ attribute (codes "id") w
+    (stands-tag nested Phrasing (in_link nested) (codes "a") (attribute (codes "href") (35 ∷ v) ∷ attribute
+    (codes "id") w
     ∷ attribute (codes "data-footnote-ref") [] ∷ attribute (codes "aria-describedby") (codes "footnote-label") ∷ []) n
-    (a_call v w h g) refl (phrase n k)))
+    (a_call v w h g) refl (linked-text nested n k)))
 
-call-node : (d : Document) (t : At) → t.around.in_image ≡ false → (identifier : List ℕ) (number occurrence : ℕ) →
-    Prints d Phrasing (when (not t.around.in_image) (call_tags d.given.options identifier number occurrence))
-call-node d t out identifier number occurrence =
+call-node : (nested : Bool) (d : Document) (t : At) → t.around.in_image ≡ false →
+    (identifier : List ℕ) (number occurrence : ℕ) →
+    Prints nested d Phrasing (when (not t.around.in_image) (call_tags d.given.options identifier number occurrence))
+call-node nested d t out identifier number occurrence =
     let options = d.given.options in
-    subst (λ b. Prints d Phrasing (when (not b) (call_tags options identifier number occurrence))) (sym out)
-    (flat d Phrasing (call_tags options identifier number occurrence) refl
-    (call-stands (id_of options (codes "fn-") identifier number) (call_id options identifier number occurrence)
+    subst (λ b. Prints nested d Phrasing (when (not b) (call_tags options identifier number occurrence))) (sym out)
+    (flat nested d Phrasing (call_tags options identifier number occurrence) refl
+    (call-stands nested (id_of options (codes "fn-") identifier number) (call_id options identifier number occurrence)
     (decimal number) (id-escaped options (codes "fn-") identifier number refl)
     (call_id-escaped options identifier number occurrence) (decimal-escaped number)))
 
 -- ---- a case for each name
 
-data-node : (d : Document) (t : At) → t.around.is_escaping ≡ true → (x : List ℕ) → Prints d Phrasing (escaped t x)
-data-node d t e x =
-    prints-escaped d (encoded t.around.is_escaping x) (encoded-escaped t.around.is_escaping x e)
+data-node : (nested : Bool) (d : Document) (content : Content) (f : AreSpans nested content) (t : At) →
+    t.around.is_escaping ≡ true → (x : List ℕ) → Prints nested d content (escaped t x)
+data-node nested d content f t e x =
+    prints-escaped nested d content f (encoded t.around.is_escaping x) (encoded-escaped t.around.is_escaping x e)
 
-string-node : (d : Document) (t : At) (name : Name) → is_string name ≡ true → (inner : List Piece) →
-    Known d t name inner → Own d name inner → Prints d Phrasing (prints d.given t name inner)
-string-node d t LineEnding is inner k a =
-    lays-escaped d.given.ending (line_ending d.given t) (line_ending-escaped (read_in d) t k.fit)
-string-node d t Data is inner k a = data-node d t k.escaping (text_in d.given.bytes t.place)
-string-node d t CharacterEscapeValue is inner k a = data-node d t k.escaping (text_in d.given.bytes t.place)
-string-node d t CodeTextData is inner k a = data-node d t k.escaping (text_in d.given.bytes t.place)
-string-node d t MathTextData is inner k a = data-node d t k.escaping (text_in d.given.bytes t.place)
-string-node d t CharacterReferenceValue is inner k a = data-node d t k.escaping (reference d.given t)
-string-node d t CharacterReferenceMarker is inner k a = a refl
-string-node d t CharacterReferenceMarkerNumeric is inner k a = a refl
-string-node d t CharacterReferenceMarkerHexadecimal is inner k a = a refl
-string-node d t _ is inner k a = lie is
+-- a literal autolink, which is plain in links too
+literal-node : (nested : Bool) (d : Document) (content : Content) (f : AreSpans nested content) (t : At)
+    (prefix : List ℕ) →
+    (t.around.in_link ≡ false → content ≡ Phrasing) → Prints nested d content (literal d.given t prefix)
+literal-node nested d content f t prefix plain =
+    autolinked nested d content f t (t.around.in_image || t.around.in_link) prefix
+    (λ no. plain (or_parts t.around.in_image t.around.in_link no).1)
 
-span-node : (d : Document) (t : At) (name : Name) → is_span name ≡ true → (inner : List Piece) →
-    Known d t name inner → Own d name inner → Prints d Phrasing (prints d.given t name inner)
-span-node d t HtmlText is inner k a = a refl
-span-node d t HtmlTextData is inner k a =
-    lays-escaped d.given.ending (escaped t (html d.given t)) (html-escaped (read_in d) t k.escaping)
-span-node d t Emphasis is inner k a = pair d t k.outside (codes "<em>") (codes "</em>")
-    (turns-plain Phrasing Phrasing (codes "em") refl refl) inner (a refl)
-span-node d t Strong is inner k a = pair d t k.outside (codes "<strong>") (codes "</strong>")
-    (turns-plain Phrasing Phrasing (codes "strong") refl refl) inner (a refl)
-span-node d t GfmStrikethrough is inner k a = pair d t k.outside (codes "<del>") (codes "</del>")
-    (turns-plain Phrasing Phrasing (codes "del") refl refl) inner (a refl)
-span-node d t CodeText is inner k a =
-    code-node d t k.outside (codes "<code>")
-    (λ x h. flat d Phrasing (Text (codes "<code>") ∷ Text x ∷ Text (codes "</code>") ∷ []) refl (coded d [] x refl h))
+string-node : (nested : Bool) (d : Document) (content : Content) (t : At) (name : Name) → is_string name ≡ true →
+    (inner : List Piece) →
+    Known nested d t name inner → Here nested d t content name inner → Prints nested d content
+    (prints d.given t name inner)
+string-node nested d content t LineEnding is inner k a =
+    adds-weaker d.given.ending Escaped (Stands nested content) (line_ending d.given t) a.spans.text
+    (line_ending-escaped (read_in d) t k.fit)
+string-node nested d content t Data is inner k a = data-node nested d content a.spans t k.escaping
+    (text_in d.given.bytes t.place)
+string-node nested d content t CharacterEscapeValue is inner k a = data-node nested d content a.spans t k.escaping
+    (text_in d.given.bytes t.place)
+string-node nested d content t CodeTextData is inner k a = data-node nested d content a.spans t k.escaping
+    (text_in d.given.bytes t.place)
+string-node nested d content t MathTextData is inner k a = data-node nested d content a.spans t k.escaping
+    (text_in d.given.bytes t.place)
+string-node nested d content t CharacterReferenceValue is inner k a = data-node nested d content a.spans t k.escaping
+    (reference d.given t)
+string-node nested d content t CharacterReferenceMarker is inner k a = a.own refl refl
+string-node nested d content t CharacterReferenceMarkerNumeric is inner k a = a.own refl refl
+string-node nested d content t CharacterReferenceMarkerHexadecimal is inner k a = a.own refl refl
+string-node nested d content t _ is inner k a = lie is
+
+span-node : (nested : Bool) (d : Document) (content : Content) (t : At) (name : Name) → is_span name ≡ true →
+    (inner : List Piece) →
+    Known nested d t name inner → Here nested d t content name inner → Prints nested d content
+    (prints d.given t name inner)
+span-node nested d content t HtmlText is inner k a = a.own refl refl
+span-node nested d content t HtmlTextData is inner k a =
+    adds-weaker d.given.ending Escaped (Stands nested content) (escaped t (html d.given t)) a.spans.text (html-escaped
+    (read_in d) t k.escaping)
+span-node nested d content t Emphasis is inner k a = pair nested d t content a.spans.spaced k.outside (codes "<em>")
+    (codes "</em>")
+    (turns-plain nested content content (codes "em") refl a.spans.em) inner (a.own refl refl)
+span-node nested d content t Strong is inner k a = pair nested d t content a.spans.spaced k.outside (codes "<strong>")
+    (codes "</strong>")
+    (turns-plain nested content content (codes "strong") refl a.spans.strong) inner (a.own refl refl)
+span-node nested d content t GfmStrikethrough is inner k a = pair nested d t content a.spans.spaced k.outside
+    (codes "<del>") (codes "</del>")
+    (turns-plain nested content content (codes "del") refl a.spans.del) inner (a.own refl refl)
+span-node nested d content t CodeText is inner k a =
+    code-node nested d content a.spans t k.outside (codes "<code>")
+    (λ x h. flat nested d content (Text (codes "<code>") ∷ Text x ∷ Text (codes "</code>") ∷ []) refl
+    (coded nested d content a.spans [] x refl h))
     (layout d.given.ending inner)
     (adds-alone d.given.ending (λ x. t.around.is_escaping ≡ true → Escaped x) inner k.within k.escaping)
-span-node d t MathText is inner k a =
-    code-node d t k.outside (codes "<code class=\"language-math math-inline\">")
-    (λ x h. flat d Phrasing (Text (codes "<code class=\"language-math math-inline\">") ∷ Text x ∷ Text (codes "</code>")
-    ∷ []) refl (coded d (attribute (codes "class") (codes "language-math math-inline") ∷ []) x refl h))
+span-node nested d content t MathText is inner k a =
+    code-node nested d content a.spans t k.outside (codes "<code class=\"language-math math-inline\">")
+    (λ x h. flat nested d content (Text (codes "<code class=\"language-math math-inline\">") ∷ Text x ∷ Text
+    (codes "</code>")
+    ∷ []) refl (coded nested d content a.spans (attribute (codes "class") (codes "language-math math-inline")
+    ∷ []) x refl h))
     (layout d.given.ending inner)
     (adds-alone d.given.ending (λ x. t.around.is_escaping ≡ true → Escaped x) inner k.within k.escaping)
-span-node d t Link is inner k a =
+span-node nested d content t Link is inner k a =
     let label : List ℕ = layout d.given.ending inner in
-    subst (λ b. Prints d Phrasing (cond b (said label) (anchor d.given.options (leads_to d.given t) label)))
+    subst (λ b. Prints nested d content (cond b (said label) (anchor d.given.options (leads_to d.given t) label)))
     (sym k.outside)
-    (link d (leads_to d.given t) label (target-title (read_in d) t k.resource)
-    (adds-alone d.given.ending (Stands Phrasing) inner (a refl)))
-span-node d t Image is inner k a =
+    (subst (λ c. Prints nested d c (anchor d.given.options (leads_to d.given t) label)) (sym (a.free refl))
+    (link nested d (leads_to d.given t) label (target-title (read_in d) t k.resource)
+    (adds-alone d.given.ending (Stands nested (in_link nested)) inner (a.label refl))))
+span-node nested d content t Image is inner k a =
     let label : List ℕ = layout d.given.ending inner in
-    subst (λ b. Prints d Phrasing (cond b (said label) (picture d.given.options (leads_to d.given t) label)))
+    subst (λ b. Prints nested d content (cond b (said label) (picture d.given.options (leads_to d.given t) label)))
     (sym k.outside)
-    (image d (leads_to d.given t) label (target-title (read_in d) t k.resource)
+    (image nested d content a.spans (leads_to d.given t) label (target-title (read_in d) t k.resource)
     (adds-alone d.given.ending Escaped inner k.within))
-span-node d t HardBreakEscape is inner k a = break d t k.outside
-span-node d t HardBreakTrailing is inner k a = break d t k.outside
-span-node d t GfmTaskListItemCheck is inner k a = task-node d t k.outside inner k.within
-span-node d t GfmFootnoteCall is inner k a =
+span-node nested d content t HardBreakEscape is inner k a = break nested d content a.spans t k.outside
+span-node nested d content t HardBreakTrailing is inner k a = break nested d content a.spans t k.outside
+span-node nested d content t GfmTaskListItemCheck is inner k a = task-node nested d content a.spans t k.outside inner
+    k.within
+span-node nested d content t GfmFootnoteCall is inner k a =
     let identifier : List ℕ = identifier_of d.given.bytes t.children in
-    call-node d t k.outside identifier (place_among (distinct d.given.calls) identifier)
-    (suc (count_of t.calls identifier))
-span-node d t _ is inner k a = lie is
+    subst (λ c. Prints nested d c (call d.given t)) (sym (a.free refl))
+    (call-node nested d t k.outside identifier (place_among (distinct d.given.calls) identifier)
+    (suc (count_of t.calls identifier)))
+span-node nested d content t _ is inner k a = lie is
 
-media-node : (d : Document) (t : At) (name : Name) → is_in_media name ≡ true → (inner : List Piece) →
-    Own d name inner → Prints d Phrasing (prints d.given t name inner)
-media-node d t Label is inner a = a refl
-media-node d t LabelText is inner a = a refl
-media-node d t Resource is inner a = lays-nothing d.given.ending Phrasing
-media-node d t ReferenceString is inner a = lays-nothing d.given.ending Phrasing
-media-node d t _ is inner a = lie is
+media-node : (nested : Bool) (d : Document) (content : Content) (t : At) (name : Name) → is_in_media name ≡ true →
+    (inner : List Piece) →
+    Here nested d t content name inner → Prints nested d content (prints d.given t name inner)
+media-node nested d content t Label is inner a = a.own refl refl
+media-node nested d content t LabelText is inner a = a.own refl refl
+media-node nested d content t Resource is inner a = lays-nothing nested d.given.ending content
+media-node nested d content t ReferenceString is inner a = lays-nothing nested d.given.ending content
+media-node nested d content t _ is inner a = lie is
 
-autolink-node : (d : Document) (t : At) (name : Name) → is_autolink name ≡ true → (inner : List Piece) →
-    Prints d Phrasing (prints d.given t name inner)
-autolink-node d t AutolinkEmail is inner = autolinked d t t.around.in_image (codes "mailto:")
-autolink-node d t AutolinkProtocol is inner = autolinked d t t.around.in_image []
-autolink-node d t GfmAutolinkLiteralEmail is inner =
-    autolinked d t (t.around.in_image || t.around.in_link) (codes "mailto:")
-autolink-node d t GfmAutolinkLiteralMailto is inner = autolinked d t (t.around.in_image || t.around.in_link) []
-autolink-node d t GfmAutolinkLiteralProtocol is inner = autolinked d t (t.around.in_image || t.around.in_link) []
-autolink-node d t GfmAutolinkLiteralWww is inner =
-    autolinked d t (t.around.in_image || t.around.in_link) (codes "http://")
-autolink-node d t GfmAutolinkLiteralXmpp is inner = autolinked d t (t.around.in_image || t.around.in_link) []
-autolink-node d t _ is inner = lie is
+autolink-node : (nested : Bool) (d : Document) (content : Content) (t : At) (name : Name) → is_autolink name ≡ true →
+    (inner : List Piece) →
+    Known nested d t name inner → Here nested d t content name inner → Prints nested d content
+    (prints d.given t name inner)
+autolink-node nested d content t AutolinkEmail is inner k a = autolinked nested d content a.spans t t.around.in_image
+    (codes "mailto:") (λ _. a.free refl)
+autolink-node nested d content t AutolinkProtocol is inner k a = autolinked nested d content a.spans t
+    t.around.in_image [] (λ _. a.free refl)
+autolink-node nested d content t GfmAutolinkLiteralEmail is inner k a =
+    literal-node nested d content a.spans t (codes "mailto:") a.plain
+autolink-node nested d content t GfmAutolinkLiteralMailto is inner k a = literal-node nested d content a.spans t []
+    a.plain
+autolink-node nested d content t GfmAutolinkLiteralProtocol is inner k a = literal-node nested d content a.spans t []
+    a.plain
+autolink-node nested d content t GfmAutolinkLiteralWww is inner k a =
+    literal-node nested d content a.spans t (codes "http://") a.plain
+autolink-node nested d content t GfmAutolinkLiteralXmpp is inner k a = literal-node nested d content a.spans t []
+    a.plain
+autolink-node nested d content t _ is inner k a = lie is
 
 -- a line of code, or of HTML
 abbrev pub is_leaf : Name → Bool
@@ -328,70 +462,139 @@ is_leaf name = elim name [
   | _ ↦ false
 ]
 
-leaf-node : (d : Document) (t : At) (name : Name) → is_leaf name ≡ true → (inner : List Piece) →
-    Known d t name inner → Prints d Phrasing (prints d.given t name inner)
-leaf-node d t BlankLineEnding is inner k =
-    lays-escaped d.given.ending (when t.is_last (Needed ∷ [])) (when-needed (read_in d) t.is_last)
-leaf-node d t CodeFlowChunk is inner k =
-    lays-escaped d.given.ending (chunk d.given t) (chunk-escaped (read_in d) t)
-leaf-node d t MathFlowChunk is inner k =
-    lays-escaped d.given.ending (chunk d.given t) (chunk-escaped (read_in d) t)
-leaf-node d t HtmlFlowData is inner k =
-    lays-escaped d.given.ending (escaped t (html d.given t)) (html-escaped (read_in d) t k.escaping)
-leaf-node d t _ is inner k = lie is
+leaf-node : (nested : Bool) (d : Document) (content : Content) (t : At) (name : Name) → is_leaf name ≡ true →
+    (inner : List Piece) →
+    Known nested d t name inner → Here nested d t content name inner → Prints nested d content
+    (prints d.given t name inner)
+leaf-node nested d content t BlankLineEnding is inner k a =
+    adds-weaker d.given.ending Escaped (Stands nested content) (when t.is_last (Needed ∷ [])) a.spans.text
+    (when-needed (read_in d) t.is_last)
+leaf-node nested d content t CodeFlowChunk is inner k a =
+    adds-weaker d.given.ending Escaped (Stands nested content) (chunk d.given t) a.spans.text (chunk-escaped
+    (read_in d) t)
+leaf-node nested d content t MathFlowChunk is inner k a =
+    adds-weaker d.given.ending Escaped (Stands nested content) (chunk d.given t) a.spans.text (chunk-escaped
+    (read_in d) t)
+leaf-node nested d content t HtmlFlowData is inner k a =
+    adds-weaker d.given.ending Escaped (Stands nested content) (escaped t (html d.given t)) a.spans.text (html-escaped
+    (read_in d) t k.escaping)
+leaf-node nested d content t _ is inner k a = lie is
 
-hidden-node : (d : Document) (t : At) (name : Name) → is_hidden name ≡ true → (inner : List Piece) →
-    Prints d Phrasing (prints d.given t name inner)
-hidden-node d t HeadingSetextText is inner = lays-nothing d.given.ending Phrasing
-hidden-node d t CodeFencedFenceMeta is inner = lays-nothing d.given.ending Phrasing
-hidden-node d t MathFlowFenceMeta is inner = lays-nothing d.given.ending Phrasing
-hidden-node d t Frontmatter is inner = lays-nothing d.given.ending Phrasing
-hidden-node d t Definition is inner = lays-nothing d.given.ending Phrasing
-hidden-node d t GfmFootnoteDefinition is inner = lays-nothing d.given.ending Phrasing
-hidden-node d t GfmFootnoteDefinitionPrefix is inner = lays-nothing d.given.ending Phrasing
-hidden-node d t GfmTableDelimiterRow is inner = lays-nothing d.given.ending Phrasing
-hidden-node d t _ is inner = lie is
+hidden-node : (nested : Bool) (d : Document) (content : Content) (t : At) (name : Name) → is_hidden name ≡ true →
+    (inner : List Piece) →
+    Prints nested d content (prints d.given t name inner)
+hidden-node nested d content t HeadingSetextText is inner = lays-nothing nested d.given.ending content
+hidden-node nested d content t CodeFencedFenceMeta is inner = lays-nothing nested d.given.ending content
+hidden-node nested d content t MathFlowFenceMeta is inner = lays-nothing nested d.given.ending content
+hidden-node nested d content t Frontmatter is inner = lays-nothing nested d.given.ending content
+hidden-node nested d content t Definition is inner = lays-nothing nested d.given.ending content
+hidden-node nested d content t GfmFootnoteDefinition is inner = lays-nothing nested d.given.ending content
+hidden-node nested d content t GfmFootnoteDefinitionPrefix is inner = lays-nothing nested d.given.ending content
+hidden-node nested d content t GfmTableDelimiterRow is inner = lays-nothing nested d.given.ending content
+hidden-node nested d content t _ is inner = lie is
 
-silent-node : (d : Document) (t : At) (name : Name) → is_silent name ≡ true → (inner : List Piece) →
-    Own d name inner → Prints d Phrasing (prints d.given t name inner)
-silent-node d t ListItemPrefix is inner a = a refl
-silent-node d t ListItemValue is inner a = a refl
-silent-node d t ListItemMarker is inner a = a refl
-silent-node d t HeadingAtxSequence is inner a = a refl
-silent-node d t HeadingAtxText is inner a = a refl
-silent-node d t GfmTableDelimiterCellValue is inner a = a refl
-silent-node d t GfmTableDelimiterMarker is inner a = a refl
-silent-node d t MdxEsm is inner a = a refl
-silent-node d t MdxFlowExpression is inner a = a refl
-silent-node d t MdxTextExpression is inner a = a refl
-silent-node d t MdxJsxFlowTag is inner a = a refl
-silent-node d t MdxJsxTextTag is inner a = a refl
-silent-node d t _ is inner a = lie is
+silent-node : (nested : Bool) (d : Document) (content : Content) (t : At) (name : Name) → is_silent name ≡ true →
+    (inner : List Piece) →
+    Here nested d t content name inner → Prints nested d content (prints d.given t name inner)
+silent-node nested d content t ListItemPrefix is inner a = a.own refl refl
+silent-node nested d content t ListItemValue is inner a = a.own refl refl
+silent-node nested d content t ListItemMarker is inner a = a.own refl refl
+silent-node nested d content t HeadingAtxSequence is inner a = a.own refl refl
+silent-node nested d content t HeadingAtxText is inner a = a.own refl refl
+silent-node nested d content t GfmTableDelimiterCellValue is inner a = a.own refl refl
+silent-node nested d content t GfmTableDelimiterMarker is inner a = a.own refl refl
+silent-node nested d content t MdxEsm is inner a = a.own refl refl
+silent-node nested d content t MdxFlowExpression is inner a = a.own refl refl
+silent-node nested d content t MdxTextExpression is inner a = a.own refl refl
+silent-node nested d content t MdxJsxFlowTag is inner a = a.own refl refl
+silent-node nested d content t MdxJsxTextTag is inner a = a.own refl refl
+silent-node nested d content t _ is inner a = lie is
 
 -- what prints phrasing content
 abbrev pub is_inline : Name → Bool
 is_inline name = is_string name || (is_span name || (is_in_media name || (is_autolink name || (is_leaf name
     || (is_hidden name || is_silent name)))))
 
-pub inline-node : (d : Document) (t : At) (name : Name) → is_inline name ≡ true → (inner : List Piece) →
-    Known d t name inner → Own d name inner → Prints d Phrasing (prints d.given t name inner)
-inline-node d t name is inner k a =
-    elim (or_cases (is_string name) _ is) [
-      | inl is ↦ string-node d t name is inner k a
-      | inr c ↦ elim (or_cases (is_span name) _ c) [
-        | inl is ↦ span-node d t name is inner k a
-        | inr c ↦ elim (or_cases (is_in_media name) _ c) [
-          | inl is ↦ media-node d t name is inner a
-          | inr c ↦ elim (or_cases (is_autolink name) _ c) [
-            | inl is ↦ autolink-node d t name is inner
-            | inr c ↦ elim (or_cases (is_leaf name) _ c) [
-              | inl is ↦ leaf-node d t name is inner k
-              | inr c ↦ elim (or_cases (is_hidden name) (is_silent name) c) [
-                | inl is ↦ hidden-node d t name is inner
-                | inr is ↦ silent-node d t name is inner a
+spans-place : (name : Name) → is_hidden name ≡ false → is_inline name ≡ true → place_of name ≡ Phrasing
+spans-place BlockQuote h is = lie is
+spans-place ListOrdered h is = lie is
+spans-place ListUnordered h is = lie is
+spans-place ListItem h is = lie is
+spans-place CodeIndented h is = lie is
+spans-place GfmTable h is = lie is
+spans-place GfmTableHead h is = lie is
+spans-place GfmTableBody h is = lie is
+spans-place GfmTableRow h is = lie is
+spans-place GfmFootnoteDefinition h is = lie (sym h)
+spans-place _ h is = refl
+
+-- spans stand in spans, of the same content but in a link
+spans-in : (nested : Bool) (content : Content) (name : Name) → is_spans content ≡ true → is_hidden name ≡ false →
+    is_inline name ≡ true → named Link name ≡ false → place_in nested content name ≡ content
+spans-in nested content name spans shown is other =
+    place-other nested content name other
+    ∙ (ap (λ c. cond (is_linked content) (without_links c) c) (spans-place name shown is) ∙ by content spans)
+  where
+    by : (content : Content) → is_spans content ≡ true → cond (is_linked content) Linked Phrasing ≡ content
+    by Phrasing h = refl
+    by Linked h = refl
+    by _ h = lie h
+
+link-in : (nested : Bool) (content : Content) (name : Name) → content ≡ Phrasing → named Link name ≡ true →
+    place_in nested content name ≡ in_link nested
+link-in nested content Link same is = ap (λ c. cond (is_linked c) Linked (in_link nested)) same
+link-in nested content _ same is = lie is
+
+link-prints : (name : Name) → named Link name ≡ true → prints_link name ≡ true
+link-prints Link is = refl
+link-prints _ is = lie is
+
+-- where spans stand, with links or without
+pub record Spanning (t : At) (content : Content) (name : Name) : Type 0 where
+  pub spans : is_spans content ≡ true
+  pub free : prints_link name ≡ true → content ≡ Phrasing
+  pub plain : t.around.in_link ≡ false → content ≡ Phrasing
+
+pub inline-node : (nested : Bool) (d : Document) (content : Content) (t : At) (name : Name) → is_inline name ≡ true →
+    (inner : List Piece) → Known nested d t name inner → Own nested d content name inner → Spanning t content name →
+    Prints nested d content (prints d.given t name inner)
+inline-node nested d content t name is inner k own g = by (is_hidden name) refl
+  where
+    here : is_hidden name ≡ false → Here nested d t content name inner
+    here shown = record {
+      spans = are-spans nested content g.spans;
+      own = λ blocks other. subst (λ c. Prints nested d c inner) (spans-in nested content name g.spans shown is other)
+          (own blocks);
+      label = λ link. subst (λ c. Prints nested d c inner)
+          (link-in nested content name (g.free (link-prints name link)) link) (own (link-blocks name link));
+      free = g.free;
+      plain = g.plain;
+    }
+      where
+        link-blocks : (name : Name) → named Link name ≡ true → is_blocks (content_of name Blocks) ≡ true
+        link-blocks Link is = refl
+        link-blocks _ is = lie is
+
+    by : (hidden : Bool) → is_hidden name ≡ hidden → Prints nested d content (prints d.given t name inner)
+    by true h = hidden-node nested d content t name h inner
+    by false h =
+        let a = here h in
+        elim (or_cases (is_string name) _ is) [
+          | inl is ↦ string-node nested d content t name is inner k a
+          | inr c ↦ elim (or_cases (is_span name) _ c) [
+            | inl is ↦ span-node nested d content t name is inner k a
+            | inr c ↦ elim (or_cases (is_in_media name) _ c) [
+              | inl is ↦ media-node nested d content t name is inner a
+              | inr c ↦ elim (or_cases (is_autolink name) _ c) [
+                | inl is ↦ autolink-node nested d content t name is inner k a
+                | inr c ↦ elim (or_cases (is_leaf name) _ c) [
+                  | inl is ↦ leaf-node nested d content t name is inner k a
+                  | inr c ↦ elim (or_cases (is_hidden name) (is_silent name) c) [
+                    | inl is ↦ lie (sym h ∙ is)
+                    | inr is ↦ silent-node nested d content t name is inner a
+                  ]
+                ]
               ]
             ]
           ]
         ]
-      ]
-    ]

@@ -14,17 +14,17 @@ use Rattle.md_text.proofs.HtmlJoin.{text_before, joined, after_forest, opening-b
 use Rattle.md_text.proofs.HtmlReading.{only_reading, all-any}
 use Rattle.md_text.proofs.HtmlWriting.{attributes_before, written_attributes-before}
 use Rattle.md_safe.proofs.Texts.{Escaped, line_ends-escaped}
-use Rattle.md_contents.specs.Contents.{Content, Flow, Phrasing, Items, Parts, Rows, Cells, Preformatted, Characters, span_elements, block_elements, held_in, voids_in, is_space, may_say, is_contained, IsContained}
+use Rattle.md_contents.specs.Contents.{Content, Flow, Phrasing, Linked, Items, Parts, Rows, Cells, Preformatted, Characters, span_elements, block_elements, held_in, voids_in, is_space, may_say, is_contained, IsContainedAs}
 
 -- a text has a reading in which everything stands where it may
-pub record Stands (content : Content) (x : List ℕ) : Type 0 where
+pub record Stands (nested : Bool) (content : Content) (x : List ℕ) : Type 0 where
   pub forest : Forest
   pub reading : IsReading x forest
-  pub contained : is_contained content forest ≡ true
+  pub contained : is_contained nested content forest ≡ true
 
 -- it has no other reading
-pub contained-once : (x : List ℕ) → Stands Flow x → IsContained x
-contained-once x h =
+pub contained-once : (nested : Bool) (x : List ℕ) → Stands nested Flow x → IsContainedAs nested x
+contained-once nested x h =
     let one = only_reading any_attribute x (record {
       forest = h.forest;
       reading = h.reading;
@@ -44,43 +44,50 @@ say-append : (content : Content) (x y : List ℕ) → may_say content x ≡ true
     may_say content (x ++ y) ≡ true
 say-append Flow x y a b = refl
 say-append Phrasing x y a b = refl
+say-append Linked x y a b = refl
 say-append Characters x y a b = refl
 say-append Preformatted x y a b = a
 say-append _ x y a b = list_all-append is_space x y ∙ and_from (list_all is_space x) (list_all is_space y) a b
 
-contained-text_before : (content : Content) (bytes : List ℕ) (g : Forest) → may_say content bytes ≡ true →
-    is_contained content g ≡ true → is_contained content (text_before bytes g) ≡ true
-contained-text_before content bytes Empty s h = and_from (may_say content bytes) true s refl
-contained-text_before content bytes (Text more rest) s h =
-    let parts = and_parts (may_say content more) (is_contained content rest) h in
-    and_from (may_say content (bytes ++ more)) (is_contained content rest) (say-append content bytes more s parts.0)
+contained-text_before : (nested : Bool) (content : Content) (bytes : List ℕ) (g : Forest) →
+    may_say content bytes ≡ true →
+    is_contained nested content g ≡ true → is_contained nested content (text_before bytes g) ≡ true
+contained-text_before nested content bytes Empty s h = and_from (may_say content bytes) true s refl
+contained-text_before nested content bytes (Text more rest) s h =
+    let parts = and_parts (may_say content more) (is_contained nested content rest) h in
+    and_from (may_say content (bytes ++ more)) (is_contained nested content rest)
+    (say-append content bytes more s parts.0)
     parts.1
-contained-text_before content bytes (Void name attributes rest) s h =
-    and_from (may_say content bytes) (is_contained content (Void name attributes rest)) s h
-contained-text_before content bytes (Element name attributes children rest) s h =
-    and_from (may_say content bytes) (is_contained content (Element name attributes children rest)) s h
+contained-text_before nested content bytes (Void name attributes rest) s h =
+    and_from (may_say content bytes) (is_contained nested content (Void name attributes rest)) s h
+contained-text_before nested content bytes (Element name attributes children rest) s h =
+    and_from (may_say content bytes) (is_contained nested content (Element name attributes children rest)) s h
 
 -- what an element holds stands where it may
-abbrev pub is_held : Content → List ℕ → Forest → Bool
-is_held content name inner = option_map_or (λ held. is_contained held inner) (held_in content name) false
+abbrev pub is_held : (nested : Bool) → Content → List ℕ → Forest → Bool
+is_held nested content name inner = option_map_or (λ held. is_contained nested held inner)
+    (held_in nested content name) false
 
-contained-joined : (content : Content) (f g : Forest) → is_contained content f ≡ true → is_contained content g ≡ true →
-    is_contained content (joined f g) ≡ true
-contained-joined content Empty g a b = b
-contained-joined content (Text bytes rest) g a b =
-    let parts = and_parts (may_say content bytes) (is_contained content rest) a in
-    contained-text_before content bytes (joined rest g) parts.0 (contained-joined content rest g parts.1 b)
-contained-joined content (Void name attributes rest) g a b =
-    let parts = and_parts (is_one_of (voids_in content) name) (is_contained content rest) a in
-    and_from (is_one_of (voids_in content) name) (is_contained content (joined rest g)) parts.0
-    (contained-joined content rest g parts.1 b)
-contained-joined content (Element name attributes children rest) g a b =
-    let parts = and_parts (is_held content name children) (is_contained content rest) a in
-    and_from (is_held content name children) (is_contained content (joined rest g)) parts.0
-    (contained-joined content rest g parts.1 b)
+contained-joined : (nested : Bool) (content : Content) (f g : Forest) → is_contained nested content f ≡ true →
+    is_contained nested content g ≡ true →
+    is_contained nested content (joined f g) ≡ true
+contained-joined nested content Empty g a b = b
+contained-joined nested content (Text bytes rest) g a b =
+    let parts = and_parts (may_say content bytes) (is_contained nested content rest) a in
+    contained-text_before nested content bytes (joined rest g) parts.0 (contained-joined nested content rest g parts.1
+    b)
+contained-joined nested content (Void name attributes rest) g a b =
+    let parts = and_parts (is_one_of (voids_in content) name) (is_contained nested content rest) a in
+    and_from (is_one_of (voids_in content) name) (is_contained nested content (joined rest g)) parts.0
+    (contained-joined nested content rest g parts.1 b)
+contained-joined nested content (Element name attributes children rest) g a b =
+    let parts = and_parts (is_held nested content name children) (is_contained nested content rest) a in
+    and_from (is_held nested content name children) (is_contained nested content (joined rest g)) parts.0
+    (contained-joined nested content rest g parts.1 b)
 
-pub stands-join : (content : Content) (x y : List ℕ) → Stands content x → Stands content y → Stands content (x ++ y)
-stands-join content x y a b =
+pub stands-join : (nested : Bool) (content : Content) (x y : List ℕ) → Stands nested content x →
+    Stands nested content y → Stands nested content (x ++ y)
+stands-join nested content x y a b =
     let both = after_forest any_attribute a.forest b.forest a.reading.in_grammar (all-any a.forest)
     b.reading.in_grammar (all-any b.forest) in
     record {
@@ -89,19 +96,20 @@ stands-join content x y a b =
         in_grammar = both.0;
         written_so = both.1 ∙ ap₂ (λ x y. x ++ y) a.reading.written_so b.reading.written_so;
       };
-      contained = contained-joined content a.forest b.forest a.contained b.contained;
+      contained = contained-joined nested content a.forest b.forest a.contained b.contained;
     }
 
-pub stands-nothing : (content : Content) → Stands content []
-stands-nothing content = record {
+pub stands-nothing : (nested : Bool) (content : Content) → Stands nested content []
+stands-nothing nested content = record {
   forest = Empty;
   reading = record { in_grammar = refl; written_so = refl };
   contained = refl;
 }
 
-pub stands-text : (content : Content) (x : List ℕ) → Escaped x → may_say content x ≡ true → Stands content x
-stands-text content [] h s = stands-nothing content
-stands-text content (b ∷ bytes) h s = record {
+pub stands-text : (nested : Bool) (content : Content) (x : List ℕ) → Escaped x → may_say content x ≡ true →
+    Stands nested content x
+stands-text nested content [] h s = stands-nothing nested content
+stands-text nested content (b ∷ bytes) h s = record {
   forest = Text (b ∷ bytes) Empty;
   reading = record {
     in_grammar = and_from _ true (and_from _ true (and_from true _ refl h) refl) refl;
@@ -110,11 +118,11 @@ stands-text content (b ∷ bytes) h s = record {
   contained = and_from (may_say content (b ∷ bytes)) true s refl;
 }
 
-pub stands-void : (content : Content) (name : List ℕ) (attributes : List Attribute) →
+pub stands-void : (nested : Bool) (content : Content) (name : List ℕ) (attributes : List Attribute) →
     is_tag void_tags name attributes ≡ true → is_one_of (voids_in content) name ≡ true
-    → Stands content (60 ∷ (name ++ attributes_before attributes (32 ∷ 47 ∷ 62 ∷ [])))
-stands-void content name attributes h v =
-    subst (λ x. Stands content (60 ∷ (name ++ x))) (written_attributes-before attributes (32 ∷ 47 ∷ 62 ∷ []))
+    → Stands nested content (60 ∷ (name ++ attributes_before attributes (32 ∷ 47 ∷ 62 ∷ [])))
+stands-void nested content name attributes h v =
+    subst (λ x. Stands nested content (60 ∷ (name ++ x))) (written_attributes-before attributes (32 ∷ 47 ∷ 62 ∷ []))
     (record {
       forest = Void name attributes Empty;
       reading = record { in_grammar = and_from (is_tag void_tags name attributes) true h refl; written_so = refl };
@@ -122,14 +130,15 @@ stands-void content name attributes h v =
     })
 
 -- an element may stand there and holds this
-abbrev pub Opens : Content → Content → List ℕ → Type 0
-Opens content held name = held_in content name ≡ Some held
+abbrev pub Opens : (nested : Bool) → Content → Content → List ℕ → Type 0
+Opens nested content held name = held_in nested content name ≡ Some held
 
-pub stands-element : (content held : Content) (name : List ℕ) (attributes : List Attribute) (inside : List ℕ) →
-    is_tag elements name attributes ≡ true → Opens content held name → Stands held inside
-    → Stands content (60 ∷ (name ++ (written_attributes attributes
+pub stands-element : (nested : Bool) (content held : Content) (name : List ℕ) (attributes : List Attribute)
+    (inside : List ℕ) →
+    is_tag elements name attributes ≡ true → Opens nested content held name → Stands nested held inside
+    → Stands nested content (60 ∷ (name ++ (written_attributes attributes
     ++ (62 ∷ (inside ++ (60 ∷ 47 ∷ (name ++ (62 ∷ []))))))))
-stands-element content held name attributes inside h opens within = record {
+stands-element nested content held name attributes inside h opens within = record {
   forest = Element name attributes within.forest Empty;
   reading = record {
     in_grammar = and_from _ true (and_from (is_tag elements name attributes) (is_forest within.forest) h
@@ -137,18 +146,21 @@ stands-element content held name attributes inside h opens within = record {
     written_so = ap (λ x. 60 ∷ (name ++ (written_attributes attributes
         ++ (62 ∷ (x ++ (60 ∷ 47 ∷ (name ++ (62 ∷ [])))))))) within.reading.written_so;
   };
-  contained = and_from (is_held content name within.forest) true
-      (ap (λ held. option_map_or (λ held. is_contained held within.forest) held false) opens ∙ within.contained) refl;
+  contained = and_from (is_held nested content name within.forest) true
+      (ap (λ held. option_map_or (λ held. is_contained nested held within.forest) held false) opens ∙
+      within.contained) refl;
 }
 
 -- attribute by attribute
-pub stands-tag : (content held : Content) (name : List ℕ) (attributes : List Attribute) (inside : List ℕ) →
-    is_tag elements name attributes ≡ true → Opens content held name → Stands held inside
-    → Stands content (60 ∷ (name ++ attributes_before attributes (62 ∷ (inside ++ (60 ∷ 47 ∷ (name ++ (62 ∷ [])))))))
-stands-tag content held name attributes inside h opens within =
-    subst (λ x. Stands content (60 ∷ (name ++ x)))
+pub stands-tag : (nested : Bool) (content held : Content) (name : List ℕ) (attributes : List Attribute)
+    (inside : List ℕ) →
+    is_tag elements name attributes ≡ true → Opens nested content held name → Stands nested held inside
+    → Stands nested content (60 ∷ (name ++ attributes_before attributes (62 ∷ (inside ++ (60 ∷ 47 ∷ (name ++ (62
+    ∷ [])))))))
+stands-tag nested content held name attributes inside h opens within =
+    subst (λ x. Stands nested content (60 ∷ (name ++ x)))
     (written_attributes-before attributes (62 ∷ (inside ++ (60 ∷ 47 ∷ (name ++ (62 ∷ []))))))
-    (stands-element content held name attributes inside h opens within)
+    (stands-element nested content held name attributes inside h opens within)
 
 -- ---- spans stand among blocks
 
@@ -158,40 +170,45 @@ find-first test [] ys x e = cc
 find-first test (first ∷ xs) ys x e = by (test first) e (find-first test xs ys x)
   where
     by : (passes : Bool) → cond passes (Some first) (find test xs) ≡ Some x →
-        (find test xs ≡ Some x → find test (xs ++ ys) ≡ Some x) → cond passes (Some first) (find test (xs ++ ys)) ≡ Some x
+        (find test xs ≡ Some x → find test (xs ++ ys) ≡ Some x) → cond passes (Some first) (find test (xs
+        ++ ys)) ≡ Some x
     by true e later = e
     by false e later = later e
 
-held-wider : (name : List ℕ) (inner : Forest) → is_held Phrasing name inner ≡ true → is_held Flow name inner ≡ true
-held-wider name inner h =
-    by (find (λ element. bytes_eq element.0 name) span_elements) refl h
+held-wider : (nested : Bool) (name : List ℕ) (inner : Forest) → is_held nested Phrasing name inner ≡ true →
+    is_held nested Flow name inner ≡ true
+held-wider nested name inner h =
+    by (find (λ element. bytes_eq element.0 name) (span_elements nested)) refl h
   where
-    by : (found : Option (List ℕ × Content)) → find (λ element. bytes_eq element.0 name) span_elements ≡ found →
-        option_map_or (λ held. is_contained held inner) (option_map (λ element. element.1) found) false ≡ true →
-        is_held Flow name inner ≡ true
+    by : (found : Option (List ℕ × Content)) → find (λ element. bytes_eq element.0 name)
+        (span_elements nested) ≡ found →
+        option_map_or (λ held. is_contained nested held inner) (option_map (λ element. element.1) found) false ≡ true →
+        is_held nested Flow name inner ≡ true
     by None e h = lie h
     by (Some element) e h =
-        ap (λ found. option_map_or (λ held. is_contained held inner) (option_map (λ element. element.1) found) false)
-        (find-first (λ element. bytes_eq element.0 name) span_elements block_elements element e) ∙ h
+        ap (λ found. option_map_or (λ held. is_contained nested held inner) (option_map
+        (λ element. element.1) found) false)
+        (find-first (λ element. bytes_eq element.0 name) (span_elements nested) block_elements element e) ∙ h
 
-contained-wider : (f : Forest) → is_contained Phrasing f ≡ true → is_contained Flow f ≡ true
-contained-wider Empty h = refl
-contained-wider (Text bytes rest) h = contained-wider rest h
-contained-wider (Void name attributes rest) h =
-    let parts = and_parts (is_one_of (voids_in Phrasing) name) (is_contained Phrasing rest) h in
-    and_from (is_one_of (voids_in Flow) name) (is_contained Flow rest)
+contained-wider : (nested : Bool) (f : Forest) → is_contained nested Phrasing f ≡ true →
+    is_contained nested Flow f ≡ true
+contained-wider nested Empty h = refl
+contained-wider nested (Text bytes rest) h = contained-wider nested rest h
+contained-wider nested (Void name attributes rest) h =
+    let parts = and_parts (is_one_of (voids_in Phrasing) name) (is_contained nested Phrasing rest) h in
+    and_from (is_one_of (voids_in Flow) name) (is_contained nested Flow rest)
     (or_right (bytes_eq name (104 ∷ 114 ∷ [])) (is_one_of (voids_in Phrasing) name) parts.0)
-    (contained-wider rest parts.1)
-contained-wider (Element name attributes inner rest) h =
-    let parts = and_parts (is_held Phrasing name inner) (is_contained Phrasing rest) h in
-    and_from (is_held Flow name inner) (is_contained Flow rest) (held-wider name inner parts.0)
-    (contained-wider rest parts.1)
+    (contained-wider nested rest parts.1)
+contained-wider nested (Element name attributes inner rest) h =
+    let parts = and_parts (is_held nested Phrasing name inner) (is_contained nested Phrasing rest) h in
+    and_from (is_held nested Flow name inner) (is_contained nested Flow rest) (held-wider nested name inner parts.0)
+    (contained-wider nested rest parts.1)
 
-pub stands-wider : (x : List ℕ) → Stands Phrasing x → Stands Flow x
-stands-wider x h = record {
+pub stands-wider : (nested : Bool) (x : List ℕ) → Stands nested Phrasing x → Stands nested Flow x
+stands-wider nested x h = record {
   forest = h.forest;
   reading = h.reading;
-  contained = contained-wider h.forest h.contained;
+  contained = contained-wider nested h.forest h.contained;
 }
 
 -- ---- white space
@@ -205,15 +222,17 @@ abbrev pub is_spaced : Content → Bool
 is_spaced Preformatted = false
 is_spaced _ = true
 
-pub stands-white : (content : Content) (x : List ℕ) → is_spaced content ≡ true → IsWhite x → Stands content x
-stands-white Flow x is h = stands-text Flow x h.0 refl
-stands-white Phrasing x is h = stands-text Phrasing x h.0 refl
-stands-white Characters x is h = stands-text Characters x h.0 refl
-stands-white Preformatted x is h = lie is
-stands-white Items x is h = stands-text Items x h.0 h.1
-stands-white Parts x is h = stands-text Parts x h.0 h.1
-stands-white Rows x is h = stands-text Rows x h.0 h.1
-stands-white Cells x is h = stands-text Cells x h.0 h.1
+pub stands-white : (nested : Bool) (content : Content) (x : List ℕ) → is_spaced content ≡ true → IsWhite x →
+    Stands nested content x
+stands-white nested Flow x is h = stands-text nested Flow x h.0 refl
+stands-white nested Phrasing x is h = stands-text nested Phrasing x h.0 refl
+stands-white nested Linked x is h = stands-text nested Linked x h.0 refl
+stands-white nested Characters x is h = stands-text nested Characters x h.0 refl
+stands-white nested Preformatted x is h = lie is
+stands-white nested Items x is h = stands-text nested Items x h.0 h.1
+stands-white nested Parts x is h = stands-text nested Parts x h.0 h.1
+stands-white nested Rows x is h = stands-text nested Rows x h.0 h.1
+stands-white nested Cells x is h = stands-text nested Cells x h.0 h.1
 
 line_ends-space : (x : List ℕ) → is_line_ends x ≡ true → list_all is_space x ≡ true
 line_ends-space [] h = refl
@@ -231,24 +250,26 @@ line_ends-white x h = (line_ends-escaped x h, line_ends-space x h)
 
 -- ---- what is turned into what by two texts around it
 
-abbrev pub Turns : Content → Content → List ℕ → List ℕ → Type 0
-Turns held content o c = (x : List ℕ) → Stands held x → Stands content (o ++ (x ++ c))
+abbrev pub Turns : (nested : Bool) → Content → Content → List ℕ → List ℕ → Type 0
+Turns nested held content o c = (x : List ℕ) → Stands nested held x → Stands nested content (o ++ (x ++ c))
 
-pub turns-tag : (held content : Content) (name : List ℕ) (attributes : List Attribute) →
-    is_tag elements name attributes ≡ true → Opens content held name →
-    Turns held content (opening_tag name attributes) (closing_tag name)
-turns-tag held content name attributes h opens x r =
-    subst (Stands content) (sym (opening-before name attributes (x ++ closing_tag name)))
-    (stands-element content held name attributes x h opens r)
+pub turns-tag : (nested : Bool) (held content : Content) (name : List ℕ) (attributes : List Attribute) →
+    is_tag elements name attributes ≡ true → Opens nested content held name →
+    Turns nested held content (opening_tag name attributes) (closing_tag name)
+turns-tag nested held content name attributes h opens x r =
+    subst (Stands nested content) (sym (opening-before name attributes (x ++ closing_tag name)))
+    (stands-element nested content held name attributes x h opens r)
 
-pub turns-plain : (held content : Content) (name : List ℕ) → is_tag elements name [] ≡ true → Opens content held name →
-    Turns held content (opening_tag name []) (closing_tag name)
-turns-plain held content name h opens = turns-tag held content name [] h opens
+pub turns-plain : (nested : Bool) (held content : Content) (name : List ℕ) → is_tag elements name [] ≡ true →
+    Opens nested content held name →
+    Turns nested held content (opening_tag name []) (closing_tag name)
+turns-plain nested held content name h opens = turns-tag nested held content name [] h opens
 
-pub turns-two : (inner held content : Content) (o c o' c' : List ℕ) → Turns held content o c → Turns inner held o' c'
-    → Turns inner content (o ++ o') (c' ++ c)
-turns-two inner held content o c o' c' a b x r =
-    subst (Stands content) (by o c o' c' x) (a (o' ++ (x ++ c')) (b x r))
+pub turns-two : (nested : Bool) (inner held content : Content) (o c o' c' : List ℕ) → Turns nested held content o c →
+    Turns nested inner held o' c'
+    → Turns nested inner content (o ++ o') (c' ++ c)
+turns-two nested inner held content o c o' c' a b x r =
+    subst (Stands nested content) (by o c o' c' x) (a (o' ++ (x ++ c')) (b x r))
   where
     by : (o c o' c' x : List ℕ) → o ++ ((o' ++ (x ++ c')) ++ c) ≡ (o ++ o') ++ (x ++ (c' ++ c))
     by o c o' c' x = simp append_assoc

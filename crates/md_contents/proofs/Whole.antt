@@ -1,5 +1,5 @@
 -- The meaning of a document is flow content.
-use Rattle.std.proofs.Common.{ℕ, List, [], ◌++◌, refl}
+use Rattle.std.proofs.Common.{◌≡◌, ℕ, Bool, true, false, sym, List, [], ◌++◌, refl}
 use Rattle.std.specs.Prelude.{Option, Some, None}
 use Rattle.md_base.specs.declared.event.Position.{Position}
 use Rattle.md_base.specs.Tree.{Forest}
@@ -22,7 +22,9 @@ use Rattle.md_safe.specs.Options.{KeepsGrammar}
 use Rattle.md_safe.proofs.Laid.{adds-alone}
 use Rattle.md_safe.proofs.CountedForest.{Document, read_in}
 use Rattle.md_safe.proofs.Whole.{IsEnding, first-is_ending, outermost-ready, prepared, reads-whole}
-use Rattle.md_contents.specs.Contents.{Flow, IsContained}
+use Rattle.md_base.proofs.Lies.{lie}
+use Rattle.md_contents.specs.Contents.{Flow, Phrasing, IsContained, IsUnnested}
+use Rattle.md_contents.specs.Links.{has_nested_link}
 use Rattle.md_contents.specs.Placed.{IsPlaced}
 use Rattle.md_contents.proofs.Placing.{shaped-placed}
 use Rattle.md_contents.proofs.Stands.{Stands, stands-nothing, contained-once, IsWhite, line_ends-white}
@@ -42,10 +44,12 @@ ending-white options bytes None h = default-white options.default_line_ending
 ending-white options bytes (Some place) h = line_ends-white (text_in bytes place) h
 
 -- a document that is built and placed as the grammar says
-pub meaning-stands : (bytes : List ℕ) (names : List (List ℕ × List ℕ)) (options : CompileOptions) (document : Forest) →
+pub meaning-stands : (nested : Bool) (bytes : List ℕ) (names : List (List ℕ × List ℕ)) (options : CompileOptions)
+    (document : Forest) →
     IsBuilt bytes Blocks document → IsPlaced Flow document → KeepsGrammar options →
-    Stands Flow (meaning options names bytes document)
-meaning-stands bytes names options document built placed keeps =
+    (nested ≡ false → has_nested_link false document ≡ false) → Stands nested Flow
+    (meaning options names bytes document)
+meaning-stands nested bytes names options document built placed keeps unnested =
     let known = prepared bytes names options document built keeps in
     let ending : List ℕ = ending_at options bytes (first_ending document) in
     let white : IsWhite ending = ending-white options bytes (first_ending document)
@@ -60,21 +64,31 @@ meaning-stands bytes names options document built placed keeps =
       titles = known.1;
     } in
     let all : Outcome = outcome d.given outermost nothing_before document in
-    let known : Means d Flow all = means d document outermost nothing_before Flow (record {
+    let known : Means nested d Flow all = means nested d document outermost nothing_before Flow (record {
       white = white;
       built = built;
       placed = placed;
       ready = outermost-ready (read_in d) (reads-whole any_attribute (λ value. refl));
       outside = refl;
-      heading = stands-nothing _;
+      heading = stands-nothing nested Phrasing;
+      linked = λ linked. lie linked;
+      unnested = unnested;
     }) in
-    adds-alone d.given.ending (Stands Flow) (all.pieces ++ section d.given all.footnotes)
-    (lays-both d.given.ending Flow all.pieces (section d.given all.footnotes) known.prints
-    (section-prints d white keeps.usual_tag keeps.usual_attributes all.footnotes known.texts))
+    adds-alone d.given.ending (Stands nested Flow) (all.pieces ++ section d.given all.footnotes)
+    (lays-both nested d.given.ending Flow all.pieces (section d.given all.footnotes) known.prints
+    (section-prints nested d white keeps.usual_tag keeps.usual_attributes all.footnotes known.texts))
 
 pub meaning-contained : (bytes : List ℕ) (names : List (List ℕ × List ℕ)) (options : CompileOptions) (document : Forest)
     → IsGrammatical bytes names document → KeepsGrammar options → IsContained (meaning options names bytes document)
 meaning-contained bytes names options document grammatical keeps =
-    contained-once (meaning options names bytes document)
-    (meaning-stands bytes names options document (grammatical-built bytes names document grammatical)
-    (shaped-placed document grammatical.shape) keeps)
+    contained-once true (meaning options names bytes document)
+    (meaning-stands true bytes names options document (grammatical-built bytes names document grammatical)
+    (shaped-placed document grammatical.shape) keeps (λ no. lie (sym no)))
+
+pub meaning-unnested : (bytes : List ℕ) (names : List (List ℕ × List ℕ)) (options : CompileOptions) (document : Forest)
+    → IsGrammatical bytes names document → KeepsGrammar options → has_nested_link false document ≡ false →
+    IsUnnested (meaning options names bytes document)
+meaning-unnested bytes names options document grammatical keeps unnested =
+    contained-once false (meaning options names bytes document)
+    (meaning-stands false bytes names options document (grammatical-built bytes names document grammatical)
+    (shaped-placed document grammatical.shape) keeps (λ _. unnested))

@@ -5,7 +5,7 @@ use Rattle.md_base.specs.declared.event.Name.{Name}
 use Rattle.md_base.specs.declared.event.Name.TheVariants.{LineEnding, BlankLineEnding, BlockQuote, ListOrdered, ListUnordered, ListItem, GfmFootnoteDefinition, CodeIndented, CodeFenced, CodeFlowChunk, MathFlow, HtmlFlow, Definition, HeadingAtx, HeadingSetextText, HeadingSetextUnderlineSequence, GfmTable, GfmTableHead, GfmTableBody, GfmTableRow, GfmTableCell, GfmTableDelimiterRow, Paragraph, ThematicBreak, Frontmatter}
 use Rattle.md_base.specs.Tree.{Forest, Empty, Node}
 use Rattle.md_base.specs.NameTests.{is_transparent}
-use Rattle.md_contents.specs.Contents.{Content, Flow, Phrasing, Items, Parts, Rows, Cells, Preformatted, Characters}
+use Rattle.md_contents.specs.Contents.{Content, Flow, Phrasing, Linked, Items, Parts, Rows, Cells, Preformatted, Characters}
 
 -- what a name is to the node around it: a block, an item, a table's part, a row, a cell, a line ending, a line of code,
 -- the row of delimiters, or anything else
@@ -58,6 +58,7 @@ is_inner sort = elim sort [ Item ↦ true | Part ↦ true | Row ↦ true | Cell 
 abbrev pub may_stand : Content → Sort → Bool
 may_stand Flow sort = if is_inner sort then false else true
 may_stand Phrasing sort = if is_inner sort then false else elim sort [ Block ↦ false | _ ↦ true ]
+may_stand Linked sort = false
 may_stand Items sort = elim sort [ Item ↦ true | Ending ↦ true | _ ↦ false ]
 may_stand Parts sort = elim sort [ Part ↦ true | Ending ↦ true | _ ↦ false ]
 may_stand Rows sort = elim sort [ Row ↦ true | Ending ↦ true | Delimiters ↦ true | _ ↦ false ]
