@@ -1,6 +1,5 @@
 -- What stands in a link, where links may stand in links and where not; and none does where a document has no link in a
 -- link.
--- a link in a link.
 use Rattle.std.proofs.Common.{◌≡◌, ◌⊎◌, inl, inr, Bool, true, false, not, ◌&&◌, ◌||◌, cond, refl, sym, ap, ◌∙◌}
 use Rattle.std.proofs.lemmas.Bool.{or_parts, or_left, or_right}
 use Rattle.md_base.proofs.Lies.{lie}

@@ -10,6 +10,8 @@ use Rattle.md_shape.specs.Underlined.{IsUnderlined}
 use Rattle.md_shape.proofs.Underlines.{grammatical-underlined}
 use Rattle.md_safe.specs.Options.{KeepsGrammar, KeepsLinks, KeepsImages}
 use Rattle.md_safe.proofs.Whole.{one-reading, safe-links, safe-images, distinct-ids}
+use Rattle.md_contents.proofs.Whole.{meaning-contained}
+use Rattle.md_contents.specs.Contents.{IsContained}
 use Rattle.md_standard.proofs.Tokenized.{read-tokenized, link-tokens, image-tokens}
 use Rattle.md_html.proofs.compiler.count_checked.Goals as goal
 
@@ -35,11 +37,15 @@ returns c =
     let images : KeepsImages options → HasOneReadingWith is_safe_image text = λ keeps.
     subst (λ t. HasOneReadingWith is_safe_image t) same
     (safe-images checked.bytes checked.names options read.0 built keeps) in
+    let contained : KeepsGrammar options → IsContained text = λ keeps.
+    subst IsContained same
+    (meaning-contained checked.bytes checked.names options read.0 read.1.grammatical keeps) in
     record {
       meaning = c.in_ok-text.ensures.meaning;
       one_reading = one;
       safe_links = links;
       safe_images = images;
+      contained = contained;
       tokenized = λ keeps. read-tokenized any_attribute text (one keeps);
       safe_link_tokens = λ keeps. link-tokens text (links keeps);
       safe_image_tokens = λ keeps. image-tokens text (images keeps);
