@@ -30,9 +30,9 @@ abbrev pub close_item : List Open → List Open
 close_item stack = if has_item stack
     then pop_until (is_named (codes "li")) (imply_except (codes "li") stack) else stack
 
--- where nothing is to be reconstructed
+-- a change after the active formatting elements are reconstructed, where that is nothing
 abbrev pub reconstructed : Parser → (Parser → Parser) → Option Parser
-reconstructed parser then_ = if needs_reconstruction parser then None else Some (then_ parser)
+reconstructed parser change = if needs_reconstruction parser then None else Some (change parser)
 
 -- a formatting element is inserted and pushed onto the list
 abbrev pub insert_formatting : List ℕ → List TokenAttribute → Parser → Parser
