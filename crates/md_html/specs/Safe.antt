@@ -5,14 +5,17 @@ use Rattle.md_text.specs.Safe.{is_safe_link, is_safe_image}
 use Rattle.md_tree.specs.declared.rule.CompileError.{CompileError}
 use Rattle.md_tree.specs.Names.{message_of}
 use Rattle.md_text.specs.declared.options.CompileOptions.{CompileOptions}
+use Rattle.md_contents.specs.Contents.{IsContained}
 use Rattle.md_safe.specs.Options.{KeepsImages}
 use Rattle.md_html.specs.declared.safe_html.SafeError.{SafeError}
 use Rattle.md_html.specs.declared.safe_html.SafeError.TheVariants.{Options, Compile}
 
--- a text with exactly one reading, in which each link and each image has no protocol or a permitted one
+-- a text with exactly one reading, in which each link and each image has no protocol or a permitted one, and everything
+-- stands where it may
 pub record IsSafe (text : List ℕ) : Type 0 where
   pub safe_links : HasOneReadingWith is_safe_link text
   pub safe_images : HasOneReadingWith is_safe_image text
+  pub contained : IsContained text
 
 -- options are refused exactly where they aren't safe
 abbrev pub IsRefusedFor : CompileOptions → SafeError → Type 0

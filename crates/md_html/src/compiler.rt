@@ -1,6 +1,6 @@
 //! Events to HTML.
 
-ghost use Rattle.std.specs.Prelude.{◌≡◌, ◌≤◌, ◌<◌, ◌^◌, OnOk, IfOk, IfErr, string_bytes, length, ◌*◌};
+ghost use Rattle.std.specs.Prelude.{◌≡◌, ◌≤◌, ◌<◌, ◌^◌, OnOk, IfOk, IfErr, false, string_bytes, length, ◌*◌};
 ghost use Rattle.md_base.specs.Reference.{name_table};
 ghost use Rattle.md_base.specs.Tree.{Forest, flatten};
 ghost use Rattle.md_tree.specs.Grammar.{IsChecked, handed};
@@ -11,6 +11,9 @@ ghost use Rattle.md_text.specs.Safe.{is_safe_link, is_safe_image};
 ghost use Rattle.md_text.specs.Ids.{HasDistinctIds};
 ghost use Rattle.md_standard.specs.SafeTokens.{has_safe_links, has_safe_images};
 ghost use Rattle.md_standard.specs.Tokenized.{HasTokensWith, IsTokenizedAsRead};
+ghost use Rattle.md_contents.specs.Contents.{IsContained};
+ghost use Rattle.md_contents.specs.Links.{has_nested_link};
+ghost use Rattle.md_dom.specs.Built.{IsBuiltAsRead};
 ghost use Rattle.md_safe.specs.Options.{KeepsGrammar, KeepsLinks, KeepsImages, KeepsIds};
 
 use md_base::Event;
@@ -36,7 +39,9 @@ pub struct Counted {
 /// where any image source isn't allowed either, so has each image. The default options are such. Where footnote ids
 /// go by number and the text has one reading, no two ids in it are equal, with any prefix and any protocols. The same
 /// holds in the web's own words: a text with one reading is what the HTML Standard's tokenizer emits of it, and by the
-/// URL Standard a link, or an image, has no scheme of its own or a permitted one.
+/// URL Standard a link, or an image, has no scheme of its own or a permitted one. In that reading each element stands
+/// where it may: an item in a list, a row in a table, a block in no paragraph. Where no link of the document stands in a
+/// link, the Standard's tree construction builds of the text, set into a `div` or a cell, the reading's own tree.
 ///
 /// # Errors
 ///
@@ -72,6 +77,9 @@ pub fn compile(
         → HasOneReadingWith is_safe_link (string_bytes text)) }
     ensures safe_images { IfOk result (λ text. KeepsImages options.now
         → HasOneReadingWith is_safe_image (string_bytes text)) }
+    ensures contained { IfOk result (λ text. KeepsGrammar options.now → IsContained (string_bytes text)) }
+    ensures tree { IfOk result (λ text. (document : Forest) → flatten document ≡ events.now
+        → has_nested_link false document ≡ false → KeepsGrammar options.now → IsBuiltAsRead (string_bytes text)) }
     ensures tokenized { IfOk result (λ text. KeepsGrammar options.now → IsTokenizedAsRead (string_bytes text)) }
     ensures safe_link_tokens { IfOk result (λ text. KeepsLinks options.now
         → HasTokensWith has_safe_links (string_bytes text)) }
@@ -118,6 +126,10 @@ pub fn compile_counted(
         → HasOneReadingWith is_safe_link (string_bytes counted.text)) }
     ensures safe_images { IfOk result (λ counted. KeepsImages options.now
         → HasOneReadingWith is_safe_image (string_bytes counted.text)) }
+    ensures contained { IfOk result (λ counted. KeepsGrammar options.now → IsContained (string_bytes counted.text)) }
+    ensures tree { IfOk result (λ counted. (document : Forest) → flatten document ≡ events.now
+        → has_nested_link false document ≡ false → KeepsGrammar options.now
+        → IsBuiltAsRead (string_bytes counted.text)) }
     ensures tokenized { IfOk result (λ counted. KeepsGrammar options.now → IsTokenizedAsRead (string_bytes counted.text)) }
     ensures safe_link_tokens { IfOk result (λ counted. KeepsLinks options.now
         → HasTokensWith has_safe_links (string_bytes counted.text)) }
@@ -164,6 +176,9 @@ pub fn compile_checked(
         → HasOneReadingWith is_safe_link (string_bytes text)) }
     ensures safe_images { IfOk result (λ text. KeepsImages options.now
         → HasOneReadingWith is_safe_image (string_bytes text)) }
+    ensures contained { IfOk result (λ text. KeepsGrammar options.now → IsContained (string_bytes text)) }
+    ensures tree { IfOk result (λ text. (document : Forest) → flatten document ≡ checked.now.events
+        → has_nested_link false document ≡ false → KeepsGrammar options.now → IsBuiltAsRead (string_bytes text)) }
     ensures tokenized { IfOk result (λ text. KeepsGrammar options.now → IsTokenizedAsRead (string_bytes text)) }
     ensures safe_link_tokens { IfOk result (λ text. KeepsLinks options.now
         → HasTokensWith has_safe_links (string_bytes text)) }
@@ -189,6 +204,10 @@ fn count_checked(
         → HasOneReadingWith is_safe_link (string_bytes counted.text)) }
     ensures safe_images { IfOk result (λ counted. KeepsImages options.now
         → HasOneReadingWith is_safe_image (string_bytes counted.text)) }
+    ensures contained { IfOk result (λ counted. KeepsGrammar options.now → IsContained (string_bytes counted.text)) }
+    ensures tree { IfOk result (λ counted. (document : Forest) → flatten document ≡ checked.now.events
+        → has_nested_link false document ≡ false → KeepsGrammar options.now
+        → IsBuiltAsRead (string_bytes counted.text)) }
     ensures tokenized { IfOk result (λ counted. KeepsGrammar options.now → IsTokenizedAsRead (string_bytes counted.text)) }
     ensures safe_link_tokens { IfOk result (λ counted. KeepsLinks options.now
         → HasTokensWith has_safe_links (string_bytes counted.text)) }

@@ -1,11 +1,14 @@
 //! Texts that may be set into a page.
 
-ghost use Rattle.std.specs.Prelude.{◌≡◌, ◌↔◌, OnOk, IfOk, IfErr, IsTrue, true};
+ghost use Rattle.std.specs.Prelude.{◌≡◌, ◌↔◌, OnOk, IfOk, IfErr, IsTrue, true, false};
 ghost use Rattle.md_base.specs.Reference.{name_table};
 ghost use Rattle.md_base.specs.Tree.{Forest, flatten};
 ghost use Rattle.md_tree.specs.Grammar.{IsChecked, handed};
 ghost use Rattle.md_tree.specs.Refusal.{IsOutside, IsOrder, IsMdx, IsOfNode, IsLost};
 ghost use Rattle.md_meaning.specs.Meaning.{meaning};
+ghost use Rattle.md_contents.specs.Contents.{IsContained};
+ghost use Rattle.md_contents.specs.Links.{has_nested_link};
+ghost use Rattle.md_dom.specs.Built.{IsBuiltAsRead};
 ghost use Rattle.md_safe.specs.Options.{KeepsImages};
 ghost use Rattle.md_text.specs.Ids.{HasDistinctIds};
 ghost use Rattle.md_standard.specs.Tokenized.{IsSafelyTokenized};
@@ -21,7 +24,7 @@ use std::marker::Model;
 use thiserror::Error;
 
 /// A text that has exactly one reading in the HTML grammar, in which each `href` and `src` has no protocol or a
-/// permitted one. Only [`compile_safe`] makes one.
+/// permitted one, and each element stands where it may. Only [`compile_safe`] makes one.
 #[derive(Drop)]
 pub struct SafeHtml {
     text: String,
@@ -133,6 +136,9 @@ pub fn compile_safe(
     ensures meaning { IfOk result (λ html. (document : Forest) → flatten document ≡ events.now →
         html ≡ meaning options.now (name_table names.now) bytes.now document) }
     ensures tokens { IfOk result (λ html. IsSafelyTokenized html) }
+    ensures contained { IfOk result (λ html. IsContained html) }
+    ensures tree { IfOk result (λ html. (document : Forest) → flatten document ≡ events.now
+        → has_nested_link false document ≡ false → IsBuiltAsRead html) }
     ensures distinct_ids { IfOk result (λ html. options.now.gfm_footnote_number_ids ≡ true → HasDistinctIds html) }
 
     ensures outside { IfErr result (OfCompile (IsOutside (handed events.now bytes.now names.now))) }

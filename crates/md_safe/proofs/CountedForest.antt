@@ -296,7 +296,7 @@ none_here content GfmFootnoteDefinition stands other = lie (differ other (no_def
 none_here content _ stands other = refl
 
 -- no footnote is defined but among blocks
-no_footnotes : (d : Document) (content : Content) (forest : Forest) (around : Surroundings) (before : Before) →
+pub no_footnotes : (d : Document) (content : Content) (forest : Forest) (around : Surroundings) (before : Before) →
     is_blocks content ≡ false → IsBuilt d.given.bytes content forest →
     (outcome d.given around before forest).footnotes ≡ []
 no_footnotes d content Empty around before other built = refl

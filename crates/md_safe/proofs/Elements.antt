@@ -207,9 +207,22 @@ adds-task p ending options test checkable in_image inner a =
     first false = adds-flat ending (λ x. x ≡ task_tag false) (Text (codes "<input type=\"checkbox\" ")
         ∷ Text (codes "disabled=\"\" ") ∷ []) refl refl
 
+-- the tags of fenced code, without the end of the second one, and of math
+abbrev pub code_tag : List ℕ
+code_tag = codes "<pre><code"
+
+abbrev pub math_tag : List ℕ
+math_tag = codes "<pre><code class=\"language-math math-display\""
+
+-- what is said of code in its tag: nothing, or of fenced code a class for its language
+abbrev pub IsInfo : List ℕ → List ℕ → Type 0
+IsInfo tag x = (x ≡ []) ⊎ ((v : List ℕ) × (x ≡ codes " class=\"language-" ++ (v ++ codes "\"")) × Escaped v
+    × (tag ≡ code_tag))
+
 -- a text that ends an opening tag of code and goes on with an escaped text
 pub record IsRaw (p : Claim) (tag x : List ℕ) : Type 0 where
   pub attributes : List ℕ
+  pub info : IsInfo tag attributes
   pub body : List ℕ
   pub whole : x ≡ attributes ++ (62 ∷ body)
   pub bracket : Bracket p (tag ++ (attributes ++ (62 ∷ []))) code_closing
@@ -256,19 +269,12 @@ adds-raw p ending h tag inner end a b =
     (adds-append ending (IsRaw p tag) (IsFramed code_closing) (λ w. (y : List ℕ) × (z : List ℕ) × (w ≡ y ++ z)
     × IsRaw p tag y × IsFramed code_closing z) inner end (λ y z f g. (y, z, refl, f, g)) a b)
 
--- the tags of fenced code, without the end of the second one, and of math
-abbrev pub code_tag : List ℕ
-code_tag = codes "<pre><code"
-
-abbrev pub math_tag : List ℕ
-math_tag = codes "<pre><code class=\"language-math math-display\""
-
 -- what may stand in the tag of fenced code
 abbrev pub IsInCode : Claim → List ℕ → Type 0
-IsInCode p x = Bracket p (code_tag ++ (x ++ (62 ∷ []))) code_closing
+IsInCode p x = IsInfo code_tag x × Bracket p (code_tag ++ (x ++ (62 ∷ []))) code_closing
 
 pub bare-in_code : (p : Claim) → IsInCode p []
-bare-in_code p = bracket-code p
+bare-in_code p = (inl refl, bracket-code p)
 
 code_class : (v : List ℕ) → Escaped v → is_tag elements (codes "code")
     (attribute (codes "class") (codes "language-" ++ v) ∷ []) ≡ true
@@ -281,22 +287,32 @@ info_regrouped v = simp append_assoc
 
 pub info-in_code : (p : Claim) (options : CompileOptions) → IsTest p.test options → (v : List ℕ) → Escaped v →
     IsInCode p (codes " class=\"language-" ++ (v ++ codes "\""))
-info-in_code p options test v h =
-    subst (λ o. Bracket p o code_closing) (info_regrouped v)
-    (bracket-two p (codes "<pre>") (codes "</pre>") (opening_tag (codes "code")
-    (attribute (codes "class") (codes "language-" ++ v) ∷ [])) (codes "</code>")
-    (bracket-plain p (codes "pre") refl)
-    (bracket-tag p (codes "code") (attribute (codes "class") (codes "language-" ++ v)
-    ∷ []) (code_class v h) (class-passes p options test (codes "language-" ++ v))))
+info-in_code p options test v h = (
+  inr (v, refl, h, refl),
+  subst (λ o. Bracket p o code_closing) (info_regrouped v)
+      (bracket-two p (codes "<pre>") (codes "</pre>") (opening_tag (codes "code")
+      (attribute (codes "class") (codes "language-" ++ v) ∷ [])) (codes "</code>")
+      (bracket-plain p (codes "pre") refl)
+      (bracket-tag p (codes "code") (attribute (codes "class") (codes "language-" ++ v)
+      ∷ []) (code_class v h) (class-passes p options test (codes "language-" ++ v)))),
+)
 
 pub raw-code : (p : Claim) (x y : List ℕ) → IsInCode p x → Escaped y → IsRaw p code_tag (x ++ (62 ∷ y))
-raw-code p x y h e = record { attributes = x; body = y; whole = refl; bracket = h; escaped = e }
+raw-code p x y h e = record {
+  attributes = x;
+  info = h.0;
+  body = y;
+  whole = refl;
+  bracket = h.1;
+  escaped = e;
+}
 
 pub raw-math : (p : Claim) (options : CompileOptions) → IsTest p.test options → (y : List ℕ) → Escaped y →
     IsRaw p math_tag (62 ∷ y)
 raw-math p options test y e =
     record {
       attributes = [];
+      info = inl refl;
       body = y;
       whole = refl;
       bracket =

@@ -87,7 +87,7 @@ section-turn s q turn no_tag no_attributes =
     (codes "</section>")) (sym attributes) turn)
 
 -- at the end of a text there are only CR and LF
-rest-ends : (text : List ℕ) → is_line_ends (drop (unended_length text) text) ≡ true
+pub rest-ends : (text : List ℕ) → is_line_ends (drop (unended_length text) text) ≡ true
 rest-ends [] = refl
 rest-ends (byte ∷ bytes) =
     let ending : Bool = (byte == 13) || (byte == 10) in

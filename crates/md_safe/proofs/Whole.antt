@@ -54,7 +54,7 @@ use Rattle.md_safe.proofs.CountedForest.{Document}
 use Rattle.md_safe.proofs.CountedSection.{document-counted}
 
 -- a place, where there is one, has the text of line endings
-abbrev IsEnding : List ℕ → Option Position → Type 0
+abbrev pub IsEnding : List ℕ → Option Position → Type 0
 IsEnding bytes place = option_map_or (λ found. is_line_ends (text_in bytes found)) place true ≡ true
 
 first_of_two : (bytes : List ℕ) (first second : Option Position) → IsEnding bytes first → IsEnding bytes second →
@@ -70,7 +70,7 @@ own-ending bytes BlankLineEnding start end children fit = fit
 own-ending bytes _ start end children fit = refl
 
 -- the first line ending of a document is one
-first-is_ending : (bytes : List ℕ) (content : Content) (forest : Forest) → IsBuilt bytes content forest →
+pub first-is_ending : (bytes : List ℕ) (content : Content) (forest : Forest) → IsBuilt bytes content forest →
     IsEnding bytes (first_ending forest)
 first-is_ending bytes content Empty built = refl
 first-is_ending bytes content (Node name start end children rest) built =
@@ -91,12 +91,12 @@ ending-escaped options bytes None h = default-escaped options.default_line_endin
 ending-escaped options bytes (Some place) h = line_ends-escaped (text_in bytes place) h
 
 -- blocks stand after blocks
-blocks-stay : (forest : Forest) → content_after Blocks forest ≡ Blocks
+pub blocks-stay : (forest : Forest) → content_after Blocks forest ≡ Blocks
 blocks-stay forest = stays-after (λ content. content ≡ Blocks)
     (λ content name e. ap (λ content. content_past content name) e) Blocks forest refl
 
 -- what is known at the document's beginning
-outermost-ready : (s : Setting) → IsWhole s.p → Ready s outermost nothing_before Blocks
+pub outermost-ready : (s : Setting) → IsWhole s.p → Ready s outermost nothing_before Blocks
 outermost-ready s whole = record {
   suits = refl;
   follows = tt;
@@ -131,11 +131,11 @@ any-test options keeps = record {
 }
 
 -- a reading is claimed as a whole
-reads-whole : (p : Attribute → Bool) → PassesIds p → IsWhole (reading p)
+pub reads-whole : (p : Attribute → Bool) → PassesIds p → IsWhole (reading p)
 reads-whole p ids = record { both = join p; ids = ids }
 
 -- the line ending that is used is escaped, and so are the titles of definitions
-prepared : (bytes : List ℕ) (names : List (List ℕ × List ℕ)) (options : CompileOptions) (document : Forest) →
+pub prepared : (bytes : List ℕ) (names : List (List ℕ × List ℕ)) (options : CompileOptions) (document : Forest) →
     IsBuilt bytes Blocks document → KeepsGrammar options →
     Escaped (ending_at options bytes (first_ending document))
     × AreTitles (outcome (record {

@@ -9,3 +9,8 @@ returns-clause-meaning c = λ document flat.
     let same = c.in_ok-checked.ensures.ok in
     c.in_ok-counted.ensures.meaning document (flat ∙ ap (λ (d : Handed). d.events) (sym same))
     ∙ ap (λ (d : Handed). meaning c.args.options.now d.names d.bytes document) same
+
+pub returns-clause-tree : goal.returns-clause-tree
+returns-clause-tree c = λ document flat unnested keeps.
+    c.in_ok-counted.ensures.tree document (flat ∙ ap (λ (d : Handed). d.events) (sym c.in_ok-checked.ensures.ok)) unnested
+    keeps

@@ -1,0 +1,181 @@
+"""Compares construction.py with html5lib on random forests, in a div, a td, a list's item and a section.
+
+trees.py COUNT SEED: every second forest keeps to the content model of crates/md_contents without a link in a link, and has
+to be built as its own tree; the others are changed ones, in which elements may stand anywhere.
+"""
+
+import random
+import sys
+
+import construction
+import html5lib
+
+NAMESPACE = "{http://www.w3.org/1999/xhtml}"
+PHRASING = {name: "phrasing" for name in ("em", "strong", "del", "sup")} | {"code": "characters", "a": "linked"}
+LINKED = {name: "linked" for name in ("em", "strong", "del", "sup")} | {"code": "characters"}
+BLOCKS = {"blockquote": "flow", "section": "flow", "ul": "items", "ol": "items", "table": "parts", "pre": "preformatted"}
+HEADINGS = {f"h{rank}": "phrasing" for rank in range(1, 7)}
+MODEL = {
+    "flow": PHRASING | BLOCKS | HEADINGS | {"p": "phrasing"},
+    "phrasing": PHRASING,
+    "linked": LINKED,
+    "items": {"li": "flow"},
+    "parts": {"thead": "rows", "tbody": "rows"},
+    "rows": {"tr": "cells"},
+    "cells": {"th": "phrasing", "td": "phrasing"},
+    "preformatted": {"code": "characters"},
+    "characters": {},
+}
+VOIDS = {"flow": ["br", "hr", "img", "input"], "phrasing": ["br", "img", "input"], "linked": ["br", "img", "input"]}
+ATTRIBUTES = {
+    **{"a": ["href", "id"], "code": ["class"], "ol": ["start"], "li": ["id"], "th": ["align"], "td": ["align"]},
+    **{"img": ["src", "alt"], "input": ["type", "checked"]},
+}
+# Before a text, the elements that are open there, and the insertion mode.
+PLACES = {
+    "div": ("<!doctype html><body><div id=here>", ["html", "body", "div"], "body"),
+    "td": (
+        "<!doctype html><body><table><tbody><tr><td id=here>",
+        ["html", "body", "table", "tbody", "tr", "td"],
+        "cell",
+    ),
+    "li": ("<!doctype html><body><ul><li id=here>", ["html", "body", "ul", "li"], "body"),
+    "section": ("<!doctype html><body><section id=here>", ["html", "body", "section"], "body"),
+}
+AFTER = "<i id=after></i>"
+
+
+def attributes(name):
+    """Some of the attributes that a tag may have."""
+    values = ["", "x", "checkbox", "y z"]
+    return [(key, random.choice(values)) for key in ATTRIBUTES.get(name, []) if random.random() < 0.3]
+
+
+def forest(content, depth, wild):
+    """A forest of a content; each node is of another one as often as `wild` says."""
+    out = []
+    for _ in range(random.choice([0, 1, 1, 2, 3]) if depth else random.choice([0, 1])):
+        here = random.choice(list(MODEL)) if random.random() < wild else content
+        kind = random.random()
+        if kind < 0.3:
+            if here == "preformatted" or (out and isinstance(out[-1], str)):
+                continue
+            letters = "\n \t" if here in ("items", "parts", "rows", "cells") else "\n ab&c"
+            out.append("".join(random.choice(letters) for _ in range(random.randint(1, 3))))
+        elif kind < 0.4 and VOIDS.get(here):
+            name = random.choice(VOIDS[here])
+            out.append(("void", name, attributes(name)))
+        elif MODEL[here] and depth:
+            name = random.choice(list(MODEL[here]))
+            inner = forest(MODEL[here][name], depth - 1, wild)
+            inner = without_line_feeds(inner) if name == "pre" and wild else inner
+            out.append(("element", name, attributes(name), inner))
+    return out
+
+
+def without_line_feeds(nodes):
+    """A forest whose texts have no line feed, since html5lib drops others too than the one after `<pre>`, and in cells none."""
+    kept = [n.replace("\n", " ") if isinstance(n, str) else n for n in nodes]
+    return [n if isinstance(n, str) or n[0] == "void" else (*n[:3], without_line_feeds(n[3])) for n in kept]
+
+
+def tokens(nodes):
+    """What the tokenizer emits of a forest."""
+    out = []
+    for node in nodes:
+        if isinstance(node, str):
+            out += [("character", character) for character in node]
+        elif node[0] == "void":
+            out.append(("start", node[1], node[2]))
+        else:
+            out += [("start", node[1], node[2]), *tokens(node[3]), ("end", node[1])]
+    return out
+
+
+def escaped(text):
+    return text.replace("&", "&amp;")
+
+
+def written(nodes):
+    """A forest as a text."""
+    out = ""
+    for node in nodes:
+        if isinstance(node, str):
+            out += escaped(node)
+            continue
+        tag = "<" + node[1] + "".join(f' {key}="{escaped(value)}"' for key, value in node[2])
+        out += tag + (" />" if node[0] == "void" else ">" + written(node[3]) + "</" + node[1] + ">")
+    return out
+
+
+def own_tree(nodes):
+    """The tree that a forest is read as."""
+    return [n if isinstance(n, str) else (n[1], sorted(n[2]), [] if n[0] == "void" else own_tree(n[3])) for n in nodes]
+
+
+def built_tree(children):
+    """The tree that construction.py has built."""
+    return [c if isinstance(c, str) else (c[0], sorted(c[1]), built_tree(c[2])) for c in children]
+
+
+def parsed_tree(element):
+    """The tree that html5lib has built, without the marks."""
+    out = []
+
+    def add(text):
+        if text and out and isinstance(out[-1], str):
+            out[-1] += text
+        elif text:
+            out.append(text)
+
+    add(element.text)
+    for child in element:
+        if child.get("id") != "after":
+            kept = sorted(item for item in child.attrib.items() if item != ("id", "here"))
+            out.append((child.tag.replace(NAMESPACE, ""), kept, parsed_tree(child)))
+        add(child.tail)
+    return out
+
+
+def differs(nodes, place, is_own):
+    """None if both build the same tree, "stuck", or what they build."""
+    before, names, mode = PLACES[place]
+    parser = construction.built(mode, names, tokens(nodes))
+    if parser is None:
+        return "stuck"
+    document = html5lib.parse(before + written(nodes) + AFTER)
+    depth = len(parser.stack)
+    while len(parser.stack) > 1:
+        parser.pop()
+    ours = built_tree(parser.stack[0].children)[0][2]
+    theirs = parsed_tree(document.find(NAMESPACE + "body"))
+    if ours != theirs:
+        return f"{ours} and {theirs}"
+    here = next(element for element in document.iter() if element.get("id") == "here")
+    if is_own and (parsed_tree(here) != own_tree(nodes) or depth != len(names)):
+        return f"{parsed_tree(here)} is not {own_tree(nodes)}"
+    return None
+
+
+def main(count, seed):
+    random.seed(seed)
+    sys.setrecursionlimit(10000)
+    same = own = stuck = 0
+    for index in range(count):
+        place, is_own = random.choice(list(PLACES)), index % 2 == 0
+        nodes = forest("flow", random.randint(1, 6), 0 if is_own else 0.3)
+        found = differs(nodes, place, is_own)
+        if found == "stuck" and not is_own:
+            stuck += 1
+        elif found is not None:
+            print(f"{place}: {written(nodes)!r}: {found}")
+            return 1
+        else:
+            same += 1
+            own += is_own
+    print(f"{count} forests: {same} the same, {stuck} stuck; {own} of the content model, each built as its own tree")
+    return 0
+
+
+if __name__ == "__main__":
+    sys.exit(main(int(sys.argv[1]), int(sys.argv[2])))

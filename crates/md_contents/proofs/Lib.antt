@@ -1,0 +1,11 @@
+-- The lemmas.
+pub mod Placing
+pub mod Stands
+pub mod Laid
+pub mod Linking
+pub mod Spans
+pub mod Blocks
+pub mod Paragraphs
+pub mod Forests
+pub mod Section
+pub mod Whole

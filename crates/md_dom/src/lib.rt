@@ -1,0 +1,4 @@
+//! What tree a browser builds of the HTML that is written.
+#![tactic(auto)]
+
+pub mod laws;
