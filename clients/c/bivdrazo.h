@@ -22,16 +22,17 @@
  *
  * Link with libbivdrazo.a, as clients/build makes it. docs/CLIENTS.md tells more.
  *
- * What a caller of bivdrazo_compile() and bivdrazo_run() must keep to, since nothing checks it:
+ * What a caller of bivdrazo_compile(), bivdrazo_compile_attributed() and bivdrazo_run() must keep to, since nothing
+ * checks it:
  *  - No pointer is null, also where the length beside it is 0: then pass the address of any object that lives and is
  *    aligned for the type. Each points to as many readable elements as its length says; `buffer` to writable bytes.
- *    That holds of the pointers inside of options and names too, also of a text whose `is_set` is 0.
+ *    That holds of the pointers inside of options, names and attributes too, also of a text whose `is_set` is 0.
  *  - The buffer overlaps nothing else that is handed in, and nobody writes what is handed in during the call.
  *  - No length in bytes is past PTRDIFF_MAX.
  *  - malloc, realloc and free are the C library's. No call is made from a signal handler.
- * The functions named .._alloc take null for events, bytes, names and a script where the length is 0, and for the options,
- * and check these lengths; pointers inside of options and names they don't look at. A script sets its own options: its text
- * is safe only where it sets none that isn't.
+ * The functions named .._alloc take null for events, bytes, names and a script where the length is 0, for the options and
+ * for the attributes, and check these lengths; pointers inside of options, names and attributes they don't look at. A
+ * script sets its own options: its text is safe only where it sets none that isn't.
  *
  * There is no state between calls: any number of threads may call at once, also over the same events and bytes.
  */
@@ -104,12 +105,34 @@ typedef struct bivdrazo_options {
     bivdrazo_text gfm_footnote_label_tag_name;   /* that heading's tag name; unset: h2 */
 } bivdrazo_options;
 
+/*
+ * What is added to the tags of a text; what is unset isn't. Begin with bivdrazo_attributes_none(). Each text may be any
+ * UTF-8: it is escaped.
+ *
+ * The ids of headings are distinct from one another, and from all others where no other begins with this text: those of
+ * footnotes are `footnote-label`, and what gfm_footnote_clobber_prefix says and `fn`; they are distinct from one
+ * another where gfm_footnote_number_ids is 1.
+ */
+typedef struct bivdrazo_attributes {
+    bivdrazo_text rel;         /* the `rel` of each link whose URL isn't empty and doesn't begin with # */
+    bivdrazo_text heading_ids; /* what the `id` of each heading without one begins with: its number, from 1, follows */
+} bivdrazo_attributes;
+
+/* A heading that got an id. Its text has no tags and is escaped: it may be set into HTML as it is. */
+typedef struct bivdrazo_heading {
+    size_t number;      /* from 1: its id is what was asked for, and this number */
+    const char *text;   /* where it stands in what was read */
+    size_t text_length;
+    uint8_t level; /* from 1 to 6 */
+} bivdrazo_heading;
+
 BIVDRAZO_ASSERT(sizeof(size_t) == 8, "the library is for 64 bits");
 BIVDRAZO_ASSERT(sizeof(bivdrazo_answer) == 24, "an answer's size");
 BIVDRAZO_ASSERT(sizeof(bivdrazo_event) == 16, "an event's size");
 BIVDRAZO_ASSERT(sizeof(bivdrazo_text) == 24, "a text's size");
 BIVDRAZO_ASSERT(sizeof(bivdrazo_reference) == 32, "a reference's size");
 BIVDRAZO_ASSERT(sizeof(bivdrazo_options) == 128, "the options' size");
+BIVDRAZO_ASSERT(sizeof(bivdrazo_attributes) == 48, "the attributes' size");
 BIVDRAZO_ASSERT(offsetof(bivdrazo_answer, rule) == 4, "an answer's rule");
 BIVDRAZO_ASSERT(offsetof(bivdrazo_answer, index) == 8, "an answer's index");
 BIVDRAZO_ASSERT(offsetof(bivdrazo_answer, length) == 16, "an answer's length");
@@ -122,6 +145,7 @@ BIVDRAZO_ASSERT(offsetof(bivdrazo_options, default_line_ending) == 5, "the sixth
 BIVDRAZO_ASSERT(offsetof(bivdrazo_options, gfm_footnote_number_ids) == 6, "the last option by its number");
 BIVDRAZO_ASSERT(offsetof(bivdrazo_options, gfm_footnote_back_label) == 8, "the first text");
 BIVDRAZO_ASSERT(offsetof(bivdrazo_options, gfm_footnote_label_tag_name) == 104, "the last text");
+BIVDRAZO_ASSERT(offsetof(bivdrazo_attributes, heading_ids) == 24, "the last attribute");
 
 /*
  * The HTML of a list of events over a document's bytes, written into the buffer. `names` are the character references
@@ -132,6 +156,18 @@ bivdrazo_answer bivdrazo_compile(const bivdrazo_event *events, size_t events_len
                                  size_t bytes_length, const bivdrazo_options *options,
                                  const bivdrazo_reference *names, size_t names_length, uint8_t *buffer,
                                  size_t buffer_length);
+
+/*
+ * As bivdrazo_compile(), with attributes, under options that are safe: else the status is BIVDRAZO_UNSAFE. Under
+ * BIVDRAZO_OK the text is the buffer's first `index` bytes, and those from there up to `length` are the list of the
+ * headings that got an id, which bivdrazo_next_heading() reads. Under BIVDRAZO_TOO_SHORT `length` is what both need, and
+ * `index` what the text has. BIVDRAZO_NO_ATTRIBUTE tells an attribute that stands for none.
+ */
+bivdrazo_answer bivdrazo_compile_attributed(const bivdrazo_event *events, size_t events_length, const uint8_t *bytes,
+                                            size_t bytes_length, const bivdrazo_options *options,
+                                            const bivdrazo_reference *names, size_t names_length,
+                                            const bivdrazo_attributes *attributes, uint8_t *buffer,
+                                            size_t buffer_length);
 
 /*
  * The HTML of an event script (lines of options and events, a line `--`, the document), likewise. Its statuses are
@@ -166,6 +202,35 @@ static inline bivdrazo_options bivdrazo_options_default(void) {
     return options;
 }
 
+/* No attributes. */
+static inline bivdrazo_attributes bivdrazo_attributes_none(void) {
+    bivdrazo_attributes attributes = {{0, 0, 0}, {0, 0, 0}};
+    attributes.rel = bivdrazo_text_unset();
+    attributes.heading_ids = bivdrazo_text_unset();
+    return attributes;
+}
+
+/*
+ * Reads the first heading of a list that ends at `end`, and moves `*at` past it; 0 where none is left. The list is what
+ * bivdrazo_compile_attributed() wrote from the text's end up to `length`.
+ */
+static inline int bivdrazo_next_heading(const uint8_t **at, const uint8_t *end, bivdrazo_heading *heading) {
+    const uint8_t *next = *at;
+    if (next == end)
+        return 0;
+    heading->level = (uint8_t)(next[1] - '0'); /* a NUL, the level, a space, the number, a space, the text */
+    heading->number = 0;
+    for (next += 3; *next != ' '; next++)
+        heading->number = 10 * heading->number + (size_t)(*next - '0');
+    next++;
+    heading->text = (const char *)next;
+    while (next != end && *next != 0)
+        next++;
+    heading->text_length = (size_t)((const char *)next - heading->text);
+    *at = next;
+    return 1;
+}
+
 /* What a status means, in English. */
 static inline const char *bivdrazo_status_text(uint32_t status) {
     switch (status) {
@@ -185,6 +250,10 @@ static inline const char *bivdrazo_status_text(uint32_t status) {
         return "a line of the script can't be read";
     case BIVDRAZO_MEMORY:
         return "out of memory";
+    case BIVDRAZO_UNSAFE:
+        return "the options aren't safe";
+    case BIVDRAZO_NO_ATTRIBUTE:
+        return "an attribute has no such value";
     default:
         return "an unknown status";
     }
@@ -256,6 +325,36 @@ static inline bivdrazo_answer bivdrazo_compile_alloc(const bivdrazo_event *event
                                       bytes_length ? bytes : (const uint8_t *)"", bytes_length,
                                       options ? options : &defaults, names_length ? names : &no_name, names_length,
                                       *text, room);
+    }
+    bivdrazo_settle(&answer, text);
+    return answer;
+}
+
+/*
+ * As bivdrazo_compile_attributed(), with the text in memory of its own, as bivdrazo_compile_alloc() gives it: after the
+ * text's `index` bytes stands a NUL, which begins the list or ends all. Null attributes are none.
+ */
+static inline bivdrazo_answer bivdrazo_compile_attributed_alloc(
+    const bivdrazo_event *events, size_t events_length, const uint8_t *bytes, size_t bytes_length,
+    const bivdrazo_options *options, const bivdrazo_reference *names, size_t names_length,
+    const bivdrazo_attributes *attributes, uint8_t **text) {
+    static const bivdrazo_event no_event = {0, 0, 0, 0, 0};
+    static const bivdrazo_reference no_name = {(const uint8_t *)"", 0, (const uint8_t *)"", 0};
+    const bivdrazo_options defaults = bivdrazo_options_default();
+    const bivdrazo_attributes none = bivdrazo_attributes_none();
+    bivdrazo_answer answer = {BIVDRAZO_TOO_SHORT, 0, 0, bivdrazo_first_size(events_length, bytes_length)};
+    *text = NULL;
+    if (bivdrazo_is_too_long(events_length, sizeof *events) || bivdrazo_is_too_long(bytes_length, 1) ||
+        bivdrazo_is_too_long(names_length, sizeof *names))
+        return bivdrazo_answer_memory();
+    for (int turn = 0; turn < 2 && answer.status == BIVDRAZO_TOO_SHORT; turn++) {
+        const size_t room = answer.length;
+        bivdrazo_grow(&answer, text);
+        if (answer.status == BIVDRAZO_TOO_SHORT)
+            answer = bivdrazo_compile_attributed(events_length ? events : &no_event, events_length,
+                                                 bytes_length ? bytes : (const uint8_t *)"", bytes_length,
+                                                 options ? options : &defaults, names_length ? names : &no_name,
+                                                 names_length, attributes ? attributes : &none, *text, room);
     }
     bivdrazo_settle(&answer, text);
     return answer;

@@ -15,7 +15,7 @@
  *  - `text` points to `length` bytes, or `length` is 0. No length is past PTRDIFF_MAX.
  *  - Begin with bivdrazo_markdown_options_default(), or hand in NULL. A text that is set points to as many bytes as its
  *    length says.
- *  - `html` isn't null, and what is written there is given back once, by bivdrazo_markdown_free().
+ *  - `html` and `headings` aren't null, and what is written there is given back once, by bivdrazo_markdown_free().
  *
  * There is no state between calls: any number of threads may call at once. Where the parser finds no memory, the
  * process ends; BIVDRAZO_MEMORY tells that the library found none.
@@ -30,7 +30,13 @@
 extern "C" {
 #endif
 
-/* The options. Whatever is chosen, the text is safe. */
+/*
+ * The options. Whatever is chosen, the text is safe. Each text may be any UTF-8.
+ *
+ * The ids of headings are distinct from one another, and from all others where no other begins with heading_ids. Those of
+ * footnotes are `footnote-label`, and what footnote_prefix says and `fn`; they are distinct from one another where
+ * number_ids is 1.
+ */
 typedef struct bivdrazo_markdown_options {
     uint32_t version;                  /* BIVDRAZO_MARKDOWN_VERSION */
     uint8_t number_ids;                /* 1: footnotes' ids have their numbers, so that no two ids are equal */
@@ -41,14 +47,16 @@ typedef struct bivdrazo_markdown_options {
     bivdrazo_text footnote_label;      /* the heading of the footnotes; unset: Footnotes */
     bivdrazo_text footnote_back_label; /* aria-label of a way back; unset: Back to content */
     bivdrazo_text base;                /* the URL against which those of links and images are read; unset: none */
+    bivdrazo_text rel;                 /* the `rel` of each link whose URL isn't empty and doesn't begin with # */
+    bivdrazo_text heading_ids;         /* what the ids of headings begin with: their numbers follow; unset: no ids */
     size_t max_input;                  /* how many bytes the Markdown may have; SIZE_MAX: any number */
     size_t max_output;                 /* how many bytes the text may have; SIZE_MAX: any number */
 } bivdrazo_markdown_options;
 
-BIVDRAZO_ASSERT(sizeof(bivdrazo_markdown_options) == 120, "the options' size");
+BIVDRAZO_ASSERT(sizeof(bivdrazo_markdown_options) == 168, "the options' size");
 BIVDRAZO_ASSERT(offsetof(bivdrazo_markdown_options, html) == 7, "the last option by its number");
-BIVDRAZO_ASSERT(offsetof(bivdrazo_markdown_options, base) == 80, "the last text");
-BIVDRAZO_ASSERT(offsetof(bivdrazo_markdown_options, max_output) == 112, "the last bound");
+BIVDRAZO_ASSERT(offsetof(bivdrazo_markdown_options, heading_ids) == 128, "the last text");
+BIVDRAZO_ASSERT(offsetof(bivdrazo_markdown_options, max_output) == 160, "the last bound");
 
 /*
  * The HTML of a Markdown document. Under BIVDRAZO_OK `*html` is the text, `length` bytes of which none is NUL, and a
@@ -60,7 +68,15 @@ BIVDRAZO_ASSERT(offsetof(bivdrazo_markdown_options, max_output) == 112, "the las
 bivdrazo_answer bivdrazo_markdown(const uint8_t *text, size_t length, const bivdrazo_markdown_options *options,
                                   char **html);
 
-/* Gives back a text that bivdrazo_markdown() made, or null. */
+/*
+ * As bivdrazo_markdown(), with the headings that got an id, for a table of contents. `*headings` has a line for each: its
+ * level, a space, its number, a space, and its text, without tags and escaped, in which a space stands for each line
+ * feed; each line ends with a line feed. It is to be given back as `*html` is, and null where that is null.
+ */
+bivdrazo_answer bivdrazo_markdown_headings(const uint8_t *text, size_t length, const bivdrazo_markdown_options *options,
+                                           char **html, char **headings);
+
+/* Gives back a text that bivdrazo_markdown() or bivdrazo_markdown_headings() made, or null. */
 void bivdrazo_markdown_free(char *html);
 
 /* The number of the interface that the library was built with: it is to be BIVDRAZO_MARKDOWN_VERSION. */
@@ -70,11 +86,14 @@ uint32_t bivdrazo_markdown_version(void);
 static inline bivdrazo_markdown_options bivdrazo_markdown_options_default(void) {
     bivdrazo_markdown_options options = {BIVDRAZO_MARKDOWN_VERSION,   0,         0,         1,
                                          BIVDRAZO_MARKDOWN_HTML_TEXT, {0, 0, 0}, {0, 0, 0}, {0, 0, 0},
-                                         {0, 0, 0},                   SIZE_MAX,  SIZE_MAX};
+                                         {0, 0, 0},                   {0, 0, 0}, {0, 0, 0}, SIZE_MAX,
+                                         SIZE_MAX};
     options.footnote_prefix = bivdrazo_text_unset();
     options.footnote_label = bivdrazo_text_unset();
     options.footnote_back_label = bivdrazo_text_unset();
     options.base = bivdrazo_text_unset();
+    options.rel = bivdrazo_text_unset();
+    options.heading_ids = bivdrazo_text_unset();
     return options;
 }
 

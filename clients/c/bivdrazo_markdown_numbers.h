@@ -3,7 +3,7 @@
 #define BIVDRAZO_MARKDOWN_NUMBERS_H
 
 /* The number of the interface for Markdown: it changes when a layout or a number of it changes. */
-#define BIVDRAZO_MARKDOWN_VERSION 1
+#define BIVDRAZO_MARKDOWN_VERSION 2
 
 /* What became of a call, beside the statuses of the library. */
 enum {
@@ -47,6 +47,10 @@ enum {
     BIVDRAZO_MARKDOWN_OPTION_FOOTNOTE_BACK_LABEL = 6,
     /* The URL against which those of links and images are read. */
     BIVDRAZO_MARKDOWN_OPTION_BASE = 7,
+    /* The `rel` of links that lead away; unset: none. */
+    BIVDRAZO_MARKDOWN_OPTION_REL = 8,
+    /* What the ids of headings begin with; unset: they have none. */
+    BIVDRAZO_MARKDOWN_OPTION_HEADING_IDS = 9,
 };
 
 #endif

@@ -30,6 +30,10 @@ enum {
     BIVDRAZO_NO_LINE = 6,
     /* There is no more memory. */
     BIVDRAZO_MEMORY = 7,
+    /* Attributes are asked for, and the options aren't safe. */
+    BIVDRAZO_UNSAFE = 8,
+    /* The attributes stand for none: the one with the number `index` is neither set nor unset, or isn't UTF-8. */
+    BIVDRAZO_NO_ATTRIBUTE = 9,
 };
 
 /* Why events are refused. */
@@ -100,6 +104,14 @@ enum {
     BIVDRAZO_OPTION_GFM_FOOTNOTE_LABEL_TAG_NAME = 10,
     /* Make footnotes' ids of their numbers. */
     BIVDRAZO_OPTION_GFM_FOOTNOTE_NUMBER_IDS = 11,
+};
+
+/* The number of an attribute, as `index` tells it where attributes stand for none. */
+enum {
+    /* The `rel` of each link that leads away and has none. */
+    BIVDRAZO_ATTRIBUTE_REL = 0,
+    /* What the `id` of each heading without one begins with; its number follows. */
+    BIVDRAZO_ATTRIBUTE_HEADING_IDS = 1,
 };
 
 /* What an event enters or exits. */

@@ -79,6 +79,31 @@ static void test_options(void) {
     check(renders("[d](e)", &options, "<p><a href=\"https://a.b/c/e\">d</a></p>\n"), "a base");
 }
 
+static void test_attributes(void) {
+    bivdrazo_markdown_options options = bivdrazo_markdown_options_default();
+    options.rel = text_of("nofollow ugc");
+    check(renders("[a](b) [c](#d)", &options,
+                  "<p><a href=\"b\" rel=\"nofollow ugc\">a</a> <a href=\"#d\">c</a></p>\n"), "a rel");
+    options = bivdrazo_markdown_options_default();
+    options.heading_ids = text_of("p\"");
+    check(renders("# a", &options, "<h1 id=\"p&quot;1\">a</h1>\n"), "ids of headings");
+    char *html;
+    char *headings;
+    static const char text[] = "a\nb <\n---\n\n# *c*\n";
+    bivdrazo_answer answer =
+        bivdrazo_markdown_headings((const uint8_t *)text, sizeof text - 1, &options, &html, &headings);
+    check(answer.status == BIVDRAZO_OK && answer.length == strlen(html), "a text with headings");
+    check(headings != NULL && strcmp(headings, "2 1 a b &lt;\n1 2 c\n") == 0, "headings");
+    bivdrazo_markdown_free(html);
+    bivdrazo_markdown_free(headings);
+    answer = bivdrazo_markdown_headings((const uint8_t *)text, sizeof text - 1, NULL, &html, &headings);
+    check(answer.status == BIVDRAZO_OK && headings != NULL && *headings == 0, "no headings");
+    bivdrazo_markdown_free(html);
+    bivdrazo_markdown_free(headings);
+    answer = bivdrazo_markdown_headings((const uint8_t *)"\xFF", 1, NULL, &html, &headings);
+    check(answer.status == BIVDRAZO_MARKDOWN_NOT_UTF8 && html == NULL && headings == NULL, "no text, no headings");
+}
+
 static void test_footnotes(void) {
     static const char note[] = "a[^b]\n\n[^b]: c\n";
     bivdrazo_markdown_options options = bivdrazo_markdown_options_default();
@@ -119,6 +144,9 @@ static void test_failures(void) {
     options.html = 3;
     check(fails("a", 1, &options, BIVDRAZO_NO_OPTION, BIVDRAZO_MARKDOWN_OPTION_HTML), "a number for HTML");
     options = bivdrazo_markdown_options_default();
+    options.rel = text_of("\xFF");
+    check(fails("a", 1, &options, BIVDRAZO_NO_OPTION, BIVDRAZO_MARKDOWN_OPTION_REL), "a rel that isn't UTF-8");
+    options = bivdrazo_markdown_options_default();
     options.base = text_of("\xFF");
     check(fails("a", 1, &options, BIVDRAZO_NO_OPTION, BIVDRAZO_MARKDOWN_OPTION_BASE), "a text that isn't UTF-8");
     check(strcmp(bivdrazo_markdown_status_text(BIVDRAZO_MARKDOWN_FAILED), "the parser failed") == 0, "a status");
@@ -142,6 +170,7 @@ static void test_threads(void) {
 int main(void) {
     test_texts();
     test_options();
+    test_attributes();
     test_footnotes();
     test_bounds();
     test_failures();

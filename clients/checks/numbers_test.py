@@ -41,6 +41,7 @@ def tables(crates):
     kinds = re.findall(r"(\d+) => Some\(Kind::(\w+)\)", source["event"])
     endings = re.findall(r"(\d+) => Ok\(LineEnding::(\w+)\)", source["option"])
     options = re.findall(r"^ +(\w+): read_\w+\(.*, (\d+)\)\?,", source["option"], re.MULTILINE)
+    attributes = re.findall(r"read_attribute\(&attributes\.(\w+), (\d+)\)\?", source["attributed"])
     version = re.findall(r"const (VERSION): u32 = (\d+);", source["export"])
     return {
         "version": [(name, int(number)) for name, number in version],
@@ -49,6 +50,7 @@ def tables(crates):
         "kind": [(name, int(number)) for number, name in kinds],
         "line_ending": [(name, int(number)) for number, name in endings],
         "option": [(name, int(number)) for name, number in options],
+        "attribute": [(name, int(number)) for name, number in attributes],
         "name": names(source["names"]),
     }
 

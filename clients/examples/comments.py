@@ -3,8 +3,9 @@
 
     comments.py < COMMENTS > PAGE    COMMENTS: JSON, a list of objects with the texts `author` and `text`
 
-Each comment has bounds and a prefix of its own, so that no two of them share an id of a footnote. (The heading of the
-footnotes has the id `footnote-label` in each comment that has some.) A comment that passes a bound is told and left out.
+Each comment has bounds, and prefixes of its own, so that no two of them share an id of a footnote or of a heading; no
+search engine follows its links. The heading of the footnotes has the id `footnote-label` in each comment that has some:
+it stays in the first alone. A comment that passes a bound is told and left out.
 """
 
 import html
@@ -12,6 +13,9 @@ import json
 import sys
 
 from bivdrazo import TooLong, markdown_to_html
+
+# How the id stands in a text, and nothing else: a quotation mark is escaped but in tags, where it is around values.
+LABEL = ' id="footnote-label"'
 
 
 def comment(number, author, text):
@@ -21,6 +25,8 @@ def comment(number, author, text):
             text,
             footnote_prefix=f"comment-{number}-",
             number_ids=True,
+            rel="nofollow ugc",
+            heading_ids=f"comment-{number}-part-",
             hard_breaks=True,
             html="left-out",
             max_input=10_000,
@@ -36,8 +42,11 @@ def main():
     """Writes the page."""
     comments = json.load(sys.stdin)
     print('<!doctype html>\n<html lang="en"><head><meta charset="utf-8" /><title>Comments</title></head><body>')
+    has_label = False
     for number, each in enumerate(comments, 1):
-        print(comment(number, each["author"], each["text"]), end="")
+        made = comment(number, each["author"], each["text"])
+        print(made.replace(LABEL, "") if has_label else made, end="")
+        has_label = has_label or LABEL in made
     print("</body></html>")
 
 

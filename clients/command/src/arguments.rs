@@ -2,7 +2,7 @@
 
 use crate::files;
 use crate::parser::Limits;
-use bivdrazo::{DocumentHtml, MarkdownOptions, Options};
+use bivdrazo::{Attributes, DocumentHtml, MarkdownOptions, Options};
 use clap::error::ErrorKind;
 use clap::{value_parser, CommandFactory, Parser, ValueEnum, ValueHint};
 use clap_complete::Shell;
@@ -56,6 +56,14 @@ pub struct Arguments {
     /// Make the ids of footnotes of their numbers.
     #[arg(long)]
     pub number_ids: bool,
+
+    /// The rel of each link that leads away from the page.
+    #[arg(long, value_name = "TEXT")]
+    pub rel: Option<String>,
+
+    /// Give each heading an id: this text and the heading's number.
+    #[arg(long, value_name = "PREFIX")]
+    pub heading_ids: Option<String>,
 
     /// Begin a new line where the document does.
     #[arg(long)]
@@ -178,6 +186,14 @@ impl Arguments {
         }
     }
 
+    /// What is added to the tags of a text, for the events of cmark-gfm's parser.
+    pub fn attributes(&self) -> Attributes {
+        Attributes {
+            rel: self.rel.clone(),
+            heading_ids: self.heading_ids.clone(),
+        }
+    }
+
     /// The file to render, where there is one.
     pub fn source(&self) -> &Path {
         self.files.first().map_or(Path::new("-"), PathBuf::as_path)
@@ -198,6 +214,8 @@ impl Arguments {
             Html::WithoutComments => DocumentHtml::WithoutComments,
         };
         options.base = self.base.clone();
+        options.rel = self.rel.clone();
+        options.heading_ids = self.heading_ids.clone();
         options.max_input = self.max_input;
         options.max_output = self.max_output;
         options

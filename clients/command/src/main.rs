@@ -96,8 +96,9 @@ fn html_of(text: String, arguments: &Arguments) -> Result<String, Failure> {
         return Ok(markdown_to_html(&text, &arguments.options())?);
     }
     let document = parser::events_of(text, arguments.limits())?;
-    let html = document.compile_within(&arguments.library_options(), arguments.max_output);
-    html.map_err(|error| match error {
+    let (options, attributes) = (arguments.library_options(), arguments.attributes());
+    let made = document.compile_attributed(&options, &attributes, arguments.max_output);
+    made.map(|made| made.html).map_err(|error| match error {
         bivdrazo::Error::Refused { .. } => ParserError::Refused(error).into(),
         _ => error.into(),
     })

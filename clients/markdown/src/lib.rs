@@ -3,7 +3,7 @@
 
 mod numbers;
 
-use bivdrazo::{markdown_to_html, DocumentHtml, Error, MarkdownOptions};
+use bivdrazo::{markdown_with_headings, DocumentHtml, Error, Heading, MarkdownOptions};
 use std::ffi::CString;
 use std::os::raw::c_char;
 use std::panic::{catch_unwind, AssertUnwindSafe};
@@ -39,16 +39,21 @@ pub struct Options {
     footnote_label: Text,
     footnote_back_label: Text,
     base: Text,
+    rel: Text,
+    heading_ids: Text,
     max_input: usize,
     max_output: usize,
 }
 
 const _: () = assert!(mem::size_of::<Answer>() == 24);
 const _: () = assert!(mem::size_of::<Text>() == 24);
-const _: () = assert!(mem::size_of::<Options>() == 120);
+const _: () = assert!(mem::size_of::<Options>() == 168);
 
-/// A text for C.
-type Html = CString;
+/// Texts for C: the HTML, and a line for each heading that got an id.
+struct Made {
+    html: CString,
+    headings: CString,
+}
 
 /// The HTML of a Markdown document.
 ///
@@ -63,20 +68,42 @@ pub unsafe extern "C" fn bivdrazo_markdown(
     options: *const Options,
     html: *mut *mut c_char,
 ) -> Answer {
-    let rendered = catch_unwind(AssertUnwindSafe(|| {
-        // SAFETY: the caller keeps to what is said above.
-        unsafe { render(bytes_of(text, length), options.as_ref()) }
-    }));
-    let (answer, made) = match rendered.unwrap_or_else(|_| Err(failed())) {
-        Ok(made) => (rendered_answer(&made), made.into_raw()),
-        Err(answer) => (answer, ptr::null_mut()),
-    };
+    // SAFETY: the caller keeps to what is said above.
+    let (answer, made) = unsafe { made_of(text, length, options) };
+    let made = made.map_or(ptr::null_mut(), |made| made.html.into_raw());
     // SAFETY: the caller lets this pointer be written.
     unsafe { html.write(made) };
     answer
 }
 
-/// Gives back a text that [`bivdrazo_markdown`] made, or null.
+/// The HTML of a Markdown document, and a line for each heading that got an id.
+///
+/// # Safety
+///
+/// As [`bivdrazo_markdown`]; `headings` points to a pointer that can be written, too.
+#[no_mangle]
+pub unsafe extern "C" fn bivdrazo_markdown_headings(
+    text: *const u8,
+    length: usize,
+    options: *const Options,
+    html: *mut *mut c_char,
+    headings: *mut *mut c_char,
+) -> Answer {
+    // SAFETY: the caller keeps to what is said above.
+    let (answer, made) = unsafe { made_of(text, length, options) };
+    let (made, list) = match made {
+        Some(made) => (made.html.into_raw(), made.headings.into_raw()),
+        None => (ptr::null_mut(), ptr::null_mut()),
+    };
+    // SAFETY: the caller lets these pointers be written.
+    unsafe {
+        html.write(made);
+        headings.write(list);
+    }
+    answer
+}
+
+/// Gives back a text that [`bivdrazo_markdown`] or [`bivdrazo_markdown_headings`] made, or null.
 ///
 /// # Safety
 ///
@@ -95,11 +122,40 @@ pub extern "C" fn bivdrazo_markdown_version() -> u32 {
     numbers::MARKDOWN_VERSION
 }
 
-fn rendered_answer(made: &Html) -> Answer {
+/// The answer of a call, and the texts where there are some.
+///
+/// # Safety
+///
+/// As [`bivdrazo_markdown`], but for `html`.
+unsafe fn made_of(
+    text: *const u8,
+    length: usize,
+    options: *const Options,
+) -> (Answer, Option<Made>) {
+    let rendered = catch_unwind(AssertUnwindSafe(|| {
+        // SAFETY: the caller keeps to what is said above.
+        unsafe { render(bytes_of(text, length), options.as_ref()) }
+    }));
+    match rendered.unwrap_or_else(|_| Err(failed())) {
+        Ok(made) => (rendered_answer(&made), Some(made)),
+        Err(answer) => (answer, None),
+    }
+}
+
+fn rendered_answer(made: &Made) -> Answer {
     Answer {
-        length: made.as_bytes().len(),
+        length: made.html.as_bytes().len(),
         ..with_status(numbers::STATUS_OK)
     }
+}
+
+/// A line for each heading.
+fn lines_of(headings: &[Heading]) -> String {
+    let line = |heading: &Heading| {
+        let text = heading.text.replace('\n', " ");
+        format!("{} {} {text}\n", heading.level, heading.number)
+    };
+    headings.iter().map(line).collect()
 }
 
 fn failed() -> Answer {
@@ -129,7 +185,7 @@ unsafe fn bytes_of<'a>(bytes: *const u8, length: usize) -> &'a [u8] {
 /// # Safety
 ///
 /// The options' texts that are set are as long as they say.
-unsafe fn render(text: &[u8], options: Option<&Options>) -> Result<Html, Answer> {
+unsafe fn render(text: &[u8], options: Option<&Options>) -> Result<Made, Answer> {
     let options = match options {
         // SAFETY: the caller says so.
         Some(options) => unsafe { options_of(options)? },
@@ -144,8 +200,12 @@ unsafe fn render(text: &[u8], options: Option<&Options>) -> Result<Html, Answer>
         index: error.valid_up_to(),
         ..with_status(numbers::STATUS_NOT_UTF8)
     })?;
-    let html = markdown_to_html(text, &options).map_err(answer_of)?;
-    CString::new(html).map_err(|_| failed())
+    let made = markdown_with_headings(text, &options).map_err(answer_of)?;
+    let for_c = |text| CString::new(text).map_err(|_| failed());
+    Ok(Made {
+        headings: for_c(lines_of(&made.headings))?,
+        html: for_c(made.html)?,
+    })
 }
 
 /// The answer for an error.
@@ -192,6 +252,8 @@ unsafe fn options_of(given: &Options) -> Result<MarkdownOptions, Answer> {
             numbers::OPTION_FOOTNOTE_BACK_LABEL,
         )?;
         options.base = text_of(&given.base, numbers::OPTION_BASE)?;
+        options.rel = text_of(&given.rel, numbers::OPTION_REL)?;
+        options.heading_ids = text_of(&given.heading_ids, numbers::OPTION_HEADING_IDS)?;
     }
     options.max_input = bound_of(given.max_input);
     options.max_output = bound_of(given.max_output);

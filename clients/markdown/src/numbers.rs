@@ -1,7 +1,7 @@
 // Written by clients/numbers/generate from numbers.txt. Don't edit it.
 
 /// The number of the interface for Markdown: it changes when a layout or a number of it changes.
-pub const MARKDOWN_VERSION: u32 = 1;
+pub const MARKDOWN_VERSION: u32 = 2;
 
 pub const STATUS_OK: u32 = 0;
 pub const STATUS_REFUSED: u32 = 2;
@@ -25,3 +25,5 @@ pub const OPTION_FOOTNOTE_PREFIX: usize = 4;
 pub const OPTION_FOOTNOTE_LABEL: usize = 5;
 pub const OPTION_FOOTNOTE_BACK_LABEL: usize = 6;
 pub const OPTION_BASE: usize = 7;
+pub const OPTION_REL: usize = 8;
+pub const OPTION_HEADING_IDS: usize = 9;

@@ -31,7 +31,7 @@ Calls may be made from any number of threads, and run side by side.
 
 from .calls import Event, compile, run
 from .errors import Error, Invalid, MarkdownError, Refused, TooLong, Unreadable
-from .markdown import markdown_to_html
+from .markdown import Heading, markdown_to_html, markdown_with_headings
 from .numbers import VERSION, Kind, LineEnding, Name, Rule
 from .numbers import VERSION_TEXT as __version__
 from .references import REFERENCES
@@ -41,6 +41,7 @@ __all__ = [
     "VERSION",
     "Error",
     "Event",
+    "Heading",
     "Invalid",
     "Kind",
     "LineEnding",
@@ -53,5 +54,6 @@ __all__ = [
     "__version__",
     "compile",
     "markdown_to_html",
+    "markdown_with_headings",
     "run",
 ]

@@ -6,7 +6,7 @@ import ctypes
 import functools
 import os
 import pathlib
-from typing import Literal, TypeVar
+from typing import Any, Literal, NamedTuple, TypeVar
 
 from .errors import MarkdownError, TooLong, error_of
 from .library import CAnswer, CText
@@ -15,6 +15,14 @@ from .numbers import MARKDOWN_OPTIONS, MARKDOWN_VERSION, DocumentHtml, MarkdownS
 HTML = {"text": DocumentHtml.TEXT, "left-out": DocumentHtml.LEFT_OUT, "without-comments": DocumentHtml.WITHOUT_COMMENTS}
 MOST = ctypes.c_size_t(-1).value
 T = TypeVar("T")
+
+
+class Heading(NamedTuple):
+    """A heading that got an id: its level, its number from 1, and its text, without tags and escaped."""
+
+    level: int
+    number: int
+    text: str
 
 
 class CMarkdownOptions(ctypes.Structure):
@@ -30,6 +38,8 @@ class CMarkdownOptions(ctypes.Structure):
         ("footnote_label", CText),
         ("footnote_back_label", CText),
         ("base", CText),
+        ("rel", CText),
+        ("heading_ids", CText),
         ("max_input", ctypes.c_size_t),
         ("max_output", ctypes.c_size_t),
     ]
@@ -47,6 +57,8 @@ def markdown_library() -> ctypes.CDLL:
     out = ctypes.POINTER(ctypes.c_void_p)
     library.bivdrazo_markdown.argtypes = [ctypes.c_char_p, ctypes.c_size_t, ctypes.POINTER(CMarkdownOptions), out]
     library.bivdrazo_markdown.restype = CAnswer
+    library.bivdrazo_markdown_headings.argtypes = [*library.bivdrazo_markdown.argtypes, out]
+    library.bivdrazo_markdown_headings.restype = CAnswer
     library.bivdrazo_markdown_free.argtypes = [ctypes.c_void_p]
     library.bivdrazo_markdown_free.restype = None
     library.bivdrazo_markdown_version.argtypes = []
@@ -68,6 +80,8 @@ def markdown_to_html(
     bare_links: bool = True,
     html: Literal["text", "left-out", "without-comments"] = "text",
     base: str | None = None,
+    rel: str | None = None,
+    heading_ids: str | None = None,
     max_input: int | None = None,
     max_output: int | None = None,
 ) -> str:
@@ -86,6 +100,9 @@ def markdown_to_html(
     bare_links: bare URLs and addresses are links.
     html: what becomes of HTML in the document: "text", "left-out", or "without-comments", the rest being text.
     base: the URL against which those of links and images are read.
+    rel: the `rel` of each link whose URL isn't empty and doesn't begin with `#`.
+    heading_ids: what the ids of headings begin with, their numbers follow; they are distinct from one another, and from
+    all others where no other begins so: those of footnotes are `footnote-label`, and the prefix and `fn`.
     max_input, max_output: how many bytes of UTF-8 the document and the text may have.
 
     >>> markdown_to_html("a <b>c</b>\\nd", html="left-out", hard_breaks=True)
@@ -95,7 +112,60 @@ def markdown_to_html(
     surrogate that is alone, and TypeError for a value of another type. Other threads run during the call.
     """
     document = typed("text", text, str).encode("utf-8")
-    options = CMarkdownOptions(
+    given = options_of(
+        number_ids=number_ids,
+        hard_breaks=hard_breaks,
+        bare_links=bare_links,
+        html=html,
+        footnote_prefix=footnote_prefix,
+        footnote_label=footnote_label,
+        footnote_back_label=footnote_back_label,
+        base=base,
+        rel=rel,
+        heading_ids=heading_ids,
+        max_input=max_input,
+        max_output=max_output,
+    )
+    return rendered(document, given)[0]
+
+
+def markdown_with_headings(text: str, heading_ids: str, **options: Any) -> tuple[str, list[Heading]]:
+    """As markdown_to_html, whose other options it takes, with the headings that got an id, for a table of contents.
+
+    >>> from bivdrazo import markdown_with_headings
+    >>> markdown_with_headings("## a *b*", "part-")
+    ('<h2 id="part-1">a <em>b</em></h2>\\n', [Heading(level=2, number=1, text='a b')])
+
+    In a heading's text a space stands for each line feed.
+    """
+    document = typed("text", text, str).encode("utf-8")
+    html, lines = rendered(document, options_of(heading_ids=typed("heading_ids", heading_ids, str), **options))
+    return html, [heading_of(line) for line in lines.split("\n")[:-1]]
+
+
+def heading_of(line: str) -> Heading:
+    """A heading: its level, a space, its number, a space, and its text."""
+    level, number, text = line.split(" ", 2)
+    return Heading(int(level), int(number), text)
+
+
+def options_of(
+    *,
+    number_ids: bool = False,
+    hard_breaks: bool = False,
+    bare_links: bool = True,
+    html: str = "text",
+    footnote_prefix: str | None = None,
+    footnote_label: str | None = None,
+    footnote_back_label: str | None = None,
+    base: str | None = None,
+    rel: str | None = None,
+    heading_ids: str | None = None,
+    max_input: int | None = None,
+    max_output: int | None = None,
+) -> CMarkdownOptions:
+    """The options as C has them."""
+    return CMarkdownOptions(
         MARKDOWN_VERSION,
         typed("number_ids", number_ids, bool),
         typed("hard_breaks", hard_breaks, bool),
@@ -105,18 +175,27 @@ def markdown_to_html(
         text_of("footnote_label", footnote_label),
         text_of("footnote_back_label", footnote_back_label),
         text_of("base", base),
+        text_of("rel", rel),
+        text_of("heading_ids", heading_ids),
         bound_of("max_input", max_input),
         bound_of("max_output", max_output),
     )
+
+
+def rendered(document: bytes, options: CMarkdownOptions) -> tuple[str, str]:
+    """The text of a document, and a line for each of its headings that got an id."""
     library = markdown_library()
-    made = ctypes.c_void_p()
-    answer = library.bivdrazo_markdown(document, len(document), ctypes.byref(options), ctypes.byref(made))
+    html, headings = ctypes.c_void_p(), ctypes.c_void_p()
+    made = ctypes.byref(html), ctypes.byref(headings)
+    answer = library.bivdrazo_markdown_headings(document, len(document), ctypes.byref(options), *made)
     if answer.status != Status.OK:
         raise markdown_error_of(answer, options)
     try:
-        return str((ctypes.c_char * answer.length).from_address(made.value), "utf-8")
+        text = str((ctypes.c_char * answer.length).from_address(html.value), "utf-8")
+        return text, str(ctypes.string_at(headings.value), "utf-8")
     finally:
-        library.bivdrazo_markdown_free(made)
+        library.bivdrazo_markdown_free(html)
+        library.bivdrazo_markdown_free(headings)
 
 
 def typed(name: str, value: object, type_: type[T]) -> T:

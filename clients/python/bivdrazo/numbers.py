@@ -25,7 +25,7 @@ OPTIONS = (
 )
 
 # The number of the interface for Markdown: it changes when a layout or a number of it changes.
-MARKDOWN_VERSION = 1
+MARKDOWN_VERSION = 2
 
 # The options for Markdown, by their numbers.
 MARKDOWN_OPTIONS = (
@@ -37,6 +37,8 @@ MARKDOWN_OPTIONS = (
     "footnote_label",
     "footnote_back_label",
     "base",
+    "rel",
+    "heading_ids",
 )
 
 
@@ -61,6 +63,10 @@ class Status(enum.IntEnum):
     NO_LINE = 6
     # There is no more memory.
     MEMORY = 7
+    # Attributes are asked for, and the options aren't safe.
+    UNSAFE = 8
+    # The attributes stand for none: the one with the number `index` is neither set nor unset, or isn't UTF-8.
+    NO_ATTRIBUTE = 9
 
 
 class Rule(enum.IntEnum):

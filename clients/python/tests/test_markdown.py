@@ -10,7 +10,8 @@ import time
 import unittest
 
 import bivdrazo
-from bivdrazo import REFERENCES, Event, Invalid, Name, Refused, Rule, TooLong, Unreadable, compile, markdown_to_html
+from bivdrazo import REFERENCES, Event, Heading, Invalid, Name, Refused, Rule, TooLong, Unreadable, compile
+from bivdrazo import markdown_to_html, markdown_with_headings
 from bivdrazo.markdown import CMarkdownOptions, markdown_error_of, markdown_library
 from bivdrazo.library import CAnswer
 from bivdrazo.numbers import DocumentHtml
@@ -46,6 +47,19 @@ class Texts(unittest.TestCase):
         self.assertEqual(markdown_to_html("a@b.org", bare_links=False), "<p>a@b.org</p>\n")
         self.assertEqual(markdown_to_html("[a](b)", base="https://c.d"), '<p><a href="https://c.d/b">a</a></p>\n')
 
+    def test_attributes(self):
+        link = '<p><a href="b" rel="&quot;&lt;\ufffd">a</a> <a href="#c">d</a> <a href="">e</a></p>\n'
+        self.assertEqual(markdown_to_html("[a](b) [d](#c) [e](f:)", rel='"<\0'), link)
+        self.assertEqual(markdown_to_html("# a\n## b", heading_ids=""), '<h1 id="1">a</h1>\n<h2 id="2">b</h2>\n')
+        self.assertNotIn('<h2 id="x', markdown_to_html(NOTE, heading_ids="x"))
+
+    def test_headings(self):
+        html, headings = markdown_with_headings("# a *b* <\n\n> c\n> d\n> ---\n", "p-", hard_breaks=True)
+        self.assertEqual(headings, [Heading(1, 1, "a b &lt;"), Heading(2, 2, "c d")])
+        self.assertIn('<h2 id="p-2">c<br />', html)
+        self.assertEqual(markdown_with_headings(NOTE, "p-")[1], [])
+        self.assertEqual(markdown_with_headings("", "p-"), ("", []))
+
     def test_html(self):
         text = "<b>a<!-- c -->"
         self.assertEqual(markdown_to_html(text, html="text"), "<p>&lt;b&gt;a&lt;!-- c --&gt;</p>\n")
@@ -69,6 +83,7 @@ class Errors(unittest.TestCase):
     def test_types(self):
         values = {
             "footnote_prefix": b"x", "footnote_label": 1, "footnote_back_label": b"", "base": 2, "number_ids": 1,
+            "rel": b"", "heading_ids": 3,
             "hard_breaks": None, "bare_links": "yes", "html": 0, "max_input": 1.5, "max_output": True,
         }
         for name, value in values.items():
@@ -82,6 +97,8 @@ class Errors(unittest.TestCase):
         for name, value in {"html": "no", "max_input": -1, "max_output": -2}.items():
             with self.subTest(name=name), self.assertRaisesRegex(ValueError, f"^{name}: "):
                 markdown_to_html("a", **{name: value})
+        with self.assertRaisesRegex(TypeError, "^heading_ids: "):
+            markdown_with_headings("a", None)
         with self.assertRaises(UnicodeEncodeError):
             markdown_to_html("\ud800")
 
@@ -100,7 +117,7 @@ class Interface(unittest.TestCase):
     """What holds of the module as a whole."""
 
     def test_size(self):
-        self.assertEqual(ctypes.sizeof(CMarkdownOptions), 120)
+        self.assertEqual(ctypes.sizeof(CMarkdownOptions), 168)
 
     def test_pickles(self):
         errors = [Refused(3, Rule.PLACE), Invalid("event", 4), Unreadable(5), TooLong("input", 6)]

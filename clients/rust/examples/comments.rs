@@ -2,7 +2,8 @@
 //!
 //!     cargo run --example comments FILE..
 //!
-//! Each comment has bounds and a prefix of its own, so that no two of them share an id of a footnote.
+//! Each comment has bounds, and prefixes of its own, so that no two of them share an id of a footnote or of a heading but
+//! `footnote-label`; no search engine follows its links.
 
 use bivdrazo::{markdown_to_html, DocumentHtml, MarkdownOptions};
 use std::{env, error, fs};
@@ -12,6 +13,8 @@ fn main() -> Result<(), Box<dyn error::Error>> {
         let mut options = MarkdownOptions::default();
         options.footnote_prefix = Some(format!("comment-{number}-"));
         options.number_ids = true;
+        options.rel = Some("nofollow ugc".to_string());
+        options.heading_ids = Some(format!("comment-{number}-part-"));
         options.hard_breaks = true;
         options.html = DocumentHtml::LeftOut;
         options.max_input = Some(10_000);

@@ -2,11 +2,13 @@
 
 use crate::numbers::{
     Rule, KIND_ENTER, KIND_EXIT, LINE_ENDING_CARRIAGE_RETURN,
-    LINE_ENDING_CARRIAGE_RETURN_LINE_FEED, LINE_ENDING_LINE_FEED, STATUS_MEMORY, STATUS_NO_EVENT,
-    STATUS_NO_LINE, STATUS_NO_NAME, STATUS_NO_OPTION, STATUS_OK, STATUS_REFUSED, STATUS_TOO_SHORT,
+    LINE_ENDING_CARRIAGE_RETURN_LINE_FEED, LINE_ENDING_LINE_FEED, STATUS_MEMORY,
+    STATUS_NO_ATTRIBUTE, STATUS_NO_EVENT, STATUS_NO_LINE, STATUS_NO_NAME, STATUS_NO_OPTION,
+    STATUS_OK, STATUS_REFUSED, STATUS_TOO_SHORT, STATUS_UNSAFE,
 };
-use crate::{Error, Event, Kind, LineEnding, Options};
+use crate::{Attributes, Error, Event, Heading, Kind, LineEnding, Options, Rendered};
 use std::mem::size_of;
+use std::str;
 
 #[repr(C)]
 pub(crate) struct CAnswer {
@@ -56,11 +58,18 @@ struct COptions {
     gfm_footnote_label_tag_name: CText,
 }
 
+#[repr(C)]
+struct CAttributes {
+    rel: CText,
+    heading_ids: CText,
+}
+
 const _: () = assert!(size_of::<CAnswer>() == 24);
 const _: () = assert!(size_of::<CEvent>() == 16 && size_of::<Event>() == 16);
 const _: () = assert!(size_of::<CText>() == 24);
 const _: () = assert!(size_of::<CReference>() == 32);
 const _: () = assert!(size_of::<COptions>() == 128);
+const _: () = assert!(size_of::<CAttributes>() == 48);
 
 extern "C" {
     fn bivdrazo_compile(
@@ -71,6 +80,18 @@ extern "C" {
         options: *const COptions,
         names: *const CReference,
         names_length: usize,
+        buffer: *mut u8,
+        buffer_length: usize,
+    ) -> CAnswer;
+    fn bivdrazo_compile_attributed(
+        events: *const CEvent,
+        events_length: usize,
+        bytes: *const u8,
+        bytes_length: usize,
+        options: *const COptions,
+        names: *const CReference,
+        names_length: usize,
+        attributes: *const CAttributes,
         buffer: *mut u8,
         buffer_length: usize,
     ) -> CAnswer;
@@ -95,6 +116,19 @@ pub(crate) fn compile(
     compile_c(&events, bytes, options, names, limit)
 }
 
+/// As `crate::compile_attributed`, with a bound on the text's length.
+pub(crate) fn compile_attributed(
+    events: &[Event],
+    bytes: &[u8],
+    options: &Options,
+    names: &[(&str, &str)],
+    attributes: &Attributes,
+    limit: Option<usize>,
+) -> Result<Rendered, Error> {
+    let events = collect(events.iter().map(c_event))?;
+    compile_attributed_c(&events, bytes, options, names, attributes, limit)
+}
+
 /// As [`compile`], of events that nobody needs any more. C's take the memory of these, since they are as large.
 #[cfg(feature = "markdown")]
 pub(crate) fn compile_owned(
@@ -103,8 +137,24 @@ pub(crate) fn compile_owned(
     options: &Options,
     limit: Option<usize>,
 ) -> Result<String, Error> {
-    let events: Vec<CEvent> = events.into_iter().map(|event| c_event(&event)).collect();
-    compile_c(&events, bytes, options, &[], limit)
+    compile_c(&c_events(events), bytes, options, &[], limit)
+}
+
+/// As [`compile_attributed`], of events that nobody needs any more.
+#[cfg(feature = "markdown")]
+pub(crate) fn compile_attributed_owned(
+    events: Vec<Event>,
+    bytes: &[u8],
+    options: &Options,
+    attributes: &Attributes,
+    limit: Option<usize>,
+) -> Result<Rendered, Error> {
+    compile_attributed_c(&c_events(events), bytes, options, &[], attributes, limit)
+}
+
+#[cfg(feature = "markdown")]
+fn c_events(events: Vec<Event>) -> Vec<CEvent> {
+    events.into_iter().map(|event| c_event(&event)).collect()
 }
 
 fn compile_c(
@@ -133,6 +183,67 @@ fn compile_c(
                 buffer.capacity(),
             )
         }
+    })
+}
+
+fn compile_attributed_c(
+    events: &[CEvent],
+    bytes: &[u8],
+    options: &Options,
+    names: &[(&str, &str)],
+    attributes: &Attributes,
+    limit: Option<usize>,
+) -> Result<Rendered, Error> {
+    let names = collect(names.iter().map(c_reference))?;
+    let options = c_options(options);
+    let attributes = CAttributes {
+        rel: c_text(&attributes.rel),
+        heading_ids: c_text(&attributes.heading_ids),
+    };
+    let room = first_size(events.len(), bytes.len());
+    let call = |buffer: &mut Vec<u8>| {
+        // SAFETY: the pointers are those of slices, of structs that refer to strings of the caller's, and of a buffer
+        // that nothing else refers to; each goes with its own length and isn't null.
+        unsafe {
+            bivdrazo_compile_attributed(
+                events.as_ptr(),
+                events.len(),
+                bytes.as_ptr(),
+                bytes.len(),
+                &options,
+                names.as_ptr(),
+                names.len(),
+                &attributes,
+                buffer.as_mut_ptr(),
+                buffer.capacity(),
+            )
+        }
+    };
+    let (whole, start) = into_bytes(room, limit, |answer| answer.index, call)?;
+    rendered_of(whole, start).ok_or(Error::Unknown)
+}
+
+/// A text up to that byte, and after it the list of its headings: before each stands a NUL.
+fn rendered_of(mut whole: Vec<u8>, start: usize) -> Option<Rendered> {
+    let list = str::from_utf8(whole.get(start..)?).ok()?;
+    let headings = list
+        .split('\0')
+        .skip(1)
+        .map(heading_of)
+        .collect::<Option<_>>()?;
+    whole.truncate(start);
+    let html = String::from_utf8(whole).ok()?;
+    Some(Rendered { html, headings })
+}
+
+/// A heading: its level, a space, its number, a space, and its text.
+fn heading_of(line: &str) -> Option<Heading> {
+    let (level, rest) = line.split_once(' ')?;
+    let (number, text) = rest.split_once(' ')?;
+    Some(Heading {
+        level: level.parse().ok()?,
+        number: number.parse().ok()?,
+        text: text.to_string(),
     })
 }
 
@@ -165,17 +276,28 @@ pub(crate) fn first_size(events: usize, bytes: usize) -> usize {
         .saturating_add(64)
 }
 
-/// The text that a call writes into a buffer, with a second call where the first buffer is too short. Where there is a
-/// limit, no buffer is longer, nor is the text.
+/// The text that a call writes into a buffer. Where there is a limit, the text isn't longer.
 fn into_text(
     room: usize,
     limit: Option<usize>,
     call: impl Fn(&mut Vec<u8>) -> CAnswer,
 ) -> Result<String, Error> {
+    let (text, _) = into_bytes(room, limit, |answer| answer.length, call)?;
+    String::from_utf8(text).map_err(|_| Error::Unknown)
+}
+
+/// What a call writes into a buffer, with a second call where the first buffer is too short, and what is measured of the
+/// answer: where there is a limit, that isn't more.
+fn into_bytes(
+    room: usize,
+    limit: Option<usize>,
+    measure: impl Fn(&CAnswer) -> usize,
+    call: impl Fn(&mut Vec<u8>) -> CAnswer,
+) -> Result<(Vec<u8>, usize), Error> {
     let limit = limit.unwrap_or(usize::MAX);
     let mut buffer = buffer_of(room.min(limit))?;
     let mut answer = call(&mut buffer);
-    if matches!(answer.status, STATUS_OK | STATUS_TOO_SHORT) && answer.length > limit {
+    if matches!(answer.status, STATUS_OK | STATUS_TOO_SHORT) && measure(&answer) > limit {
         return Err(Error::OutputTooLong { limit });
     }
     if answer.status == STATUS_TOO_SHORT {
@@ -187,7 +309,7 @@ fn into_text(
     }
     // SAFETY: under this status the library wrote the buffer's first `length` bytes.
     unsafe { buffer.set_len(answer.length) };
-    String::from_utf8(buffer).map_err(|_| Error::Unknown)
+    Ok((buffer, measure(&answer)))
 }
 
 /// An empty buffer with room for so many bytes.
@@ -222,6 +344,8 @@ pub(crate) fn error_of(answer: &CAnswer) -> Error {
         STATUS_NO_OPTION => Error::Option(answer.index),
         STATUS_NO_LINE => Error::Line(answer.index),
         STATUS_MEMORY => Error::Memory,
+        STATUS_UNSAFE => Error::Unsafe,
+        STATUS_NO_ATTRIBUTE => Error::Attribute(answer.index),
         _ => Error::Unknown,
     }
 }

@@ -42,7 +42,9 @@ mod numbers;
 mod references;
 
 #[cfg(feature = "markdown")]
-pub use markdown::{events_of, markdown_to_html, Document, DocumentHtml, MarkdownOptions};
+pub use markdown::{
+    events_of, markdown_to_html, markdown_with_headings, Document, DocumentHtml, MarkdownOptions,
+};
 
 pub use numbers::{Name, Rule, VERSION, VERSION_TEXT};
 pub use references::REFERENCES;
@@ -148,6 +150,41 @@ pub struct Options {
     pub gfm_footnote_label_tag_name: Option<String>,
 }
 
+/// What is added to the tags of a text. Each text is escaped.
+///
+/// The ids of headings are distinct from one another, and from all others where no other begins with `heading_ids`.
+/// Those of footnotes are `footnote-label`, and what `gfm_footnote_clobber_prefix` says and `fn`; they are distinct from
+/// one another under `gfm_footnote_number_ids`.
+#[derive(Clone, Debug, Default, Eq, PartialEq)]
+pub struct Attributes {
+    /// The `rel` of each link whose URL isn't empty and doesn't begin with `#`.
+    pub rel: Option<String>,
+    /// What the `id` of each heading without one begins with: its number, from 1, follows.
+    pub heading_ids: Option<String>,
+}
+
+/// A heading that got an `id`.
+#[derive(Clone, Debug, Eq, Hash, PartialEq)]
+#[non_exhaustive]
+pub struct Heading {
+    /// Its level, from 1 to 6.
+    pub level: u8,
+    /// Its number, from 1: its `id` is what was asked for, and this number.
+    pub number: usize,
+    /// Its text without tags, escaped: it may be set into HTML as it is.
+    pub text: String,
+}
+
+/// A text, and its headings that got an `id`.
+#[derive(Clone, Debug, Default, Eq, PartialEq)]
+#[non_exhaustive]
+pub struct Rendered {
+    /// The text.
+    pub html: String,
+    /// These headings, in their order.
+    pub headings: Vec<Heading>,
+}
+
 /// Why there is no text.
 #[derive(Clone, Copy, Debug, Eq, PartialEq)]
 #[non_exhaustive]
@@ -169,6 +206,10 @@ pub enum Error {
     Line(usize),
     /// There is no more memory.
     Memory,
+    /// Attributes are asked for, and the options aren't safe.
+    Unsafe,
+    /// The attribute with this number stands for none; this crate hands in none such.
+    Attribute(usize),
     /// The Markdown has more bytes than a bound permits.
     InputTooLong {
         /// How many it has.
@@ -197,6 +238,8 @@ impl fmt::Display for Error {
             }
             Error::Line(number) => write!(formatter, "line {number}: unreadable"),
             Error::Memory => write!(formatter, "out of memory"),
+            Error::Unsafe => write!(formatter, "attributes under unsafe options"),
+            Error::Attribute(number) => write!(formatter, "attribute {number}: no such value"),
             Error::InputTooLong { length, limit } => {
                 write!(
                     formatter,
@@ -236,6 +279,44 @@ pub fn compile(
     names: &[(&str, &str)],
 ) -> Result<String, Error> {
     ffi::compile(events, bytes, options, names, None)
+}
+
+/// As [`compile`], with attributes that are added to the tags of the text, and the headings that got an `id`.
+///
+/// # Errors
+///
+/// Those of [`compile`], and [`Error::Unsafe`] where the options aren't safe.
+///
+/// ```
+/// use bivdrazo::{compile_attributed, Attributes, Event, Name, Options};
+///
+/// let events = [
+///     Event::enter(Name::HeadingAtx, 0),
+///     Event::enter(Name::HeadingAtxSequence, 0),
+///     Event::exit(Name::HeadingAtxSequence, 1),
+///     Event::enter(Name::HeadingAtxText, 2),
+///     Event::enter(Name::Data, 2),
+///     Event::exit(Name::Data, 3),
+///     Event::exit(Name::HeadingAtxText, 3),
+///     Event::exit(Name::HeadingAtx, 3),
+/// ];
+/// let attributes = Attributes {
+///     heading_ids: Some("part-".to_string()),
+///     ..Attributes::default()
+/// };
+/// let made = compile_attributed(&events, b"# a", &Options::default(), &[], &attributes)?;
+/// assert_eq!(made.html, "<h1 id=\"part-1\">a</h1>");
+/// assert_eq!((made.headings[0].level, made.headings[0].text.as_str()), (1, "a"));
+/// # Ok::<(), bivdrazo::Error>(())
+/// ```
+pub fn compile_attributed(
+    events: &[Event],
+    bytes: &[u8],
+    options: &Options,
+    names: &[(&str, &str)],
+    attributes: &Attributes,
+) -> Result<Rendered, Error> {
+    ffi::compile_attributed(events, bytes, options, names, attributes, None)
 }
 
 /// The HTML of an event script: lines of options and events, a line `--`, the document.

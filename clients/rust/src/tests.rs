@@ -3,7 +3,8 @@
 use crate::ffi::{error_of, first_size, CAnswer};
 use crate::numbers::NAMES;
 use crate::{
-    compile, run, Error, Event, LineEnding, Name, Options, Rule, REFERENCES, VERSION_TEXT,
+    compile, compile_attributed, run, Attributes, Error, Event, LineEnding, Name, Options,
+    Rendered, Rule, REFERENCES, VERSION_TEXT,
 };
 use std::thread;
 
@@ -36,6 +37,18 @@ fn error(status: u32, rule: u32, index: usize) -> Error {
         index,
         length: 0,
     })
+}
+
+#[test]
+fn attributes_under_unsafe_options() {
+    let options = Options {
+        allow_dangerous_html: true,
+        ..Options::default()
+    };
+    let told = compile_attributed(&[], b"", &options, &[], &Attributes::default());
+    assert_eq!(told, Err(Error::Unsafe));
+    let made = compile_attributed(&[], b"", &Options::default(), &[], &Attributes::default());
+    assert_eq!(made, Ok(Rendered::default()));
 }
 
 #[test]
@@ -212,6 +225,8 @@ fn statuses() {
         "option gfm_footnote_number_ids: no such value"
     );
     assert_eq!(error(7, 0, 0), Error::Memory);
+    assert_eq!(error(8, 0, 0), Error::Unsafe);
+    assert_eq!(error(9, 0, 1), Error::Attribute(1));
     assert_eq!(error(99, 0, 0), Error::Unknown);
 }
 
@@ -255,6 +270,8 @@ fn texts_of_errors() {
         (Error::Name(5), "character reference 5: not UTF-8"),
         (Error::Line(6), "line 6: unreadable"),
         (Error::Memory, "out of memory"),
+        (Error::Unsafe, "attributes under unsafe options"),
+        (Error::Attribute(1), "attribute 1: no such value"),
         (Error::Unknown, "a library of another version"),
     ] {
         assert_eq!(error.to_string(), text);

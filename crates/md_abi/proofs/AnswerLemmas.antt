@@ -21,7 +21,7 @@ use Rattle.md_abi.specs.declared.failure.Failure.{Failure}
 use Rattle.md_abi.specs.declared.failure.Failure.TheVariants as failure
 
 -- two numbers that differ
-never : {A : Type 0} (a b : ℕ) → eqb a b ≡ false → a ≡ b → A
+pub never : {A : Type 0} (a b : ℕ) → eqb a b ≡ false → a ≡ b → A
 never a b differ same = absurd (eqb-false a b differ same)
 
 -- ---- texts

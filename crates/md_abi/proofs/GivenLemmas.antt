@@ -96,7 +96,7 @@ read_as events options names slice read given pairs read_pairs same same_pairs e
 module _ (events : List CEvent) (bytes : List ℕ) (options : COptions) (names : List CReference) (slice : List Event)
     (given : CompileOptions) (pairs : List (Bor (List ℕ) × Bor (List ℕ)))
     (read : IsRead events options names slice given pairs) where
-  rendered : (text : List ℕ) → IsCompiled (handed slice bytes pairs) given text →
+  pub rendered : (text : List ℕ) → IsCompiled (handed slice bytes pairs) given text →
       IsRendered events bytes options names text
   rendered text compiled = record {
     document = compiled.grammatical.0;
@@ -116,7 +116,7 @@ module _ (events : List CEvent) (bytes : List ℕ) (options : COptions) (names :
     distinct_ids = λ keeps. compiled.distinct_ids (keeps_ids options given read.options_stand keeps);
   }
 
-  explained : (why : Failure) → IsRefusalOf (handed slice bytes pairs) why → Explains events bytes options names why
+  pub explained : (why : Failure) → IsRefusalOf (handed slice bytes pairs) why → Explains events bytes options names why
   explained failure.Memory h = tt
   explained (failure.Event index) h = absurd h
   explained (failure.Name index) h = absurd h
@@ -143,7 +143,7 @@ module _ (events : List CEvent) (bytes : List ℕ) (options : COptions) (names :
 
 -- ---- a compiler's refusal as a failure
 
-told_of : (given : Handed) (why : CompileError) → IsRefusal given why → IsRefusalOf given (failure_of why)
+pub told_of : (given : Handed) (why : CompileError) → IsRefusal given why → IsRefusalOf given (failure_of why)
 told_of given refusal.Memory h = tt
 told_of given (refusal.Event index rule) h = h
 

@@ -3,3 +3,4 @@ pub mod GivenLemmas
 pub mod AnswerLemmas
 pub mod OptionLemmas
 pub mod StandingLemmas
+pub mod AttributedLemmas

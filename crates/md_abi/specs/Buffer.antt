@@ -41,3 +41,9 @@ pub record IsKept (text old new : List ℕ) (answer : Answer) : Type 0 where
 
 abbrev pub IsHandedOver : List ℕ → List ℕ → List ℕ → Answer → Type 0
 IsHandedOver text old new answer = IsWritten text old new answer ⊎ IsKept text old new answer
+
+-- the answer's index tells where something begins in the text, and else it is as that of the text alone
+pub record IsListHandedOver (whole : List ℕ) (start : ℕ) (old new : List ℕ) (answer : Answer) : Type 0 where
+  pub alone : Answer
+  pub handed : IsHandedOver whole old new alone
+  pub answered : answer ≡ record alone { index = start }

@@ -10,3 +10,6 @@ pub mod Compiled
 pub mod Failures
 pub mod Buffer
 pub mod Answers
+pub mod Attributes
+pub mod Attributed
+pub mod Refusals

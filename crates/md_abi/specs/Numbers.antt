@@ -37,6 +37,14 @@ no_line = 6
 abbrev pub no_memory : ℕ
 no_memory = 7
 
+-- attributes are asked for under options that aren't safe
+abbrev pub unsafe_options : ℕ
+unsafe_options = 8
+
+-- an attribute stands for none
+abbrev pub no_attribute : ℕ
+no_attribute = 9
+
 -- ---- rules; 0 is none
 
 abbrev pub rule_number : Rule → ℕ

@@ -3,9 +3,11 @@
 ghost use Rattle.std.specs.Prelude.{◌≡◌};
 ghost use Rattle.md_abi.specs.Numbers.{rule_number};
 ghost use Rattle.md_abi.specs.Failures.{answer_of};
-ghost use Rattle.md_abi.specs.Buffer.{IsHandedOver};
+ghost use Rattle.md_abi.specs.Refusals.{answer_of_refusal};
+ghost use Rattle.md_abi.specs.Buffer.{IsHandedOver, IsListHandedOver};
 
 use crate::failure::Failure;
+use crate::refusal::Refusal;
 use md_tree::Rule;
 
 /// The text is in the buffer.
@@ -31,6 +33,12 @@ const NO_LINE: u32 = 6;
 
 /// There is no more memory.
 const MEMORY: u32 = 7;
+
+/// Attributes are asked for under options that aren't safe.
+const UNSAFE: u32 = 8;
+
+/// An attribute stands for none.
+const NO_ATTRIBUTE: u32 = 9;
 
 /// What a call answers. A field of which the status says nothing is 0.
 #[repr(C)]
@@ -60,6 +68,17 @@ pub fn answer_to(failure: &Failure) -> Answer
             rule: rule_number(*rule),
             ..about(REFUSED, *index)
         },
+    }
+}
+
+/// The answer to a refusal.
+pub fn answer_to_refusal(refusal: &Refusal) -> Answer
+    ensures { result ≡ answer_of_refusal refusal.now }
+{
+    match refusal {
+        Refusal::Unsafe => about(UNSAFE, 0),
+        Refusal::Attribute(number) => about(NO_ATTRIBUTE, *number),
+        Refusal::Failed(failure) => answer_to(failure),
     }
 }
 
@@ -103,6 +122,16 @@ pub fn hand_over(text: &str, buffer: &mut [u8]) -> Answer
     }
     buffer[..bytes.len()].copy_from_slice(bytes);
     with_length(OK, bytes.len())
+}
+
+/// As [`hand_over`], of a text and a list after it; the answer's index tells where the list begins.
+pub fn hand_over_listed(whole: &str, start: usize, buffer: &mut [u8]) -> Answer
+    ensures { IsListHandedOver whole.now start buffer.old buffer.new result }
+{
+    Answer {
+        index: start,
+        ..hand_over(whole, buffer)
+    }
 }
 
 /// The answer that tells only a status and a length.

@@ -2,17 +2,23 @@
 #![tactic(auto)]
 
 mod answer;
+mod attributed;
+mod attributes;
 mod event;
 mod failure;
 mod given;
 mod names;
 mod option;
 mod reference;
+mod refusal;
 mod text;
 
-pub use answer::{Answer, answer_to, hand_over};
+pub use answer::{Answer, answer_to, answer_to_refusal, hand_over, hand_over_listed};
+pub use attributed::{Attributed, compile_attributed};
+pub use attributes::CAttributes;
 pub use event::CEvent;
 pub use failure::Failure;
 pub use given::compile_given;
 pub use option::{COptions, CText};
 pub use reference::CReference;
+pub use refusal::Refusal;

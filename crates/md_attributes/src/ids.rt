@@ -11,7 +11,7 @@ ghost use Rattle.std.specs.Prelude.{◌≡◌, ◌++◌, ◌∷◌, [], IfOk, On
 ghost use Rattle.std.specs.Fmt.{decimal};
 ghost use Rattle.md_text.specs.Encode.{encoded};
 ghost use Rattle.md_text.specs.Ids.{are_distinct};
-ghost use Rattle.md_attributes.specs.Scan.{with_new, new_id, picks_heading};
+ghost use Rattle.md_attributes.specs.Scan.{with_new, new_id, picks_heading, scanned_headings};
 
 use crate::headings::{Heading, headings};
 use crate::html::{AttributedHtml, Html};
@@ -64,9 +64,25 @@ pub fn with_heading_ids<H: Html>(
     ensures attributed { IfOk result (λ after. IsAttributed after.html) }
 {
     let headings = headings(alloc, html.as_str())?;
-    let text = with_ids(alloc, html.as_str(), prefix)?;
+    let text = with_ids_of(alloc, html.as_str(), prefix, headings.as_slice())?;
     let html = AttributedHtml::new(text);
     Ok(WithHeadingIds { html, headings })
+}
+
+/// A text with an `id` in each heading that has none, which are these.
+fn with_ids_of(
+    alloc: Global,
+    text: &str,
+    prefix: &str,
+    headings: &[Heading],
+) -> Result<String, AllocError>
+    requires { map listed headings.now ≡ scanned_headings 0 text.now }
+    ensures { IfOk result (λ out. string_bytes out ≡ with_new picks_heading (new_id prefix.now) text.now) }
+{
+    if headings.is_empty() {
+        return String::from_str(alloc, text);
+    }
+    with_ids(alloc, text, prefix)
 }
 
 /// A text with an `id` in each heading that has none.

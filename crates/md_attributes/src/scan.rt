@@ -1,10 +1,13 @@
 //! The tags that get an attribute, found by their bytes.
 
-ghost use Rattle.std.specs.Prelude.{◌≡◌, ℕ, suc, false, ◌<◌, ◌++◌, ◌∷◌, [], List, IsTrue, IfSome, MatchOption, length, take, drop, slice_index, option_copied, IsUtf8};
+ghost use Rattle.std.specs.Prelude.{◌≡◌, ℕ, suc, false, ◌<◌, ◌≤◌, ◌++◌, ◌∷◌, [], List, IsTrue, IfSome, MatchOption, length, take, drop, slice_index, option_copied, IsUtf8};
 ghost use Rattle.std.specs.List.{list_all};
 ghost use Rattle.md_attributes.specs.Scan.{differs, IsFirstOf, parts_of, value_of, before_angle, is_away, want_rel, want_id, picks_link, picks_heading, picks_of, scanned};
 
 use memchr::memchr;
+
+/// How many bytes are looked at one by one: a byte that is looked for is mostly near.
+const NEAR: usize = 16;
 
 /// Which tags get an attribute.
 #[derive(Clone, Copy)]
@@ -51,7 +54,15 @@ fn picks(rule: Rule, tag: &[u8]) -> bool
 fn picks_link(tag: &[u8]) -> bool
     ensures { result ≡ picks_link tag.now }
 {
-    tag.starts_with(b"a ") && before_angle(&tag[1..]).is_some_and(want_rel)
+    tag.starts_with(b"a ") && !stays(tag) && before_angle(&tag[1..]).is_some_and(want_rel)
+}
+
+/// Whether a link begins with an address that is empty or within the page: most of those that are not picked do.
+#[inline(always)]
+fn stays(tag: &[u8]) -> bool
+    ensures { IsTrue result → picks_link tag.now ≡ false }
+{
+    tag.starts_with(b"a href=\"#") || tag.starts_with(b"a href=\"\"")
 }
 
 /// A heading without an `id`.
@@ -137,5 +148,27 @@ pub(crate) fn split_at_byte(byte: u8, text: &str) -> Option<(&str, &str)>
 fn find_byte(byte: u8, bytes: &[u8]) -> Option<usize>
     ensures { MatchOption result (IsTrue (list_all (differs byte) bytes.now)) (λ at. IsFirstOf byte bytes.now at) }
 {
+    if bytes.len() >= NEAR {
+        let near = find_near(byte, bytes);
+        if near.is_some() {
+            return near;
+        }
+    }
     memchr(byte, bytes)
+}
+
+/// The same among the first bytes.
+#[inline(always)]
+fn find_near(byte: u8, bytes: &[u8]) -> Option<usize>
+    requires { 16 ≤ length bytes.now }
+    ensures { IfSome result (λ at. IsFirstOf byte bytes.now at) }
+{
+    let mut at = 0;
+    while at < NEAR {
+        if bytes[at] == byte {
+            return Some(at);
+        }
+        at += 1;
+    }
+    None
 }

@@ -2,6 +2,7 @@
 //!
 //! A question is a line `? PART CALL ARGUMENT`. Lines `=NAME TEXT` may follow, names with their texts; then the script.
 
+mod attributed;
 mod compiled;
 mod endings;
 mod places;
@@ -87,6 +88,7 @@ fn answer_to(alloc: Global, asked: &Asked<'_>, question: &str) -> Result<String,
         "place" => places::answer(alloc, asked, call),
         "tree" => trees::answer(alloc, asked, call),
         "compiled" => compiled::answer(alloc, asked, call),
+        "attributed" => attributed::answer(alloc, asked, call),
         _ => no_such_call(alloc),
     }
 }

@@ -156,7 +156,7 @@ fn compile_row<R: Print + AllocGlobal>(
 }
 
 /// The answer of `compile_safe`; where it is out of memory, that of the same call made again.
-fn safe_of(alloc: Global, log: &mut Log, row: &Row) -> Result<SafeHtml, SafeError> {
+pub fn safe_of(alloc: Global, log: &mut Log, row: &Row) -> Result<SafeHtml, SafeError> {
     again!(
         log,
         Err(SafeError::Compile(CompileError::Memory)),

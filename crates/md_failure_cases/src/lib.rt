@@ -6,6 +6,7 @@
 #![tactic(auto)]
 
 mod appending;
+mod attributes;
 mod documents;
 mod log;
 mod plain;
@@ -46,5 +47,6 @@ fn ask<R: Print + AllocGlobal>(rt: &R, log: &mut Log, word: &[u8]) -> io::Result
 fn ask_with_memory<R: Print + AllocGlobal>(rt: &R, log: &mut Log) -> io::Result<()> {
     plain::ask_each(rt, log)?;
     texts::ask_each(rt, log)?;
-    documents::ask_each(rt, log)
+    documents::ask_each(rt, log)?;
+    attributes::ask_each(rt, log)
 }

@@ -93,6 +93,11 @@ pub fn named() -> &'static Row {
     &NAMED
 }
 
+/// A heading with a link, whose tags get attributes.
+pub fn attributed() -> &'static Row {
+    &ATTRIBUTED
+}
+
 static LINKS: [Row; 2] = [
     row! {
         "a chunk that is cut within a tab", "\ta\t", Wanted::Text("<pre><code>  a\t  \n</code></pre>");
@@ -214,4 +219,11 @@ static NAMED: Row = row! {
     "a reference with a name", "&x;", Wanted::Text("&lt;");
     + CharacterReferenceMarker 0; - CharacterReferenceMarker 1; + CharacterReferenceValue 1;
     - CharacterReferenceValue 2;
+};
+
+static ATTRIBUTED: Row = row! {
+    "a heading with a link", "# [a](b)", Wanted::Text("<h1><a href=\"b\">a</a></h1>");
+    + HeadingAtx 0; + HeadingAtxSequence 0; - HeadingAtxSequence 1; + HeadingAtxText 2; + Link 2; + Label 2;
+    + LabelText 3; + Data 3; - Data 4; - LabelText 4; - Label 5; + Resource 5; + ResourceDestinationString 6;
+    + Data 6; - Data 7; - ResourceDestinationString 7; - Resource 8; - Link 8; - HeadingAtxText 8; - HeadingAtx 8;
 };

@@ -3,16 +3,21 @@
 ghost use Rattle.std.specs.Prelude.{◌≡◌};
 ghost use Rattle.md_script.specs.Run.{IsTextOf};
 ghost use Rattle.md_script.specs.Script.{IsReadable, IsFirstUnreadable};
-ghost use Rattle.md_abi.specs.Numbers.{refused, no_event, no_name, no_option, no_line};
+ghost use Rattle.md_abi.specs.Numbers.{refused, no_event, no_name, no_option, no_line, unsafe_options, no_attribute};
 ghost use Rattle.md_abi.specs.Standing.{IsFirstWithout};
 ghost use Rattle.md_abi.specs.Events.{event_of};
 ghost use Rattle.md_abi.specs.References.{reference_of};
-ghost use Rattle.md_abi.specs.Options.{StandsForNone};
+ghost use Rattle.md_abi.specs.Options.{StandsForNone, KeepsImages};
+ghost use Rattle.md_abi.specs.Attributes.{StandsForNoAttribute};
+ghost use Rattle.md_abi.specs.Attributed.{IsAttributedText};
 ghost use Rattle.md_abi.specs.Rendered.{IsRendered, IsRefusedBy, IsRefusedIn};
 ghost use Rattle.md_abi.specs.Buffer.{HandsOver};
-ghost use Rattle.md_abi.specs.Answers.{IsOfCompile, IsOfRun};
+ghost use Rattle.md_abi.specs.Answers.{IsOfCompile, IsOfAttributed, IsOfRun};
 
-use md_abi::{Answer, CEvent, COptions, CReference, Failure, answer_to, compile_given, hand_over};
+use md_abi::{
+    Answer, CAttributes, CEvent, COptions, CReference, Failure, answer_to, answer_to_refusal,
+    compile_attributed, compile_given, hand_over, hand_over_listed,
+};
 use md_script::run;
 use std::alloc::Global;
 
@@ -61,6 +66,59 @@ pub extern "C" fn bivdrazo_compile(
     match compile_given(alloc, events, bytes, options, names) {
         Ok(text) => hand_over(text.as_str(), buffer),
         Err(failure) => answer_to(&failure),
+    }
+}
+
+/// The HTML of a list of events over a document's bytes, whose options are safe, with attributes that are added to its
+/// tags, into a buffer; and after it the headings that got an `id`.
+///
+/// Where `rel` is set, each start tag `a` whose `href` isn't empty and doesn't begin with `#`, and which has no `rel`,
+/// has one with this text, escaped. Where `heading_ids` is set, each start tag from `h1` to `h6` without an `id` has
+/// one: this text, escaped, and the heading's number, from 1. Then each of these headings follows the text: a NUL, its
+/// level, a space, its number, a space, and its text without tags, escaped.
+///
+/// Where no two ids of the text are equal, and none begins with what is asked for headings, no two ids are equal.
+///
+/// Its seven parameters are those of C's call, which has ten in the same order: none for `alloc`, one each for
+/// `options` and `attributes`, and two for each of the four slices. What a C caller passes is told at
+/// [`bivdrazo_compile`].
+///
+/// # Statuses
+///
+/// - 0: the text is in the buffer's first `index` bytes, and the headings in those from there up to `length`; what lies
+///   after them is as it was.
+/// - 1: the buffer is too short. It is as it was, and `length` is what both need, `index` what the text has: call
+///   again with as much.
+/// - 2 to 5, 7: as of [`bivdrazo_compile`].
+/// - 8: the options aren't safe.
+/// - 9: the attribute with the number `index` isn't valid: `rel` has 0, `heading_ids` 1.
+///
+/// With all but 0 the buffer is as it was. Which of 2 to 5, 8 and 9 is told, if several are true, is left open.
+#[unsafe(no_mangle)]
+pub extern "C" fn bivdrazo_compile_attributed(
+    alloc: Global,
+    events: &[CEvent],
+    bytes: &[u8],
+    options: &COptions,
+    names: &[CReference],
+    attributes: &CAttributes,
+    buffer: &mut [u8],
+) -> Answer
+    // The text is safe, the meaning of what was handed in with these attributes; the list of headings follows.
+    ensures text { HandsOver (IsAttributedText events.now bytes.now options.now names.now attributes.now result.index)
+        buffer.old buffer.new result }
+    ensures refused { result.status ≡ refused →
+        IsRefusedBy events.now bytes.now names.now result.index result.rule }
+    ensures no_event { result.status ≡ no_event → IsFirstWithout event_of events.now result.index }
+    ensures no_name { result.status ≡ no_name → IsFirstWithout reference_of names.now result.index }
+    ensures no_option { result.status ≡ no_option → StandsForNone options.now result.index }
+    ensures unsafe_options { result.status ≡ unsafe_options → KeepsImages options.now → ⊥ }
+    ensures no_attribute { result.status ≡ no_attribute → StandsForNoAttribute attributes.now result.index }
+    ensures fields { IsOfAttributed result }
+{
+    match compile_attributed(alloc, events, bytes, options, names, attributes) {
+        Ok(made) => hand_over_listed(made.whole.as_str(), made.start, buffer),
+        Err(refusal) => answer_to_refusal(&refusal),
     }
 }
 

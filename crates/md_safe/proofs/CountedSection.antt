@@ -165,14 +165,15 @@ section-counted d w keeps footnotes n texts =
     (λ _. adds-nothing d.given.ending (Counts w (occurs w label_id + k))
     (counts-more w 0 (occurs w label_id + k) [] (omega arith) (counts-none w)))
 
--- each id stands in a document once at most
-pub document-counted : (d : Document) (w : List ℕ) (document : Forest) → KeepsGrammar d.given.options →
-    d.given.options.gfm_footnote_number_ids ≡ true → IsBuilt d.given.bytes Blocks document →
-    IsUnderlined false document → length d.given.calls + 2 < 2 ^ 64 →
-    (outcome d.given outermost nothing_before document).calls ≡ d.given.calls
-    → Counts w 1 (layout d.given.ending ((outcome d.given outermost nothing_before document).pieces
+-- an id stands in a document no more often than its heading, its footnotes and its calls have it
+pub document-counts : (d : Document) (w : List ℕ) (document : Forest) → KeepsGrammar d.given.options →
+    IsBuilt d.given.bytes Blocks document → IsUnderlined false document →
+    (outcome d.given outermost nothing_before document).calls ≡ d.given.calls →
+    Counts w (occurs w label_id + occurs w (note_ids d.given.options d.given.calls (distinct d.given.calls))
+    + occurs w (ids_after d.given.options d.given.calls [] d.given.calls))
+    (layout d.given.ending ((outcome d.given outermost nothing_before document).pieces
     ++ section d.given (outcome d.given outermost nothing_before document).footnotes))
-document-counted d w document keeps on built underlined small called =
+document-counts d w document keeps built underlined called =
     let all : Outcome = outcome d.given outermost nothing_before document in
     let b : Costs d w nothing_before 0 (waits_after false document) all =
     spent d w document outermost nothing_before false 0
@@ -186,18 +187,31 @@ document-counted d w document keeps on built underlined small called =
       };
       underlined = underlined;
     }) tt in
-    let rest : ℕ = occurs w label_id
-    + (occurs w (note_ids d.given.options d.given.calls (distinct d.given.calls)) + b.notes) in
+    let noted : ℕ = occurs w (note_ids d.given.options d.given.calls (distinct d.given.calls)) in
+    let rest : ℕ = occurs w label_id + (noted + b.notes) in
     let last : Prints (counted_in d w 0) (Counts w rest) (section d.given all.footnotes) =
     section-counted d w keeps all.footnotes b.notes
     (texts-for w b.notes all.footnotes (distinct d.given.calls) (distinct-apart d.given.calls) b.texts) in
-    counts-more w (b.body + rest) 1 (layout d.given.ending (all.pieces ++ section d.given all.footnotes))
-    (omega (
-      b.few,
-      ap (λ calls. occurs w (ids_after d.given.options d.given.calls [] calls)) called,
-      document-once d.given.options on w d.given.calls small,
-      arith,
-    ))
+    counts-more w (b.body + rest)
+    (occurs w label_id + noted + occurs w (ids_after d.given.options d.given.calls [] d.given.calls))
+    (layout d.given.ending (all.pieces ++ section d.given all.footnotes))
+    (omega (b.few, ap (λ calls. occurs w (ids_after d.given.options d.given.calls [] calls)) called, arith))
     (adds-alone d.given.ending (Counts w (b.body + rest)) (all.pieces ++ section d.given all.footnotes)
     (adds-append d.given.ending (Counts w b.body) (Counts w rest) (Counts w (b.body + rest)) all.pieces
     (section d.given all.footnotes) (counts-join w b.body rest) b.prints last))
+
+-- each id stands in a document once at most
+pub document-counted : (d : Document) (w : List ℕ) (document : Forest) → KeepsGrammar d.given.options →
+    d.given.options.gfm_footnote_number_ids ≡ true → IsBuilt d.given.bytes Blocks document →
+    IsUnderlined false document → length d.given.calls + 2 < 2 ^ 64 →
+    (outcome d.given outermost nothing_before document).calls ≡ d.given.calls
+    → Counts w 1 (layout d.given.ending ((outcome d.given outermost nothing_before document).pieces
+    ++ section d.given (outcome d.given outermost nothing_before document).footnotes))
+document-counted d w document keeps on built underlined small called =
+    counts-more w
+    (occurs w label_id + occurs w (note_ids d.given.options d.given.calls (distinct d.given.calls))
+    + occurs w (ids_after d.given.options d.given.calls [] d.given.calls)) 1
+    (layout d.given.ending ((outcome d.given outermost nothing_before document).pieces
+    ++ section d.given (outcome d.given outermost nothing_before document).footnotes))
+    (document-once d.given.options on w d.given.calls small)
+    (document-counts d w document keeps built underlined called)

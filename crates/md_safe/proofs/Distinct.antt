@@ -19,6 +19,7 @@ use Rattle.md_text.specs.Url.{sanitized}
 use Rattle.md_meaning.specs.Meaning.Footnotes.{distinct, place_among, count_of, option_or, id_of, call_id}
 use Rattle.md_shape.specs.Built.{is_digit}
 use Rattle.md_meaning.proofs.Identifiers.{is_in, Apart, same, itself, is_in-distinct, distinct-apart}
+use Rattle.md_safe.specs.Apart.{prefix_of}
 use Rattle.md_safe.proofs.Texts.{digit-plain}
 use Rattle.md_text.proofs.ProtocolLemmas.{no_and}
 
@@ -100,8 +101,7 @@ no_and-append x y h g = list_all-append no_and x y ∙ and_from (list_all no_and
 
 -- the prefix, read back
 abbrev back_prefix : CompileOptions → List ℕ
-back_prefix options = option_map_or (encoded false) (option_map string_bytes options.gfm_footnote_clobber_prefix)
-    (codes "user-content-")
+back_prefix options = prefix_of options
 
 prefix-back : (options : CompileOptions) (x : List ℕ) → read_back (option_or (option_map string_bytes options.gfm_footnote_clobber_prefix) (codes "user-content-") ++ x)
     ≡ back_prefix options ++ read_back x
@@ -115,10 +115,10 @@ prefix-back options x = by (option_map string_bytes options.gfm_footnote_clobber
 -- ---- ids by number
 
 -- what stands after the prefix in the id of a footnote, and in that of a call
-abbrev note_tail : ℕ → List ℕ
+abbrev pub note_tail : ℕ → List ℕ
 note_tail number = codes "fn-" ++ decimal number
 
-abbrev call_tail : ℕ → ℕ → List ℕ
+abbrev pub call_tail : ℕ → ℕ → List ℕ
 call_tail number occurrence = codes "fnref-" ++ (decimal number ++ (45 ∷ decimal occurrence))
 
 note-back : (options : CompileOptions) → options.gfm_footnote_number_ids ≡ true → (identifier : List ℕ) (number : ℕ) →
@@ -171,7 +171,7 @@ note-no_call options n m k e =
     append_cancel_left (back_prefix options) (note_tail n) (call_tail m k) e in
     cc tails
 
-label-no_digit : (x : List ℕ) → codes "footnote-label" ≡ x → EndsInDigit x → ⊥
+pub label-no_digit : (x : List ℕ) → codes "footnote-label" ≡ x → EndsInDigit x → ⊥
 label-no_digit x e ends = lie (subst EndsInDigit (sym e) ends)
 
 note-ends : (options : CompileOptions) (n : ℕ) → EndsInDigit (back_prefix options ++ note_tail n)
@@ -458,10 +458,10 @@ among-each holds w (x ∷ xs) all = by (bytes_eq x w) refl (among-each holds w x
     by true e later = inr (subst holds (same x w e) all.0)
     by false e later = later
 
-abbrev IsNote : CompileOptions → List ℕ → Type 0
+abbrev pub IsNote : CompileOptions → List ℕ → Type 0
 IsNote options w = (n : ℕ) × (w ≡ back_prefix options ++ note_tail n)
 
-abbrev IsCall : CompileOptions → List ℕ → Type 0
+abbrev pub IsCall : CompileOptions → List ℕ → Type 0
 IsCall options w = (n : ℕ) × (k : ℕ) × (w ≡ back_prefix options ++ call_tail n k)
 
 each-note : (options : CompileOptions) → options.gfm_footnote_number_ids ≡ true → (all identifiers : List (List ℕ)) →
@@ -526,3 +526,24 @@ document-once options on w calls small =
     by notes called (inr n) (inl c) =
         omega (label-alone options w (subst EndsInDigit (sym n.1) (note-ends options n.0)), notes, c, arith)
     by notes called (inr n) (inr c) = absurd (note-no_call options n.0 c.0 c.1 (sym n.1 ∙ c.2))
+
+-- an id that stands in a document is that of the heading, of a footnote or of a call
+pub document-known : (options : CompileOptions) → options.gfm_footnote_number_ids ≡ true → (w : List ℕ)
+    (calls : List (List ℕ)) → 1 ≤ occurs w label_id + occurs w (note_ids options calls (distinct calls))
+    + occurs w (ids_after options calls [] calls) →
+    (codes "footnote-label" ≡ w) ⊎ (IsNote options w ⊎ IsCall options w)
+document-known options on w calls =
+    by (bytes_eq (codes "footnote-label") w) refl
+    (among-each (IsNote options) w (note_ids options calls (distinct calls)) (each-note options on calls (distinct calls)))
+    (among-each (IsCall options) w (ids_after options calls [] calls) (each-call options on calls [] calls))
+  where
+    by : (is : Bool) → bytes_eq (codes "footnote-label") w ≡ is →
+        (occurs w (note_ids options calls (distinct calls)) ≡ 0) ⊎ IsNote options w →
+        (occurs w (ids_after options calls [] calls) ≡ 0) ⊎ IsCall options w →
+        1 ≤ (cond is (suc 0) 0) + occurs w (note_ids options calls (distinct calls))
+        + occurs w (ids_after options calls [] calls) →
+        (codes "footnote-label" ≡ w) ⊎ (IsNote options w ⊎ IsCall options w)
+    by true e n c some = inl (same (codes "footnote-label") w e)
+    by false e (inr n) c some = inr (inl n)
+    by false e (inl n) (inr c) some = inr (inr c)
+    by false e (inl n) (inl c) some = absurd (omega (arith, n, c, some))

@@ -15,6 +15,7 @@ pub mod Forests
 pub mod Section
 pub mod Counted
 pub mod Distinct
+pub mod Prefixes
 pub mod CountedForest
 pub mod CountedSection
 pub mod Whole

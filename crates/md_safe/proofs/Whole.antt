@@ -1,10 +1,13 @@
 -- The meaning of a document has a reading in which each attribute passes a test, and has no id twice: the theorems from
 -- the two inductions.
 use Rattle.std.specs.Str.{bytes_eq}
-use Rattle.std.proofs.Common.{◌≡◌, ℕ, ◌&&◌, ◌||◌, Bool, true, false, not, cond, List, [], ◌∷◌, ◌++◌, length, ◌<◌, ◌^◌, ◌+◌, ◌≤◌, arith, refl, sym, ap, ◌∙◌, subst, codes}
+use Rattle.std.proofs.Common.{◌≡◌, ◌⊎◌, inl, inr, ℕ, suc, ◌&&◌, ◌||◌, Bool, true, false, not, cond, List, [], ◌∷◌, ◌++◌, length, ◌<◌, ◌^◌, ◌+◌, ◌≤◌, arith, refl, sym, ap, ◌∙◌, subst, codes}
+use Rattle.std.specs.Fmt.{decimal}
+use Rattle.std.specs.List.{list_any}
+use Rattle.md_base.proofs.Lies.{lie}
 use Rattle.std.specs.Prelude.{Option, Some, None}
 use Rattle.std.specs.Option.{option_map_or}
-use Rattle.std.proofs.lemmas.Bool.{and_parts, not-true}
+use Rattle.std.proofs.lemmas.Bool.{and_parts, and_from, or_left, or_right, not-true}
 use Rattle.md_base.specs.declared.event.Name.{Name}
 use Rattle.md_base.specs.declared.event.Name.TheVariants.{LineEnding, BlankLineEnding, GfmFootnoteCall}
 use Rattle.md_base.specs.declared.event.Point.{Point}
@@ -13,19 +16,20 @@ use Rattle.md_text.specs.declared.line_ending.LineEnding.{LineEnding as Ending}
 use Rattle.md_text.specs.declared.line_ending.LineEnding.TheVariants.{CarriageReturnLineFeed, CarriageReturn, LineFeed}
 use Rattle.md_text.specs.Laws.{is_line_ends}
 use Rattle.md_text.specs.LineEnding.{ending_text}
-use Rattle.md_text.specs.Html.{Attribute, any_attribute, HasReadingWith, HasOneReadingWith}
+use Rattle.md_text.specs.Html.{Forest as Html, IsReading, Attribute, any_attribute, HasReadingWith, HasOneReadingWith}
 use Rattle.md_text.specs.Safe.{is_safe_link, is_safe_image, is_safe_value}
 use Rattle.md_text.specs.Url.{sanitized, sanitized_with, link_protocols, image_protocols}
 use Rattle.md_text.proofs.HtmlJoin.{join}
-use Rattle.md_text.proofs.HtmlReading.{only_reading}
+use Rattle.md_text.proofs.HtmlReading.{one_reading, only_reading}
+use Rattle.md_meaning.proofs.Identifiers.{itself}
 use Rattle.md_text.proofs.ProtocolLemmas.{kept-link, kept-image}
 use Rattle.std.proofs.lemmas.List.{length-append}
 use Rattle.md_base.specs.Is.{is as named}
 use Rattle.md_base.specs.Tree.{Forest, Empty, Node, flatten, exiting}
 use Rattle.md_base.specs.Children.{or_else, is_empty}
 use Rattle.md_infer.specs.Looseness.{is_loose}
-use Rattle.md_text.specs.Ids.{HasDistinctIds}
-use Rattle.md_text.proofs.HtmlIds.{counted-once}
+use Rattle.md_text.specs.Ids.{ids, HasDistinctIds}
+use Rattle.md_text.proofs.HtmlIds.{occurs, counted-once}
 use Rattle.md_shape.specs.Underlined.{IsUnderlined}
 use Rattle.md_base.specs.NameTests.{is_line_ending}
 use Rattle.md_text.specs.declared.options.CompileOptions.{CompileOptions}
@@ -51,7 +55,10 @@ use Rattle.md_safe.proofs.BlockNodes.{Reads, holds-none}
 use Rattle.md_safe.proofs.Forests.{Ready, Means, means}
 use Rattle.md_safe.proofs.Section.{section-prints}
 use Rattle.md_safe.proofs.CountedForest.{Document}
-use Rattle.md_safe.proofs.CountedSection.{document-counted}
+use Rattle.md_safe.specs.Apart.{prefix_of, are_apart, ShareNoId}
+use Rattle.md_safe.proofs.CountedSection.{document-counts, document-counted}
+use Rattle.md_safe.proofs.Distinct.{IsNote, IsCall, note_ids, ids_after, label_id, document-known}
+use Rattle.md_safe.proofs.Prefixes.{same-prefix, note-once, call-once, any-occurs}
 
 -- a place, where there is one, has the text of line endings
 abbrev pub IsEnding : List ℕ → Option Position → Type 0
@@ -326,3 +333,90 @@ distinct-ids bytes names options document built underlined keeps small =
       arith,
     ))
     (calls-same given document outermost nothing_before ∙ sym (calls-same alone document outermost nothing_before)))
+
+-- each id of a document is that of the heading, of a footnote or of a call
+known-id : (bytes : List ℕ) (names : List (List ℕ × List ℕ)) (options : CompileOptions) (document : Forest) →
+    IsBuilt bytes Blocks document → IsUnderlined false document → KeepsIds options → (f : Html) →
+    IsReading (meaning options names bytes document) f → (w : List ℕ) → 1 ≤ occurs w (ids f) →
+    (codes "footnote-label" ≡ w) ⊎ (IsNote options w ⊎ IsCall options w)
+known-id bytes names options document built underlined keeps f reading w some =
+    let known = prepared bytes names options document built keeps.grammar in
+    let ending : List ℕ = ending_at options bytes (first_ending document) in
+    let alone : Given =
+    record { bytes = bytes; names = names; options = options; ending = ending; calls = []; definitions = [] } in
+    let called : Given = record alone { calls = (outcome alone outermost nothing_before document).calls } in
+    let given : Given = record called {
+      definitions = (outcome called outermost nothing_before document).definitions;
+    } in
+    let d : Document = record {
+      given = given;
+      html = keeps.grammar.escapes_html;
+      ending = known.0;
+      titles = known.1;
+    } in
+    let counts = document-counts d w document keeps.grammar built underlined
+    (calls-same given document outermost nothing_before ∙ sym (calls-same alone document outermost nothing_before)) in
+    let same : f ≡ counts.forest =
+    one_reading (meaning options names bytes document) f counts.forest reading counts.reading in
+    document-known options keeps.by_number w given.calls
+    (omega (arith, some, ap (λ g. occurs w (ids g)) same, counts.few))
+
+-- what stands after two prefixes of one id tells that they are one
+one-prefix : (options other : CompileOptions) (w : List ℕ) → IsNote options w ⊎ IsCall options w →
+    IsNote other w ⊎ IsCall other w → prefix_of options ≡ prefix_of other
+one-prefix options other w (inl n) (inl m) =
+    same-prefix (prefix_of options) (prefix_of other) (45 ∷ decimal n.0) (45 ∷ decimal m.0)
+    (note-once n.0) (note-once m.0) (sym n.1 ∙ m.1)
+one-prefix options other w (inl n) (inr m) =
+    same-prefix (prefix_of options) (prefix_of other) (45 ∷ decimal n.0)
+    (codes "ref-" ++ (decimal m.0 ++ (45 ∷ decimal m.1))) (note-once n.0) (call-once m.0 m.1) (sym n.1 ∙ m.2)
+one-prefix options other w (inr n) (inl m) =
+    same-prefix (prefix_of options) (prefix_of other) (codes "ref-" ++ (decimal n.0 ++ (45 ∷ decimal n.1)))
+    (45 ∷ decimal m.0) (call-once n.0 n.1) (note-once m.0) (sym n.2 ∙ m.1)
+one-prefix options other w (inr n) (inr m) =
+    same-prefix (prefix_of options) (prefix_of other) (codes "ref-" ++ (decimal n.0 ++ (45 ∷ decimal n.1)))
+    (codes "ref-" ++ (decimal m.0 ++ (45 ∷ decimal m.1))) (call-once n.0 n.1) (call-once m.0 m.1) (sym n.2 ∙ m.2)
+
+-- where no id but the heading's is among both, they are apart
+apart-ids : (xs ys : List (List ℕ)) → ((w : List ℕ) → 1 ≤ occurs w xs → 1 ≤ occurs w ys →
+    codes "footnote-label" ≡ w) → are_apart xs ys ≡ true
+apart-ids [] ys h = refl
+apart-ids (x ∷ xs) ys h =
+    and_from _ (are_apart xs ys)
+    (of (list_any (λ other. bytes_eq other x) ys) refl)
+    (apart-ids xs ys (λ w some. h w (later w (bytes_eq x w) some)))
+  where
+    later : (w : List ℕ) (is : Bool) → 1 ≤ occurs w xs → 1 ≤ cond is (suc (occurs w xs)) (occurs w xs)
+    later w true some = omega (arith, some)
+    later w false some = some
+
+    first : (is : Bool) → is ≡ true → 1 ≤ cond is (suc (occurs x xs)) (occurs x xs)
+    first true e = omega arith
+    first false e = lie e
+
+    of : (is : Bool) → list_any (λ other. bytes_eq other x) ys ≡ is →
+        (bytes_eq (codes "footnote-label") x || not is) ≡ true
+    of false e = or_right (bytes_eq (codes "footnote-label") x) true refl
+    of true e =
+        let label : codes "footnote-label" ≡ x = h x (first (bytes_eq x x) (itself x)) (any-occurs x ys e) in
+        or_left (bytes_eq (codes "footnote-label") x) false
+        (ap (λ y. bytes_eq y x) label ∙ itself x)
+
+pub apart : (bytes other_bytes : List ℕ) (names other_names : List (List ℕ × List ℕ))
+    (options other_options : CompileOptions) (document other : Forest) → IsBuilt bytes Blocks document →
+    IsUnderlined false document → KeepsIds options → IsBuilt other_bytes Blocks other → IsUnderlined false other →
+    KeepsIds other_options → (prefix_of options ≡ prefix_of other_options → ⊥) →
+    ShareNoId (meaning options names bytes document) (meaning other_options other_names other_bytes other)
+apart bytes other_bytes names other_names options other_options document other built underlined keeps other_built
+    other_underlined other_keeps differ f g reading other_reading =
+    apart-ids (ids f) (ids g) (λ w here there.
+    of w (known-id bytes names options document built underlined keeps f reading w here)
+    (known-id other_bytes other_names other_options other other_built other_underlined other_keeps g other_reading w
+    there))
+  where
+    of : (w : List ℕ) → (codes "footnote-label" ≡ w) ⊎ (IsNote options w ⊎ IsCall options w) →
+        (codes "footnote-label" ≡ w) ⊎ (IsNote other_options w ⊎ IsCall other_options w) →
+        codes "footnote-label" ≡ w
+    of w (inl label) any = label
+    of w (inr here) (inl label) = label
+    of w (inr here) (inr there) = absurd (differ (one-prefix options other_options w here there))

@@ -1,6 +1,6 @@
 //! What holds of the meaning of every document, as the contracts of functions that do nothing.
 
-ghost use Rattle.std.specs.Prelude.{ℕ, ◌<◌, ◌^◌, List, length, false};
+ghost use Rattle.std.specs.Prelude.{◌≡◌, ℕ, ◌<◌, ◌^◌, List, length, false};
 ghost use Rattle.md_text.specs.Html.{any_attribute, HasOneReadingWith};
 ghost use Rattle.md_text.specs.Safe.{is_safe_link, is_safe_image};
 ghost use Rattle.md_text.specs.Ids.{HasDistinctIds};
@@ -11,6 +11,7 @@ ghost use Rattle.md_meaning.specs.Meaning.{meaning};
 ghost use Rattle.md_text.specs.Defaults.{default_options, gfm_options};
 ghost use Rattle.md_shape.specs.Built.{Blocks, IsBuilt};
 ghost use Rattle.md_safe.specs.Options.{KeepsGrammar, KeepsLinks, KeepsImages, KeepsIds};
+ghost use Rattle.md_safe.specs.Apart.{prefix_of, ShareNoId};
 
 /// A document that is built of what may stand where it is means a text of the HTML grammar with exactly one
 /// reading, where the options write nothing as it is given; and in that reading each link, and each image, has
@@ -33,6 +34,18 @@ pub fn ids_by_number_are_distinct()
     ensures { (bytes : List ℕ) (names : List (List ℕ × List ℕ)) (options : CompileOptions) (document : Forest)
         → IsBuilt bytes Blocks document → IsUnderlined false document → KeepsIds options
         → length (flatten document) < 2 ^ 64 → HasDistinctIds (meaning options names bytes document) }
+{}
+
+/// Where ids go by number and the options write nothing as it is given, two texts whose prefixes differ share no id but
+/// `footnote-label`, that of the heading of footnotes. The prefixes may begin with one another; they differ as they are
+/// read, so that NUL and U+FFFD are one.
+pub fn ids_of_two_documents_are_apart()
+    ensures { (bytes other_bytes : List ℕ) (names other_names : List (List ℕ × List ℕ))
+        (options other_options : CompileOptions) (document other : Forest)
+        → IsBuilt bytes Blocks document → IsUnderlined false document → KeepsIds options
+        → IsBuilt other_bytes Blocks other → IsUnderlined false other → KeepsIds other_options
+        → (prefix_of options ≡ prefix_of other_options → ⊥)
+        → ShareNoId (meaning options names bytes document) (meaning other_options other_names other_bytes other) }
 {}
 
 /// The default options are safe, and so are those of GitHub flavored Markdown.

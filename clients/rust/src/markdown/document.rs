@@ -1,6 +1,6 @@
 //! A document as the library takes it.
 
-use crate::{compile, ffi, Error, Event, Kind, Name, Options};
+use crate::{compile, ffi, Attributes, Error, Event, Kind, Name, Options, Rendered};
 use std::borrow::Cow;
 use std::ops::Range;
 
@@ -37,13 +37,39 @@ impl Document {
         ffi::compile(&self.events, &self.bytes, options, &[], limit)
     }
 
-    /// As [`compile_within`](Document::compile_within), of a document that nobody needs any more.
-    pub(super) fn into_html(
+    /// The document's HTML with attributes, if that has at most so many bytes, and the headings that got an `id`.
+    ///
+    /// # Errors
+    ///
+    /// As [`compile_attributed`](crate::compile_attributed), and [`Error::OutputTooLong`].
+    pub fn compile_attributed(
+        &self,
+        options: &Options,
+        attributes: &Attributes,
+        limit: Option<usize>,
+    ) -> Result<Rendered, Error> {
+        ffi::compile_attributed(&self.events, &self.bytes, options, &[], attributes, limit)
+    }
+
+    /// As [`compile_attributed`](Document::compile_attributed), of a document that nobody needs any more.
+    pub(super) fn into_rendered(
         self,
         options: &Options,
+        attributes: &Attributes,
         limit: Option<usize>,
-    ) -> Result<String, Error> {
-        ffi::compile_owned(self.events, &self.bytes, options, limit)
+    ) -> Result<Rendered, Error> {
+        if *attributes != Attributes::default() {
+            return ffi::compile_attributed_owned(
+                self.events,
+                &self.bytes,
+                options,
+                attributes,
+                limit,
+            );
+        }
+        let html = ffi::compile_owned(self.events, &self.bytes, options, limit)?;
+        let headings = Vec::new();
+        Ok(Rendered { html, headings })
     }
 
     /// Begins a node after the bytes so far.

@@ -16,7 +16,7 @@ mod tables;
 pub use document::Document;
 pub use events::events_of;
 
-use crate::{Error, Options};
+use crate::{Attributes, Error, Options, Rendered};
 use pulldown_cmark::{CowStr, Parser};
 
 /// What becomes of HTML in a document. Whatever is chosen, none of it is HTML in the text.
@@ -62,6 +62,12 @@ pub struct MarkdownOptions {
     /// The URL against which those of links and images are read, as RFC 3986 has it. An empty URL stays as it is, and
     /// so does one that begins with `#`.
     pub base: Option<String>,
+    /// The `rel` of each link whose URL isn't empty and doesn't begin with `#`: any text.
+    pub rel: Option<String>,
+    /// What the `id` of each heading begins with: its number, from 1, follows. These ids are distinct from one another,
+    /// and from all others where no other begins so: those of footnotes are `footnote-label`, and what `footnote_prefix`
+    /// says and `fn`.
+    pub heading_ids: Option<String>,
     /// How many bytes the document may have; else any number.
     pub max_input: Option<usize>,
     /// How many bytes the text may have; else any number. What links and images lead to counts also where it is left
@@ -81,6 +87,8 @@ impl Default for MarkdownOptions {
             bare_links: true,
             html: DocumentHtml::Text,
             base: None,
+            rel: None,
+            heading_ids: None,
             max_input: None,
             max_output: None,
         }
@@ -96,6 +104,14 @@ impl MarkdownOptions {
             gfm_footnote_label: self.footnote_label.clone(),
             gfm_footnote_back_label: self.footnote_back_label.clone(),
             ..Options::default()
+        }
+    }
+
+    /// What is added to the tags of the text.
+    fn attributes(&self) -> Attributes {
+        Attributes {
+            rel: self.rel.clone(),
+            heading_ids: self.heading_ids.clone(),
         }
     }
 }
@@ -121,6 +137,28 @@ impl MarkdownOptions {
 /// # Ok::<(), bivdrazo::Error>(())
 /// ```
 pub fn markdown_to_html(text: &str, options: &MarkdownOptions) -> Result<String, Error> {
+    Ok(markdown_with_headings(text, options)?.html)
+}
+
+/// As [`markdown_to_html`], with the headings that got an `id`, for a table of contents: none without
+/// [`heading_ids`](MarkdownOptions::heading_ids).
+///
+/// # Errors
+///
+/// Those of [`markdown_to_html`].
+///
+/// ```
+/// use bivdrazo::{markdown_with_headings, MarkdownOptions};
+///
+/// let mut options = MarkdownOptions::default();
+/// options.heading_ids = Some("part-".to_string());
+/// let made = markdown_with_headings("## a *b*", &options)?;
+/// assert_eq!(made.html, "<h2 id=\"part-1\">a <em>b</em></h2>\n");
+/// let heading = &made.headings[0];
+/// assert_eq!((heading.level, heading.number, heading.text.as_str()), (2, 1, "a b"));
+/// # Ok::<(), bivdrazo::Error>(())
+/// ```
+pub fn markdown_with_headings(text: &str, options: &MarkdownOptions) -> Result<Rendered, Error> {
     if let Some(limit) = options.max_input.filter(|&limit| text.len() > limit) {
         let length = text.len();
         return Err(Error::InputTooLong { length, limit });
@@ -132,7 +170,11 @@ pub fn markdown_to_html(text: &str, options: &MarkdownOptions) -> Result<String,
         return Err(Error::OutputTooLong { limit });
     }
     let document = events::document_of(parser.into_offset_iter(), options)?;
-    document.into_html(&options.for_library(), options.max_output)
+    document.into_rendered(
+        &options.for_library(),
+        &options.attributes(),
+        options.max_output,
+    )
 }
 
 /// How many bytes the parser may copy for links, where no bound on the text says it, and where a bound says less.

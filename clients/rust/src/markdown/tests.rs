@@ -5,7 +5,10 @@ use super::base::resolved;
 use super::comments::without_comments;
 use super::events::document_of;
 use super::tables::{has_few_missing_cells, missing_cells};
-use crate::{events_of, markdown_to_html, DocumentHtml, Error, MarkdownOptions, Options};
+use crate::{
+    events_of, markdown_to_html, markdown_with_headings, DocumentHtml, Error, MarkdownOptions,
+    Options,
+};
 use pulldown_cmark::{CowStr, Event, Parser, Tag};
 
 /// The HTML under options that differ from the default ones as told.
@@ -252,6 +255,35 @@ fn urls_against_a_base() {
 }
 
 #[test]
+fn attributes() {
+    let with = |text, rel: &str| html_with(text, |options| options.rel = Some(rel.to_string()));
+    let link = "<p><a href=\"b\" title=\"c\" rel=\"ugc\">a</a> <a href=\"#d\">e</a></p>\n";
+    assert_eq!(with("[a](b 'c') [e](#d)", "ugc").as_deref(), Ok(link));
+    let image = "<p><a href=\"b\" rel=\"\"><img src=\"c\" alt=\"a\" /></a></p>\n";
+    assert_eq!(with("[![a](c)](b)", "").as_deref(), Ok(image));
+    let mut options = MarkdownOptions::default();
+    options.heading_ids = Some("<".to_string());
+    let made = markdown_with_headings("> a\n> b\n> ===\n\n- ## c *d*\n", &options).unwrap();
+    assert!(
+        made.html.contains("<h1 id=\"&lt;1\">a\nb</h1>"),
+        "{}",
+        made.html
+    );
+    let told: Vec<_> = made
+        .headings
+        .iter()
+        .map(|it| (it.level, it.number, &it.text[..]))
+        .collect();
+    assert_eq!(told, [(1, 1, "a\nb"), (2, 2, "c d")]);
+    options.max_output = Some(made.html.len());
+    assert!(markdown_with_headings("> a\n> b\n> ===\n\n- ## c *d*\n", &options).is_ok());
+    options.max_output = Some(made.html.len() - 1);
+    let limit = made.html.len() - 1;
+    let told = markdown_with_headings("> a\n> b\n> ===\n\n- ## c *d*\n", &options);
+    assert_eq!(told, Err(Error::OutputTooLong { limit }));
+}
+
+#[test]
 fn bounds() {
     let within = |input, output| {
         html_with("**a** <b>", |options| {
@@ -390,7 +422,10 @@ fn nests() {
     let items = format!("{}a\n{}\\b", "- ".repeat(1000), "\n".repeat(100_000));
     assert_eq!(html(&items).matches("<li>").count(), 64);
     let notes = "[^a]:#\n".repeat(30_000);
-    assert_eq!(html(&format!("b[^a]\n\n{notes}")), "<p>b<a href=\"#\">^a</a></p>\n");
+    assert_eq!(
+        html(&format!("b[^a]\n\n{notes}")),
+        "<p>b<a href=\"#\">^a</a></p>\n"
+    );
     let few = html(&format!("b[^a]\n\n{}", &notes[..700]));
     assert!(few.contains("id=\"user-content-fn-a\""));
 }

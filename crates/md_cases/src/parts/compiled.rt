@@ -54,7 +54,7 @@ fn said_counted(
 }
 
 /// What `compile_safe` answers.
-fn by_safe(alloc: Global, asked: &Asked<'_>) -> Result<SafeHtml, SafeError> {
+pub(super) fn by_safe(alloc: Global, asked: &Asked<'_>) -> Result<SafeHtml, SafeError> {
     let script = &asked.script;
     let events = script.events.as_slice();
     let names = asked.names.as_slice();

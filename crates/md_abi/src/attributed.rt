@@ -1,0 +1,133 @@
+//! From what C hands in to a text whose tags have attributes, and the headings that got one.
+
+ghost use Rattle.std.specs.Prelude.{◌≡◌, ◌++◌, ◌∷◌, [], ℕ, List, IfOk, IfErr, OnOk, map, length, option_copied, string_bytes};
+ghost use Rattle.std.specs.Fmt.{decimal};
+ghost use Rattle.md_tree.specs.Grammar.{handed};
+ghost use Rattle.md_safe.specs.Options.{KeepsImages};
+ghost use Rattle.md_standard.specs.Token.{Token};
+ghost use Rattle.md_standard.specs.Tokenizer.{IsTokenized};
+ghost use Rattle.md_attributes.specs.Headings.{listed};
+ghost use Rattle.md_abi.specs.Compiled.{IsCompiled};
+ghost use Rattle.md_abi.specs.Attributes.{heading_line, listing, with_rel};
+ghost use Rattle.md_abi.specs.Attributed.{IsAttributedText, IsListedAfter};
+ghost use Rattle.md_abi.specs.Refusals.{ExplainsRefusal, IsRefusalFor};
+
+use crate::attributes::{CAttributes, read_attribute};
+use crate::event::{CEvent, read_events};
+use crate::option::{COptions, read_options};
+use crate::reference::{CReference, read_references};
+use crate::refusal::Refusal;
+use md_attributes::{Heading, Html, with_heading_ids, with_link_rel};
+use md_base::Event;
+use md_html::{SafeHtml, compile_safe};
+use md_text::CompileOptions;
+use std::alloc::{AllocError, Global};
+
+/// A text, and after it the list of its headings.
+#[derive(Drop)]
+pub struct Attributed {
+    /// Both, one after the other.
+    pub whole: String,
+    /// How many bytes the text has: the list begins after them.
+    pub start: usize,
+}
+
+/// The HTML of what is handed in, with the attributes that are asked for, and the headings that got an `id`.
+///
+/// # Errors
+///
+/// Tells what stands for none, that the options aren't safe, the refusal of the compiler, or that it is out of memory.
+pub fn compile_attributed(
+    alloc: Global,
+    events: &[CEvent],
+    bytes: &[u8],
+    options: &COptions,
+    names: &[CReference],
+    attributes: &CAttributes,
+) -> Result<Attributed, Refusal>
+    ensures ok { IfOk result (λ made.
+        IsAttributedText events.now bytes.now options.now names.now attributes.now made.start (string_bytes made.whole)) }
+    ensures err { IfErr result (ExplainsRefusal events.now bytes.now options.now names.now attributes.now) }
+{
+    let events = read_events(alloc, events)?;
+    let names = read_references(alloc, names)?;
+    let options = read_options(alloc, options)?;
+    let rel = read_attribute(&attributes.rel, 0)?;
+    let prefix = read_attribute(&attributes.heading_ids, 1)?;
+    let html = compile_read_safely(alloc, events.as_slice(), bytes, &options, names.as_slice())?;
+    let made = add_asked(alloc, &html, rel, prefix)?;
+    Ok(made)
+}
+
+/// The safe HTML of what was read.
+fn compile_read_safely(
+    alloc: Global,
+    events: &[Event],
+    bytes: &[u8],
+    options: &CompileOptions,
+    names: &[(&str, &str)],
+) -> Result<SafeHtml, Refusal>
+    ensures safe { OnOk result (KeepsImages options.now) }
+    ensures ok { IfOk result (IsCompiled (handed events.now bytes.now names.now) options.now) }
+    ensures err { IfErr result (IsRefusalFor (handed events.now bytes.now names.now) options.now) }
+{
+    let html = compile_safe(alloc, events, bytes, options, names)?;
+    // What this promises of the text is promised here.
+    let _text = html.as_str();
+    Ok(html)
+}
+
+/// A text with the attributes that are asked for, and after it the headings that got an `id`.
+fn add_asked(
+    alloc: Global,
+    html: &SafeHtml,
+    rel: Option<&str>,
+    prefix: Option<&str>,
+) -> Result<Attributed, AllocError>
+    ensures { IfOk result (λ made. (x : List Token) → IsTokenized html.now x
+        → IsListedAfter (option_copied prefix.entry) (with_rel (option_copied rel.entry) x) made.start (string_bytes made.whole)) }
+{
+    match rel {
+        Some(rel) => add_ids(alloc, &with_link_rel(alloc, html, rel)?, prefix),
+        None => add_ids(alloc, html, prefix),
+    }
+}
+
+/// A text with ids on its headings, where a prefix is given, and after it these headings.
+fn add_ids<H: Html>(alloc: Global, html: &H, prefix: Option<&str>) -> Result<Attributed, AllocError>
+    ensures { IfOk result (λ made. (x : List Token) → IsTokenized (H.text html.now) x
+        → IsListedAfter (option_copied prefix.entry) x made.start (string_bytes made.whole)) }
+{
+    match prefix {
+        Some(prefix) => {
+            let after = with_heading_ids(alloc, html, prefix)?;
+            with_list(alloc, after.html.as_str(), after.headings.as_slice())
+        }
+        None => with_list(alloc, html.as_str(), &[]),
+    }
+}
+
+/// A text, and after it a list of headings.
+fn with_list(alloc: Global, text: &str, headings: &[Heading]) -> Result<Attributed, AllocError>
+    ensures whole { IfOk result (λ made. string_bytes made.whole ≡ text.now ++ listing (map listed headings.now)) }
+    ensures start { IfOk result (λ made. made.start ≡ length text.now) }
+{
+    let mut whole = String::from_str(alloc, text)?;
+    for heading in headings {
+        push_heading(alloc, &mut whole, heading)?;
+    }
+    let start = text.len();
+    Ok(Attributed { whole, start })
+}
+
+/// Adds a heading to the list.
+fn push_heading(alloc: Global, whole: &mut String, heading: &Heading) -> Result<(), AllocError>
+    ensures { OnOk result (string_bytes whole.new ≡ string_bytes whole.old ++ heading_line (listed heading.now)) }
+{
+    whole.push_str("\0")?;
+    whole.push_str(heading.level.to_string(alloc)?.as_str())?;
+    whole.push_str(" ")?;
+    whole.push_str(heading.number.to_string(alloc)?.as_str())?;
+    whole.push_str(" ")?;
+    whole.push_str(heading.text.as_str())
+}
