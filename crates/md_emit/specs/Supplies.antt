@@ -1,6 +1,7 @@
 -- What the code has of a document and of its nodes, as the steps name it.
-use Rattle.std.specs.Prelude.{◌≡◌, ℕ, Option, unwrap_or, option_and_then, List, slice_get}
+use Rattle.std.specs.Prelude.{◌≡◌, ℕ, Bool, true, false, Option, unwrap_or, option_and_then, List, slice_get}
 use Rattle.md_base.specs.declared.event.Name.{Name}
+use Rattle.md_base.specs.declared.event.Name.TheVariants.{Data, LineEnding, SpaceOrTab, BlockQuotePrefix, Other, BlankLineEnding, ListItemMarker, ListItemValue, HeadingAtxSequence}
 use Rattle.md_base.specs.Reference.{name_table}
 use Rattle.md_meaning.specs.Meaning.At.{Given, Target}
 use Rattle.md_meaning.specs.Meaning.Media.{target_defined}
@@ -32,3 +33,18 @@ Enters code index name before after = (given : Given) (one : Noticed) → Suppli
 abbrev pub Leaves : Supplied → ℕ → Name → State → State → Type 0
 Leaves code index name before after = (given : Given) (one : Noticed) → Supplies code given →
     IsNoticedAt code.checked.now index one → after ≡ exited given one.told name before
+
+-- a node of this name without children is as if it were left alone
+abbrev pub is_alone : Name → Bool
+is_alone name = elim name [
+  | Data ↦ true
+  | LineEnding ↦ true
+  | SpaceOrTab ↦ true
+  | BlockQuotePrefix ↦ true
+  | Other number ↦ true
+  | BlankLineEnding ↦ true
+  | ListItemMarker ↦ true
+  | ListItemValue ↦ true
+  | HeadingAtxSequence ↦ true
+  | _ ↦ false
+]

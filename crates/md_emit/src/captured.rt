@@ -22,7 +22,9 @@ ghost use Rattle.md_emit.specs.Parts as parts;
 
 use crate::code::push_code;
 use crate::given::Given;
-use crate::media::{push_anchor_head, push_picture_head, push_picture_tail};
+use crate::media::{
+    Lead, put_anchor_before, put_anchor_head, put_picture_before, put_picture_tail,
+};
 use crate::printer::Printer;
 use crate::target::Target;
 use md_base::{Name, Point, Position, Slice, decode_character_reference};
@@ -32,6 +34,7 @@ use md_text::{CompileOptions, gfm_tagfilter};
 use md_told::{definition_led_at, identifier_left_at, place_left_at, text_left_at, text_of_leaf};
 use md_tree::Checked;
 use std::alloc::{AllocError, Global};
+use std::mem::swap;
 
 impl<'a> Printer<'a> {
     /// Leaves code in a text, between its tags outside images.
@@ -193,16 +196,31 @@ impl<'a> Printer<'a> {
               (record { destination = prefix.now ++ text.now; title = None }) (encoded true text.now));
         }) }
     {
-        self.scratch.clear();
-        if prefix.is_empty() {
-            push_anchor_head(&mut self.scratch, given.options, text, None)?;
-        } else {
-            let destination = joined(given.alloc, prefix, text)?;
-            push_anchor_head(&mut self.scratch, given.options, destination.as_str(), None)?;
-        }
-        self.output.put(self.scratch.as_str())?;
+        self.put_self_head(given, prefix, text)?;
         self.put_encoded(text, true)?;
         self.put("</a>")
+    }
+
+    /// Prints what stands before the label of a link to a prefix and a text.
+    fn put_self_head(&mut self, given: &Given, prefix: &str, text: &str) -> Result<(), AllocError>
+        ensures { OnOk result (self.new ≡ record self.old {
+          text = self.old.text ++ anchor_head given.now.options.now
+              (record { destination = prefix.now ++ text.now; title = None });
+        }) }
+    {
+        if prefix.is_empty() {
+            let lead = Lead {
+                destination: text,
+                title: None,
+            };
+            return put_anchor_head(&mut self.output, given.options, &lead);
+        }
+        let destination = joined(given.alloc, prefix, text)?;
+        let lead = Lead {
+            destination: destination.as_str(),
+            title: None,
+        };
+        put_anchor_head(&mut self.output, given.options, &lead)
     }
 
     /// Leaves a literal autolink, which is plain in a link as well.
@@ -257,15 +275,8 @@ impl<'a> Printer<'a> {
           below = steps.others_of self.old.below;
         }) }
     {
-        self.scratch.clear();
-        push_link_head(
-            &mut self.scratch,
-            options,
-            self.has_resource,
-            &self.resource,
-            found,
-        )?;
-        self.output.put_before(self.scratch.as_str())?;
+        let lead = Lead::of(self.has_resource, &self.resource, found);
+        put_anchor_before(&mut self.output, &mut self.scratch, options, &lead)?;
         self.output.join();
         self.output.put("</a>")
     }
@@ -316,19 +327,15 @@ impl<'a> Printer<'a> {
           below = steps.others_of self.old.below;
         }) }
     {
-        self.scratch.clear();
-        push_image_head(
+        let lead = Lead::of(self.has_resource, &self.resource, found);
+        put_picture_before(
+            &mut self.output,
             &mut self.scratch,
             options,
-            self.has_resource,
-            &self.resource,
-            found,
+            lead.destination,
         )?;
-        self.output.put_before(self.scratch.as_str())?;
         self.output.join();
-        self.scratch.clear();
-        push_image_tail(&mut self.scratch, self.has_resource, &self.resource, found)?;
-        self.output.put(self.scratch.as_str())
+        put_picture_tail(&mut self.output, lead.title)
     }
 
     /// Leaves a resource: where it leads is kept.
@@ -338,12 +345,14 @@ impl<'a> Printer<'a> {
           below = steps.others_of self.old.below;
           ended = Some names.Resource;
           marker = 38;
+          target = steps.nowhere;
           resource = Some self.old.target;
         }) }
     {
         self.ends(Name::Resource);
         self.discard();
-        self.resource.set(&self.target)?;
+        swap(&mut self.resource, &mut self.target);
+        self.target.clear();
         self.has_resource = true;
         Ok(())
     }
@@ -511,68 +520,6 @@ fn target_of(targets: &[Target], place: Option<usize>) -> Option<&Target>
     match place {
         Some(place) => targets.get(place),
         None => None,
-    }
-}
-
-/// Adds what stands before a link's label, which leads where its resource says, else where a definition does.
-fn push_link_head(
-    out: &mut String,
-    options: &CompileOptions,
-    has_resource: bool,
-    resource: &Target,
-    found: Option<&Target>,
-) -> Result<(), AllocError>
-    ensures { OnOk result (string_bytes out.new ≡ string_bytes out.old ++ anchor_head options.now
-        (unwrap_or (if has_resource then Some resource.now else None)
-        (unwrap_or (option_copied found.entry) steps.nowhere))) }
-{
-    if has_resource {
-        return push_anchor_head(out, options, resource.destination(), resource.title());
-    }
-    match found {
-        Some(target) => push_anchor_head(out, options, target.destination(), target.title()),
-        None => push_anchor_head(out, options, "", None),
-    }
-}
-
-/// Adds what stands before an image's alternative text.
-fn push_image_head(
-    out: &mut String,
-    options: &CompileOptions,
-    has_resource: bool,
-    resource: &Target,
-    found: Option<&Target>,
-) -> Result<(), AllocError>
-    ensures { OnOk result (string_bytes out.new ≡ string_bytes out.old ++ picture_head options.now
-        (unwrap_or (if has_resource then Some resource.now else None)
-        (unwrap_or (option_copied found.entry) steps.nowhere)).destination) }
-{
-    if has_resource {
-        return push_picture_head(out, options, resource.destination());
-    }
-    match found {
-        Some(target) => push_picture_head(out, options, target.destination()),
-        None => push_picture_head(out, options, ""),
-    }
-}
-
-/// Adds what stands after an image's alternative text.
-fn push_image_tail(
-    out: &mut String,
-    has_resource: bool,
-    resource: &Target,
-    found: Option<&Target>,
-) -> Result<(), AllocError>
-    ensures { OnOk result (string_bytes out.new ≡ string_bytes out.old ++ picture_tail
-        (unwrap_or (if has_resource then Some resource.now else None)
-        (unwrap_or (option_copied found.entry) steps.nowhere)).title) }
-{
-    if has_resource {
-        return push_picture_tail(out, resource.title());
-    }
-    match found {
-        Some(target) => push_picture_tail(out, target.title()),
-        None => push_picture_tail(out, None),
     }
 }
 

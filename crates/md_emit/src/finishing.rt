@@ -6,9 +6,11 @@ ghost use Rattle.md_meaning.specs.Meaning.Layout.{laid_after};
 ghost use Rattle.md_meaning.specs.Meaning.Footnotes.{section};
 ghost use Rattle.md_writer.specs.Steps as steps;
 
+use crate::around::OUTSIDE;
 use crate::printer::Printer;
 use crate::target::Target;
 use md_base::Name;
+use md_footnotes::Footnotes;
 use md_text::CompileOptions;
 use std::alloc::{AllocError, Global};
 
@@ -18,6 +20,25 @@ impl<'a> Printer<'a> {
         ensures { self.new ≡ self.old }
     {
         self.output.reserve(bytes);
+    }
+
+    /// Nothing is printed again; the room is kept.
+    pub fn restart(&mut self, alloc: Global)
+        ensures { self.new ≡ steps.beginning }
+    {
+        self.output.clear();
+        self.around = OUTSIDE;
+        self.arounds.clear();
+        self.is_slurping = false;
+        self.ended = None;
+        self.marker = b'&';
+        self.fences = 0;
+        self.has_chunk = false;
+        self.heading.clear();
+        self.cells = 0;
+        self.target.clear();
+        self.has_resource = false;
+        self.footnotes = Footnotes::new(alloc);
     }
 
     /// Passes a definition over, which is printed ahead of all else.
@@ -69,8 +90,8 @@ impl<'a> Printer<'a> {
     /// # Errors
     ///
     /// Only where memory runs out.
-    pub fn into_target(self, alloc: Global) -> Result<Target, AllocError>
-        ensures { IfOk result (λ target. target ≡ self.entry.target) }
+    pub fn target(&self, alloc: Global) -> Result<Target, AllocError>
+        ensures { IfOk result (λ target. target ≡ self.now.target) }
     {
         self.target.copied(alloc)
     }

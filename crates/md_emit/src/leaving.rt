@@ -256,7 +256,7 @@ impl<'a> Printer<'a> {
 
     /// Leaves a text, escaped where its surroundings say so.
     #[inline(always)]
-    fn leave_text(&mut self, text: &str, name: Name) -> Result<(), AllocError>
+    pub(crate) fn leave_text(&mut self, text: &str, name: Name) -> Result<(), AllocError>
         requires solid { is_transparent name ≡ false }
         requires plain { marker name ≡ 38 }
         ensures { OnOk result (self.new ≡ record self.old {
@@ -270,7 +270,7 @@ impl<'a> Printer<'a> {
     }
 
     /// Leaves a line ending: a space in code, else its own text, unless it is slurped or follows a definition.
-    fn leave_line_ending(&mut self, text: &str) -> Result<(), AllocError>
+    pub(crate) fn leave_line_ending(&mut self, text: &str) -> Result<(), AllocError>
         ensures { OnOk result ((ending : List ℕ) → self.new ≡ record self.old {
           text = laid_after ending self.old.text (parts.line_closing self.old text.now);
           slurps = if self.old.around.in_definition then self.old.slurps
@@ -285,7 +285,23 @@ impl<'a> Printer<'a> {
         }
         let is_dropped = self.drops_ending();
         self.ends_unslurped(Name::LineEnding);
-        if is_dropped { Ok(()) } else { self.put(text) }
+        if is_dropped {
+            Ok(())
+        } else {
+            self.put_ending(text)
+        }
+    }
+
+    /// Prints a line ending. Most are a line feed, which is known where this is built: so no copy is called for.
+    #[inline(always)]
+    fn put_ending(&mut self, text: &str) -> Result<(), AllocError>
+        ensures { OnOk result (self.new ≡ record self.old { text = laid_after [] self.old.text (said text.now) }) }
+    {
+        if text == "\n" {
+            self.put("\n")
+        } else {
+            self.put(text)
+        }
     }
 
     /// A line ending here isn't printed.
@@ -473,7 +489,7 @@ impl<'a> Printer<'a> {
     }
 
     /// Leaves a blank line ending: at the document's end a line ending is needed.
-    fn leave_blank(&mut self, ending: &str, is_last: bool) -> Result<(), AllocError>
+    pub(crate) fn leave_blank(&mut self, ending: &str, is_last: bool) -> Result<(), AllocError>
         ensures { OnOk result (self.new ≡ record self.old {
           text = laid_after ending.now self.old.text (when is_last (Needed ∷ []));
           slurps = if self.old.around.in_definition then self.old.slurps else false;

@@ -7,6 +7,7 @@ mod code;
 mod entering;
 mod finishing;
 mod given;
+mod leaves;
 mod leaving;
 mod media;
 mod printer;

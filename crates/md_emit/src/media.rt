@@ -1,100 +1,186 @@
 //! What stands before and after the label of a link or an image.
 
-ghost use Rattle.std.specs.Prelude.{◌≡◌, ◌++◌, OnOk, string_bytes, codes, option_copied};
+ghost use Rattle.std.specs.Prelude.{◌≡◌, ◌++◌, OnOk, List, ℕ, option_copied, if◌then◌else◌, unwrap_or, Some, None};
 ghost use Rattle.md_meaning.specs.Meaning.Media.{href, src};
+ghost use Rattle.md_writer.specs.Steps.{nowhere};
 ghost use Rattle.md_emit.specs.Heads.{anchor_head, picture_head, picture_tail, title_text};
 
+use crate::target::Target;
 use md_base::{SAFE_PROTOCOL_HREF, SAFE_PROTOCOL_SRC};
-use md_text::{CompileOptions, push_sanitized, push_sanitized_with_protocols};
+use md_output::Output;
+use md_text::CompileOptions;
 use std::alloc::AllocError;
+use std::marker::Model;
 
-/// Adds a link's destination as it is written.
-fn push_href(
-    out: &mut String,
-    options: &CompileOptions,
-    destination: &str,
-) -> Result<(), AllocError>
-    ensures { OnOk result (string_bytes out.new ≡ string_bytes out.old ++ href options.now destination.now) }
+/// Where a link or an image leads, and its title as it is printed, in texts that are kept elsewhere.
+#[derive(Drop)]
+pub(crate) struct Lead<'a> {
+    /// The destination, not yet sanitized; empty where there is none.
+    pub(crate) destination: &'a str,
+    pub(crate) title: Option<&'a str>,
+}
+
+impl<'a> Model for Lead<'a> {
+    ghost use Rattle.std.specs.Prelude.{option_copied};
+    ghost use Rattle.md_meaning.specs.Meaning.At as At;
+
+    ghost Value = { At.Target };
+
+    ghost view = { λ l. record { destination = l.destination.now; title = option_copied l.title } };
+}
+
+impl<'a> Lead<'a> {
+    /// Where a resource says, if there is one, else where a definition does that was found, else nowhere.
+    pub(crate) fn of(
+        has_resource: bool,
+        resource: &'a Target,
+        found: Option<&'a Target>,
+    ) -> Lead<'a>
+        ensures { result ≡ unwrap_or (if has_resource then Some resource.now else None)
+            (unwrap_or (option_copied found.entry) nowhere) }
+    {
+        if has_resource {
+            return resource.lead();
+        }
+        match found {
+            Some(target) => target.lead(),
+            None => Lead {
+                destination: "",
+                title: None,
+            },
+        }
+    }
+}
+
+/// Puts a link's destination as it is written.
+fn put_href(out: &mut Output, options: &CompileOptions, destination: &str) -> Result<(), AllocError>
+    ensures { OnOk result (out.new ≡ record out.old { text = out.old.text ++ href options.now destination.now }) }
 {
     if options.allow_dangerous_protocol {
-        push_sanitized(out, destination)
+        out.put_sanitized(destination)
     } else {
-        push_sanitized_with_protocols(out, destination, &SAFE_PROTOCOL_HREF)
+        out.put_sanitized_with_protocols(destination, &SAFE_PROTOCOL_HREF)
     }
 }
 
-/// Adds an image's destination as it is written.
-fn push_src(out: &mut String, options: &CompileOptions, destination: &str) -> Result<(), AllocError>
-    ensures { OnOk result (string_bytes out.new ≡ string_bytes out.old ++ src options.now destination.now) }
+/// Puts an image's destination as it is written.
+fn put_src(out: &mut Output, options: &CompileOptions, destination: &str) -> Result<(), AllocError>
+    ensures { OnOk result (out.new ≡ record out.old { text = out.old.text ++ src options.now destination.now }) }
 {
     if options.allow_any_img_src || options.allow_dangerous_protocol {
-        push_sanitized(out, destination)
+        out.put_sanitized(destination)
     } else {
-        push_sanitized_with_protocols(out, destination, &SAFE_PROTOCOL_SRC)
+        out.put_sanitized_with_protocols(destination, &SAFE_PROTOCOL_SRC)
     }
 }
 
-/// Adds a title, if there is one.
-fn push_title(out: &mut String, title: Option<&str>) -> Result<(), AllocError>
-    ensures { OnOk result (string_bytes out.new ≡ string_bytes out.old ++ title_text (option_copied title.entry)) }
+/// Puts a title, if there is one.
+fn put_title(out: &mut Output, title: Option<&str>) -> Result<(), AllocError>
+    ensures { OnOk result (out.new
+        ≡ record out.old { text = out.old.text ++ title_text (option_copied title.entry) }) }
 {
     match title {
         Some(text) => {
-            out.push_str(" title=\"")?;
-            out.push_str(text)?;
-            out.push_str("\"")
+            out.put(" title=\"")?;
+            out.put(text)?;
+            out.put("\"")
         }
         None => Ok(()),
     }
 }
 
-/// Adds what stands before a link's label.
+/// Puts what stands before a link's label.
 ///
 /// # Errors
 ///
 /// Only where memory runs out.
-pub(crate) fn push_anchor_head(
-    out: &mut String,
+pub(crate) fn put_anchor_head(
+    out: &mut Output,
     options: &CompileOptions,
-    destination: &str,
-    title: Option<&str>,
+    lead: &Lead,
 ) -> Result<(), AllocError>
-    ensures { OnOk result (string_bytes out.new ≡ string_bytes out.old
-        ++ anchor_head options.now (record { destination = destination.now; title = option_copied title.entry })) }
+    ensures { OnOk result (out.new ≡ record out.old { text = out.old.text ++ anchor_head options.now lead.now }) }
 {
-    out.push_str("<a href=\"")?;
-    push_href(out, options, destination)?;
-    out.push_str("\"")?;
-    push_title(out, title)?;
-    out.push_str(">")
+    out.put("<a href=\"")?;
+    put_href(out, options, lead.destination)?;
+    out.put("\"")?;
+    put_title(out, lead.title)?;
+    out.put(">")
 }
 
-/// Adds what stands before an image's alternative text.
-///
-/// # Errors
-///
-/// Only where memory runs out.
-pub(crate) fn push_picture_head(
-    out: &mut String,
+/// Puts what stands before an image's alternative text.
+fn put_picture_head(
+    out: &mut Output,
     options: &CompileOptions,
     destination: &str,
 ) -> Result<(), AllocError>
-    ensures { OnOk result (string_bytes out.new ≡ string_bytes out.old ++ picture_head options.now destination.now) }
+    ensures { OnOk result (out.new ≡ record out.old { text = out.old.text ++ picture_head options.now destination.now }) }
 {
-    out.push_str("<img src=\"")?;
-    push_src(out, options, destination)?;
-    out.push_str("\" alt=\"")
+    out.put("<img src=\"")?;
+    put_src(out, options, destination)?;
+    out.put("\" alt=\"")
 }
 
-/// Adds what stands after an image's alternative text.
+/// Puts what stands after an image's alternative text.
 ///
 /// # Errors
 ///
 /// Only where memory runs out.
-pub(crate) fn push_picture_tail(out: &mut String, title: Option<&str>) -> Result<(), AllocError>
-    ensures { OnOk result (string_bytes out.new ≡ string_bytes out.old ++ picture_tail (option_copied title.entry)) }
+pub(crate) fn put_picture_tail(out: &mut Output, title: Option<&str>) -> Result<(), AllocError>
+    ensures { OnOk result (out.new
+        ≡ record out.old { text = out.old.text ++ picture_tail (option_copied title.entry) }) }
 {
-    out.push_str("\"")?;
-    push_title(out, title)?;
-    out.push_str(" />")
+    out.put("\"")?;
+    put_title(out, title)?;
+    out.put(" />")
+}
+
+/// Puts what stands before a link's label before the innermost text, which is the label. Another text is used for it.
+///
+/// # Errors
+///
+/// Only where memory runs out.
+pub(crate) fn put_anchor_before(
+    out: &mut Output,
+    scratch: &mut String,
+    options: &CompileOptions,
+    lead: &Lead,
+) -> Result<(), AllocError>
+    ensures { OnOk result (out.new ≡ record out.old { text = anchor_head options.now lead.now ++ out.old.text }) }
+{
+    scratch.clear();
+    if out.lift(scratch)? {
+        put_anchor_head(out, options, lead)?;
+        return out.put(scratch.as_str());
+    }
+    out.capture()?;
+    put_anchor_head(out, options, lead)?;
+    out.move_into(scratch)?;
+    out.put_before(scratch.as_str())
+}
+
+/// Puts what stands before an image's alternative text before the innermost text, which is that. Another text is used
+/// for it.
+///
+/// # Errors
+///
+/// Only where memory runs out.
+pub(crate) fn put_picture_before(
+    out: &mut Output,
+    scratch: &mut String,
+    options: &CompileOptions,
+    destination: &str,
+) -> Result<(), AllocError>
+    ensures { OnOk result (out.new
+        ≡ record out.old { text = picture_head options.now destination.now ++ out.old.text }) }
+{
+    scratch.clear();
+    if out.lift(scratch)? {
+        put_picture_head(out, options, destination)?;
+        return out.put(scratch.as_str());
+    }
+    out.capture()?;
+    put_picture_head(out, options, destination)?;
+    out.move_into(scratch)?;
+    out.put_before(scratch.as_str())
 }

@@ -1,8 +1,9 @@
 //! Where a link or an image leads, as it is kept.
 
-ghost use Rattle.std.specs.Prelude.{◌≡◌, OnOk, IfOk, option_copied};
+ghost use Rattle.std.specs.Prelude.{◌≡◌, IfOk, option_copied};
 ghost use Rattle.md_writer.specs.Steps.{nowhere};
 
+use crate::media::Lead;
 use std::alloc::{AllocError, Global};
 use std::marker::Model;
 
@@ -49,15 +50,18 @@ impl Target {
         self.has_title = false;
     }
 
-    /// The destination.
-    pub(crate) fn destination(&self) -> &str
-        ensures { result.now ≡ self.now.destination }
+    /// Where it leads.
+    pub(crate) fn lead(&self) -> Lead
+        ensures { result ≡ self.now }
     {
-        self.destination.as_str()
+        Lead {
+            destination: self.destination.as_str(),
+            title: self.title(),
+        }
     }
 
     /// The title, if there is one.
-    pub(crate) fn title(&self) -> Option<&str>
+    fn title(&self) -> Option<&str>
         ensures { option_copied result ≡ self.now.title }
     {
         if self.has_title {
@@ -65,22 +69,6 @@ impl Target {
         } else {
             None
         }
-    }
-
-    /// It leads where the other one does.
-    ///
-    /// # Errors
-    ///
-    /// Only where memory runs out.
-    pub(crate) fn set(&mut self, other: &Target) -> Result<(), AllocError>
-        ensures { OnOk result (self.new ≡ other.now) }
-    {
-        self.destination.clear();
-        self.destination.push_str(other.destination.as_str())?;
-        self.title.clear();
-        self.title.push_str(other.title.as_str())?;
-        self.has_title = other.has_title;
-        Ok(())
     }
 
     /// Another one that leads to the same, with no more room than it needs.

@@ -1,20 +1,21 @@
 //! One text in which captured texts begin one after another.
 
-ghost use Rattle.std.specs.Prelude.{◌≡◌, ◌≤◌, ◌∷◌, ◌++◌, [], OnOk, IfOk, if◌then◌else◌, length, string_bytes};
+ghost use Rattle.std.specs.Prelude.{◌≡◌, ◌≤◌, ◌∷◌, ◌++◌, [], OnOk, IfOk, if◌then◌else◌, length, map, string_bytes};
 ghost use Rattle.md_output.specs.Texts as texts;
 ghost use Rattle.md_output.specs.Texts.{first_or, others_of};
 ghost use Rattle.md_meaning.specs.Meaning.Layout.{Needed, laid_after, begins_line};
 ghost use Rattle.md_text.specs.Encode.{encoded};
+ghost use Rattle.md_text.specs.Url.{sanitized, sanitized_with};
 
 use crate::heads::{Head, forget_from, push_merged, wait_first, waits};
-use md_text::push_encoded;
+use md_text::{push_encoded, push_sanitized, push_sanitized_with_protocols};
 use std::alloc::{AllocError, Global};
 use std::marker::Model;
 
 /// Of how many bytes of a document room is made for at once: room that grows by doubling costs little after that.
 const MOST_ROOM: usize = 4096;
 
-/// Before a label up to this length a head is put at once: to put it in later, where all is copied, would cost more.
+/// A label up to this length is taken aside: to put its head in later, where all is copied, would cost more.
 const SHORT_LABEL: usize = 512;
 
 /// Where a text starts, which of the heads that wait is the first in it, and where their texts start.
@@ -25,11 +26,18 @@ struct Start {
     heads: usize,
 }
 
+/// Where the first text starts.
+const NO_START: Start = Start {
+    place: 0,
+    first: 0,
+    heads: 0,
+};
+
 /// One text, in which captured texts begin one after another.
 ///
-/// A head is put before its label at once where the label is short. Before a long one, or one in which others wait, it
-/// waits until the text is taken out, when all that wait are put in by one copy: so labels in one another cost no more
-/// than others.
+/// A short label is taken aside by [`Output::lift`], and put again behind its head. Before a long one, or one in which
+/// others wait, a head waits until the text is taken out, when all that wait are put in by one copy: so labels in one
+/// another cost no more than others.
 ///
 /// # Examples
 ///
@@ -76,13 +84,22 @@ impl Output {
             bytes: String::new(alloc),
             heads: String::new(alloc),
             waiting: Vec::new(alloc),
-            start: Start {
-                place: 0,
-                first: 0,
-                heads: 0,
-            },
+            start: NO_START,
             outers: Vec::new(alloc),
         }
+    }
+
+    /// No text again; the room is kept.
+    pub fn clear(&mut self)
+        ensures { self.new ≡ record { text = []; below = [] } }
+    {
+        empty(
+            &mut self.bytes,
+            &mut self.heads,
+            &mut self.waiting,
+            &mut self.start,
+            &mut self.outers,
+        );
     }
 
     /// Makes room for the text of a document of so many bytes, where there is memory for it.
@@ -121,6 +138,62 @@ impl Output {
     {
         push_encoded(&mut self.bytes, text, escaping)?;
         Ok(())
+    }
+
+    /// Puts a URL, normalized and escaped. Where memory runs out no text is left, and so no beginning of a URL.
+    ///
+    /// # Errors
+    ///
+    /// Only where memory runs out.
+    pub fn put_sanitized(&mut self, url: &str) -> Result<(), AllocError>
+        ensures { OnOk result (self.new ≡ record {
+          text = self.old.text ++ sanitized url.now;
+          below = self.old.below;
+        }) }
+    {
+        match push_sanitized(&mut self.bytes, url) {
+            Ok(()) => Ok(()),
+            Err(error) => {
+                empty(
+                    &mut self.bytes,
+                    &mut self.heads,
+                    &mut self.waiting,
+                    &mut self.start,
+                    &mut self.outers,
+                );
+                Err(error)
+            }
+        }
+    }
+
+    /// Puts a URL in the same way, or nothing if its protocol isn't among these. Where memory runs out no text is left.
+    ///
+    /// # Errors
+    ///
+    /// Only where memory runs out.
+    pub fn put_sanitized_with_protocols(
+        &mut self,
+        url: &str,
+        protocols: &[&str],
+    ) -> Result<(), AllocError>
+        ensures { OnOk result (self.new ≡ record {
+          text = self.old.text ++ sanitized_with (map (λ protocol. protocol.now) protocols.now) url.now;
+          below = self.old.below;
+        }) }
+    {
+        match push_sanitized_with_protocols(&mut self.bytes, url, protocols) {
+            Ok(()) => Ok(()),
+            Err(error) => {
+                empty(
+                    &mut self.bytes,
+                    &mut self.heads,
+                    &mut self.waiting,
+                    &mut self.start,
+                    &mut self.outers,
+                );
+                Err(error)
+            }
+        }
     }
 
     /// Puts a line ending, unless a line starts here.
@@ -196,48 +269,32 @@ impl Output {
         Ok(())
     }
 
-    /// Puts a head before the innermost text.
+    /// Takes the innermost text away and adds it to another, where it is short and no head waits in it; answers whether
+    /// it did.
     ///
     /// # Errors
     ///
     /// Only where memory runs out.
-    pub fn put_before(&mut self, head: &str) -> Result<(), AllocError>
-        ensures { OnOk result (self.new ≡ record { text = head.now ++ self.old.text; below = self.old.below }) }
+    pub fn lift(&mut self, out: &mut String) -> Result<bool, AllocError>
+        ensures lifted { IfOk result (λ lifted. string_bytes out.new
+            ≡ (if lifted then string_bytes out.old ++ self.old.text else string_bytes out.old)) }
+        ensures left { IfOk result (λ lifted. self.new
+            ≡ (if lifted then record { text = []; below = self.old.below } else self.old)) }
     {
-        if self.length() > SHORT_LABEL {
-            return self.put_later(head);
-        }
-        if self.put_at_once(head)? {
-            return Ok(());
-        }
-        self.put_later(head)
-    }
-
-    /// Puts a head before the innermost text at once, unless one waits in that.
-    fn put_at_once(&mut self, head: &str) -> Result<bool, AllocError>
-        ensures { IfOk result (λ put. self.new ≡ (if put
-            then record { text = head.now ++ self.old.text; below = self.old.below }
-            else self.old)) }
-    {
-        if waits(&self.waiting.as_slice()[self.start.first..]) {
+        if self.length() > SHORT_LABEL || waits(&self.waiting.as_slice()[self.start.first..]) {
             return Ok(false);
         }
-        self.waiting.truncate(self.start.first);
-        self.bytes.insert_str(self.start.place, head)?;
+        self.move_text(out)?;
         Ok(true)
     }
 
-    /// How long the innermost text is, without the heads that wait in it.
-    #[inline(always)]
-    fn length(&self) -> usize
-        ensures { result ≤ length self.now.text }
-    {
-        self.bytes.len() - self.start.place
-    }
-
-    /// Puts a head before the innermost text, unless that is empty, when the text is taken out.
+    /// Puts a head before the innermost text: one that isn't empty it waits before until the text is taken out.
+    ///
+    /// # Errors
+    ///
+    /// Only where memory runs out.
     #[cold]
-    fn put_later(&mut self, head: &str) -> Result<(), AllocError>
+    pub fn put_before(&mut self, head: &str) -> Result<(), AllocError>
         ensures { OnOk result (self.new ≡ record { text = head.now ++ self.old.text; below = self.old.below }) }
     {
         if self.bytes.len() == self.start.place {
@@ -252,6 +309,14 @@ impl Output {
         };
         wait_first(&mut self.waiting, self.start.first, waiting)?;
         Ok(())
+    }
+
+    /// How long the innermost text is, without the heads that wait in it.
+    #[inline(always)]
+    fn length(&self) -> usize
+        ensures { result ≤ length self.now.text }
+    {
+        self.bytes.len() - self.start.place
     }
 
     /// Ends the innermost text, which stays where it is.
@@ -296,7 +361,7 @@ impl Output {
     pub fn discard(&mut self)
         ensures { self.new ≡ record { text = first_or [] self.old.below; below = others_of self.old.below } }
     {
-        self.clear();
+        self.take_away();
         self.end();
     }
 
@@ -310,9 +375,21 @@ impl Output {
         ensures left { OnOk result (self.new
             ≡ record { text = first_or [] self.old.below; below = others_of self.old.below }) }
     {
-        self.add_to(out)?;
-        self.discard();
+        self.move_text(out)?;
+        self.end();
         Ok(())
+    }
+
+    /// Takes the innermost text away, and adds it to another.
+    fn move_text(&mut self, out: &mut String) -> Result<(), AllocError>
+        ensures moved { OnOk result (string_bytes out.new ≡ string_bytes out.old ++ self.old.text) }
+        ensures left { OnOk result (self.new ≡ record { text = []; below = self.old.below }) }
+    {
+        let added = self.add_to(out);
+        if added.is_ok() {
+            self.take_away()
+        }
+        added
     }
 
     /// The innermost text, as it is where nothing is captured and no head waits.
@@ -361,7 +438,7 @@ impl Output {
 
     /// Takes the innermost text away, and with it the heads that wait in it.
     #[inline(always)]
-    fn clear(&mut self)
+    fn take_away(&mut self)
         ensures { self.new ≡ record { text = []; below = self.old.below } }
     {
         forget_from(
@@ -372,6 +449,27 @@ impl Output {
         );
         self.bytes.truncate(self.start.place);
     }
+}
+
+/// Takes away all that an output has.
+fn empty(
+    bytes: &mut String,
+    heads: &mut String,
+    waiting: &mut Vec<Head>,
+    start: &mut Start,
+    outers: &mut Vec<Start>,
+)
+    ensures bytes { string_bytes bytes.new ≡ [] }
+    ensures heads { string_bytes heads.new ≡ [] }
+    ensures waiting { waiting.new.items ≡ [] }
+    ensures start { start.new ≡ record { place = 0; first = 0; heads = 0 } }
+    ensures outers { outers.new.items ≡ [] }
+{
+    bytes.clear();
+    heads.clear();
+    waiting.clear();
+    *start = NO_START;
+    outers.clear();
 }
 
 /// Whether a text is empty or ends in CR or LF.

@@ -1,6 +1,7 @@
 -- Lemmas.
 pub mod Answered
 pub mod FirstEndings
+pub mod Alone
 pub mod Windows
 pub mod Stepping
 pub mod Supplying

@@ -1,12 +1,14 @@
 -- What is done at one event, as the steps over the events do it.
-use Rattle.std.specs.Prelude.{◌≡◌, ℕ, if◌then◌else◌}
+use Rattle.std.specs.Prelude.{◌≡◌, ◌<◌, ℕ, suc, true, if◌then◌else◌}
 use Rattle.md_base.specs.declared.event.Event.{Event}
+use Rattle.md_base.specs.declared.event.Kind.TheVariants.{Enter}
 use Rattle.md_base.specs.declared.event.Name.{Name}
 use Rattle.md_meaning.specs.Meaning.At.{Given}
 use Rattle.md_writer.specs.Run.{Noticed, stepped, passes}
+use Rattle.md_tree.specs.Texts.{ExitsAt}
 use Rattle.md_writer.specs.Steps.{State, entered, passed, is_passed}
 use Rattle.md_told.specs.Told.{IsNoticedAt}
-use Rattle.md_emit.specs.Supplies.{Supplies}
+use Rattle.md_emit.specs.Supplies.{Supplies, Leaves, is_alone}
 use Rattle.md_emit.specs.declared.given.Given.{Given as Supplied}
 
 -- an event is gone over, and so many after it are passed over
@@ -21,3 +23,12 @@ Opens code index name more before after =
     (at : Given) (one : Noticed) → Supplies code at → IsNoticedAt code.checked.now index one →
     (more ≡ (if is_passed name then one.inside else 0))
     × (after ≡ (if is_passed name then passed before else entered at one.told name before))
+
+-- the node that an event enters is left by the next one, and that it was entered changes nothing
+pub record Leafs (code : Supplied) (index to : ℕ) (event : Event) (before after : State) : Type 0 where
+  pub enters : event.kind ≡ Enter
+  pub exits : ExitsAt code.checked.now.events (suc index) event.name
+  pub within : suc index < to
+  pub alone : is_alone event.name ≡ true
+  pub noticed : (one : Noticed) → IsNoticedAt code.checked.now index one → IsNoticedAt code.checked.now (suc index) one
+  pub left : Leaves code index event.name before after

@@ -30,18 +30,35 @@ pub(crate) fn targets(given: &Given) -> Result<Vec<Target>, AllocError>
         → flatten document ≡ given.now.checked.now.events
         → targets.items ≡ map (λ (d : At.Defined). d.target) (steps.defined at document)) }
 {
+    let mut printer = Printer::new(given.alloc);
+    let targets = gathered(&mut printer, given);
+    drop(printer);
+    targets
+}
+
+/// The same, by a printer that is used for one definition after another.
+fn gathered<'a>(printer: &mut Printer<'a>, given: &Given<'a>) -> Result<Vec<Target>, AllocError>
+    requires supplied { (at : At.Given) × Supplies given.now at }
+    ensures { IfOk result (λ targets. (at : At.Given) (document : Forest) → Supplies given.now at
+        → flatten document ≡ given.now.checked.now.events
+        → targets.items ≡ map (λ (d : At.Defined). d.target) (steps.defined at document)) }
+{
     grammatical(given.checked);
     let mut targets = Vec::new(given.alloc);
     let entries = given.checked.definitions();
     for entry in entries {
-        let target = target_at(given, *entry)?;
+        let target = target_at(printer, given, *entry)?;
         targets.push(target)?;
     }
     Ok(targets)
 }
 
 /// Where the definition leads that is entered at an index.
-fn target_at(given: &Given, index: usize) -> Result<Target, AllocError>
+fn target_at<'a>(
+    printer: &mut Printer<'a>,
+    given: &Given<'a>,
+    index: usize,
+) -> Result<Target, AllocError>
     requires supplied { (at : At.Given) × Supplies given.now at }
     requires enters { EntersAt given.now.checked.now.events index name.Definition }
     ensures { IfOk result (λ target. (at : At.Given) (document : Forest) (one : steps.Noticed) → Supplies given.now at
@@ -49,12 +66,9 @@ fn target_at(given: &Given, index: usize) -> Result<Target, AllocError>
         → target ≡ (own_defined at given.now.checked.now.events
         (steps.noticed given.now.checked.now.bytes true document) index one).target) }
 {
-    let mut printer = Printer::new(given.alloc);
-    let ran = run_definition(&mut printer, given, index);
-    // The printer is used up before an error is answered, so that no path has its many parts to drop.
-    let target = printer.into_target(given.alloc)?;
-    ran?;
-    Ok(target)
+    printer.restart(given.alloc);
+    run_definition(printer, given, index)?;
+    printer.target(given.alloc)
 }
 
 /// Enters the definition, and prints its own events, but for its exit.

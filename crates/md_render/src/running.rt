@@ -1,6 +1,6 @@
 //! Going over the events, one after another.
 
-ghost use Rattle.std.specs.Prelude.{◌≡◌, ◌≤◌, ◌<◌, ◌^◌, OnOk, IfOk, Some, true, length, slice_get};
+ghost use Rattle.std.specs.Prelude.{◌≡◌, ◌≤◌, ◌<◌, ◌^◌, OnOk, IfOk, Some, true, false, length, slice_get};
 ghost use Rattle.md_base.specs.Tree.{Forest, flatten};
 ghost use Rattle.md_base.specs.declared.event.Event.{Event as AnyEvent};
 ghost use Rattle.md_meaning.specs.Meaning.At as At;
@@ -10,11 +10,11 @@ ghost use Rattle.md_writer.specs.Steps.{is_passed};
 ghost use Rattle.md_told.specs.Told.{IsNoticedAt};
 ghost use Rattle.md_emit.specs.Supplies.{Supplies};
 ghost use Rattle.md_render.specs.Windows.{window};
-ghost use Rattle.md_render.specs.Stepping.{Steps, Opens};
+ghost use Rattle.md_render.specs.Stepping.{Steps, Opens, Leafs};
 
 use md_base::{Event, Kind, Name};
 use md_emit::{Given, Printer};
-use md_told::inside_at;
+use md_told::{inside_at, is_leaf_at};
 use std::alloc::AllocError;
 
 /// Prints the events from one index up to another.
@@ -40,10 +40,41 @@ pub(crate) fn run<'a>(
     let events = given.checked.events();
     let mut index = from;
     while index < to {
-        let more = step(printer, given, index, events[index])?;
-        index += 1 + more;
+        let event = events[index];
+        if leaf(printer, given, index, to, event)? {
+            index += 2;
+        } else {
+            let more = step(printer, given, index, event)?;
+            index += 1 + more;
+        }
     }
     Ok(())
+}
+
+/// Goes over a node without children, if it is entered here and has a frequent name; answers whether it did.
+#[inline(always)]
+fn leaf<'a>(
+    printer: &mut Printer<'a>,
+    given: &Given<'a>,
+    index: usize,
+    to: usize,
+    event: Event,
+) -> Result<bool, AllocError>
+    requires there { slice_get given.now.checked.now.events index ≡ Some event }
+    requires before { index < to }
+    ensures left { IfOk result (λ done. done ≡ true → Leafs given.now index to event printer.old printer.new) }
+    ensures same { IfOk result (λ done. done ≡ false → printer.new ≡ printer.old) }
+{
+    match event.kind {
+        Kind::Enter => {
+            if index + 1 < to && is_leaf_at(given.checked, index) {
+                printer.leaf(given, index, index + 1, event.name)
+            } else {
+                Ok(false)
+            }
+        }
+        Kind::Exit => Ok(false),
+    }
 }
 
 /// Goes one event further; answers how many after it are passed over.

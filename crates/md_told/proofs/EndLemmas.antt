@@ -1,15 +1,18 @@
 -- Where a node lies, by its two events.
-use Rattle.std.proofs.Common.{◌≡◌, ℕ, suc, ◌<◌, ◌==◌, Option, Some, length, refl, sym, ap, ◌∙◌}
+use Rattle.std.proofs.Common.{◌≡◌, ℕ, suc, true, ◌+◌, ◌<◌, ◌==◌, Option, Some, List, [], ◌∷◌, ◌++◌, length, refl, sym, ap, ◌∙◌, subst, arith}
 use Rattle.std.specs.Prelude.{slice_get, IsSome}
 use Rattle.md_base.specs.declared.event.Event.{Event}
 use Rattle.md_base.specs.declared.event.Name.{Name}
-use Rattle.md_base.specs.Tree.{entering, exiting}
+use Rattle.md_base.specs.declared.event.Kind.{Kind}
+use Rattle.md_base.specs.declared.event.Kind.TheVariants.{Enter, Exit}
+use Rattle.md_base.specs.Tree.{Forest, Empty, Node, flatten, entering, exiting}
+use Rattle.md_base.proofs.Lies.{lie}
 use Rattle.md_tree.specs.Grammar.{Handed}
 use Rattle.md_tree.specs.Texts.{EntersAt, ExitsAt}
 use Rattle.md_tree.proofs.Entering.{got_inside}
-use Rattle.md_writer.specs.Run.{Noticed}
+use Rattle.md_writer.specs.Run.{Noticed, noticed}
 use Rattle.md_told.specs.Told.{IsNoticedAt}
-use Rattle.md_told.proofs.Nodes.{NodeAt, Entered, entered, Exited, exited}
+use Rattle.md_told.proofs.Nodes.{NodeAt, node-entered, Entered, entered, Exited, exited}
 
 pub some-there : {A : Type 0} (o : Option A) (x : A) → o ≡ Some x → IsSome o
 some-there (Some y) x e = refl
@@ -52,3 +55,59 @@ exit-inside given index name exits = got_inside given.events index exits.0 exits
 pub entry-inside : (given : Handed) (index : ℕ) (name : Name) → EntersAt given.events index name →
     index < length given.events
 entry-inside given index name enters = got_inside given.events index enters.0 enters.1
+
+-- ---- a node without children
+
+after-first : (before tail : List Event) (x : Event) →
+    slice_get ((before ++ x ∷ []) ++ tail) (suc (length before)) ≡ slice_get tail 0
+after-first [] tail x = refl
+after-first (y ∷ before) tail x = after-first before tail x
+
+one-more : (n : ℕ) → n + 1 ≡ suc n
+one-more n = omega arith
+
+-- where the event after an entry exits, nothing stands between them
+leaf-exit : (given : Handed) (document : Forest) (name : Name) (entry exit : ℕ) →
+    NodeAt given document name entry exit → (event : Event) → slice_get given.events (suc entry) ≡ Some event →
+    event.kind ≡ Exit → exit ≡ suc entry
+leaf-exit given document name entry exit node event got exits = by node.children refl
+  where
+    kinds : (x y : Event) → Some x ≡ Some y → x.kind ≡ y.kind
+    kinds x y e = cc
+
+    different : Enter ≡ Exit → exit ≡ suc entry
+    different e = cc
+
+    by : (children : Forest) → node.children ≡ children → exit ≡ suc entry
+    by Empty e = node.apart ∙ ap (λ cs. entry + suc (length (flatten cs))) e ∙ one-more entry
+    by (Node n start end children rest) e =
+        let there : slice_get given.events (suc entry) ≡ Some (entering n start) =
+        ap (λ es. slice_get es (suc entry)) node.parts
+        ∙ ap (λ i. slice_get ((node.before ++ entering name node.start ∷ [])
+        ++ (flatten node.children ++ (exiting name node.end ∷ node.beyond))) (suc i)) (sym node.counted)
+        ∙ after-first node.before (flatten node.children ++ (exiting name node.end ∷ node.beyond))
+        (entering name node.start)
+        ∙ ap (λ cs. slice_get (flatten cs ++ (exiting name node.end ∷ node.beyond)) 0) e in
+        different (kinds (entering n start) event (sym there ∙ got) ∙ exits)
+
+pub leaf-exits : (given : Handed) (document : Forest) → flatten document ≡ given.events → (index : ℕ) (name : Name) →
+    EntersAt given.events index name → (event : Event) → slice_get given.events (suc index) ≡ Some event →
+    event.kind ≡ Exit → ExitsAt given.events (suc index) name
+leaf-exits given document flat index name enters event got exits =
+    let found = node-entered given document flat index name enters in
+    let node : NodeAt given document name index found.0 = found.1 in
+    subst (λ i. ExitsAt given.events i name) (leaf-exit given document name index found.0 node event got exits)
+    (exiting name node.end, node.exits, refl, refl)
+
+pub leaf-noticed : (given : Handed) (index : ℕ) (name : Name) → EntersAt given.events index name → (event : Event) →
+    slice_get given.events (suc index) ≡ Some event → event.kind ≡ Exit → (one : Noticed) →
+    IsNoticedAt given index one → IsNoticedAt given (suc index) one
+leaf-noticed given index name enters event got exits one there =
+    let found = node-entered given there.0 there.1 index name enters in
+    let node : NodeAt given there.0 name index found.0 = found.1 in
+    let same = sym there.2 ∙ node.at_entry in (
+      there.0,
+      there.1,
+      ap (λ i. slice_get (noticed given.bytes true there.0) i)
+          (sym (leaf-exit given there.0 name index found.0 node event got exits)) ∙ node.at_exit ∙ sym same,
+    )

@@ -1,8 +1,9 @@
 //! Where a node lies: its two events, its text, and whether it is the last one.
 
-ghost use Rattle.std.specs.Prelude.{◌≡◌, ◌+◌, ◌<◌, ◌≤◌, [], Some, length, slice_get, unwrap_or};
+ghost use Rattle.std.specs.Prelude.{◌≡◌, ◌+◌, ◌<◌, ◌≤◌, [], suc, true, Some, length, slice_get, unwrap_or};
 ghost use Rattle.md_base.specs.Place.{text_between};
 ghost use Rattle.md_base.specs.declared.event.Event.{Event as AnyEvent};
+ghost use Rattle.md_base.specs.declared.event.Kind.TheVariants as kind;
 ghost use Rattle.md_base.specs.declared.event.Name.{Name};
 ghost use Rattle.md_meaning.specs.Meaning.At.{text_in};
 ghost use Rattle.md_tree.specs.Found.{EntersSome};
@@ -11,7 +12,7 @@ ghost use Rattle.md_tree.specs.Texts.{EntersAt, ExitsAt};
 ghost use Rattle.md_writer.specs.Run.{Noticed};
 ghost use Rattle.md_told.specs.Told.{IsNoticedAt, ExitsSome};
 
-use md_base::{Event, Point, Position};
+use md_base::{Event, Kind, Point, Position};
 use md_tree::Checked;
 
 /// Whether nothing follows in the document after the node that the event at the index exits.
@@ -45,6 +46,38 @@ pub fn inside_at(checked: &Checked, index: usize) -> usize
     ensures { (one : Noticed) → IsNoticedAt checked.now index one → result ≡ one.inside }
 {
     exit_of(checked, index) - index
+}
+
+/// Whether the node that the event at the index enters has no children: the next event exits it.
+///
+/// # Examples
+///
+/// ```
+/// // Where two events are a thematic break:
+/// assert!(is_leaf_at(&checked, 0));
+/// ```
+#[inline(always)]
+pub fn is_leaf_at(checked: &Checked, index: usize) -> bool
+    requires { EntersSome checked.now.events index }
+    ensures exits { result ≡ true → (name : Name) → EntersAt checked.now.events index name
+        → ExitsAt checked.now.events (suc index) name }
+    ensures noticed { result ≡ true → (one : Noticed) → IsNoticedAt checked.now index one
+        → IsNoticedAt checked.now (suc index) one }
+{
+    exits_next(checked.events(), index)
+}
+
+/// Whether the event after the one at an index exits a node.
+#[inline(always)]
+fn exits_next(events: &[Event], index: usize) -> bool
+    requires { index < length events.now }
+    ensures { result ≡ true → (event : AnyEvent) × (slice_get events.now (suc index) ≡ Some event)
+        × (event.kind ≡ kind.Exit) }
+{
+    match events[index..].get(1) {
+        Some(event) => matches!(event.kind, Kind::Exit),
+        None => false,
+    }
 }
 
 /// The place of the node that the event at the index exits.
@@ -82,6 +115,24 @@ pub fn text_left_at<'a>(checked: &Checked<'a>, index: usize) -> &'a str
         → result.now ≡ text_in checked.now.bytes one.told.place }
 {
     text_of_leaf(checked, start_of(checked, index), end_of(checked, index))
+}
+
+/// The same of the node that the event at one index enters, and the event at another one exits.
+///
+/// # Examples
+///
+/// ```
+/// // Of `a`, where 1 enters its data, and 2 exits the data:
+/// assert_eq!(text_inside(&checked, 1, 2), "a");
+/// ```
+#[inline(always)]
+pub fn text_inside<'a>(checked: &Checked<'a>, entry: usize, exit: usize) -> &'a str
+    requires enters { EntersSome checked.now.events entry }
+    requires exits { ExitsSome checked.now.events exit }
+    ensures { (one : Noticed) → IsNoticedAt checked.now entry one → IsNoticedAt checked.now exit one
+        → result.now ≡ text_in checked.now.bytes one.told.place }
+{
+    text_of_leaf(checked, entered_from(checked, entry), end_of(checked, exit))
 }
 
 /// The text between two points, as that of a node that lies there.
@@ -122,6 +173,15 @@ pub(crate) fn exit_of(checked: &Checked, index: usize) -> usize
     ensures partner { IsPartnerAt checked.now index (Some result) }
 {
     checked.partner(index).unwrap()
+}
+
+/// Where the node begins that the event at the index enters.
+#[inline(always)]
+fn entered_from(checked: &Checked, index: usize) -> Point
+    requires { EntersSome checked.now.events index }
+    ensures { (one : Noticed) → IsNoticedAt checked.now index one → result ≡ one.told.place.start }
+{
+    point_at(checked.events(), index)
 }
 
 /// Where the node begins that the event at the index exits.

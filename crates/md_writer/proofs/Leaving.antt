@@ -184,13 +184,14 @@ kept-resource Nothing found one other h k = k
 kept-resource Childless found one other h k = k
 kept-resource _ found one other h k = lie h
 
-no-target : (name : Name) (inner : List ℕ) (target : Target) → is_set_aside name ≡ false →
+no-target : (name : Name) (inner : List ℕ) (target : Target) → is_set_aside name ≡ false → is Resource name ≡ false →
     target_after name inner target ≡ target
-no-target DefinitionDestinationString inner target h = lie (sym h)
-no-target DefinitionTitleString inner target h = lie (sym h)
-no-target ResourceDestinationString inner target h = lie (sym h)
-no-target ResourceTitleString inner target h = lie (sym h)
-no-target _ inner target h = refl
+no-target DefinitionDestinationString inner target h k = lie (sym h)
+no-target DefinitionTitleString inner target h k = lie (sym h)
+no-target ResourceDestinationString inner target h k = lie (sym h)
+no-target ResourceTitleString inner target h k = lie (sym h)
+no-target Resource inner target h k = lie (sym k)
+no-target _ inner target h k = refl
 
 no-resource : (name : Name) (target : Target) (resource : Option Target) → is_label name ≡ false →
     is Resource name ≡ false → resource_after name target resource ≡ resource
@@ -208,7 +209,7 @@ target-stays : (c : Content) (name : Name) (text : List ℕ) (found : Found) (st
     keeps_target c ≡ true → target_after name text inner ≡ state
 target-stays c name text found state inner facts k h =
     let f = facts.target h in
-    no-target name text inner f.2 ∙ kept-target (content_inside c name) found _ inner f.0 k
+    no-target name text inner f.2 (no_begin name f.1) ∙ kept-target (content_inside c name) found _ inner f.0 k
     ∙ when_not (begins_target name) nowhere state f.1
 
 resource-stays : (c : Content) (name : Name) (target : Target) (found : Found) (state inner : Option Target) →
@@ -242,6 +243,7 @@ in-sources SpaceOrTab at inner text state target h solid reads k = lie (sym soli
 in-sources BlockQuotePrefix at inner text state target h solid reads k = lie (sym solid)
 in-sources (Other number) at inner text state target h solid reads k = lie (sym solid)
 in-sources LineEnding at inner text state target h solid reads k = k
+in-sources Resource at inner text state target h solid reads k = lie h
 in-sources _ at inner text state target h solid reads k = k
 
 target-solid : (c : Content) (name : Name) (at : At) (inner text : List ℕ) (found : Found) (state target : Target) →

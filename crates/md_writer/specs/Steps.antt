@@ -392,6 +392,7 @@ target_after name inner target = elim name [
   | ResourceDestinationString ↦ record target { destination = inner }
   | DefinitionTitleString ↦ record target { title = Some inner }
   | ResourceTitleString ↦ record target { title = Some inner }
+  | Resource ↦ nowhere
   | _ ↦ target
 ]
 

@@ -4,7 +4,7 @@ use Rattle.md_base.specs.Tree.{Forest, flatten}
 use Rattle.md_meaning.specs.Meaning.At.{Given}
 use Rattle.md_emit.specs.Supplies.{Supplies}
 use Rattle.md_render.proofs.Owns.{targets_of}
-use Rattle.md_render.proofs.definitions.targets.Given as goal
+use Rattle.md_render.proofs.definitions.gathered.Given as goal
 
 abbrev pub invariant-loop-entry : goal.invariant-loop-entry
 invariant-loop-entry l =

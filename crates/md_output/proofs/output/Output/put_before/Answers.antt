@@ -11,7 +11,7 @@ use Rattle.md_output.specs.Texts.{Texts}
 use Rattle.md_output.specs.Waiting.{texts_of, text_of, IsSound}
 use Rattle.md_output.proofs.Merged.{merged-none}
 use Rattle.md_output.proofs.Sound as sound
-use Rattle.md_output.proofs.output.Output.put_later.Goals as goal
+use Rattle.md_output.proofs.output.Output.put_before.Goals as goal
 
 pub returns-then-len-self : goal.returns-then-len-self
 returns-then-len-self c =

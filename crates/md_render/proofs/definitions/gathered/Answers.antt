@@ -4,7 +4,7 @@ use Rattle.std.proofs.lemmas.Option.{slice_get-get_or}
 use Rattle.md_meaning.specs.Meaning.At.{Target}
 use Rattle.md_emit.specs.Supplies.{Supplies}
 use Rattle.md_render.proofs.Owns.{targets_of, take-next, target-there, targets-all}
-use Rattle.md_render.proofs.definitions.targets.Goals as goal
+use Rattle.md_render.proofs.definitions.gathered.Goals as goal
 
 pub loop-entry-preserved : goal.loop-entry-preserved
 loop-entry-preserved c = λ at document supplies flat.

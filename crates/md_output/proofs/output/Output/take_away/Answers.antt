@@ -8,7 +8,7 @@ use Rattle.md_output.specs.Texts.{Texts}
 use Rattle.md_output.specs.declared.heads.Head.{Head}
 use Rattle.md_output.specs.Waiting.{texts_of, IsSound, texts_from}
 use Rattle.md_output.proofs.Sound as sound
-use Rattle.md_output.proofs.output.Output.clear.Goals as goal
+use Rattle.md_output.proofs.output.Output.take_away.Goals as goal
 
 pub forget_from-requires : goal.forget_from-requires
 forget_from-requires c =

@@ -1,0 +1,78 @@
+//! What is done where a node without children is entered and left, if its name is frequent.
+
+ghost use Rattle.std.specs.Prelude.{◌≡◌, IfOk, true, false};
+ghost use Rattle.md_tree.specs.Texts.{EntersAt, ExitsAt};
+ghost use Rattle.md_writer.specs.Run.{Noticed};
+ghost use Rattle.md_told.specs.Told.{IsNoticedAt};
+ghost use Rattle.md_emit.specs.Supplies.{Leaves, is_alone};
+
+use crate::given::Given;
+use crate::printer::Printer;
+use md_base::Name;
+use md_told::{is_last_at, text_inside};
+use std::alloc::AllocError;
+
+impl<'a> Printer<'a> {
+    /// Enters and leaves a node without children, if its name is frequent; answers whether it is. Of such a node it is
+    /// as if it were left alone.
+    ///
+    /// # Errors
+    ///
+    /// Only where memory runs out.
+    #[inline(always)]
+    pub fn leaf(
+        &mut self,
+        given: &Given<'a>,
+        entry: usize,
+        exit: usize,
+        name: Name,
+    ) -> Result<bool, AllocError>
+        requires enters { EntersAt given.now.checked.now.events entry name }
+        requires exits { ExitsAt given.now.checked.now.events exit name }
+        requires one { (one : Noticed) → IsNoticedAt given.now.checked.now entry one
+            → IsNoticedAt given.now.checked.now exit one }
+        ensures alone { IfOk result (λ done. done ≡ true → is_alone name ≡ true) }
+        ensures left { IfOk result (λ done. done ≡ true → Leaves given.now entry name self.old self.new) }
+        ensures same { IfOk result (λ done. done ≡ false → self.new ≡ self.old) }
+    {
+        match name {
+            Name::Data => {
+                self.leave_text(text_inside(given.checked, entry, exit), Name::Data)?;
+                Ok(true)
+            }
+            Name::LineEnding => {
+                self.leave_line_ending(text_inside(given.checked, entry, exit))?;
+                Ok(true)
+            }
+            Name::SpaceOrTab => {
+                self.ended = Some(Name::SpaceOrTab);
+                Ok(true)
+            }
+            Name::BlockQuotePrefix => {
+                self.ended = Some(Name::BlockQuotePrefix);
+                Ok(true)
+            }
+            Name::Other(number) => {
+                self.ended = Some(Name::Other(number));
+                Ok(true)
+            }
+            Name::BlankLineEnding => {
+                self.leave_blank(given.ending, is_last_at(given.checked, exit))?;
+                Ok(true)
+            }
+            Name::ListItemMarker => {
+                self.ends(Name::ListItemMarker);
+                Ok(true)
+            }
+            Name::ListItemValue => {
+                self.ends(Name::ListItemValue);
+                Ok(true)
+            }
+            Name::HeadingAtxSequence => {
+                self.ends(Name::HeadingAtxSequence);
+                Ok(true)
+            }
+            _ => Ok(false),
+        }
+    }
+}
