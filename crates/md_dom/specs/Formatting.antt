@@ -75,8 +75,8 @@ without identity (Marker ∷ entries) = Marker ∷ without identity entries
 without identity (Formatting other name attributes ∷ entries) =
     if other == identity then entries else Formatting other name attributes ∷ without identity entries
 
--- an end tag that has no rule of its own (13.2.6.4.7, "any other end tag"): the current node is popped where it has this
--- name; the tag is ignored where it is special; how it looks further isn't written out
+-- an end tag that has no rule of its own (13.2.6.4.7, "any other end tag"): the current node is popped where it has
+-- this name; the tag is ignored where it is special; how it looks further isn't written out
 abbrev pub end_other : List ℕ → Parser → Option Parser
 end_other name parser =
     if current (is_named name) parser.stack then Some (record parser { stack = popped parser.stack })

@@ -35,6 +35,7 @@ impl<'a> Printer<'a> {
         ensures left { IfOk result (λ done. done ≡ true → Leaves given.now entry name self.old self.new) }
         ensures same { IfOk result (λ done. done ≡ false → self.new ≡ self.old) }
     {
+        // An arm for each frequent name, though `exit` has them too: so such a leaf costs one jump.
         match name {
             Name::Data => {
                 self.leave_text(text_inside(given.checked, entry, exit), Name::Data)?;
