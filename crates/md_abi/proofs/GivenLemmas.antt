@@ -110,6 +110,9 @@ module _ (events : List CEvent) (bytes : List ℕ) (options : COptions) (names :
     one_reading = λ keeps. compiled.one_reading (keeps_grammar options given read.options_stand keeps);
     safe_links = λ keeps. compiled.safe_links (keeps_links options given read.options_stand keeps);
     safe_images = λ keeps. compiled.safe_images (keeps_images options given read.options_stand keeps);
+    contained = λ keeps. compiled.contained (keeps_grammar options given read.options_stand keeps);
+    tree = λ unnested keeps. compiled.tree compiled.grammatical.0 compiled.grammatical.1.flattened unnested
+        (keeps_grammar options given read.options_stand keeps);
     tokenized = λ keeps. compiled.tokenized (keeps_grammar options given read.options_stand keeps);
     safe_link_tokens = λ keeps. compiled.safe_link_tokens (keeps_links options given read.options_stand keeps);
     safe_image_tokens = λ keeps. compiled.safe_image_tokens (keeps_images options given read.options_stand keeps);

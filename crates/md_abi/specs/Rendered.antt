@@ -1,5 +1,5 @@
 -- What a text is of what C hands in, and why there is none.
-use Rattle.std.specs.Prelude.{◌≡◌, ℕ, List}
+use Rattle.std.specs.Prelude.{◌≡◌, ℕ, false, List}
 use Rattle.md_base.specs.declared.event.Event.{Event}
 use Rattle.md_tree.specs.declared.rule.Rule.{Rule}
 use Rattle.md_tree.specs.declared.rule.CompileError.TheVariants as refusal
@@ -13,6 +13,9 @@ use Rattle.md_text.specs.Safe.{is_safe_link, is_safe_image}
 use Rattle.md_text.specs.Ids.{HasDistinctIds}
 use Rattle.md_standard.specs.SafeTokens.{has_safe_links, has_safe_images}
 use Rattle.md_standard.specs.Tokenized.{HasTokensWith, IsTokenizedAsRead}
+use Rattle.md_contents.specs.Contents.{IsContained}
+use Rattle.md_contents.specs.Links.{has_nested_link}
+use Rattle.md_dom.specs.Built.{IsBuiltAsRead}
 use Rattle.md_script.specs.Run.{IsRefusedAt}
 use Rattle.md_abi.specs.Numbers.{rule_number}
 use Rattle.md_abi.specs.Standing.{StandFor}
@@ -24,9 +27,10 @@ use Rattle.md_abi.specs.declared.reference.CReference.{CReference}
 use Rattle.md_abi.specs.declared.option.COptions.{COptions}
 
 -- the text is the meaning of a document of the grammar whose events, options and names are those that were handed
--- in; where the options are safe, it has one reading, with links and images of permitted protocols alone, and the HTML
--- Standard's tokenizer emits that, with links and images of permitted schemes alone; where ids go by number no two ids
--- are equal
+-- in; where the options are safe, it has one reading, with links and images of permitted protocols alone, in which
+-- everything stands where it may, and the HTML Standard's tokenizer emits that, with links and images of permitted
+-- schemes alone; where no link stands in a link, tree construction builds it; where ids go by number no two ids are
+-- equal
 pub record IsRendered (events : List CEvent) (bytes : List ℕ) (options : COptions) (names : List CReference)
     (text : List ℕ)
     : Type 0 where
@@ -41,6 +45,8 @@ pub record IsRendered (events : List CEvent) (bytes : List ℕ) (options : COpti
   pub one_reading : KeepsGrammar options → HasOneReadingWith any_attribute text
   pub safe_links : KeepsLinks options → HasOneReadingWith is_safe_link text
   pub safe_images : KeepsImages options → HasOneReadingWith is_safe_image text
+  pub contained : KeepsGrammar options → IsContained text
+  pub tree : has_nested_link false document ≡ false → KeepsGrammar options → IsBuiltAsRead text
   pub tokenized : KeepsGrammar options → IsTokenizedAsRead text
   pub safe_link_tokens : KeepsLinks options → HasTokensWith has_safe_links text
   pub safe_image_tokens : KeepsImages options → HasTokensWith has_safe_images text

@@ -4,6 +4,7 @@
 mod compiler;
 pub mod laws;
 mod safe_html;
+mod unnested;
 
 pub use compiler::{Counted, compile, compile_checked, compile_counted};
 pub use md_base::{
@@ -18,3 +19,4 @@ pub use md_tree::{
     Checked, CompileError, Rule, check, gfm_table_align, list_item_loose, list_loose,
 };
 pub use safe_html::{SafeError, SafeHtml, compile_safe};
+pub use unnested::{UnnestedError, compile_unnested, has_nested_link};

@@ -1,5 +1,5 @@
 -- What `run` answers: what the compiler answers of what a script stands for.
-use Rattle.std.specs.Prelude.{◌≡◌, ℕ, List, [], ◌∷◌, codes}
+use Rattle.std.specs.Prelude.{◌≡◌, ℕ, false, List, [], ◌∷◌, codes}
 use Rattle.md_base.specs.declared.event.Event.{Event}
 use Rattle.md_tree.specs.declared.rule.Rule.{Rule}
 use Rattle.md_tree.specs.declared.rule.CompileError.TheVariants as refusal
@@ -14,6 +14,9 @@ use Rattle.md_text.specs.Safe.{is_safe_link, is_safe_image}
 use Rattle.md_text.specs.Ids.{HasDistinctIds}
 use Rattle.md_standard.specs.SafeTokens.{has_safe_links, has_safe_images}
 use Rattle.md_standard.specs.Tokenized.{HasTokensWith, IsTokenizedAsRead}
+use Rattle.md_contents.specs.Contents.{IsContained}
+use Rattle.md_contents.specs.Links.{has_nested_link}
+use Rattle.md_dom.specs.Built.{IsBuiltAsRead}
 use Rattle.md_script.specs.Script.{IsReadable, IsFirstUnreadable, StandsFor}
 use Rattle.md_script.specs.declared.error.RunError.{RunError}
 use Rattle.md_script.specs.declared.error.RunError.TheVariants as error
@@ -31,8 +34,9 @@ abbrev pub document_of : List Event → List ℕ → Handed
 document_of events bytes = record { events = events; bytes = bytes; names = reference_names }
 
 -- the events are of the grammar over the bytes, and the text is the meaning of their document; where the options
--- are safe, it has one reading, with links and images of permitted protocols alone, and the HTML Standard's tokenizer
--- emits that, with links and images of permitted schemes alone; where ids go by number no two ids are equal
+-- are safe, it has one reading, with links and images of permitted protocols alone, in which everything stands where it
+-- may, and the HTML Standard's tokenizer emits that, with links and images of permitted schemes alone; where no link
+-- stands in a link, tree construction builds it; where ids go by number no two ids are equal
 pub record IsCompiled (events : List Event) (bytes : List ℕ) (options : CompileOptions) (text : List ℕ)
     : Type 0 where
   pub grammatical : IsChecked (document_of events bytes)
@@ -41,6 +45,9 @@ pub record IsCompiled (events : List Event) (bytes : List ℕ) (options : Compil
   pub one_reading : KeepsGrammar options → HasOneReadingWith any_attribute text
   pub safe_links : KeepsLinks options → HasOneReadingWith is_safe_link text
   pub safe_images : KeepsImages options → HasOneReadingWith is_safe_image text
+  pub contained : KeepsGrammar options → IsContained text
+  pub tree : (document : Forest) → flatten document ≡ events → has_nested_link false document ≡ false →
+      KeepsGrammar options → IsBuiltAsRead text
   pub tokenized : KeepsGrammar options → IsTokenizedAsRead text
   pub safe_link_tokens : KeepsLinks options → HasTokensWith has_safe_links text
   pub safe_image_tokens : KeepsImages options → HasTokensWith has_safe_images text

@@ -1,5 +1,5 @@
 -- What `run_safe` answers: a safe text, or why there is none.
-use Rattle.std.specs.Prelude.{◌≡◌, ℕ, true, List, codes}
+use Rattle.std.specs.Prelude.{◌≡◌, ℕ, true, false, List, codes}
 use Rattle.md_base.specs.declared.event.Event.{Event}
 use Rattle.md_base.specs.Tree.{Forest, flatten}
 use Rattle.md_tree.specs.declared.rule.Rule.{Rule}
@@ -11,6 +11,9 @@ use Rattle.md_text.specs.declared.options.CompileOptions.{CompileOptions}
 use Rattle.md_text.specs.Ids.{HasDistinctIds}
 use Rattle.md_standard.specs.Tokenized.{IsSafelyTokenized}
 use Rattle.md_safe.specs.Options.{KeepsImages}
+use Rattle.md_contents.specs.Contents.{IsContained}
+use Rattle.md_contents.specs.Links.{has_nested_link}
+use Rattle.md_dom.specs.Built.{IsBuiltAsRead}
 use Rattle.md_html.specs.declared.safe_html.SafeError.{SafeError}
 use Rattle.md_html.specs.declared.safe_html.SafeError.TheVariants as safe
 use Rattle.md_script.specs.declared.error.SafeRunError.{SafeRunError}
@@ -26,8 +29,9 @@ safe_message_of Options = codes "unsafe options"
 safe_message_of (Run error) = message_of error
 
 -- the options are safe, the events are of the grammar over the bytes, and the text is the meaning of their document;
--- the HTML Standard's tokenizer emits its reading, with links and images of permitted schemes alone; where ids go by
--- number no two ids are equal
+-- the HTML Standard's tokenizer emits its reading, with links and images of permitted schemes alone; in it everything
+-- stands where it may; where no link stands in a link, tree construction builds it; where ids go by number no two ids
+-- are equal
 pub record IsSafelyCompiled (events : List Event) (bytes : List ℕ) (options : CompileOptions)
     (text : List ℕ) : Type 0 where
   pub safe : KeepsImages options
@@ -35,6 +39,9 @@ pub record IsSafelyCompiled (events : List Event) (bytes : List ℕ) (options : 
   pub means : (document : Forest) → flatten document ≡ events →
       text ≡ meaning options reference_names bytes document
   pub tokens : IsSafelyTokenized text
+  pub contained : IsContained text
+  pub tree : (document : Forest) → flatten document ≡ events → has_nested_link false document ≡ false →
+      IsBuiltAsRead text
   pub distinct_ids : options.gfm_footnote_number_ids ≡ true → HasDistinctIds text
 
 -- why events give no safe text: their options aren't safe, or they are and the events give no text

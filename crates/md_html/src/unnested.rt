@@ -1,0 +1,194 @@
+//! Safe texts of documents in which no link stands in a link: a browser builds of them the tree that they are read as.
+
+ghost use Rattle.std.specs.Prelude.{◌≡◌, ◌<◌, ◌^◌, OnOk, IfOk, IfErr, true, false};
+ghost use Rattle.md_base.specs.Reference.{name_table};
+ghost use Rattle.md_base.specs.Tree.{Forest, flatten};
+ghost use Rattle.md_tree.specs.Grammar.{IsChecked, handed};
+ghost use Rattle.md_tree.specs.Refusal.{IsOutside, IsOrder, IsMdx, IsOfNode, IsLost};
+ghost use Rattle.md_meaning.specs.Meaning.{meaning};
+ghost use Rattle.md_contents.specs.Contents.{IsContained};
+ghost use Rattle.md_contents.specs.Links.{has_nested_link, prints_link};
+ghost use Rattle.md_dom.specs.Built.{IsBuiltAsRead};
+ghost use Rattle.md_safe.specs.Options.{KeepsImages};
+ghost use Rattle.md_text.specs.Ids.{HasDistinctIds};
+ghost use Rattle.md_standard.specs.Tokenized.{IsSafelyTokenized};
+ghost use Rattle.md_html.specs.Safe.{IsRefusedFor, OfCompile};
+ghost use Rattle.md_html.specs.Nesting.{is_nested, is_link, is_image, link_after, images_after};
+ghost use Rattle.md_html.specs.Unnested.{AreUnnested, AreNested, OfSafe, OfNested};
+
+use crate::safe_html::{SafeError, SafeHtml, compile_safe};
+use md_base::{Event, Kind, Name};
+use md_text::CompileOptions;
+use std::alloc::Global;
+use std::fmt;
+use thiserror::Error;
+
+/// Why there is no safe text of a document in which no link stands in a link.
+#[derive(Debug, PartialEq, Eq, Drop, Error)]
+pub enum UnnestedError {
+    /// A link stands in a link.
+    Nested,
+    /// There is no safe text.
+    Safe(SafeError),
+}
+
+impl fmt::Display for UnnestedError {
+    ghost use Rattle.std.specs.Prelude.{Some};
+    ghost use Rattle.md_html.specs.Unnested.{unnested_line};
+
+    ghost output = { λ error. Some (unnested_line error) };
+
+    fn fmt<W: fmt::Write>(&self, f: &mut fmt::Formatter<W>) -> fmt::Result {
+        match self {
+            UnnestedError::Nested => write!(f, "a link in a link"),
+            UnnestedError::Safe(error) => write!(f, "{error}"),
+        }
+    }
+}
+
+impl From<SafeError> for UnnestedError {
+    ghost use Rattle.std.specs.Prelude.{◌≡◌};
+    ghost use Rattle.md_html.specs.declared.unnested.UnnestedError.TheVariants.{Safe};
+
+    ghost from_gives = { λ cause error. error ≡ Safe cause };
+
+    fn from(error: SafeError) -> UnnestedError {
+        UnnestedError::Safe(error)
+    }
+}
+
+/// The HTML of a list of Markdown events, as [`compile_safe`] gives it, where no link stands in a link: so wherever flow
+/// content may be set, the HTML Standard's tree construction builds the tree that the text is read as.
+///
+/// # Errors
+///
+/// [`UnnestedError::Nested`] exactly where [`compile_safe`] gives a text, or lacks memory for it, and a link stands in a
+/// link, as [`has_nested_link`] tells; else what [`compile_safe`] answers.
+///
+/// # Examples
+///
+/// ```
+/// let html = compile_unnested(alloc, &events, bytes, &CompileOptions::gfm(), names)?;
+/// ```
+pub fn compile_unnested(
+    alloc: Global,
+    events: &[Event],
+    bytes: &[u8],
+    options: &CompileOptions,
+    names: &[(&str, &str)],
+) -> Result<SafeHtml, UnnestedError>
+    ensures unnested { OnOk result (AreUnnested events.now) }
+    ensures tree { IfOk result (λ html. IsBuiltAsRead html) }
+    ensures safe { OnOk result (KeepsImages options.now) }
+    ensures grammatical { OnOk result (IsChecked (handed events.now bytes.now names.now)) }
+    ensures meaning { IfOk result (λ html. (document : Forest) → flatten document ≡ events.now →
+        html ≡ meaning options.now (name_table names.now) bytes.now document) }
+    ensures tokens { IfOk result (λ html. IsSafelyTokenized html) }
+    ensures contained { IfOk result (λ html. IsContained html) }
+    ensures distinct_ids { IfOk result (λ html. options.now.gfm_footnote_number_ids ≡ true → HasDistinctIds html) }
+
+    ensures nested { IfErr result (OfNested (AreNested events.now)) }
+    ensures nested_safe { IfErr result (OfNested (KeepsImages options.now)) }
+    ensures nested_grammatical { IfErr result (OfNested (IsChecked (handed events.now bytes.now names.now))) }
+    ensures options { IfErr result (OfSafe (IsRefusedFor options.now)) }
+    ensures outside { IfErr result (OfSafe (OfCompile (IsOutside (handed events.now bytes.now names.now)))) }
+    ensures order { IfErr result (OfSafe (OfCompile (IsOrder (handed events.now bytes.now names.now)))) }
+    ensures mdx { IfErr result (OfSafe (OfCompile (IsMdx (handed events.now bytes.now names.now)))) }
+    ensures of_node { IfErr result (OfSafe (OfCompile (IsOfNode (handed events.now bytes.now names.now)))) }
+    ensures lost { IfErr result (OfSafe (OfCompile (IsLost (handed events.now bytes.now names.now)))) }
+{
+    let html = compile_safe(alloc, events, bytes, options, names)?;
+    if has_nested_link(events) {
+        return Err(UnnestedError::Nested);
+    }
+    Ok(html)
+}
+
+/// Whether of the document that a list of events flattens a link stands in a link, of which neither stands in an image.
+/// Links are also automatic ones that are none by letters alone, and calls of footnotes.
+///
+/// # Examples
+///
+/// ```
+/// if has_nested_link(&events) {
+///     // A browser closes the outer link where the inner one begins.
+/// }
+/// ```
+pub fn has_nested_link(events: &[Event]) -> bool
+    ensures { (document : Forest) → flatten document ≡ events.now → result ≡ has_nested_link false document }
+{
+    let mut in_link = false;
+    let mut images = 0;
+    let mut rest = events;
+    while let Some((event, following)) = rest.split_first() {
+        if is_nested(in_link, images, event) {
+            return true;
+        }
+        in_link = link_after(in_link, images, event);
+        images = images_after(images, event);
+        rest = following;
+    }
+    false
+}
+
+/// Whether an event begins a link in a link, outside images.
+#[inline(always)]
+fn is_nested(in_link: bool, images: usize, event: &Event) -> bool
+    ensures { result ≡ is_nested in_link images event.now }
+{
+    match event.kind {
+        Kind::Enter => images == 0 && in_link && prints_link(event.name),
+        Kind::Exit => false,
+    }
+}
+
+/// Whether what comes after an event is in a link, outside images.
+#[inline(always)]
+fn link_after(in_link: bool, images: usize, event: &Event) -> bool
+    ensures { result ≡ link_after in_link images event.now }
+{
+    if images == 0 && is_link(event.name) {
+        return matches!(event.kind, Kind::Enter);
+    }
+    in_link
+}
+
+/// In how many images what comes after an event is.
+#[inline(always)]
+fn images_after(images: usize, event: &Event) -> usize
+    requires { images < 2 ^ 63 }
+    ensures { result ≡ images_after images event.now }
+{
+    if !is_image(event.name) {
+        return images;
+    }
+    match event.kind {
+        Kind::Enter => images + 1,
+        Kind::Exit => images.saturating_sub(1),
+    }
+}
+
+/// Whether a name prints a link wherever it stands outside images.
+#[inline(always)]
+fn prints_link(name: Name) -> bool
+    ensures { result ≡ prints_link name }
+{
+    matches!(
+        name,
+        Name::Link | Name::AutolinkEmail | Name::AutolinkProtocol | Name::GfmFootnoteCall
+    )
+}
+
+#[inline(always)]
+fn is_link(name: Name) -> bool
+    ensures { result ≡ is_link name }
+{
+    matches!(name, Name::Link)
+}
+
+#[inline(always)]
+fn is_image(name: Name) -> bool
+    ensures { result ≡ is_image name }
+{
+    matches!(name, Name::Image)
+}
