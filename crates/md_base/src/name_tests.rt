@@ -23,13 +23,6 @@ pub fn is_link_definition(name: Name) -> bool
     matches!(name, Name::Definition)
 }
 
-/// A table.
-pub fn is_table(name: Name) -> bool
-    ensures { result ≡ tests.is_table name }
-{
-    matches!(name, Name::GfmTable)
-}
-
 /// A definition of a link, or of a footnote; a line ending right after it is dropped.
 #[inline(always)]
 pub fn is_definition(name: Name) -> bool

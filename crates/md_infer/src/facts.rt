@@ -1,7 +1,7 @@
 //! The pass over the events from the first to the last, which finds what is read or inferred of each node.
 
-ghost use Rattle.std.specs.Prelude.{◌≡◌, ℕ, ◌+◌, true, OnOk, [], ◌∷◌, ◌++◌, length, map, set, not, ◌&&◌, IfOk};
-ghost use Rattle.md_base.specs.NameTests.{is_transparent, contributes};
+ghost use Rattle.std.specs.Prelude.{◌≡◌, ℕ, ◌+◌, true, false, OnOk, [], ◌∷◌, ◌++◌, length, map, set, not, ◌&&◌, IfOk};
+ghost use Rattle.md_base.specs.NameTests.{is_transparent, is_table, contributes};
 ghost use Rattle.md_infer.specs.Facts as spec;
 ghost use Rattle.md_infer.specs.Ending.{exits_line_ending, ending_after};
 ghost use Rattle.md_infer.specs.Columns.{columns_exited};
@@ -10,7 +10,7 @@ ghost use Rattle.md_infer.specs.Told.{nothing_told};
 use crate::columns::{Columns, collects_in};
 use crate::seeking::{Sought, is_idle, search_of, seen};
 use crate::told::{Last, Looseness, NOT_LOOSE, NOTHING_TOLD, Told, spaced, tell, told_looseness};
-use md_base::name_tests::{contributes, is_link_definition, is_table, is_transparent};
+use md_base::name_tests::{contributes, is_link_definition, is_transparent};
 use md_base::{AlignKind, Event, Kind, Name};
 use std::alloc::{AllocError, Global};
 use std::marker::Model;
@@ -296,32 +296,21 @@ impl Pass {
         }
     }
 
-    /// Finds what a node without children tells, which exits right after its entry.
+    /// Finds what a node without children tells, which exits right after its entry; a table has some.
     ///
     /// # Errors
     ///
     /// `AllocError`, only where memory runs out.
     #[inline(always)]
     pub fn leaf(&mut self, alloc: Global, name: Name) -> Result<(), AllocError>
+        requires { is_table name ≡ false }
         ensures { OnOk result (self.new ≡ spec.passed_exit name (spec.passed_entry name self.old)) }
     {
-        if is_table(name) {
-            return self.leaf_table(alloc, name);
-        }
         let entry = push_leaf(&mut self.facts)?;
         match self.open_nodes.last_mut() {
             Some(here) => follow_leaf(alloc, here, &mut self.ended, name, entry),
             None => follow_leaf(alloc, &mut self.document, &mut self.ended, name, entry),
         }
-    }
-
-    /// The same of a table.
-    #[inline(never)]
-    fn leaf_table(&mut self, alloc: Global, name: Name) -> Result<(), AllocError>
-        ensures { OnOk result (self.new ≡ spec.passed_exit name (spec.passed_entry name self.old)) }
-    {
-        self.enter(name)?;
-        self.exit(alloc, name)
     }
 
     /// The entry of a node.

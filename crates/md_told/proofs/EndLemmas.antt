@@ -3,10 +3,8 @@ use Rattle.std.proofs.Common.{◌≡◌, ℕ, suc, true, ◌+◌, ◌<◌, ◌==
 use Rattle.std.specs.Prelude.{slice_get, IsSome}
 use Rattle.md_base.specs.declared.event.Event.{Event}
 use Rattle.md_base.specs.declared.event.Name.{Name}
-use Rattle.md_base.specs.declared.event.Kind.{Kind}
 use Rattle.md_base.specs.declared.event.Kind.TheVariants.{Enter, Exit}
 use Rattle.md_base.specs.Tree.{Forest, Empty, Node, flatten, entering, exiting}
-use Rattle.md_base.proofs.Lies.{lie}
 use Rattle.md_tree.specs.Grammar.{Handed}
 use Rattle.md_tree.specs.Texts.{EntersAt, ExitsAt}
 use Rattle.md_tree.proofs.Entering.{got_inside}
@@ -55,6 +53,18 @@ exit-inside given index name exits = got_inside given.events index exits.0 exits
 pub entry-inside : (given : Handed) (index : ℕ) (name : Name) → EntersAt given.events index name →
     index < length given.events
 entry-inside given index name enters = got_inside given.events index enters.0 enters.1
+
+-- after an entry comes another event, its own exit at the latest
+pub entry-followed : (given : Handed) (document : Forest) → flatten document ≡ given.events → (index : ℕ) (name : Name) →
+    EntersAt given.events index name → index + 1 < length given.events
+entry-followed given document flat index name enters =
+    let found = node-entered given document flat index name enters in
+    let node : NodeAt given document name index found.0 = found.1 in
+    by found.0 (length (flatten node.children)) (length given.events) node.apart
+    (got_inside given.events found.0 (exiting name node.end) node.exits)
+  where
+    by : (exit inner count : ℕ) → exit ≡ index + suc inner → exit < count → index + 1 < count
+    by exit inner count apart inside = omega (arith, apart, inside)
 
 -- ---- a node without children
 

@@ -159,5 +159,5 @@ unled given index exits checked definition one there =
     let alike = node-everywhere (LeadsAlike given.bytes document) given document name seen.entry index node
     (leads-alike given.bytes given.names document grammatical) in
     ap (λ (n : Noticed). n.told.identifier) seen.is
-    ∙ media given.bytes document node.children node.start node.end name None exits.2 refers leads alike
+    ∙ media given.bytes document node.children node.start node.end name exits.2 refers leads alike
     (definition document own seen.flat node.mentions)

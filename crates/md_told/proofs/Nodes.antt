@@ -339,15 +339,6 @@ node-everywhere holds given document name entry exit node all =
       exit = exit;
     }) node.there
 
--- the name of the node that an event enters
-pub same-name : (events : List Event) (index : ℕ) (name other : Name) → EntersAt events index name →
-    EntersAt events index other → name ≡ other
-same-name events index name other one two =
-    sym one.3 ∙ ap (λ (e : Event). e.name) (some one.0 two.0 (sym one.1 ∙ two.1)) ∙ two.3
-  where
-    some : (a b : Event) → Some a ≡ Some b → a ≡ b
-    some a b e = cc
-
 -- the node by the children that are known
 pub record Known (given : Handed) (index : ℕ) (name : Name) (children : Forest) : Type 0 where
   pub document : Forest
@@ -369,18 +360,6 @@ known given index name children enters entered =
     }
   where
     some : (a b : Forest) → Some (Some a) ≡ Some (Some b) → a ≡ b
-    some a b e = cc
-
--- the exit of a node is its entry's partner
-pub exit-same : (given : Handed) (document : Forest) (name : Name) (index exit other : ℕ) →
-    flatten document ≡ given.events → NodeAt given document name index exit → IsPartnerAt given index (Some other) →
-    other ≡ exit
-exit-same given document name index exit other flat node partner =
-    some other exit (partner.2
-    ∙ ap (λ d. slice_get (partners_of 0 d) index) (same-document partner.0 document given.events partner.1 flat)
-    ∙ node.to_exit)
-  where
-    some : (a b : ℕ) → Some a ≡ Some b → a ≡ b
     some a b e = cc
 
 -- at each event of a node something is noticed

@@ -2,7 +2,7 @@
 use Rattle.std.specs.Prelude.{◌≡◌, ℕ, Bool, true, false, List, Some, slice_get, IsTrue}
 use Rattle.md_base.specs.declared.event.Event.{Event}
 use Rattle.md_base.specs.declared.event.Name.{Name}
-use Rattle.md_base.specs.declared.event.Name.TheVariants.{Link, Image, GfmFootnoteCall, Definition, GfmFootnoteDefinition}
+use Rattle.md_base.specs.declared.event.Name.TheVariants.{GfmFootnoteCall, Definition, GfmFootnoteDefinition}
 use Rattle.md_base.specs.Tree.{Forest, flatten}
 use Rattle.md_tree.specs.Grammar.{Handed}
 use Rattle.md_tree.specs.Texts.{EntersAt, ExitsAt}
@@ -22,13 +22,6 @@ ExitsSome events index = (name : Name) × ExitsAt events index name
 abbrev pub EntersOf : (Name → Bool) → List Event → ℕ → Type 0
 EntersOf is events index = (name : Name) × EntersAt events index name × IsTrue (is name)
 
--- a node of this name refers to others, or is referred to, by its label
-abbrev pub is_referring : Name → Bool
-is_referring name = elim name [
-  | Link ↦ true
-  | Image ↦ true
-  | GfmFootnoteCall ↦ true
-  | Definition ↦ true
-  | GfmFootnoteDefinition ↦ true
-  | _ ↦ false
-]
+-- a node of this name refers to another, or is referred to, by its label in each document
+abbrev pub is_labelled : Name → Bool
+is_labelled name = elim name [ GfmFootnoteCall ↦ true | Definition ↦ true | GfmFootnoteDefinition ↦ true | _ ↦ false ]

@@ -28,7 +28,7 @@ use std::alloc::{AllocError, Global};
 /// // Of `[a]: b`, a line ending and `[A]`, where 30 exits the link:
 /// assert_eq!(definition_left_at(&checked, 30), Some(0));
 /// ```
-pub fn definition_left_at(checked: &Checked, index: usize) -> Option<usize>
+fn definition_left_at(checked: &Checked, index: usize) -> Option<usize>
     requires { ExitsOf is_of_definitions checked.now.events index }
     ensures there { IfSome result (λ place. (given : Given) → AreKnown checked.now given
         → IsSome (slice_get given.definitions place)) }

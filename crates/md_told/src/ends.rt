@@ -7,7 +7,6 @@ ghost use Rattle.md_base.specs.declared.event.Kind.TheVariants as kind;
 ghost use Rattle.md_base.specs.declared.event.Name.{Name};
 ghost use Rattle.md_meaning.specs.Meaning.At.{text_in};
 ghost use Rattle.md_tree.specs.Found.{EntersSome};
-ghost use Rattle.md_tree.specs.Indices.{IsPartnerAt};
 ghost use Rattle.md_tree.specs.Texts.{EntersAt, ExitsAt};
 ghost use Rattle.md_writer.specs.Run.{Noticed};
 ghost use Rattle.md_told.specs.Told.{IsNoticedAt, ExitsSome};
@@ -70,14 +69,11 @@ pub fn is_leaf_at(checked: &Checked, index: usize) -> bool
 /// Whether the event after the one at an index exits a node.
 #[inline(always)]
 fn exits_next(events: &[Event], index: usize) -> bool
-    requires { index < length events.now }
+    requires { index + 1 < length events.now }
     ensures { result ≡ true → (event : AnyEvent) × (slice_get events.now (suc index) ≡ Some event)
         × (event.kind ≡ kind.Exit) }
 {
-    match events[index..].get(1) {
-        Some(event) => matches!(event.kind, Kind::Exit),
-        None => false,
-    }
+    matches!(events[index + 1].kind, Kind::Exit)
 }
 
 /// The place of the node that the event at the index exits.
@@ -157,7 +153,6 @@ pub(crate) fn entry_of(checked: &Checked, index: usize) -> usize
     requires { ExitsSome checked.now.events index }
     ensures enters { (name : Name) → ExitsAt checked.now.events index name → EntersAt checked.now.events result name }
     ensures noticed { (one : Noticed) → IsNoticedAt checked.now index one → IsNoticedAt checked.now result one }
-    ensures partner { IsPartnerAt checked.now index (Some result) }
 {
     checked.partner(index).unwrap()
 }
@@ -170,7 +165,6 @@ pub(crate) fn exit_of(checked: &Checked, index: usize) -> usize
     ensures exits { (name : Name) → EntersAt checked.now.events index name → ExitsAt checked.now.events result name }
     ensures noticed { (one : Noticed) → IsNoticedAt checked.now index one → IsNoticedAt checked.now result one }
     ensures inside { (one : Noticed) → IsNoticedAt checked.now index one → result ≡ index + one.inside }
-    ensures partner { IsPartnerAt checked.now index (Some result) }
 {
     checked.partner(index).unwrap()
 }

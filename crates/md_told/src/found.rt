@@ -1,6 +1,6 @@
-//! What is found of a list, an item, a table or a heading.
+//! What is found of a list, an item or a heading.
 
-ghost use Rattle.std.specs.Prelude.{◌≡◌, ◌⊎◌, ◌<◌, Some, length, slice_get, IfOk};
+ghost use Rattle.std.specs.Prelude.{◌≡◌, ◌⊎◌, ◌<◌, Some, length, slice_get};
 ghost use Rattle.md_base.specs.declared.event.Event.{Event as AnyEvent};
 ghost use Rattle.md_base.specs.declared.event.Name.TheVariants as name;
 ghost use Rattle.md_meaning.specs.Places.{length_of};
@@ -10,9 +10,8 @@ ghost use Rattle.md_writer.specs.Run.{Noticed};
 ghost use Rattle.md_told.specs.Told.{IsNoticedAt};
 
 use crate::ends::entry_of;
-use md_base::{AlignKind, Event, Name, Position, Slice};
-use md_tree::{Checked, gfm_table_align, list_loose};
-use std::alloc::{AllocError, Global};
+use md_base::{Event, Name, Position, Slice};
+use md_tree::{Checked, list_loose};
 
 /// Whether the list that the event at the index enters is loose.
 ///
@@ -68,31 +67,6 @@ pub(crate) fn name_at(events: &[Event], index: usize) -> Name
     ensures { (event : AnyEvent) → slice_get events.now index ≡ Some event → result ≡ event.name }
 {
     events[index].name
-}
-
-/// How the columns of the table that the event at the index enters are aligned.
-///
-/// # Errors
-///
-/// `AllocError`, only where memory runs out.
-///
-/// # Examples
-///
-/// ```
-/// // Of `|a|b|` over `|:-|-|`, where 0 enters the table:
-/// let columns = columns_at(alloc, &checked, 0)?;
-/// assert_eq!(columns.as_slice(), [AlignKind::Left, AlignKind::None].as_slice());
-/// ```
-pub fn columns_at(
-    alloc: Global,
-    checked: &Checked,
-    index: usize,
-) -> Result<Vec<AlignKind>, AllocError>
-    requires { EntersAt checked.now.events index name.GfmTable }
-    ensures { IfOk result (λ columns. (one : Noticed) → IsNoticedAt checked.now index one
-        → columns.items ≡ one.told.columns) }
-{
-    gfm_table_align(alloc, checked, index)
 }
 
 /// How long the first mark of the heading is that the event at the index enters.

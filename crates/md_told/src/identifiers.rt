@@ -1,26 +1,20 @@
 //! By what a node refers to others, or is referred to.
 
-ghost use Rattle.std.specs.Prelude.{◌≡◌, [], if◌then◌else◌, IfOk, string_bytes};
-ghost use Rattle.md_base.specs.Tree.{Forest};
-ghost use Rattle.md_base.specs.declared.event.Name.{Name as AnyName};
+ghost use Rattle.std.specs.Prelude.{◌≡◌, IfOk, string_bytes};
 ghost use Rattle.md_meaning.specs.Given as given;
-ghost use Rattle.md_meaning.specs.Meaning.At.{identifier_of};
 ghost use Rattle.md_meaning.specs.Places as places;
-ghost use Rattle.md_tree.specs.Entered.{IsEnteredAt};
-ghost use Rattle.md_tree.specs.Numbers.{ExitsOf, is_of_definitions};
-ghost use Rattle.md_tree.specs.Reads.{reads};
-ghost use Rattle.md_tree.specs.Texts.{EntersAt};
+ghost use Rattle.md_tree.specs.Numbers.{ExitsOf};
 ghost use Rattle.md_writer.specs.Run.{Noticed};
-ghost use Rattle.md_told.specs.Told.{IsNoticedAt, EntersOf, is_referring};
+ghost use Rattle.md_told.specs.Told.{IsNoticedAt, EntersOf, is_labelled};
 
-use crate::ends::{entry_of, exit_of};
-use crate::found::{grammatical, name_at};
-use md_base::{Name, Position, Slice, normalize_identifier};
+use crate::ends::entry_of;
+use crate::found::grammatical;
+use md_base::{Position, Slice, normalize_identifier};
 use md_tree::Checked;
 use std::alloc::{AllocError, Global};
 
-/// The identifier by which the node that the event at the index enters refers to another, or is referred to: a link or
-/// an image (empty where it has a resource), a footnote call, a definition or a footnote definition.
+/// The identifier by which the node that the event at the index enters refers to another, or is referred to: a footnote
+/// call, a definition or a footnote definition.
 ///
 /// # Errors
 ///
@@ -32,8 +26,12 @@ use std::alloc::{AllocError, Global};
 /// // Of `[A]: b`, where 0 enters the definition:
 /// assert_eq!(identifier_at(alloc, &checked, 0)?.as_str(), "a");
 /// ```
-pub fn identifier_at(alloc: Global, checked: &Checked, index: usize) -> Result<String, AllocError>
-    requires { EntersOf is_referring checked.now.events index }
+pub(crate) fn identifier_at(
+    alloc: Global,
+    checked: &Checked,
+    index: usize,
+) -> Result<String, AllocError>
+    requires { EntersOf is_labelled checked.now.events index }
     ensures { IfOk result (λ identifier. (one : Noticed) → IsNoticedAt checked.now index one
         → string_bytes identifier ≡ one.told.identifier) }
 {
@@ -57,59 +55,21 @@ pub fn identifier_left_at(
     checked: &Checked,
     index: usize,
 ) -> Result<String, AllocError>
-    requires { ExitsOf is_referring checked.now.events index }
+    requires { ExitsOf is_labelled checked.now.events index }
     ensures { IfOk result (λ identifier. (one : Noticed) → IsNoticedAt checked.now index one
         → string_bytes identifier ≡ one.told.identifier) }
 {
     identifier_at(alloc, checked, entry_of(checked, index))
 }
 
-/// The place of the label by which the node refers or is referred to; None where it has none, or a resource.
+/// The place of the label by which the node refers or is referred to; None where it has none.
 fn label_at(checked: &Checked, index: usize) -> Option<Position>
-    requires { EntersOf is_referring checked.now.events index }
+    requires { EntersOf is_labelled checked.now.events index }
     ensures { (one : Noticed) → IsNoticedAt checked.now index one
         → one.told.identifier ≡ places.identifier_at checked.now.bytes result }
 {
-    if is_labelled(checked, index) {
-        checked.reads(index)
-    } else {
-        None
-    }
-}
-
-/// Whether the node goes by a label: each but a link or an image that leads to no definition.
-fn is_labelled(checked: &Checked, index: usize) -> bool
-    requires { EntersOf is_referring checked.now.events index }
-    ensures { (name : AnyName) (children : Forest) → EntersAt checked.now.events index name
-        → IsEnteredAt checked.now index children
-        → identifier_of checked.now.bytes children
-        ≡ (if result then places.identifier_at checked.now.bytes (reads name children) else []) }
-{
     grammatical(checked);
-    if is_medium(name_at(checked.events(), index)) {
-        is_led(checked, index)
-    } else {
-        true
-    }
-}
-
-/// A link or an image.
-fn is_medium(name: Name) -> bool
-    ensures { result ≡ is_of_definitions name }
-{
-    matches!(name, Name::Link | Name::Image)
-}
-
-/// Whether the link or the image leads to a definition.
-fn is_led(checked: &Checked, index: usize) -> bool
-    requires { EntersOf is_of_definitions checked.now.events index }
-    ensures { (name : AnyName) (children : Forest) → EntersAt checked.now.events index name
-        → IsEnteredAt checked.now index children
-        → identifier_of checked.now.bytes children
-        ≡ (if result then places.identifier_at checked.now.bytes (reads name children) else []) }
-{
-    grammatical(checked);
-    checked.definition_of(exit_of(checked, index)).is_some()
+    checked.reads(index)
 }
 
 /// The normalized text of the label at a place; empty where there is no place.

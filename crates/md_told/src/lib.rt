@@ -6,9 +6,9 @@ mod ends;
 mod found;
 mod identifiers;
 
-pub use definitions::{definition_led_at, definition_left_at};
+pub use definitions::definition_led_at;
 pub use ends::{
     inside_at, is_last_at, is_leaf_at, place_left_at, text_inside, text_left_at, text_of_leaf,
 };
-pub use found::{columns_at, contributing_left_at, is_loose_at, number_at, rank_at, rank_left_at};
-pub use identifiers::{identifier_at, identifier_left_at};
+pub use found::{contributing_left_at, is_loose_at, number_at, rank_at, rank_left_at};
+pub use identifiers::identifier_left_at;

@@ -1,8 +1,11 @@
 -- A node without children, which is entered and exited at once.
-use Rattle.std.proofs.Common.{◌≡◌, ◌⊎◌, inl, inr, true, false, ℕ, suc, Some, None, List, ◌∷◌, refl, sym, ap, subst, ◌∙◌}
+use Rattle.std.proofs.Common.{◌≡◌, ◌⊎◌, inl, inr, true, false, ℕ, suc, Option, Some, None, List, ◌∷◌, refl, sym, ap, subst, ◌∙◌}
 use Rattle.std.specs.Prelude.{MatchOption}
 use Rattle.md_base.specs.declared.event.Point.{Point}
 use Rattle.md_base.specs.declared.event.Name.{Name}
+use Rattle.md_base.specs.declared.event.Name.TheVariants.{GfmTable}
+use Rattle.md_base.specs.NameTests.{is_table}
+use Rattle.md_base.proofs.Lies.{lie}
 use Rattle.md_tree.specs.declared.rule.Rule.{Rule}
 use Rattle.md_tree.specs.declared.rule.Rule.TheVariants as rule
 use Rattle.md_tree.specs.declared.rule.CompileError.{CompileError}
@@ -180,3 +183,20 @@ module _ (name : Name) (symbol : Symbol) (usual : Role) (reading : Reading) (nex
   IsStopAtLeaf-broken bytes names index broken complete breaks =
       stops-so bytes names index (error.Event (suc index) broken)
       (refl, StopsInside-broken bytes names broken outer start end (inside begins from) complete breaks)
+
+-- ---- a table has children
+
+pub no-table-over : (name : Name) → (standing_of name ≡ Through) ⊎ (standing_of name ≡ Space) → is_table name ≡ false
+no-table-over GfmTable (inl through) = cc
+no-table-over GfmTable (inr space) = cc
+no-table-over _ stands = refl
+
+pub no-table-solid : (name : Name) (symbol : Symbol) (usual : Role) (reading : Reading) (around : Role)
+    (before : Option Symbol) → standing_of name ≡ Solid symbol usual reading →
+    is_complete (start_of (role_for around before usual)) ≡ true → is_table name ≡ false
+no-table-solid GfmTable symbol usual reading around before stands complete =
+    lie (ap (λ r. is_complete (start_of (role_for around before r))) (usual_is stands) ∙ complete)
+  where
+    usual_is : standing_of GfmTable ≡ Solid symbol usual reading → role.Table ≡ usual
+    usual_is e = cc
+no-table-solid _ symbol usual reading around before stands complete = refl

@@ -34,7 +34,8 @@ pub struct Walk {
 }
 
 impl Walk {
-    ghost use Rattle.std.specs.Prelude.{◌≡◌, ◌<◌, ◌+◌, List, suc, true, None, Some, length, reverse, IfOk, IfErr, OnOk};
+    ghost use Rattle.std.specs.Prelude.{◌≡◌, ◌<◌, ◌+◌, List, suc, true, false, None, Some, length, reverse, IfOk, IfErr, OnOk};
+    ghost use Rattle.md_base.specs.NameTests.{is_table};
     ghost use Rattle.md_base.specs.Reference.{name_table};
     ghost use Rattle.md_base.specs.declared.event.Event.{Event};
     ghost use Rattle.md_base.specs.declared.event.Kind.TheVariants as kind;
@@ -184,6 +185,7 @@ impl Walk {
             (IsStopAtLeaf input.entry.bytes.now (name_table input.entry.names.now) index name
             (point_at input.entry.events.now index) (point_at input.entry.events.now (suc index))
             (course_of input.entry.events.now index self.old)) }
+        ensures no_table { OnOk result (is_table name ≡ false) }
     {
         if !self.place.may_hold() {
             return refuse(index, misplaced(name));

@@ -1,7 +1,6 @@
 -- The partner of an exit is the entry of its node, at which the same is noticed.
 use Rattle.std.proofs.Common.{◌≡◌, ℕ, Option, Some, subst}
 use Rattle.md_tree.specs.Texts.{EntersAt}
-use Rattle.md_tree.specs.Indices.{IsPartnerAt}
 use Rattle.md_told.specs.Told.{IsNoticedAt}
 use Rattle.md_told.proofs.Nodes.{partner-exited}
 use Rattle.md_told.proofs.EndLemmas.{some-there}
@@ -28,6 +27,3 @@ returns-clause-noticed c = λ one there.
     c.partner.ensures in
     subst (λ i. IsNoticedAt c.args.checked.now i one)
     (same-place c.partner.result found.0 c.unwrap.result found.1 c.unwrap.ensures) (found.3 one there)
-
-pub returns-clause-partner : goal.returns-clause-partner
-returns-clause-partner c = subst (λ o. IsPartnerAt c.args.checked.now c.args.index o) c.unwrap.ensures c.partner.ensures

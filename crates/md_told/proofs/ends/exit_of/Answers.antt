@@ -1,6 +1,5 @@
 -- The partner of an entry is the exit of its node, at which the same is noticed.
 use Rattle.std.proofs.Common.{◌≡◌, ◌≤◌, ◌+◌, ℕ, Option, Some, subst}
-use Rattle.md_tree.specs.Indices.{IsPartnerAt}
 use Rattle.md_tree.specs.Texts.{ExitsAt}
 use Rattle.md_told.specs.Told.{IsNoticedAt}
 use Rattle.md_told.proofs.Nodes.{partner-entered}
@@ -41,6 +40,3 @@ returns-clause-inside c = λ one there.
     c.partner.ensures in
     subst (λ i. i ≡ c.args.index + one.inside)
     (same-place c.partner.result found.0 c.unwrap.result found.1 c.unwrap.ensures) (found.4 one there).1
-
-pub returns-clause-partner : goal.returns-clause-partner
-returns-clause-partner c = subst (λ o. IsPartnerAt c.args.checked.now c.args.index o) c.unwrap.ensures c.partner.ensures

@@ -1,14 +1,16 @@
 -- Where the event after an entry exits, it exits the same node.
-use Rattle.std.proofs.Common.{◌≡◌, ◌<◌, suc, length, sym, ap, ◌∙◌, subst}
+use Rattle.std.proofs.Common.{◌<◌, ◌+◌, suc, length, sym, ap, ◌∙◌, subst}
 use Rattle.std.specs.Prelude.{slice_get}
 use Rattle.md_tree.specs.Grammar.{IsReadAs}
-use Rattle.md_told.proofs.EndLemmas.{entry-inside, leaf-exits, leaf-noticed}
+use Rattle.md_told.proofs.EndLemmas.{entry-followed, leaf-exits, leaf-noticed}
 use Rattle.md_told.proofs.ends.is_leaf_at.Goals as goal
 
 pub exits_next-requires : goal.exits_next-requires
 exits_next-requires c =
-    subst (λ es. c.args.index < length es) (sym c.events.ensures.events)
-    (entry-inside c.args.checked.now c.args.index c.requires.0 c.requires.1)
+    let checked = c.events.ensures.grammatical in
+    subst (λ es. c.args.index + 1 < length es) (sym c.events.ensures.events)
+    (entry-followed c.args.checked.now checked.0 (IsReadAs.flattened checked.1) c.args.index c.requires.0
+    c.requires.1)
 
 pub returns-clause-exits : goal.returns-clause-exits
 returns-clause-exits c = λ yes name enters.

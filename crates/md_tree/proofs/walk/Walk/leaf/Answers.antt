@@ -13,7 +13,7 @@ use Rattle.md_tree.specs.declared.rule.CompileError.TheVariants as error
 use Rattle.md_tree.specs.declared.mention.Referral.TheVariants.{Missing}
 use Rattle.md_tree.specs.Rules.{target_at, broken_rule}
 use Rattle.md_tree.specs.Walk.{point_at, place_at, target_seen, course_of, IsStopAtLeaf}
-use Rattle.md_tree.proofs.Leaves.{passes-over, Passes-solid, IsStopAtLeaf-open, IsStopAtLeaf-broken}
+use Rattle.md_tree.proofs.Leaves.{passes-over, Passes-solid, IsStopAtLeaf-open, IsStopAtLeaf-broken, no-table-over, no-table-solid}
 use Rattle.md_tree.proofs.walk.Walk.leaf.Goals as goal
 
 -- where the spine is after a symbol
@@ -31,6 +31,11 @@ returns-in-Through-clause-ok c =
     (point_at events c.args.index) (point_at events (suc c.args.index)) (course_of events c.args.index self)
     (sym c.may_hold.ensures ∙ c.if-not-may_hold.false)
     (subst (λ s. (s ≡ Through) ⊎ (s ≡ Space)) c.standing_of.ensures over)
+
+pub returns-in-Through-clause-no_table : goal.returns-in-Through-clause-no_table
+returns-in-Through-clause-no_table c =
+    no-table-over c.args.name
+    (subst (λ s. (s ≡ Through) ⊎ (s ≡ Space)) c.standing_of.ensures c.in-Through.is)
 
 pub returns-then-not-can_hold_empty-clause-refused : goal.returns-then-not-can_hold_empty-clause-refused
 returns-then-not-can_hold_empty-clause-refused c =
@@ -85,3 +90,9 @@ returns-in_default-2-clause-ok c =
     (state_of c.in-Some.place (Some c.in-Solid.symbol)) (point_at events index) (point_at events (suc index)) (course_of events index self)
     (sym c.may_hold.ensures ∙ c.if-not-may_hold.false) (sym c.standing_of.ensures ∙ c.in-Solid.is)
     (advanced c.args.self.now.before c.in-Solid.symbol c.args.self.now.place c.after.result c.in-Some.place c.after.ensures c.in-Some.is) bytes names _ complete sound target_is
+
+pub returns-in_default-2-clause-no_table : goal.returns-in_default-2-clause-no_table
+returns-in_default-2-clause-no_table c =
+    no-table-solid c.args.name c.in-Solid.symbol c.in-Solid.usual c.in-Solid.reading (state_of c.args.self.now.place None).role
+    c.args.self.now.before (sym c.standing_of.ensures ∙ c.in-Solid.is)
+    (sym c.can_hold_empty.ensures ∙ c.if-not-can_hold_empty.false)
