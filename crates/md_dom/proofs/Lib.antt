@@ -5,3 +5,5 @@ pub mod Phrasing
 pub mod Tables
 pub mod Flow
 pub mod Whole
+pub mod Pages
+pub mod Switching

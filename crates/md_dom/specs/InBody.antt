@@ -2,7 +2,7 @@
 use Rattle.std.specs.Prelude.{ℕ, Bool, true, false, not, ◌&&◌, ◌||◌, if◌then◌else◌, List, [], ◌∷◌, Option, Some, None, is_some, bytes_eq, codes}
 use Rattle.md_text.specs.Bytes.{is_one_of}
 use Rattle.md_standard.specs.Token.{TokenAttribute}
-use Rattle.md_dom.specs.Node.{Open, InTable, Parser}
+use Rattle.md_dom.specs.Node.{Open, InBody, InTable, AfterBody, AfterAfterBody, Parser}
 use Rattle.md_dom.specs.Elements.{special, any_scope, list_item_scope, button_scope, implied, headings, blocks, formatting, ordinary, parts}
 use Rattle.md_dom.specs.Stack.{is_named, is_among, has_in_scope, current, popped, pop_while, pop_until, insert, say}
 use Rattle.md_dom.specs.Formatting.{needs_reconstruction, push, last_active, end_other, end_formatting}
@@ -70,6 +70,16 @@ start_in_body name attributes parser =
     else (if is_one_of parts name then Some parser
     else (if is_one_of ordinary name then reconstructed parser (insert name attributes) else None))))))))))
 
+-- the end tags of the body and of the root pop nothing: the mode is "after body", and at that of the root, which is
+-- reprocessed there, "after after body"; what a cell does with them isn't written out
+abbrev pub end_body : List ℕ → Parser → Option Parser
+end_body name parser = elim parser.mode [
+  | InBody ↦ Some
+      (if has_in_scope any_scope (is_named (codes "body")) parser.stack
+      then record parser { mode = if bytes_eq name (codes "html") then AfterAfterBody else AfterBody } else parser)
+  | _ ↦ None
+]
+
 abbrev pub end_in_body : List ℕ → Parser → Option Parser
 end_in_body name parser =
     if is_one_of blocks name || bytes_eq name (codes "pre") then
@@ -89,7 +99,7 @@ end_in_body name parser =
     then record parser { stack = pop_until (is_among headings) (imply_except [] parser.stack) } else parser)
     else (if is_one_of (codes "a" ∷ formatting) name then end_formatting name parser
     else (if is_one_of ordinary name || is_one_of (codes "table" ∷ parts) name then end_other name parser
-    else None)))))
+    else (if is_one_of (codes "body" ∷ codes "html" ∷ []) name then end_body name parser else None))))))
 
 abbrev pub character_in_body : ℕ → Parser → Option Parser
 character_in_body byte parser =

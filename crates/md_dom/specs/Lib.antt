@@ -5,5 +5,7 @@ pub mod Stack
 pub mod Formatting
 pub mod InBody
 pub mod InTable
+pub mod AroundBody
 pub mod Construction
 pub mod Built
+pub mod Page

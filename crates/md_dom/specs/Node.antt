@@ -38,14 +38,26 @@ pub data Entry : Type 0 where
   Marker : Entry
   Formatting : (identity : ℕ) (name : List ℕ) (attributes : List TokenAttribute) → Entry
 
--- an insertion mode (13.2.4.1), with what the one of texts in tables goes back to
+-- an insertion mode (13.2.4.1), the two of texts with what they go back to
 pub data Mode : Type 0 where
+  Initial : Mode
+  BeforeHtml : Mode
+  BeforeHead : Mode
+  InHead : Mode
+  InText : Mode → Mode
+  AfterHead : Mode
   InBody : Mode
   InTable : Mode
   InTableBody : Mode
   InRow : Mode
   InCell : Mode
   InTableText : Mode → Mode
+  AfterBody : Mode
+  AfterAfterBody : Mode
+
+-- the mode "text"
+abbrev pub is_text : Mode → Bool
+is_text mode = elim mode [ InText original ↦ true | _ ↦ false ]
 
 -- the insertion mode, the stack of open elements, the current node first, the list of active formatting elements, the
 -- last one first, how many elements were created, the pending table characters, and whether the next LF is ignored

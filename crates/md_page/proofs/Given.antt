@@ -1,5 +1,6 @@
 -- The page around a title and a safe text.
 use Rattle.std.proofs.Common.{◌≡◌, ℕ, true, false, ◌&&◌, List, [], ◌∷◌, ◌++◌, refl, sym, ap, ◌∙◌, subst}
+use Rattle.std.specs.List.{list_all}
 use Rattle.std.proofs.lemmas.Bool.{and_from}
 use Rattle.std.proofs.lemmas.List.{append-nil}
 use Rattle.md_text.specs.Encode.{encoded}
@@ -9,9 +10,14 @@ use Rattle.md_text.specs.Safe.{is_safe_image}
 use Rattle.md_text.proofs.EncodeLaws.{is_escaped-encoded, read_back-encoded}
 use Rattle.md_standard.specs.Input.{with_line_feeds}
 use Rattle.md_standard.specs.Tokens.{seen}
-use Rattle.md_standard.specs.PageTokens.{IsTokenizedPage}
+use Rattle.md_standard.specs.Tokenizer.{IsTokenized}
+use Rattle.md_standard.specs.PageTokens.{page_tokens, IsTokenizedPage}
 use Rattle.md_standard.proofs.PageRuns.{page-tokenized}
 use Rattle.md_standard.proofs.Schemes.{seen-is}
+use Rattle.md_dom.specs.Built.{IsBuiltAsRead}
+use Rattle.md_dom.specs.Page.{IsBuiltPage}
+use Rattle.md_dom.proofs.Steps.{is_character, seen-characters}
+use Rattle.md_dom.proofs.Pages.{text-page-built}
 use Rattle.md_html.specs.Safe.{IsSafe}
 use Rattle.md_page.specs.Page.{is_title, IsPage, IsPageOf, page_text}
 use Rattle.md_page.proofs.Pages.{before_title, before_body, after_body, page_written, one_page}
@@ -69,3 +75,23 @@ page_emitted title body text e safe =
     subst (λ t. IsTokenizedPage (with_line_feeds (encoded false title)) body t) (sym e)
     (subst (λ c. IsTokenizedPage c body (page_text title body)) characters
     (page-tokenized escaped body (is_escaped-encoded title) safe.safe_links safe.safe_images))
+
+-- and the document is built of it, where the body's text is built as it is read
+pub page_constructed : (title body text : List ℕ) → text ≡ page_text title body → IsSafe body → IsBuiltAsRead body →
+    IsBuiltPage (with_line_feeds (encoded false title)) body text
+page_constructed title body text e safe built =
+    let escaped = encoded true title in
+    let characters : List ℕ = with_line_feeds (encoded false title) in
+    let emitted = page_emitted title body text e safe in
+    record {
+      inside = built.forest;
+      reading = built.reading;
+      only = built.only;
+      tokenized = subst (λ f. IsTokenized text (page_tokens characters f))
+          (built.only emitted.inside emitted.reading) emitted.tokenized;
+      built = text-page-built characters body
+          (subst (λ t. list_all is_character t ≡ true)
+          (seen-is escaped (is_escaped-encoded title) ∙ ap with_line_feeds (read_back-encoded title))
+          (seen-characters escaped (is_escaped-encoded title)))
+          built;
+    }

@@ -5,6 +5,8 @@ ghost use Rattle.std.specs.Prelude.{◌≡◌, false, IfOk, string_bytes};
 ghost use Rattle.md_text.specs.Encode.{encoded};
 ghost use Rattle.md_standard.specs.Input.{with_line_feeds};
 ghost use Rattle.md_standard.specs.PageTokens.{IsTokenizedPage};
+ghost use Rattle.md_dom.specs.Built.{IsBuiltAsRead};
+ghost use Rattle.md_dom.specs.Page.{IsBuiltPage};
 ghost use Rattle.md_page.specs.Page.{IsPageOf, page_text};
 
 use md_html::SafeHtml;
@@ -17,6 +19,10 @@ use std::alloc::{AllocError, Global};
 /// its body is the one reading of `body`, so each `href` and `src` in the page has no protocol or a permitted one. The
 /// HTML Standard's tokenizer emits exactly that of it: the doctype, the head with the title's characters, each line
 /// ending in them a line feed, and the tokens of the body.
+///
+/// Where `body` is built as it is read, as the clause `tree` of `compile_safe` says of a document without a link in a
+/// link, the Standard's tree construction builds of these tokens exactly the document of that title and that body. The
+/// line feed at the page's end goes into the body, after all else in it, as the Standard says.
 ///
 /// # Errors
 ///
@@ -37,6 +43,8 @@ pub fn page(alloc: Global, title: &str, body: &SafeHtml) -> Result<String, Alloc
     ensures page { IfOk result (λ text. IsPageOf title.now body.now (string_bytes text)) }
     ensures tokenized { IfOk result (λ text. IsTokenizedPage (with_line_feeds (encoded false title.now)) body.now
         (string_bytes text)) }
+    ensures tree { IfOk result (λ text. IsBuiltAsRead body.now
+        → IsBuiltPage (with_line_feeds (encoded false title.now)) body.now (string_bytes text)) }
 {
     let escaped = encode(alloc, title, true)?;
     let mut text = String::new(alloc);

@@ -3,7 +3,7 @@ use Rattle.std.proofs.Common.{◌≡◌, ℕ, true, List, ◌++◌, ap, ◌∙�
 use Rattle.std.proofs.lemmas.List.{append_assoc}
 use Rattle.md_text.specs.Encode.{encoded}
 use Rattle.md_page.proofs.Pages.{before_title, before_body, after_body}
-use Rattle.md_page.proofs.Given.{page_given, page_emitted}
+use Rattle.md_page.proofs.Given.{page_given, page_emitted, page_constructed}
 use Rattle.md_page.proofs.page.Goals as goal
 
 joined : (title body : List ℕ) → ((before_title ++ title) ++ before_body) ++ body ++ after_body ≡ before_title
@@ -37,3 +37,7 @@ returns-clause-page c =
 pub returns-clause-tokenized : goal.returns-clause-tokenized
 returns-clause-tokenized c =
     page_emitted c.args.title.now c.args.body.now _ (returns-clause-text c) c.as_str-2.ensures.safe
+
+pub returns-clause-tree : goal.returns-clause-tree
+returns-clause-tree c =
+    page_constructed c.args.title.now c.args.body.now _ (returns-clause-text c) c.as_str-2.ensures.safe
