@@ -13,6 +13,8 @@ FORMATTING = {"code", "em", "strong"}
 ORDINARY = {"del", "sup"}
 SECTIONS, CELLS = {"tbody", "thead"}, {"td", "th"}
 PARTS = {"tr"} | CELLS | SECTIONS
+CLOSING = {"body", "html", "br"}
+SPACE = "\t\n\x0c\r "
 MARKER = None
 
 
@@ -30,6 +32,7 @@ class Parser:
 
     def __init__(self, mode, stack):
         self.mode, self.stack, self.active, self.created, self.pending, self.skips = mode, stack, [], 100, "", False
+        self.original = None
 
     def has(self, ends, test):
         for node in reversed(self.stack):
@@ -216,8 +219,17 @@ class Parser:
             self.end_formatting(name)
         elif name in ORDINARY or name == "table" or name in PARTS:
             self.end_other(name)
+        elif name in ("body", "html") and self.mode == "body":
+            if self.named(ANY_SCOPE, "body"):
+                self.mode = "after after body" if name == "html" else "after body"
         else:
             raise Stuck
+
+    def character_in_body(self, character):
+        self.reconstruct()
+        self.say(character)
+
+    character_in_cell = character_in_body
 
     # tables
 
@@ -303,7 +315,174 @@ class Parser:
         else:
             self.end_in_body(name)
 
+    def character_in_table(self, character):
+        if self.stack[-1].name not in ("table", "tbody", "template", "tfoot", "thead", "tr"):
+            raise Stuck
+        self.mode, self.pending = (self.mode,), character
+
+    character_in_table_body = character_in_row = character_in_table
+
+    # before the body and after it
+
+    def enter(self, mode, name, attributes):
+        self.mode = mode
+        self.insert(name, attributes)
+
+    def leave(self, mode):
+        self.mode = mode
+        self.pop()
+
+    def with_root(self):
+        self.enter("before head", "html", [])
+
+    def with_head(self):
+        self.enter("head", "head", [])
+
+    def without_head(self):
+        self.leave("after head")
+
+    def with_body(self):
+        self.enter("body", "body", [])
+
+    def start_in_after_head(self, name, attributes):
+        if name == "body":
+            return self.enter("body", name, attributes)
+        self.with_body()
+        return self.start_in_body(name, attributes)
+
+    def start_in_head(self, name, attributes):
+        if name == "meta":
+            return self.insert_void(name, attributes)
+        if name == "title":
+            self.original = self.mode
+            return self.enter("text", name, attributes)
+        self.without_head()
+        return self.start_in_after_head(name, attributes)
+
+    def start_in_before_head(self, name, attributes):
+        if name == "head":
+            return self.enter("head", name, attributes)
+        self.with_head()
+        return self.start_in_head(name, attributes)
+
+    def start_in_before_html(self, name, attributes):
+        if name == "html":
+            return self.enter("before head", name, attributes)
+        self.with_root()
+        return self.start_in_before_head(name, attributes)
+
+    start_in_initial = start_in_before_html
+
+    def start_in_after_body(self, name, attributes):
+        self.mode = "body"
+        self.start_in_body(name, attributes)
+
+    start_in_after_after_body = start_in_after_body
+
+    def end_in_after_head(self, name):
+        if name in CLOSING:
+            self.with_body()
+            self.end_in_body(name)
+
+    def end_in_head(self, name):
+        if name == "head":
+            self.without_head()
+        elif name in CLOSING:
+            self.without_head()
+            self.end_in_after_head(name)
+
+    def end_in_text(self, _name):
+        self.leave(self.original)
+
+    def end_in_before_head(self, name):
+        if name == "head" or name in CLOSING:
+            self.with_head()
+            self.end_in_head(name)
+
+    def end_in_before_html(self, name):
+        if name == "head" or name in CLOSING:
+            self.with_root()
+            self.end_in_before_head(name)
+
+    def end_in_initial(self, name):
+        self.mode = "before html"
+        self.end_in_before_html(name)
+
+    def end_in_after_after_body(self, name):
+        self.mode = "body"
+        self.end_in_body(name)
+
+    def end_in_after_body(self, name):
+        if name == "html":
+            self.mode = "after after body"
+        else:
+            self.end_in_after_after_body(name)
+
+    def start_in_text(self, _name, _attributes):
+        raise Stuck
+
+    def character_in_after_head(self, character):
+        if character in SPACE:
+            return self.say(character)
+        self.with_body()
+        return self.character_in_body(character)
+
+    def character_in_head(self, character):
+        if character in SPACE:
+            return self.say(character)
+        self.without_head()
+        return self.character_in_after_head(character)
+
+    def character_in_text(self, character):
+        self.say(character)
+
+    def character_in_before_head(self, character):
+        if character not in SPACE:
+            self.with_head()
+            self.character_in_head(character)
+
+    def character_in_before_html(self, character):
+        if character not in SPACE:
+            self.with_root()
+            self.character_in_before_head(character)
+
+    def character_in_initial(self, character):
+        if character not in SPACE:
+            self.mode = "before html"
+            self.character_in_before_html(character)
+
+    def character_in_after_body(self, character):
+        if character not in SPACE:
+            self.mode = "body"
+        self.character_in_body(character)
+
+    character_in_after_after_body = character_in_after_body
+
+    def stop(self):
+        """The end of file."""
+        if self.mode == "text":
+            raise Stuck
+        if isinstance(self.mode, tuple):
+            self.end_table_text()
+        if self.mode in ("initial", "before html"):
+            self.with_root()
+        if self.mode == "before head":
+            self.with_head()
+        if self.mode == "head":
+            self.without_head()
+        if self.mode == "after head":
+            self.with_body()
+        while len(self.stack) > 1:
+            self.pop()
+
     # all tokens
+
+    def end_table_text(self):
+        if self.pending.strip(SPACE):
+            raise Stuck
+        for character in self.pending:
+            self.say(character)
+        self.mode, self.pending = self.mode[0], ""
 
     def step(self, token):
         kind = token[0]
@@ -315,21 +494,10 @@ class Parser:
                 return
             if isinstance(self.mode, tuple):
                 self.pending += token[1]
-            elif self.mode in ("body", "cell"):
-                self.reconstruct()
-                self.say(token[1])
-            elif self.stack[-1].name in ("table", "tbody", "template", "tfoot", "thead", "tr"):
-                self.mode, self.pending = (self.mode,), token[1]
-            else:
-                raise Stuck
-            return
+                return
         self.skips = False
         if isinstance(self.mode, tuple):
-            if self.pending.strip("\t\n\x0c\r "):
-                raise Stuck
-            for character in self.pending:
-                self.say(character)
-            self.mode, self.pending = self.mode[0], ""
+            self.end_table_text()
         getattr(self, kind + "_in_" + self.mode.replace(" ", "_"))(*token[1:])
 
 
@@ -344,3 +512,23 @@ def built(mode, names, tokens):
     except Stuck:
         return None
     return parser
+
+
+def document(tokens):
+    """The name of the doctype, None where there is none, and the root, of the tokens of a document."""
+    parser, doctype = Parser("initial", []), None
+    try:
+        for token in tokens:
+            if token[0] == "doctype":
+                if parser.mode != "initial" or token[1] != "html":
+                    raise Stuck
+                parser.mode, doctype = "before html", token[1]
+            elif token[0] == "eof":
+                parser.stop()
+                root = parser.stack[0]
+                return doctype, (root.name, root.attributes, root.children)
+            else:
+                parser.step(token)
+    except Stuck:
+        return None
+    return None

@@ -1,7 +1,9 @@
 """Compares construction.py with html5lib on random forests, in a div, a td, a list's item and a section.
 
 trees.py COUNT SEED: every second forest keeps to the content model of crates/md_contents without a link in a link, and has
-to be built as its own tree; the others are changed ones, in which elements may stand anywhere.
+to be built as its own tree; the others are changed ones, in which elements may stand anywhere. Every fourth stands
+between two pieces of a template that construction.py doesn't know: html5lib has to build what it builds of the template
+alone, with the forest's own tree where the mark stands in that.
 """
 
 import random
@@ -43,6 +45,21 @@ PLACES = {
     "section": ("<!doctype html><body><section id=here>", ["html", "body", "section"], "body"),
 }
 AFTER = "<i id=after></i>"
+# Pieces before and after a text, which is set where flow content may be set.
+TEMPLATES = [
+    ("<!doctype html><!-- c --><title>a<b</title><script>if (1 < 2) {}</script><div class=c>", "</div><p>after <b>it"),
+    ("<!doctype html><body><table><caption>c</caption><tr><td>x<td>", "</td><td>y</table>z"),
+    ("<ul><li>one<li>", "<li>three</ul>"),
+    ("<!doctype html><section><h2>T</h2>", "<footer>f</footer></section>"),
+    ("<!doctype html><article><form action='/x'><div>", "</div><button>ok</button></form></article>"),
+    ("<div><b>x</b>", "<i>y</i></div>"),
+    ("<!doctype html><details><summary>s</summary>", "</details><p>z"),
+    ("<!doctype html><main><style>p > a {}</style>", "<template><td>x</td></template></main>"),
+    ("<!doctype html><p>x<div>", "<p>y</div>"),
+    ("<!doctype html><dl><dt>x<dd>", "<dt>y</dl>"),
+    ("<!doctype html><svg><foreignObject><div>", "</div></foreignObject></svg><p>z"),
+]
+MARK = "<hr id=mark>"
 
 
 def attributes(name):
@@ -157,14 +174,38 @@ def differs(nodes, place, is_own):
     return None
 
 
+def with_forest(tree, own):
+    """A tree with another in the place of the mark."""
+    out = []
+    for node in tree:
+        if isinstance(node, str):
+            out.append(node)
+        elif node[0] == "hr" and ("id", "mark") in node[1]:
+            out += own
+        else:
+            out.append((*node[:2], with_forest(node[2], own)))
+    return out
+
+
+def differs_in_template(nodes):
+    """None if html5lib builds of a forest in a template what it builds of the two apart, or both."""
+    before, after = random.choice(TEMPLATES)
+    alone = with_forest(parsed_tree(html5lib.parse(before + MARK + after)), own_tree(nodes))
+    whole = parsed_tree(html5lib.parse(before + written(nodes) + after))
+    return None if whole == alone else f"{before}, {after}: {whole} and {alone}"
+
+
 def main(count, seed):
     random.seed(seed)
     sys.setrecursionlimit(10000)
-    same = own = stuck = 0
+    same = own = stuck = between = 0
     for index in range(count):
         place, is_own = random.choice(list(PLACES)), index % 2 == 0
         nodes = forest("flow", random.randint(1, 6), 0 if is_own else 0.3)
-        found = differs(nodes, place, is_own)
+        if index % 4 == 0:
+            place, found = "template", differs_in_template(nodes)
+        else:
+            found = differs(nodes, place, is_own)
         if found == "stuck" and not is_own:
             stuck += 1
         elif found is not None:
@@ -173,7 +214,9 @@ def main(count, seed):
         else:
             same += 1
             own += is_own
+            between += place == "template"
     print(f"{count} forests: {same} the same, {stuck} stuck; {own} of the content model, each built as its own tree")
+    print(f"{between} of these between two pieces of a template")
     return 0
 
 
