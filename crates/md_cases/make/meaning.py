@@ -1,0 +1,327 @@
+"""What documents mean: a small model of the rules, for the names that stand in the cases that `bench/cases.py` makes.
+
+It goes over trees, and was written from the rules (docs/DEFINITIONS.md says them too) and apart from the crates, which go
+over lists of events. A name that it doesn't know is an error: whoever makes a case of such a name adds a row or a method
+here, from the rules. Lists and block quotes have none, so the container around a node is a footnote definition or
+nothing, and no paragraph is in a tight list. Nothing here is run by itself.
+"""
+import re
+from typing import NamedTuple
+
+import texts
+from trees import Node
+
+NEEDED = object()
+FORCED = object()
+SPANS = {"Emphasis": "em", "Strong": "strong", "GfmStrikethrough": "del"}
+TEXTS = ("Data", "CharacterEscapeValue", "CodeTextData", "MathTextData")
+INLINE_CODE = {"CodeText": "<code>", "MathText": '<code class="language-math math-inline">'}
+AUTOLINKS = {"AutolinkEmail": "mailto:", "AutolinkProtocol": "", "GfmAutolinkLiteralEmail": "mailto:",
+             "GfmAutolinkLiteralMailto": "", "GfmAutolinkLiteralProtocol": "", "GfmAutolinkLiteralWww": "http://",
+             "GfmAutolinkLiteralXmpp": ""}
+MARKERS = {"CharacterReferenceMarker": "&", "CharacterReferenceMarkerNumeric": "#",
+           "CharacterReferenceMarkerHexadecimal": "x"}
+SILENT = ("ReferenceString", "Frontmatter", "GfmTableDelimiterRow", "Resource")
+TRANSPARENT = ("SpaceOrTab", "Other1")
+ALONE = ("Label", "LabelText", "HtmlText", "ResourceDestinationString", "ResourceTitleString",
+         "DefinitionDestinationString", "DefinitionTitleString", "CodeFencedFenceInfo", "GfmTableCell", *TRANSPARENT)
+
+
+class Around(NamedTuple):
+    """What is known of a node by the nodes around it."""
+    image: bool = False
+    link: bool = False
+    table: bool = False
+    head: bool = False
+    escaped: bool = True
+    footnote: bool = False
+
+
+def spine(node):
+    """The nodes in a node, those in transparent ones in their places."""
+    return [one for child in node.children for one in (spine(child) if child.name in TRANSPARENT else [child])]
+
+
+def first(node, *names):
+    """The first node on the spine with one of these names, or None."""
+    return next((one for one in spine(node) if one.name in names), None)
+
+
+def all_by_exit(nodes):
+    """These nodes and all in them, in the order of their exits."""
+    return [one for node in nodes for one in [*all_by_exit(node.children), node]]
+
+
+class Meaning:
+    """A document under options. What is asked for of it is `text`."""
+
+    def __init__(self, document, options):
+        self.document, self.options = document, options
+        every = all_by_exit(document.nodes)
+        self.ending = next((self.source(one) for one in every if one.name in ("LineEnding", "BlankLineEnding")), "\n")
+        self.slurps, self.marker, self.heading = False, None, None
+        self.counts, self.occurrences, self.footnotes, self.definitions = {}, {}, {}, {}
+        for one in every:
+            if one.name == "GfmFootnoteCall":
+                called = self.identifier(one)
+                self.counts[called] = self.counts.get(called, 0) + 1
+                self.occurrences[id(one)] = self.counts[called]
+        for one in every:
+            if one.name == "Definition":
+                self.definitions.setdefault(self.label(first(one, "DefinitionLabelString")), self.target(one))
+
+    def text(self):
+        body = self.all(self.document.nodes, Around())
+        return self.laid_out(body + self.section())
+
+    def source(self, node):
+        return self.document.source[node.start:node.end].decode()
+
+    def laid_out(self, pieces):
+        """The text of some pieces by themselves."""
+        made = ""
+        for piece in pieces:
+            if piece is FORCED or piece is NEEDED and made and made[-1] not in "\r\n":
+                made += self.ending
+            elif piece is not NEEDED:
+                made += piece
+        return made
+
+    def captured(self, nodes, around):
+        return self.laid_out(self.all(nodes, around))
+
+    def all(self, nodes, around):
+        """The pieces of neighbours; a line ending after a definition is dropped."""
+        pieces, before = [], None
+        for node in nodes:
+            dropped = node.name == "LineEnding" and before in ("Definition", "GfmFootnoteDefinition")
+            made = self.pieces(node, around)
+            pieces += [] if dropped else made
+            before = node.name
+        return pieces
+
+    def pieces(self, node, around):
+        """The pieces of a node, by its name."""
+        name = node.name
+        if name in TEXTS:
+            return [texts.encoded(self.source(node), around.escaped)]
+        if name in MARKERS:
+            self.marker = MARKERS[name]
+            return []
+        if name in SPANS:
+            inner = self.all(node.children, around)
+            return inner if around.image else [f"<{SPANS[name]}>", *inner, f"</{SPANS[name]}>"]
+        if name in INLINE_CODE:
+            return self.inline_code(node, around)
+        if name in AUTOLINKS:
+            return self.autolink(node, around)
+        if name in ("HtmlFlowData", "HtmlTextData"):
+            return self.html(node)
+        if name in ("Link", "Image"):
+            return self.media(node, around)
+        if name in ("CodeFenced", "MathFlow"):
+            return self.raw(node, around)
+        if name in ("CodeFlowChunk", "MathFlowChunk"):
+            return [texts.encoded(self.source(node))]
+        if name in SILENT:
+            return []
+        if name in ALONE:
+            return self.all(node.children, around)
+        return getattr(self, "of_" + name)(node, around)
+
+    # Line endings, and blocks.
+
+    def of_LineEnding(self, node, around):
+        slurped, self.slurps = self.slurps, False
+        return [] if slurped else [self.source(node)]
+
+    def of_BlankLineEnding(self, node, around):
+        self.slurps = False
+        return [NEEDED] if node is self.document.nodes[-1] else []
+
+    def of_Paragraph(self, node, around):
+        return [NEEDED, "<p>", *self.all(node.children, around), "</p>"]
+
+    def of_ThematicBreak(self, node, around):
+        return [NEEDED, "<hr />"]
+
+    def of_HtmlFlow(self, node, around):
+        return [NEEDED, *self.all(node.children, around)]
+
+    def of_HeadingAtx(self, node, around):
+        mark = first(node, "HeadingAtxSequence")
+        rank = mark.end - mark.start
+        inner = [piece for one in spine(node) if one.name == "HeadingAtxText" for piece in self.all(one.children, around)]
+        return [NEEDED, f"<h{rank}>", *inner, f"</h{rank}>"]
+
+    def of_HeadingSetextText(self, node, around):
+        self.heading, self.slurps = self.captured(node.children, around), True
+        return []
+
+    def of_HeadingSetextUnderlineSequence(self, node, around):
+        rank = 2 if self.document.source[node.start] == ord("-") else 1
+        return [NEEDED, f"<h{rank}>", self.heading, f"</h{rank}>"]
+
+    def of_CodeIndented(self, node, around):
+        inner = self.all(node.children, around)
+        self.slurps = False
+        return [NEEDED, "<pre><code>", *inner, *([NEEDED] if first(node, "CodeFlowChunk") else []), "</code></pre>"]
+
+    def raw(self, node, around):
+        """Fenced code, and math on its own lines."""
+        parts = spine(node)
+        fences = [one for one in parts if one.name in ("CodeFencedFence", "MathFlowFence")]
+        info = first(fences[0], "CodeFencedFenceInfo")
+        attribute = "" if info is None else f' class="language-{self.captured(info.children, around)}"'
+        if node.name == "MathFlow":
+            attribute = ' class="language-math math-display"'
+        self.slurps = True
+        inner = self.all([one for one in parts if one not in fences], around)
+        self.slurps = False
+        if len(fences) == 1 and around.footnote and node.children[-1] is not fences[0]:
+            inner += [FORCED]
+        chunk = [NEEDED] if first(node, "CodeFlowChunk", "MathFlowChunk") else []
+        return [NEEDED, "<pre><code", attribute, ">", *inner, *chunk, "</code></pre>",
+                *([NEEDED] if len(fences) == 1 else [])]
+
+    # Texts.
+
+    def of_CharacterReferenceValue(self, node, around):
+        return [texts.encoded(texts.referred(self.marker, self.source(node)), around.escaped)]
+
+    def inline_code(self, node, around):
+        text = "".join(" " if one.name == "LineEnding" else self.pieces(one, around)[0] for one in spine(node))
+        if around.table:
+            text = text.replace("\\|", "|")
+        if text.startswith(" ") and text.endswith(" ") and text.strip(" "):
+            text = text[1:-1]
+        return [text] if around.image else [INLINE_CODE[node.name], text, "</code>"]
+
+    def html(self, node):
+        stays = "allow_dangerous_html" in self.options
+        text = self.source(node)
+        if stays and "gfm_tagfilter" in self.options:
+            text = texts.filtered(text)
+        return [texts.encoded(text, not stays)]
+
+    def of_GfmTaskListItemCheck(self, node, around):
+        disabled = "" if "gfm_task_list_item_checkable" in self.options else 'disabled="" '
+        checked = 'checked="" ' if first(node, "GfmTaskListItemValueChecked") else ""
+        return [] if around.image else [f'<input type="checkbox" {disabled}{checked}/>']
+
+    # Links and images.
+
+    def url(self, destination, image):
+        if "allow_dangerous_protocol" in self.options or image and "allow_any_img_src" in self.options:
+            return texts.sanitized(destination)
+        return texts.permitted(destination, texts.IMAGE_PROTOCOLS if image else texts.LINK_PROTOCOLS)
+
+    def autolink(self, node, around):
+        text = texts.encoded(self.source(node))
+        if around.image or around.link and node.name.startswith("GfmAutolinkLiteral"):
+            return [text]
+        url = self.url(AUTOLINKS[node.name] + self.source(node), False)
+        return [f'<a href="{url}">{text}</a>']
+
+    def label(self, node):
+        return texts.identifier(self.source(node))
+
+    def identifier(self, node):
+        """What a link, an image or a call refers to."""
+        return self.label(first(node, "ReferenceString") or first(first(node, "Label"), "LabelText"))
+
+    def target(self, node):
+        """The destination and the title, or None, that stand in a resource or a definition."""
+        destination = first(node, "ResourceDestinationString", "DefinitionDestinationString")
+        title = first(node, "ResourceTitleString", "DefinitionTitleString")
+        return ("" if destination is None else self.captured(destination.children, Around(escaped=False)),
+                None if title is None else self.captured(title.children, Around()))
+
+    def of_Definition(self, node, around):
+        return []
+
+    def media(self, node, around):
+        image = node.name == "Image"
+        inner = around._replace(image=True) if image else around._replace(link=True)
+        label = self.captured([first(node, "Label")], inner)
+        if around.image:
+            return [label]
+        resource = first(node, "Resource")
+        destination, title = self.target(resource) if resource else self.definitions[self.identifier(node)]
+        url, title = self.url(destination, image), "" if title is None else f' title="{title}"'
+        return [f'<img src="{url}" alt="{label}"{title} />' if image else f'<a href="{url}"{title}>{label}</a>']
+
+    # Tables.
+
+    def of_GfmTable(self, node, around):
+        delimiters = spine(first(first(node, "GfmTableHead"), "GfmTableDelimiterRow"))
+        self.columns = len([one for one in delimiters if one.name == "GfmTableDelimiterCellValue"])
+        return [NEEDED, "<table>", *self.all(node.children, around._replace(table=True)), NEEDED, "</table>"]
+
+    def of_GfmTableHead(self, node, around):
+        return [NEEDED, "<thead>", *self.all(node.children, around._replace(head=True)), NEEDED, "</thead>"]
+
+    def of_GfmTableBody(self, node, around):
+        return ["<tbody>", *self.all(node.children, around), NEEDED, "</tbody>"]
+
+    def of_GfmTableRow(self, node, around):
+        tag = "th" if around.head else "td"
+        cells = [self.captured([one], around) for one in spine(node) if one.name == "GfmTableCell"]
+        cells = (cells + [""] * self.columns)[:self.columns]
+        return [NEEDED, "<tr>", *[piece for cell in cells for piece in (NEEDED, f"<{tag}>{cell}</{tag}>")], NEEDED, "</tr>"]
+
+    # Footnotes.
+
+    def names(self, identifier):
+        """A footnote's number, and what its ids end in."""
+        number = list(self.counts).index(identifier) + 1
+        return number, str(number) if "gfm_footnote_number_ids" in self.options else texts.sanitized(identifier)
+
+    def option(self, name, default):
+        return texts.encoded(self.options.get(name, default))
+
+    def numbered(self, occurrence):
+        return f"-{occurrence}" if occurrence > 1 or "gfm_footnote_number_ids" in self.options else ""
+
+    def of_GfmFootnoteCall(self, node, around):
+        number, named = self.names(self.identifier(node))
+        prefix = self.option("gfm_footnote_clobber_prefix", "user-content-")
+        ids = f'href="#{prefix}fn-{named}" id="{prefix}fnref-{named}{self.numbered(self.occurrences[id(node)])}"'
+        text = f'<sup><a {ids} data-footnote-ref="" aria-describedby="footnote-label">{number}</a></sup>'
+        return [] if around.image else [text]
+
+    def of_GfmFootnoteDefinition(self, node, around):
+        named = self.label(first(first(node, "GfmFootnoteDefinitionPrefix"), "GfmFootnoteDefinitionLabelString"))
+        body = self.captured(node.children[1:], Around(footnote=True))
+        self.footnotes.setdefault(named, body)
+        return []
+
+    def back(self, named, occurrence):
+        prefix = self.option("gfm_footnote_clobber_prefix", "user-content-")
+        label = self.option("gfm_footnote_back_label", "Back to content")
+        text = "↩" if occurrence == 1 else f"↩<sup>{occurrence}</sup>"
+        return (f'<a href="#{prefix}fnref-{named}{self.numbered(occurrence)}" data-footnote-backref="" '
+                f'aria-label="{label}" class="data-footnote-backref">{text}</a>')
+
+    def item(self, identifier):
+        named, prefix = self.names(identifier)[1], self.option("gfm_footnote_clobber_prefix", "user-content-")
+        backs = " ".join(self.back(named, occurrence + 1) for occurrence in range(self.counts[identifier]))
+        body = self.footnotes[identifier]
+        closed = re.fullmatch(r"(.*)(</p>[\r\n]*)", body, re.DOTALL)
+        body = [f"{closed.group(1)} {backs}{closed.group(2)}"] if closed else [body, NEEDED, backs]
+        return [FORCED, f'<li id="{prefix}fn-{named}">', FORCED, *body, NEEDED, "</li>"]
+
+    def section(self):
+        if not self.counts:
+            return []
+        tag = self.option("gfm_footnote_label_tag_name", "h2")
+        attributes = self.options.get("gfm_footnote_label_attributes", 'class="sr-only"')
+        heading = f'<{tag} id="footnote-label" {attributes}>{self.option("gfm_footnote_label", "Footnotes")}</{tag}>'
+        items = [piece for identifier in self.counts for piece in self.item(identifier)]
+        return [NEEDED, f'<section data-footnotes="" class="footnotes">{heading}', FORCED, "<ol>", *items,
+                FORCED, "</ol>", FORCED, "</section>", FORCED]
+
+
+def meaning(document, options):
+    """The text that a document means under options."""
+    return Meaning(document, options).text()
