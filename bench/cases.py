@@ -19,9 +19,12 @@ sys.dont_write_bytecode = True
 sys.path.insert(0, os.path.join(CASES, "make"))
 
 import attacks  # noqa: E402
+import flags  # noqa: E402
+import footnote_texts  # noqa: E402
+import ids  # noqa: E402
 from trees import Case  # noqa: E402
 
-MODULES = [attacks]
+MODULES = [attacks, flags, footnote_texts, ids]
 LAST = b"each call was made\n"
 SHOWN = 5
 
@@ -48,7 +51,7 @@ def all_standing():
 
 def run_of(cases, start):
     """Where the cases whose titles begin so stand: the first, and the one after the last."""
-    places = [place for place, case in enumerate(cases) if case.title.startswith(start)]
+    places = [place for place, case in enumerate(cases) if case.title.startswith(start + ":")]
     if places and places[-1] - places[0] + 1 != len(places):
         sys.exit(f"bench/cases.py: the cases of `{start}` stand apart")
     return (places[0], places[-1] + 1) if places else (None, None)
