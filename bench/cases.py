@@ -19,12 +19,13 @@ sys.dont_write_bytecode = True
 sys.path.insert(0, os.path.join(CASES, "make"))
 
 import attacks  # noqa: E402
+import cuts  # noqa: E402
 import flags  # noqa: E402
 import footnote_texts  # noqa: E402
 import ids  # noqa: E402
 from trees import Case  # noqa: E402
 
-MODULES = [attacks, flags, footnote_texts, ids]
+MODULES = [cuts, ids, attacks, flags, footnote_texts]
 LAST = b"each call was made\n"
 SHOWN = 5
 
