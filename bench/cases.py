@@ -5,8 +5,8 @@
     bench/cases.py --write    writes what is made in the place of what stands, and leaves all other cases as they are
 
 What stands is in `crates/md_cases/stdin` and `stdout`. What makes the cases is in `crates/md_cases/make`: a module for
-each group, over a model of the rules that was written apart from the crates. Nothing of the crates is run, and no answer
-is read from them.
+each group, over a model of the rules that was written apart from the crates. Nothing of the crates is run, no answer is
+read from them, and none from what stands.
 """
 import argparse
 import os
@@ -27,15 +27,14 @@ from trees import Case  # noqa: E402
 
 MODULES = [cuts, ids, attacks, flags, footnote_texts]
 LAST = b"each call was made\n"
-SHOWN = 5
+SHOWN_LINES, SHOWN_BEFORE, SHOWN_BYTES = 5, 40, 160
 
 
 def standing(name):
-    """What stands before the cases of a file, and their titles and contents."""
+    """What stands before the cases of a file, and their titles and contents: the last script ends with the file."""
     with open(os.path.join(CASES, name), "rb") as file:
         source = file.read()
-    if name == "stdout":
-        source = source.removesuffix(LAST)
+    source = source.removesuffix(LAST) if name == "stdout" else source + b"\n"
     parts = re.split(rb"(?m)^%%%% ([^\n]*)\n", source)
     contents = [content.removesuffix(b"\n") for content in parts[2::2]]
     return parts[0], list(zip([title.decode() for title in parts[1::2]], contents))
@@ -70,20 +69,20 @@ def differences(made, found):
         elif case.script != other.script:
             lines.append(f"has another script: {case.title}")
         elif case.answer != other.answer:
-            lines.append(f"has another answer: {case.title}\n    made   {case.answer!r}\n    stands {other.answer!r}")
+            at = max(len(os.path.commonprefix([case.answer, other.answer])) - SHOWN_BEFORE, 0)
+            lines.append(f"has another answer: {case.title}, from byte {at}\n"
+                         f"    made   {case.answer[at:at + SHOWN_BYTES]!r}\n"
+                         f"    stands {other.answer[at:at + SHOWN_BYTES]!r}")
     return lines or (["stand in another order"] if made != found else [])
 
 
 def write(head, cases):
     """Writes both files."""
-    parts = {"stdin": [head], "stdout": []}
-    for case in cases:
-        title = b"%%%% " + case.title.encode() + b"\n"
-        parts["stdin"] += [title, case.script, b"\n"]
-        parts["stdout"] += [title, case.answer, b"\n"]
-    for name, written in parts.items():
+    scripts = b"\n".join(b"%%%% " + case.title.encode() + b"\n" + case.script for case in cases)
+    answers = b"".join(b"%%%% " + case.title.encode() + b"\n" + case.answer + b"\n" for case in cases)
+    for name, written in (("stdin", head + scripts), ("stdout", answers + LAST)):
         with open(os.path.join(CASES, name), "wb") as file:
-            file.write(b"".join(written) + (LAST if name == "stdout" else b""))
+            file.write(written)
 
 
 def main():
@@ -96,7 +95,7 @@ def main():
         first, after_last = run_of(cases, start)
         found = [] if first is None else cases[first:after_last]
         lines = differences(made, found)
-        for line in lines[:SHOWN]:
+        for line in lines[:SHOWN_LINES]:
             print(f"{start}: {line}")
         print(f"{start}: {len(made)} cases, {f'{len(lines)} differences' if lines else 'as they are made'}")
         different += bool(lines)
@@ -104,9 +103,10 @@ def main():
         first, after_last = (after, after) if first is None else (first, after_last)
         cases[first:after_last] = made
         after = first + len(made)
-    print(f"cases: {size} are made, {different} groups differ from what stands")
+    print(f"cases: {size} are made, of {len(cases)}; groups that differ from what stands: {different}")
     if given.write and different:
         write(head, cases)
+        print("stdin and stdout are written anew")
     return 1 if different and not given.write else 0
 
 

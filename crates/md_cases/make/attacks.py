@@ -1,7 +1,8 @@
 """The cases of the group `attacks`: known attacks on each way into the text.
 
 An attack is the whole document, and nearly every node of a way in stands over all of it. To add an attack, write it at
-the end of its kind below; to add a way in, add a row to the functions of ways. `bench/cases.py` makes them.
+the end of its kind below; to add a way in, add a row to a function of ways: its name, its options and its nodes.
+`bench/cases.py` makes the cases.
 """
 import re
 
@@ -27,7 +28,8 @@ SPELLINGS = ["&#106;avascript:x", "&#0000106;avascript:x", "&#x4a;avascript:x", 
              "http&colon;&sol;&sol;x", "mailto&colon;x", "&lt;script&gt;", "&#60;script&#x3e;", "&quot; onload=&quot;",
              "&apos; onload=&#39;", "&amp;lt;script", "&amp;colon;x", "&amp;&quot;", "&#37;0Aa", "%&#50;0a",
              "&#37;&lt;", "&#8232;<"]
-KINDS = {"markup": MARKUP, "protocols": PROTOCOLS, "lines": LINES, "nuls": NULS}
+OF_ONE_LINE = {"markup": MARKUP, "protocols": PROTOCOLS}
+KINDS = OF_ONE_LINE | {"lines": LINES, "nuls": NULS}
 MANY = "<" * 9000
 
 
@@ -39,20 +41,15 @@ def makers(text):
 
 
 def referring(text):
-    """The nodes of a text in which each reference is one."""
+    """The nodes of a text in ASCII, in which each reference is one."""
     nodes, at = [], 0
-    for piece in re.findall(r"&(?:#x[0-9A-Fa-f]+|#[0-9]+|\w+);|[^&]+", text):
-        reference = re.fullmatch(r"&(#?)(x?)(\w+);", piece) if piece[1:2] == "#" else re.fullmatch("&()()(.+);", piece)
-        if not reference:
-            nodes.append(Node("Data", at, at + len(piece), []))
-        else:
-            start = at
-            for name, part in zip(("", "Numeric", "Hexadecimal"), ("&", *reference.groups()[:2])):
-                if part:
-                    nodes.append(Node("CharacterReferenceMarker" + name, start, start + 1, []))
-                    start += 1
-            nodes.append(Node("CharacterReferenceValue", start, at + len(piece) - 1, []))
-        at += len(piece)
+    for marks, value, data in re.findall(r"(&#x|&#|&)(\w+);|([^&]+)", text):
+        for name, _ in zip(("", "Numeric", "Hexadecimal"), marks):
+            nodes.append(Node("CharacterReferenceMarker" + name, at, at + 1, []))
+            at += 1
+        piece = value or data
+        nodes.append(Node("CharacterReferenceValue" if value else "Data", at, at + len(piece), []))
+        at += len(piece) + len(";" if value else "")
     return nodes
 
 
@@ -85,7 +82,8 @@ def ways_as_text(text):
 def ways_that_are_read(text, nodes):
     """The ways in on which data and references stand, given as nodes."""
     whole, end = makers(text)
-    heading = whole("HeadingAtx", Node("HeadingAtxSequence", 0, 1, []), whole("HeadingAtxText", whole("Strong", *nodes)))
+    mark = Node("HeadingAtxSequence", 0, 1, [])
+    heading = whole("HeadingAtx", mark, whole("HeadingAtxText", whole("Strong", *nodes)))
     fence = whole("CodeFencedFence", whole("CodeFencedFenceInfo", *nodes), whole("CodeFencedFenceMeta", *nodes))
     head = whole("GfmTableHead", whole("GfmTableRow", whole("GfmTableCell", *nodes)),
                  end("GfmTableDelimiterRow", end("GfmTableDelimiterCellValue")))
@@ -154,24 +152,24 @@ def ways_of_data(text):
     return ways_that_are_read(text, [whole("Data")])
 
 
-def over_kinds(where, ways, **renamed):
-    """The cases of all kinds of attacks on some ways in."""
-    return [case for kind, attacks in KINDS.items() for number, text in enumerate(attacks, 1)
-            if kind not in renamed or renamed[kind]
-            for case in cases_of(f"{where}: {renamed.get(kind, kind)} {number}", text, ways(text))]
+def over(where, ways, kinds):
+    """The cases of these kinds of attacks on some ways in."""
+    return [case for kind, attacks in kinds.items() for number, text in enumerate(attacks, 1)
+            for case in cases_of(f"{where}: {kind} {number}", text, ways(text))]
 
 
 def sections():
     """The runs of cases that this makes, each by what its titles begin with."""
-    spelled = [case for number, text in enumerate(SPELLINGS, 1)
-               for case in cases_of(f"by references: spellings {number}", text, ways_that_are_read(text, referring(text)))]
+    spelled = [case for number, text in enumerate(SPELLINGS, 1) for case in cases_of(
+        f"by references: spellings {number}", text, ways_that_are_read(text, referring(text)))]
     many = [case for ways in (ways_as_text, ways_of_data, ways_of_autolinks, ways_of_options)
             for case in cases_of("many angle brackets: 9,000", MANY, ways(MANY))]
     return {
-        "attacks: as text": over_kinds("as text", ways_as_text),
-        "attacks: in what is read": over_kinds("in what is read", ways_of_data),
-        "attacks: in autolinks": over_kinds("in autolinks", ways_of_autolinks, nuls="autolinked nuls"),
-        "attacks: in options": over_kinds("in options", ways_of_options, lines=None),
+        "attacks: as text": over("as text", ways_as_text, KINDS),
+        "attacks: in what is read": over("in what is read", ways_of_data, KINDS),
+        "attacks: in autolinks": over("in autolinks", ways_of_autolinks, OF_ONE_LINE | {
+            "lines": LINES, "autolinked nuls": NULS}),
+        "attacks: in options": over("in options", ways_of_options, OF_ONE_LINE | {"nuls": NULS}),
         "attacks: by references": spelled,
         "attacks: many angle brackets": many,
     }

@@ -7,9 +7,9 @@ give it a pattern in PATTERNS. `bench/cases.py` makes the cases.
 """
 import re
 
-from flags import data, paragraph
 from meaning import meaning
-from trees import Case, Document, call, events, footnote, node, placed, script
+from trees import (Case, Document, call, data, ending, events, footnote, footnote_after_a_blank_line, node, paragraph,
+                   placed, script, table)
 
 LINE = re.compile(rb"[+-][A-Za-z]+ [0-9]{1,9}")
 READ = ("Data", "LineEnding", "BlankLineEnding", "LabelText", "GfmFootnoteDefinitionLabelString")
@@ -118,28 +118,18 @@ def changed(document):
     return made
 
 
-def table():
-    """A table with a call in its last cell, which is dropped."""
-    def ending(name="LineEnding"):
-        return node(name, "\n")
-
-    head = node("GfmTableHead", node("GfmTableRow", node("GfmTableCell", "|", data("a"), "|")), ending(),
-                node("GfmTableDelimiterRow", "|", node("GfmTableDelimiterCellValue", "-"), "|"))
-    row = node("GfmTableRow", node("GfmTableCell", "|", data("b")), node("GfmTableCell", "|", call(data("c")), "|"))
-    return placed(node("GfmTable", head, ending(), node("GfmTableBody", row)), ending(), ending("BlankLineEnding"),
-                  footnote(data("c"), paragraph(data("d"))))
-
-
 def sections():
     """The runs of cases that this makes, each by what its titles begin with."""
     rule = placed(node("ThematicBreak", "***"))
-    note = placed(paragraph(data("a"), call(data("b"))), node("LineEnding", "\n"), node("BlankLineEnding", "\n"),
-                  footnote(data("b"), paragraph(data("c"))))
+    note = placed(*footnote_after_a_blank_line())
+    dropped = placed(table(data("b"), call(data("c"))), ending(), ending("BlankLineEnding"),
+                     footnote(data("c"), paragraph(data("d"))))
     whole = script(note, {})
+    # That a script may end with `--` is shown by the break, and its document is the same at the next byte.
     bare = whole.index(b"\n--\n") + len(b"\n--")
     return {"cuts": [
         *[cut_at("break", rule, at) for at in range(len(script(rule, {})) + 1)],
         *[cut_at("footnote", note, at) for at in range(len(whole)) if at != bare],
         Case("cuts: footnote", whole, answer(note, whole).encode()),
-        *changed(table()),
+        *changed(dropped),
     ]}

@@ -7,7 +7,7 @@ document. To add an option that is off or on, add it to OPTIONS, which are in th
 import itertools
 
 from meaning import meaning
-from trees import Case, image, link, node, placed, script
+from trees import Case, data, ending, image, link, node, paragraph, placed, script
 
 OPTIONS = ["allow_any_img_src", "allow_dangerous_html", "allow_dangerous_protocol", "gfm_task_list_item_checkable",
            "gfm_tagfilter"]
@@ -15,14 +15,6 @@ EVERY_AUTOLINK = ["AutolinkEmail", "AutolinkProtocol", "GfmAutolinkLiteralEmail"
                   "GfmAutolinkLiteralProtocol", "GfmAutolinkLiteralWww", "GfmAutolinkLiteralXmpp"]
 MARKUP = '<xmp>&"'
 TITLED = '<i>"&'
-
-
-def data(text):
-    return node("Data", text)
-
-
-def paragraph(*parts):
-    return node("Paragraph", *parts)
 
 
 def autolinks(text):
@@ -63,10 +55,6 @@ def row(text):
 
 def task(mark):
     return node("GfmTaskListItemCheck", *(["[", node("GfmTaskListItemValueChecked", mark), "]"] if mark else ["[ ]"]))
-
-
-def ending():
-    return node("LineEnding", "\n")
 
 
 def of_autolinks():
@@ -152,11 +140,11 @@ def of_plain():
         ("headings", "", [heading, ending(), node("HeadingSetextText", data(MARKUP)), ending(),
                           node("HeadingSetextUnderlineSequence", "-")]),
         ("spans", "", [paragraph(*[node(name, data(MARKUP)) for name in ("Emphasis", "Strong", "GfmStrikethrough")])]),
-        ("cells", "", [table()]),
+        ("cells", "", [table_of_one_column()]),
     ]
 
 
-def table():
+def table_of_one_column():
     """A table of one column, whose delimiter has a node that is passed over."""
     delimiter = node("GfmTableDelimiterRow", "|", node("GfmTableDelimiterCellValue", node("Other1", "-")), "|")
     return node("GfmTable", node("GfmTableHead", row(MARKUP), ending(), delimiter), ending(),

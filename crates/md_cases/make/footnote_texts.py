@@ -1,11 +1,11 @@
 """The cases of the group `footnote_texts`: each choice of the options that are texts, under few flags.
 
-Each document is there under each choice of the texts, with no flag, each flag alone and all flags. To add an option that
-is a text, add it and the text that it is set to to TEXTS, which are in the order of the cases, and say in `meaning` what
-it does. `bench/cases.py` makes the cases.
+Each document is there under each choice of the texts, with no flag, each flag alone and all flags. To add an option
+that is a text, give it a value in TEXTS, which are in the order of the cases, and say in `meaning` what it does. To add
+a document, write a row in `documents`. `bench/cases.py` makes the cases.
 """
-from flags import OPTIONS, cases_of, choices, data, paragraph
-from trees import call, footnote, image, placed
+from flags import OPTIONS, cases_of, choices
+from trees import call, data, footnote, image, paragraph, placed
 
 TEXTS = {"gfm_footnote_clobber_prefix": '<&"', "gfm_footnote_label_tag_name": "<b",
          "gfm_footnote_label_attributes": 'x="&<>"', "gfm_footnote_label": '<i>&"', "gfm_footnote_back_label": '"<&'}

@@ -1,11 +1,11 @@
 """The cases of the group `ids`: footnotes' ids by number.
 
-To add a case, write a row in `rows`: its title, options besides `gfm_footnote_number_ids`, and the parts of the document.
-`bench/cases.py` makes the cases.
+To add a case, write a row in `rows`: its title, options besides `gfm_footnote_number_ids`, and the parts of the
+document. `bench/cases.py` makes the cases.
 """
-from flags import data, paragraph
 from meaning import meaning
-from trees import Case, call, footnote, image, node, placed, script
+from trees import (Case, call, data, ending, footnote, footnote_after_a_blank_line, image, node, paragraph, placed,
+                   script, table)
 
 
 def note(label, text):
@@ -22,12 +22,8 @@ def ten_with_ten_calls():
 
 def dropped_cell():
     """A call in a cell past the one column of its table."""
-    head = node("GfmTableHead", node("GfmTableRow", node("GfmTableCell", "|", data("a"), "|")), node("LineEnding", "\n"),
-                node("GfmTableDelimiterRow", "|", node("GfmTableDelimiterCellValue", "-"), "|"))
-    body = node("GfmTableBody", node("GfmTableRow", node("GfmTableCell", "|", call("b")),
-                                     node("GfmTableCell", "|", call("c"), "|")))
-    return [node("GfmTable", head, node("LineEnding", "\n"), body), node("LineEnding", "\n"),
-            paragraph(call("d"), call("c")), note("b", "x"), note("c", "y"), note("d", "z")]
+    return [table(call("b"), call("c")), ending(), paragraph(call("d"), call("c")),
+            note("b", "x"), note("c", "y"), note("d", "z")]
 
 
 def under_prefix(prefix):
@@ -37,13 +33,12 @@ def under_prefix(prefix):
 def rows():
     """The title of each case, its other options, and its parts."""
     twice = [paragraph(call("b"), call("b")), note("b", "x")]
-    plain = footnote(data("b"), paragraph(data("c")))
     return [
-        ("footnote", {}, [paragraph(data("a"), call(data("b"))), node("LineEnding", "\n"),
-                          node("BlankLineEnding", "\n"), plain]),
+        ("footnote", {}, footnote_after_a_blank_line()),
         ("identifier that looks like an occurrence", {},
          [paragraph(call("a"), call("a"), call("a-2")), note("a", "x"), note("a-2", "y")]),
-        ("footnotes in the order of their calls", {}, [paragraph(call("b"), call("a")), note("a", "x"), note("b", "y")]),
+        ("footnotes in the order of their calls", {},
+         [paragraph(call("b"), call("a")), note("a", "x"), note("b", "y")]),
         ("ten footnotes with ten calls each", {}, ten_with_ten_calls()),
         ("call in an image (It is counted and prints nothing, so a way back leads nowhere)", {},
          [paragraph(image([data("i"), call("b")], "u"), call("c"), call("b")), note("c", "y"), note("b", "x")]),

@@ -1,9 +1,9 @@
 """What documents mean: a small model of the rules, for the names that stand in the cases that `bench/cases.py` makes.
 
-It goes over trees, and was written from the rules (docs/DEFINITIONS.md says them too) and apart from the crates, which go
-over lists of events. A name that it doesn't know is an error: whoever makes a case of such a name adds a row or a method
-here, from the rules. Lists and block quotes have none, so the container around a node is a footnote definition or
-nothing, and no paragraph is in a tight list. Nothing here is run by itself.
+It goes over trees, and was written from the rules (docs/DEFINITIONS.md says them too) and apart from the crates, which
+go over lists of events. A name or an option that it doesn't know is an error: whoever makes a case of one adds a row or
+a method here, from the rules. Lists and block quotes have none, so the container around a node is a footnote definition
+or nothing, and no paragraph is in a tight list. Nothing here is run by itself.
 """
 import re
 from typing import NamedTuple
@@ -21,7 +21,12 @@ AUTOLINKS = {"AutolinkEmail": "mailto:", "AutolinkProtocol": "", "GfmAutolinkLit
              "GfmAutolinkLiteralXmpp": ""}
 MARKERS = {"CharacterReferenceMarker": "&", "CharacterReferenceMarkerNumeric": "#",
            "CharacterReferenceMarkerHexadecimal": "x"}
-SILENT = ("ReferenceString", "Frontmatter", "GfmTableDelimiterRow", "Resource")
+SILENT = ("ReferenceString", "GfmTableDelimiterRow", "Resource", "Definition")
+ENDINGS = {"lf": "\n", "cr": "\r", "crlf": "\r\n"}
+OPTIONS = ("allow_any_img_src", "allow_dangerous_html", "allow_dangerous_protocol", "default_line_ending",
+           "gfm_footnote_back_label", "gfm_footnote_clobber_prefix", "gfm_footnote_label",
+           "gfm_footnote_label_attributes", "gfm_footnote_label_tag_name", "gfm_footnote_number_ids", "gfm_tagfilter",
+           "gfm_task_list_item_checkable")
 TRANSPARENT = ("SpaceOrTab", "Other1")
 ALONE = ("Label", "LabelText", "HtmlText", "ResourceDestinationString", "ResourceTitleString",
          "DefinitionDestinationString", "DefinitionTitleString", "CodeFencedFenceInfo", "GfmTableCell", *TRANSPARENT)
@@ -52,13 +57,24 @@ def all_by_exit(nodes):
     return [one for node in nodes for one in [*all_by_exit(node.children), node]]
 
 
+def aligned(value):
+    """The attribute of a column, by whether the first and the last child of its delimiter's value is a marker."""
+    marks = [bool(value.children) and value.children[at].name == "GfmTableDelimiterMarker" for at in (0, -1)]
+    side = {(True, True): "center", (True, False): "left", (False, True): "right"}.get(tuple(marks))
+    return f' align="{side}"' if side else ""
+
+
 class Meaning:
     """A document under options. What is asked for of it is `text`."""
 
     def __init__(self, document, options):
         self.document, self.options = document, options
+        unknown = set(options) - set(OPTIONS)
+        if unknown:
+            raise ValueError(f"the model doesn't know the options {unknown}")
         every = all_by_exit(document.nodes)
-        self.ending = next((self.source(one) for one in every if one.name in ("LineEnding", "BlankLineEnding")), "\n")
+        self.ending = next((self.source(one) for one in every if one.name in ("LineEnding", "BlankLineEnding")),
+                           ENDINGS[options.get("default_line_ending", "lf")])
         self.slurps, self.marker, self.heading = False, None, None
         self.counts, self.occurrences, self.footnotes, self.definitions = {}, {}, {}, {}
         for one in every:
@@ -127,7 +143,10 @@ class Meaning:
             return []
         if name in ALONE:
             return self.all(node.children, around)
-        return getattr(self, "of_" + name)(node, around)
+        known = getattr(self, "of_" + name, None)
+        if known is None:
+            raise ValueError(f"the model doesn't know the name {name}")
+        return known(node, around)
 
     # Line endings, and blocks.
 
@@ -138,6 +157,10 @@ class Meaning:
     def of_BlankLineEnding(self, node, around):
         self.slurps = False
         return [NEEDED] if node is self.document.nodes[-1] else []
+
+    def of_Frontmatter(self, node, around):
+        self.slurps = True
+        return []
 
     def of_Paragraph(self, node, around):
         return [NEEDED, "<p>", *self.all(node.children, around), "</p>"]
@@ -151,7 +174,7 @@ class Meaning:
     def of_HeadingAtx(self, node, around):
         mark = first(node, "HeadingAtxSequence")
         rank = mark.end - mark.start
-        inner = [piece for one in spine(node) if one.name == "HeadingAtxText" for piece in self.all(one.children, around)]
+        inner = [self.captured(one.children, around) for one in spine(node) if one.name == "HeadingAtxText"]
         return [NEEDED, f"<h{rank}>", *inner, f"</h{rank}>"]
 
     def of_HeadingSetextText(self, node, around):
@@ -237,9 +260,6 @@ class Meaning:
         return ("" if destination is None else self.captured(destination.children, Around(escaped=False)),
                 None if title is None else self.captured(title.children, Around()))
 
-    def of_Definition(self, node, around):
-        return []
-
     def media(self, node, around):
         image = node.name == "Image"
         inner = around._replace(image=True) if image else around._replace(link=True)
@@ -255,7 +275,7 @@ class Meaning:
 
     def of_GfmTable(self, node, around):
         delimiters = spine(first(first(node, "GfmTableHead"), "GfmTableDelimiterRow"))
-        self.columns = len([one for one in delimiters if one.name == "GfmTableDelimiterCellValue"])
+        self.columns = [aligned(one) for one in delimiters if one.name == "GfmTableDelimiterCellValue"]
         return [NEEDED, "<table>", *self.all(node.children, around._replace(table=True)), NEEDED, "</table>"]
 
     def of_GfmTableHead(self, node, around):
@@ -265,10 +285,12 @@ class Meaning:
         return ["<tbody>", *self.all(node.children, around), NEEDED, "</tbody>"]
 
     def of_GfmTableRow(self, node, around):
-        tag = "th" if around.head else "td"
+        tag, pieces = "th" if around.head else "td", []
         cells = [self.captured([one], around) for one in spine(node) if one.name == "GfmTableCell"]
-        cells = (cells + [""] * self.columns)[:self.columns]
-        return [NEEDED, "<tr>", *[piece for cell in cells for piece in (NEEDED, f"<{tag}>{cell}</{tag}>")], NEEDED, "</tr>"]
+        for column, attribute in enumerate(self.columns):
+            text = cells[column] if column < len(cells) else ""
+            pieces += [NEEDED, f"<{tag}{attribute}>{text}</{tag}>"]
+        return [NEEDED, "<tr>", *pieces, NEEDED, "</tr>"]
 
     # Footnotes.
 

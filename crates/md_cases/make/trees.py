@@ -83,3 +83,29 @@ def link(label, destination, *title, name="Link"):
 
 def image(label, destination, *title):
     return link(label, destination, *title, name="Image")
+
+
+def data(text):
+    return node("Data", text)
+
+
+def paragraph(*parts):
+    return node("Paragraph", *parts)
+
+
+def ending(name="LineEnding"):
+    return node(name, "\n")
+
+
+def table(kept, dropped):
+    """A table of one column with `a` in its head, and a row of two cells, of which the second is dropped."""
+    head = node("GfmTableHead", node("GfmTableRow", node("GfmTableCell", "|", data("a"), "|")), ending(),
+                node("GfmTableDelimiterRow", "|", node("GfmTableDelimiterCellValue", "-"), "|"))
+    row = node("GfmTableRow", node("GfmTableCell", "|", kept), node("GfmTableCell", "|", dropped, "|"))
+    return node("GfmTable", head, ending(), node("GfmTableBody", row))
+
+
+def footnote_after_a_blank_line():
+    """The parts of `a[^b]`, a blank line and `[^b]: c`."""
+    return [paragraph(data("a"), call(data("b"))), ending(), ending("BlankLineEnding"),
+            footnote(data("b"), paragraph(data("c")))]
