@@ -2,7 +2,7 @@
 
 An attack is the whole document, and nearly every node of a way in stands over all of it. To add an attack, write it at
 the end of its kind below; to add a way in, add a row to a function of ways: its name, its options and its nodes.
-`bench/cases.py` makes the cases.
+`many` has one more attack. `bench/cases.py` makes the cases.
 """
 import re
 
@@ -30,7 +30,6 @@ SPELLINGS = ["&#106;avascript:x", "&#0000106;avascript:x", "&#x4a;avascript:x", 
              "&#37;&lt;", "&#8232;<"]
 OF_ONE_LINE = {"markup": MARKUP, "protocols": PROTOCOLS}
 KINDS = OF_ONE_LINE | {"lines": LINES, "nuls": NULS}
-MANY = "<" * 9000
 
 
 def makers(text):
@@ -162,8 +161,6 @@ def sections():
     """The runs of cases that this makes, each by what its titles begin with."""
     spelled = [case for number, text in enumerate(SPELLINGS, 1) for case in cases_of(
         f"by references: spellings {number}", text, ways_that_are_read(text, referring(text)))]
-    many = [case for ways in (ways_as_text, ways_of_data, ways_of_autolinks, ways_of_options)
-            for case in cases_of("many angle brackets: 9,000", MANY, ways(MANY))]
     return {
         "attacks: as text": over("as text", ways_as_text, KINDS),
         "attacks: in what is read": over("in what is read", ways_of_data, KINDS),
@@ -171,5 +168,4 @@ def sections():
             "lines": LINES, "autolinked nuls": NULS}),
         "attacks: in options": over("in options", ways_of_options, OF_ONE_LINE | {"nuls": NULS}),
         "attacks: by references": spelled,
-        "attacks: many angle brackets": many,
     }

@@ -1,8 +1,8 @@
 """The cases of the groups `flags::..`: each name under all choices of five options that are off or on.
 
 To add a name, write a row in the list of its group: what the case shows, a comment or nothing, and the parts of the
-document. To add an option that is off or on, add it to OPTIONS, which are in the order of the cases, and say in
-`meaning` what it does. `bench/cases.py` makes the cases.
+document. To add an option that is off or on, add it to OPTIONS, which are in the order of the cases, and to those of
+`meaning`, and say there what it does. `bench/cases.py` makes the cases.
 """
 import itertools
 

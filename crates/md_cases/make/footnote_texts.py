@@ -1,8 +1,8 @@
 """The cases of the group `footnote_texts`: each choice of the options that are texts, under few flags.
 
 Each document is there under each choice of the texts, with no flag, each flag alone and all flags. To add an option
-that is a text, give it a value in TEXTS, which are in the order of the cases, and say in `meaning` what it does. To add
-a document, write a row in `documents`. `bench/cases.py` makes the cases.
+that is a text, give it a value in TEXTS, which are in the order of the cases, add it to OPTIONS of `meaning`, and say
+there what it does. To add a document, write a row in `documents`. `bench/cases.py` makes the cases.
 """
 from flags import OPTIONS, cases_of, choices
 from trees import call, data, footnote, image, paragraph, placed

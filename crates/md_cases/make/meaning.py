@@ -9,8 +9,8 @@ import re
 from typing import NamedTuple
 
 import texts
-from trees import Node
 
+# Pieces that are line endings: a needed one is left out where the text so far is empty or ends in one.
 NEEDED = object()
 FORCED = object()
 SPANS = {"Emphasis": "em", "Strong": "strong", "GfmStrikethrough": "del"}
@@ -21,15 +21,15 @@ AUTOLINKS = {"AutolinkEmail": "mailto:", "AutolinkProtocol": "", "GfmAutolinkLit
              "GfmAutolinkLiteralXmpp": ""}
 MARKERS = {"CharacterReferenceMarker": "&", "CharacterReferenceMarkerNumeric": "#",
            "CharacterReferenceMarkerHexadecimal": "x"}
+# Names that mean nothing, transparent ones, and those that mean what is in them and no more.
 SILENT = ("ReferenceString", "GfmTableDelimiterRow", "Resource", "Definition")
+TRANSPARENT = ("SpaceOrTab", "Other1")
+CONTENTS = ("Label", "LabelText", "HtmlText", "GfmTableCell", *TRANSPARENT)
 ENDINGS = {"lf": "\n", "cr": "\r", "crlf": "\r\n"}
 OPTIONS = ("allow_any_img_src", "allow_dangerous_html", "allow_dangerous_protocol", "default_line_ending",
            "gfm_footnote_back_label", "gfm_footnote_clobber_prefix", "gfm_footnote_label",
            "gfm_footnote_label_attributes", "gfm_footnote_label_tag_name", "gfm_footnote_number_ids", "gfm_tagfilter",
            "gfm_task_list_item_checkable")
-TRANSPARENT = ("SpaceOrTab", "Other1")
-ALONE = ("Label", "LabelText", "HtmlText", "ResourceDestinationString", "ResourceTitleString",
-         "DefinitionDestinationString", "DefinitionTitleString", "CodeFencedFenceInfo", "GfmTableCell", *TRANSPARENT)
 
 
 class Around(NamedTuple):
@@ -141,7 +141,7 @@ class Meaning:
             return [texts.encoded(self.source(node))]
         if name in SILENT:
             return []
-        if name in ALONE:
+        if name in CONTENTS:
             return self.all(node.children, around)
         known = getattr(self, "of_" + name, None)
         if known is None:
