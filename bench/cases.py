@@ -23,11 +23,12 @@ import cuts  # noqa: E402
 import flags  # noqa: E402
 import footnote_texts  # noqa: E402
 import ids  # noqa: E402
+import labels  # noqa: E402
 import many  # noqa: E402
 from trees import Case  # noqa: E402
 
 # In the order in which their cases stand: a group of which nothing stands is written after the one before it.
-MODULES = [cuts, ids, attacks, flags, footnote_texts, many]
+MODULES = [cuts, ids, attacks, flags, footnote_texts, labels, many]
 LAST = b"each call was made\n"
 SHOWN_LINES, SHOWN_BEFORE, SHOWN_BYTES = 5, 40, 160
 
