@@ -8,7 +8,7 @@ use Rattle.md_base.specs.declared.event.Name.TheVariants.{Image, Link}
 use Rattle.md_base.specs.declared.event.Point.{Point}
 use Rattle.md_base.specs.Is.{is}
 use Rattle.md_base.specs.Tree.{Forest, Empty, Node, flatten, entering, exiting}
-use Rattle.md_contents.specs.Links.{prints_link, has_nested_link}
+use Rattle.md_safe.specs.Links.{prints_link, has_nested_link}
 use Rattle.md_html.specs.Nesting.{is_link, is_image, is_none, one_less, is_nested, link_after, images_after, nests}
 
 is_link-is : (name : Name) → is Link name ≡ is_link name

@@ -5,7 +5,7 @@ use Rattle.md_base.specs.declared.event.Kind.{Kind}
 use Rattle.md_base.specs.declared.event.Kind.TheVariants.{Enter, Exit}
 use Rattle.md_base.specs.declared.event.Name.{Name}
 use Rattle.md_base.specs.declared.event.Name.TheVariants.{Image, Link}
-use Rattle.md_contents.specs.Links.{prints_link}
+use Rattle.md_safe.specs.Links.{prints_link}
 
 abbrev pub is_entry : Kind → Bool
 is_entry kind = elim kind [ Enter ↦ true | Exit ↦ false ]

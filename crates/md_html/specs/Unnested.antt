@@ -2,7 +2,7 @@
 use Rattle.std.specs.Prelude.{◌≡◌, ℕ, true, false, List, codes}
 use Rattle.md_base.specs.declared.event.Event.{Event}
 use Rattle.md_base.specs.Tree.{Forest, flatten}
-use Rattle.md_contents.specs.Links.{has_nested_link}
+use Rattle.md_safe.specs.Links.{has_nested_link}
 use Rattle.md_html.specs.Safe.{line_of}
 use Rattle.md_html.specs.declared.safe_html.SafeError.{SafeError}
 use Rattle.md_html.specs.declared.unnested.UnnestedError.{UnnestedError}

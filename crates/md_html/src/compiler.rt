@@ -11,9 +11,9 @@ ghost use Rattle.md_text.specs.Safe.{is_safe_link, is_safe_image};
 ghost use Rattle.md_text.specs.Ids.{HasDistinctIds};
 ghost use Rattle.md_standard.specs.SafeTokens.{has_safe_links, has_safe_images};
 ghost use Rattle.md_standard.specs.Tokenized.{HasTokensWith, IsTokenizedAsRead};
-ghost use Rattle.md_contents.specs.Contents.{IsContained};
-ghost use Rattle.md_contents.specs.Links.{has_nested_link};
-ghost use Rattle.md_dom.specs.Built.{IsBuiltAsRead};
+ghost use Rattle.md_standard.specs.Contents.{IsContained};
+ghost use Rattle.md_safe.specs.Links.{has_nested_link};
+ghost use Rattle.md_standard.specs.Built.{IsBuiltAsRead};
 ghost use Rattle.md_safe.specs.Options.{KeepsGrammar, KeepsLinks, KeepsImages, KeepsIds};
 
 use md_base::Event;

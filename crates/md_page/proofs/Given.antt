@@ -14,10 +14,10 @@ use Rattle.md_standard.specs.Tokenizer.{IsTokenized}
 use Rattle.md_standard.specs.PageTokens.{page_tokens, IsTokenizedPage}
 use Rattle.md_standard.proofs.PageRuns.{page-tokenized}
 use Rattle.md_standard.proofs.Schemes.{seen-is}
-use Rattle.md_dom.specs.Built.{IsBuiltAsRead}
-use Rattle.md_dom.specs.Page.{IsBuiltPage}
-use Rattle.md_dom.proofs.Steps.{is_character, seen-characters}
-use Rattle.md_dom.proofs.Pages.{text-page-built}
+use Rattle.md_standard.specs.Built.{IsBuiltAsRead}
+use Rattle.md_standard.specs.Page.{IsBuiltPage}
+use Rattle.md_standard.proofs.TreeSteps.{is_character, seen-characters}
+use Rattle.md_standard.proofs.Pages.{text-page-built}
 use Rattle.md_html.specs.Safe.{IsSafe}
 use Rattle.md_page.specs.Page.{is_title, IsPage, IsPageOf, page_text}
 use Rattle.md_page.proofs.Pages.{before_title, before_body, after_body, page_written, one_page}

@@ -5,8 +5,8 @@ ghost use Rattle.std.specs.Prelude.{◌≡◌, false, IfOk, string_bytes};
 ghost use Rattle.md_text.specs.Encode.{encoded};
 ghost use Rattle.md_standard.specs.Input.{with_line_feeds};
 ghost use Rattle.md_standard.specs.PageTokens.{IsTokenizedPage};
-ghost use Rattle.md_dom.specs.Built.{IsBuiltAsRead};
-ghost use Rattle.md_dom.specs.Page.{IsBuiltPage};
+ghost use Rattle.md_standard.specs.Built.{IsBuiltAsRead};
+ghost use Rattle.md_standard.specs.Page.{IsBuiltPage};
 ghost use Rattle.md_page.specs.Page.{IsPageOf, page_text};
 
 use md_html::SafeHtml;

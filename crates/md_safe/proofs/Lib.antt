@@ -1,4 +1,4 @@
--- The lemmas.
+-- The lemmas: of one reading, links, images and ids,
 pub mod Texts
 pub mod Claim
 pub mod Laid
@@ -19,3 +19,14 @@ pub mod Prefixes
 pub mod CountedForest
 pub mod CountedSection
 pub mod Whole
+-- and of what stands in what.
+pub mod Placing
+pub mod Stands
+pub mod ContainedLaid
+pub mod Linking
+pub mod Spans
+pub mod Blocks
+pub mod Paragraphs
+pub mod ContainedForests
+pub mod ContainedSection
+pub mod ContainedWhole

@@ -5,6 +5,7 @@ ghost use Rattle.md_text.specs.Html.{any_attribute, HasOneReadingWith};
 ghost use Rattle.md_text.specs.Safe.{is_safe_link, is_safe_image};
 ghost use Rattle.md_text.specs.Ids.{HasDistinctIds};
 ghost use Rattle.md_base.specs.Tree.{Forest, flatten};
+ghost use Rattle.md_tree.specs.Grammar.{IsGrammatical};
 ghost use Rattle.md_shape.specs.Underlined.{IsUnderlined};
 ghost use Rattle.md_text.specs.declared.options.CompileOptions.{CompileOptions};
 ghost use Rattle.md_meaning.specs.Meaning.{meaning};
@@ -12,6 +13,8 @@ ghost use Rattle.md_text.specs.Defaults.{default_options, gfm_options};
 ghost use Rattle.md_shape.specs.Built.{Blocks, IsBuilt};
 ghost use Rattle.md_safe.specs.Options.{KeepsGrammar, KeepsLinks, KeepsImages, KeepsIds};
 ghost use Rattle.md_safe.specs.Apart.{prefix_of, ShareNoId};
+ghost use Rattle.md_safe.specs.Links.{has_nested_link};
+ghost use Rattle.md_standard.specs.Contents.{IsContained, IsUnnested};
 
 /// A document that is built of what may stand where it is means a text of the HTML grammar with exactly one
 /// reading, where the options write nothing as it is given; and in that reading each link, and each image, has
@@ -46,6 +49,21 @@ pub fn ids_of_two_documents_are_apart()
         → IsBuilt other_bytes Blocks other → IsUnderlined false other → KeepsIds other_options
         → (prefix_of options ≡ prefix_of other_options → ⊥)
         → ShareNoId (meaning options names bytes document) (meaning other_options other_names other_bytes other) }
+{}
+
+/// Where the options write nothing as it is given, a document of the grammar means a text with exactly one reading, and
+/// in it everything stands where the content model lets it stand.
+pub fn meaning_is_contained()
+    ensures { (bytes : List ℕ) (names : List (List ℕ × List ℕ)) (options : CompileOptions) (document : Forest)
+        → IsGrammatical bytes names document → KeepsGrammar options
+        → IsContained (meaning options names bytes document) }
+{}
+
+/// So, and no link stands in a link, where none does in the document.
+pub fn links_nest_as_in_the_document()
+    ensures { (bytes : List ℕ) (names : List (List ℕ × List ℕ)) (options : CompileOptions) (document : Forest)
+        → IsGrammatical bytes names document → KeepsGrammar options → has_nested_link false document ≡ false
+        → IsUnnested (meaning options names bytes document) }
 {}
 
 /// The default options are safe, and so are those of GitHub flavored Markdown.

@@ -1,4 +1,4 @@
-//! Safe options make safe output: a fact of the meaning itself.
+//! Safe options make safe output, and what stands in what in it: facts of the meaning itself.
 #![tactic(auto)]
 
 pub mod laws;

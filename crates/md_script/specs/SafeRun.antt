@@ -11,9 +11,9 @@ use Rattle.md_text.specs.declared.options.CompileOptions.{CompileOptions}
 use Rattle.md_text.specs.Ids.{HasDistinctIds}
 use Rattle.md_standard.specs.Tokenized.{IsSafelyTokenized}
 use Rattle.md_safe.specs.Options.{KeepsImages}
-use Rattle.md_contents.specs.Contents.{IsContained}
-use Rattle.md_contents.specs.Links.{has_nested_link}
-use Rattle.md_dom.specs.Built.{IsBuiltAsRead}
+use Rattle.md_standard.specs.Contents.{IsContained}
+use Rattle.md_safe.specs.Links.{has_nested_link}
+use Rattle.md_standard.specs.Built.{IsBuiltAsRead}
 use Rattle.md_html.specs.declared.safe_html.SafeError.{SafeError}
 use Rattle.md_html.specs.declared.safe_html.SafeError.TheVariants as safe
 use Rattle.md_script.specs.declared.error.SafeRunError.{SafeRunError}

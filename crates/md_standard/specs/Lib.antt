@@ -10,3 +10,19 @@ pub mod SafeTokens
 pub mod Tokenized
 pub mod PageTokens
 pub mod Running
+-- What some steps of the tokenizer make of a text, whatever comes after it.
+pub mod Leads
+pub mod Embedded
+-- The content model of what is written.
+pub mod Contents
+-- The HTML Standard's tree construction, as far as the HTML grammar needs it.
+pub mod Node
+pub mod Elements
+pub mod Stack
+pub mod Formatting
+pub mod InBody
+pub mod InTable
+pub mod AroundBody
+pub mod Construction
+pub mod Built
+pub mod Page

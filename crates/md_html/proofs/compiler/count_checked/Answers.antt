@@ -10,9 +10,9 @@ use Rattle.md_shape.specs.Underlined.{IsUnderlined}
 use Rattle.md_shape.proofs.Underlines.{grammatical-underlined}
 use Rattle.md_safe.specs.Options.{KeepsGrammar, KeepsLinks, KeepsImages}
 use Rattle.md_safe.proofs.Whole.{one-reading, safe-links, safe-images, distinct-ids}
-use Rattle.md_contents.proofs.Whole.{meaning-contained, meaning-unnested}
-use Rattle.md_contents.specs.Contents.{IsContained, IsUnnested}
-use Rattle.md_dom.proofs.Whole.{text-built}
+use Rattle.md_safe.proofs.ContainedWhole.{meaning-contained, meaning-unnested}
+use Rattle.md_standard.specs.Contents.{IsContained, IsUnnested}
+use Rattle.md_standard.proofs.WholeTrees.{text-built}
 use Rattle.md_tree.specs.Grammar.{IsGrammatical}
 use Rattle.md_tree.proofs.Indexed.{flatten_one}
 use Rattle.md_base.specs.declared.event.Name.TheVariants.{Paragraph}

@@ -1,9 +1,0 @@
--- The lemmas.
-pub mod Lists
-pub mod Steps
-pub mod Phrasing
-pub mod Tables
-pub mod Flow
-pub mod Whole
-pub mod Pages
-pub mod Switching

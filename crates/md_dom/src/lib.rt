@@ -1,4 +1,0 @@
-//! What tree a browser builds of the HTML that is written.
-#![tactic(auto)]
-
-pub mod laws;

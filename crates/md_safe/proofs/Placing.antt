@@ -1,0 +1,201 @@
+-- Each document of the grammar is placed: what stands in a node is of the content that its children are.
+use Rattle.std.proofs.Common.{◌≡◌, inl, inr, true, ◌||◌, false, Bool, Option, Some, None, List, ◌++◌, refl, sym, ap, ◌∙◌, subst, if◌then◌else◌}
+use Rattle.std.specs.List.{list_all}
+use Rattle.std.proofs.lemmas.Bool.{and_parts}
+use Rattle.std.proofs.lemmas.List.Folds.{list_all-append}
+use Rattle.md_base.specs.declared.event.Name.{Name}
+use Rattle.md_base.specs.declared.event.Name.TheVariants.{BlockQuotePrefix, SpaceOrTab, Other, MdxEsm, MdxFlowExpression, MdxTextExpression, MdxJsxFlowTag, MdxJsxTextTag}
+use Rattle.md_base.specs.Tree.{Forest, Empty, Node}
+use Rattle.md_base.specs.NameTests.{is_transparent}
+use Rattle.md_base.proofs.Lies.{lie}
+use Rattle.md_pattern.specs.declared.kinds.Symbol.{Symbol}
+use Rattle.md_pattern.specs.declared.kinds.Symbol.TheVariants as symbol
+use Rattle.md_pattern.specs.declared.kinds.Role.{Role}
+use Rattle.md_pattern.specs.declared.kinds.Role.TheVariants as role
+use Rattle.md_pattern.specs.declared.kinds.Standing.{Standing}
+use Rattle.md_pattern.specs.declared.kinds.Standing.TheVariants.{Through, Space, Solid, Mdx}
+use Rattle.md_pattern.specs.Standing.{standing_of}
+use Rattle.md_pattern.specs.Pattern.{pattern_of}
+use Rattle.md_pattern.specs.Spine.{spine, shown, IsTail, Matches}
+use Rattle.md_pattern.specs.Shape.{AreShaped, IsStanding, role_for, IsShaped}
+use Rattle.md_shape.proofs.Letters.{letters, fits-all, grouped-all, tail-all}
+use Rattle.md_standard.specs.Contents.{Content, Flow, Phrasing, Items, Parts, Rows, Cells, Characters}
+use Rattle.md_safe.specs.Placed.{Sort, Block, Item, Part, Row, Cell, Ending, Chunk, Delimiters, Inline, sort_of, may_stand, place_of, place_inside, IsPlaced}
+
+-- what a symbol is to the node around it
+abbrev sort_for : Symbol → Sort
+sort_for seen = elim seen [
+  | symbol.Block ↦ Block
+  | symbol.SetextText ↦ Block
+  | symbol.SetextUnderline ↦ Block
+  | symbol.ListItem ↦ Item
+  | symbol.TableHead ↦ Part
+  | symbol.TableBody ↦ Part
+  | symbol.TableRow ↦ Row
+  | symbol.TableCell ↦ Cell
+  | symbol.LineEnding ↦ Ending
+  | symbol.BlankLineEnding ↦ Ending
+  | symbol.CodeFlowChunk ↦ Chunk
+  | symbol.TableDelimiterRow ↦ Delimiters
+  | _ ↦ Inline
+]
+
+-- what the spine of a node with this role is
+abbrev place_for : Role → Content
+place_for usual = elim usual [
+  | role.Flow ↦ Flow
+  | role.FootnoteDefinition ↦ Flow
+  | role.FirstOrderedItem ↦ Flow
+  | role.OrderedItem ↦ Flow
+  | role.Item ↦ Flow
+  | role.OrderedList ↦ Items
+  | role.UnorderedList ↦ Items
+  | role.Table ↦ Parts
+  | role.TableHead ↦ Rows
+  | role.TableBody ↦ Rows
+  | role.TableRow ↦ Cells
+  | role.CodeIndented ↦ Characters
+  | _ ↦ Phrasing
+]
+
+-- what names say, by how they stand
+abbrev Says : Standing → Name → Type 0
+Says Through name = is_transparent name ≡ true
+Says Space name = is_transparent name ≡ true
+Says (Solid seen usual reading) name =
+    (is_transparent name ≡ false) × (sort_of name ≡ sort_for seen) × (place_of name ≡ place_for usual)
+Says Mdx name = Unit {0}
+
+says : (name : Name) → Says (standing_of name) name
+says BlockQuotePrefix = refl
+says (Other number) = refl
+says SpaceOrTab = refl
+says MdxEsm = tt
+says MdxFlowExpression = tt
+says MdxTextExpression = tt
+says MdxJsxFlowTag = tt
+says MdxJsxTextTag = tt
+says _ = (refl, refl, refl)
+
+-- a symbol may stand there
+abbrev may_show : Content → Symbol → Bool
+may_show content seen = may_stand content (sort_for seen)
+
+-- ---- what may stand after a symbol of a group may stand there
+
+reference-shows : (tail : List Symbol) → IsTail symbol.ReferenceMarker tail →
+    list_all (may_show Phrasing) tail ≡ true
+reference-shows tail is = elim is [
+  | inl e ↦ subst (λ t. list_all (may_show Phrasing) t ≡ true) (sym e) refl
+  | inr (inl e) ↦ subst (λ t. list_all (may_show Phrasing) t ≡ true) (sym e) refl
+  | inr (inr e) ↦ subst (λ t. list_all (may_show Phrasing) t ≡ true) (sym e) refl
+]
+
+phrasing-shows : (first : Symbol) (tail : List Symbol) → may_show Phrasing first ≡ true → IsTail first tail →
+    list_all (may_show Phrasing) tail ≡ true
+phrasing-shows symbol.ReferenceMarker tail h is = reference-shows tail is
+phrasing-shows symbol.SetextText tail h is = lie h
+phrasing-shows first tail h is = subst (λ t. list_all (may_show Phrasing) t ≡ true) (sym is) refl
+
+-- where neither a reference nor a heading begins
+alone-shows : (content : Content) → may_show content symbol.ReferenceMarker ≡ false →
+    may_show content symbol.SetextText ≡ false → (first : Symbol) (tail : List Symbol) →
+    may_show content first ≡ true → IsTail first tail → list_all (may_show content) tail ≡ true
+alone-shows content a b symbol.ReferenceMarker tail h is = lie (sym a ∙ h)
+alone-shows content a b symbol.SetextText tail h is = lie (sym b ∙ h)
+alone-shows content a b first tail h is = subst (λ t. list_all (may_show content) t ≡ true) (sym is) refl
+
+tail-shows : (content : Content) (first : Symbol) (tail : List Symbol) → may_show content first ≡ true →
+    IsTail first tail → list_all (may_show content) tail ≡ true
+tail-shows Flow first tail h is = tail-all (may_show Flow) first tail refl is
+tail-shows Phrasing first tail h is = phrasing-shows first tail h is
+tail-shows content first tail h is = alone-shows content refl refl first tail h is
+
+-- ---- what matches a role's pattern may stand in its place
+
+letters-show : (usual : Role) → letters (may_show (place_for usual)) (pattern_of usual) ≡ true
+letters-show role.Flow = refl
+letters-show _ = refl
+
+all-show : (usual : Role) (symbols : List Symbol) → Matches usual symbols →
+    list_all (may_show (place_for usual)) symbols ≡ true
+all-show usual symbols match =
+    grouped-all (may_show (place_for usual)) (tail-shows (place_for usual)) match.0 symbols match.1
+    (fits-all (may_show (place_for usual)) (pattern_of usual) match.0 match.2 (letters-show usual))
+
+-- the role that a name has in its place is of the place of its usual one
+item-place : (around : Role) (before : Option Symbol) → place_for (role_for around before role.Item) ≡ Flow
+item-place role.OrderedList None = refl
+item-place role.OrderedList (Some s) = refl
+item-place _ before = refl
+
+prefix-place : (around : Role) (before : Option Symbol) → place_for (role_for around before role.Prefix) ≡ Phrasing
+prefix-place role.FirstOrderedItem before = refl
+prefix-place role.OrderedItem before = refl
+prefix-place _ before = refl
+
+label-place : (around : Role) (before : Option Symbol) → place_for (role_for around before role.Label) ≡ Phrasing
+label-place role.FootnoteCall before = refl
+label-place _ before = refl
+
+role-place : (around : Role) (before : Option Symbol) (usual : Role) →
+    place_for (role_for around before usual) ≡ place_for usual
+role-place around before role.Item = item-place around before
+role-place around before role.Prefix = prefix-place around before
+role-place around before role.Label = label-place around before
+role-place around None role.CodeFence = refl
+role-place around (Some s) role.CodeFence = refl
+role-place around None role.MathFence = refl
+role-place around (Some s) role.MathFence = refl
+role-place around before usual = refl
+
+-- ---- a node may stand there, its children in it, and others after it
+
+record Spot (standing : Standing) (name : Name) (children : Forest) (content : Content) (others : List Symbol) :
+    Type 0 where
+  stands : (is_transparent name || may_stand content (sort_of name)) ≡ true
+  inside : list_all (may_show (place_inside content name)) (spine children) ≡ true
+  after : list_all (may_show content) others ≡ true
+
+spot : (standing : Standing) (name : Name) (children : Forest) (around : Role) (before : Option Symbol)
+    (content : Content) (others : List Symbol) → Says standing name → IsStanding standing around before children →
+    list_all (may_show content) (shown standing (spine children) ++ others) ≡ true →
+    Spot standing name children content others
+spot Through name children around before content others says stands h =
+    let whole = and_parts (list_all (may_show content) (spine children)) (list_all (may_show content) others)
+    (sym (list_all-append (may_show content) (spine children) others) ∙ h) in
+    record {
+      stands = ap (λ t. t || may_stand content (sort_of name)) says;
+      inside = ap (λ t. list_all (may_show (if t then content else place_of name)) (spine children)) says ∙ whole.0;
+      after = whole.1;
+    }
+spot Space name children around before content others says stands h = record {
+  stands = ap (λ t. t || may_stand content (sort_of name)) says;
+  inside = ap (λ f. list_all (may_show (place_inside content name)) (spine f)) stands;
+  after = h;
+}
+spot (Solid seen usual reading) name children around before content others says stands h =
+    let parts = and_parts (may_show content seen) (list_all (may_show content) others) h in
+    record {
+      stands = ap (λ t. t || may_stand content (sort_of name)) says.0
+          ∙ (ap (λ sort. may_stand content sort) says.1 ∙ parts.0);
+      inside = ap (λ t. list_all (may_show (if t then content else place_of name)) (spine children)) says.0
+          ∙ (ap (λ c. list_all (may_show c) (spine children)) (says.2 ∙ sym (role-place around before usual))
+          ∙ all-show (role_for around before usual) (spine children) stands);
+      after = parts.1;
+    }
+spot Mdx name children around before content others says stands h = absurd stands
+
+placed : (forest : Forest) (around : Role) (before : Option Symbol) (content : Content) →
+    AreShaped forest around before → list_all (may_show content) (spine forest) ≡ true → IsPlaced content forest
+placed Empty around before content shaped h = tt
+placed (Node name start end children rest) around before content shaped h =
+    let here = spot (standing_of name) name children around before content (spine rest) (says name) shaped.0.1 h in (
+      here.stands,
+      placed children _ _ (place_inside content name) shaped.1 here.inside,
+      placed rest _ _ content shaped.2 here.after,
+    )
+
+pub shaped-placed : (forest : Forest) → IsShaped forest → IsPlaced Flow forest
+shaped-placed forest shaped =
+    placed forest role.Flow None Flow shaped.0 (all-show role.Flow (spine forest) shaped.1)
