@@ -1,7 +1,7 @@
 -- A scan up to the first tag that is picked, and past it, by places.
 use Rattle.std.proofs.Common.{◌≡◌, ℕ, ◌+◌, ◌-◌, suc, Bool, true, false, List, [], ◌∷◌, ◌++◌, length, take, drop, refl, sym, ap, ◌∙◌, subst, append_assoc, slice_range, add-one, arith}
 use Rattle.std.specs.List.{list_all}
-use Rattle.std.proofs.lemmas.List.{take_more, take_rest, drop-drop, drop_more, take-append-drop}
+use Rattle.std.proofs.lemmas.List.{take_rest, drop-drop, drop_more, take-append-drop}
 use Rattle.std.proofs.Math.Seq.{take-add}
 use Rattle.md_attributes.specs.Scan.{differs, IsFirstOf, IsTagAt, clear, scanned}
 use Rattle.md_attributes.proofs.Parts.{around}

@@ -1,17 +1,13 @@
 -- Quicker ways: a link that stays within the page, and a text without headings.
-use Rattle.std.specs.Str.{bytes_eq}
 use Rattle.std.specs.Prelude.{is_none, is_some}
-use Rattle.std.proofs.Common.{◌≡◌, ℕ, ◌+◌, ◌<◌, ◌≤◌, suc, ◌==◌, Bool, true, false, not, ◌&&◌, ◌||◌, cond, List, [], ◌∷◌, ◌++◌, length, take, drop, get_or, map, Option, Some, None, option_map, Result, Ok, Err, IfOk, refl, sym, ap, ◌∙◌, subst, arith, codes, eqb}
-use Rattle.std.specs.List.{list_all}
+use Rattle.std.proofs.Common.{◌≡◌, ℕ, suc, ◌==◌, Bool, true, false, ◌&&◌, cond, List, [], ◌∷◌, ◌++◌, length, drop, map, Option, Some, None, option_map, Result, Ok, Err, IfOk, refl, sym, ap, ◌∙◌, subst, arith, codes, eqb}
 use Rattle.std.specs.Option.{option_map_or}
-use Rattle.std.proofs.lemmas.Bool.{and_parts, and_from, eqb-true}
-use Rattle.std.proofs.lemmas.List.{take_more}
-use Rattle.std.proofs.lemmas.List.Folds.{list_all-append}
+use Rattle.std.proofs.lemmas.Bool.{and_parts, eqb-true}
 use Rattle.md_base.proofs.Lies.{lie}
 use Rattle.md_text.specs.References.{begins_with}
 use Rattle.md_text.specs.Html.{written_attributes}
 use Rattle.md_attributes.specs.Headings.{listed}
-use Rattle.md_attributes.specs.Scan.{differs, IsFirstOf, before_angle, parts_of, value_in, onto_first, is_away, want_rel, picks_link, picks_heading, scanned, scanned_heading, scanned_headings, with_new, new_id, new_rel, IsScannedTo}
+use Rattle.md_attributes.specs.Scan.{before_angle, parts_of, value_in, onto_first, is_away, want_rel, picks_link, picks_heading, scanned, scanned_heading, scanned_headings, with_new, new_id, new_rel, IsScannedTo}
 use Rattle.md_attributes.specs.declared.headings.Heading.{Heading}
 
 -- ---- links that stay
