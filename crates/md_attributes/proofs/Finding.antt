@@ -1,62 +1,29 @@
--- A scan from one `<` to the next, by places.
-use Rattle.std.proofs.Common.{◌≡◌, ℕ, ◌+◌, ◌-◌, suc, Bool, true, false, List, [], ◌∷◌, ◌++◌, length, take, drop, sym, ap, ◌∙◌, subst, append_assoc, append-nil, slice_range, arith}
+-- A scan up to the first tag that is picked, and past it, by places.
+use Rattle.std.proofs.Common.{◌≡◌, ℕ, ◌+◌, ◌-◌, suc, Bool, true, false, List, [], ◌∷◌, ◌++◌, length, take, drop, refl, sym, ap, ◌∙◌, subst, append_assoc, slice_range, add-one, arith}
 use Rattle.std.specs.List.{list_all}
-use Rattle.std.proofs.lemmas.List.{take_more, take_rest, drop-drop, drop_more, take-append-drop}
+use Rattle.std.proofs.lemmas.List.{take_rest, drop-drop, drop_more, take-append-drop}
 use Rattle.std.proofs.Math.Seq.{take-add}
-use Rattle.md_attributes.specs.Scan.{differs, IsFirstOf, scanned}
+use Rattle.md_attributes.specs.Scan.{differs, IsFirstOf, IsTagAt, clear, scanned}
 use Rattle.md_attributes.proofs.Parts.{around}
-use Rattle.md_attributes.proofs.Scanning.{scanned-run, scanned-passed, scanned-picked, scanned-inside, scanned-unclosed}
+use Rattle.md_attributes.proofs.Scanning.{scanned-picked, scanned-inside, scanned-unclosed}
+use Rattle.md_attributes.proofs.Passing.{clear-scanned, drop-at, take-at}
 
 -- of the bytes from a place on
 pub from_place : (byte : ℕ) (text : List ℕ) (at run : ℕ) →
     IsFirstOf byte (take (length text - at) (drop at text)) run → IsFirstOf byte (drop at text) run
 from_place byte text at run h = subst (λ x. IsFirstOf byte x run) (take_rest text at) h
 
--- up to a `<` and past it
-front : (text : List ℕ) (at run : ℕ) → IsFirstOf 60 (drop at text) run →
-    take (at + (run + 1)) text ≡ take at text ++ (take run (drop at text) ++ (60 ∷ []))
-front text at run h =
-    take-add at (run + 1) text
-    ∙ ap (λ x. take at text ++ x) (take_more (drop at text) run 0 h.within
-    ∙ ap (λ b. take run (drop at text) ++ (b ∷ [])) h.is)
-
--- what is scanned from a place on, up to a `<`
-pub to_angle : (picks : List ℕ → Bool) (add : ℕ → List ℕ) (n : ℕ) (text : List ℕ) (at run : ℕ) →
-    IsFirstOf 60 (drop at text) run →
-    scanned picks add false n (drop at text)
-    ≡ take run (drop at text) ++ scanned picks add false n (60 ∷ drop (at + (run + 1)) text)
-to_angle picks add n text at run h =
-    ap (scanned picks add false n) (around 60 (drop at text) run h)
-    ∙ scanned-run picks add n (take run (drop at text)) (60 ∷ drop (run + 1) (drop at text)) h.before
-    ∙ ap (λ x. take run (drop at text) ++ scanned picks add false n (60 ∷ x)) (drop-drop (run + 1) at text)
-
--- past a `<` of a tag that isn't picked
-pub passed : (picks : List ℕ → Bool) (add : ℕ → List ℕ) (n : ℕ) (text : List ℕ) (at run : ℕ) →
-    IsFirstOf 60 (drop at text) run → picks (drop (at + (run + 1)) text) ≡ false →
-    take (at + (run + 1)) text ++ scanned picks add false n (drop (at + (run + 1)) text)
-    ≡ take at text ++ scanned picks add false n (drop at text)
-passed picks add n text at run h other =
-    let tag = drop (at + (run + 1)) text in
-    let before = take run (drop at text) in
-    ap (λ x. x ++ scanned picks add false n tag) (front text at run h)
-    ∙ append_assoc (take at text) (before ++ (60 ∷ [])) (scanned picks add false n tag)
-    ∙ ap (λ x. take at text ++ x) (append_assoc before (60 ∷ []) (scanned picks add false n tag)
-    ∙ ap (λ x. before ++ x) (sym (scanned-passed picks add n tag other))
-    ∙ sym (to_angle picks add n text at run h))
-
--- into a tag that is picked
-into : (picks : List ℕ → Bool) (add : ℕ → List ℕ) (n : ℕ) (text : List ℕ) (at run : ℕ) →
-    IsFirstOf 60 (drop at text) run → picks (drop (at + (run + 1)) text) ≡ true →
-    take at text ++ scanned picks add false n (drop at text)
-    ≡ take (at + (run + 1)) text ++ scanned picks add true n (drop (at + (run + 1)) text)
-into picks add n text at run h is =
-    let tag = drop (at + (run + 1)) text in
-    let before = take run (drop at text) in
-    ap (λ x. take at text ++ x) (to_angle picks add n text at run h
-    ∙ ap (λ x. before ++ x) (scanned-picked picks add n tag is)
-    ∙ sym (append_assoc before (60 ∷ []) (scanned picks add true n tag)))
-    ∙ sym (append_assoc (take at text) (before ++ (60 ∷ [])) (scanned picks add true n tag))
-    ∙ ap (λ x. x ++ scanned picks add true n tag) (sym (front text at run h))
+-- into the first tag that is picked
+into : (picks : List ℕ → Bool) (add : ℕ → List ℕ) (n : ℕ) (text : List ℕ) (at : ℕ) → IsTagAt picks text at →
+    scanned picks add false n text ≡ take (at + 1) text ++ scanned picks add true n (drop (at + 1) text)
+into picks add n text at h =
+    let tag = drop (suc at) text in
+    clear-scanned picks add n at text h.before
+    ∙ ap (λ x. take at text ++ scanned picks add false n x) (drop-at text at h.within h.angle)
+    ∙ ap (λ x. take at text ++ x) (scanned-picked picks add n tag h.picked)
+    ∙ sym (append_assoc (take at text) (60 ∷ []) (scanned picks add true n tag))
+    ∙ ap (λ x. x ++ scanned picks add true n tag) (sym (take-at text at h.within h.angle))
+    ∙ ap (λ m. take m text ++ scanned picks add true n (drop m text)) (sym (add-one at))
 
 -- to the end of a tag that is picked
 to_end : (picks : List ℕ → Bool) (add : ℕ → List ℕ) (n : ℕ) (text : List ℕ) (at end : ℕ) →
@@ -73,35 +40,33 @@ to_end picks add n text at end h =
     ∙ ap (λ x. take (at + end) text ++ (add n ++ scanned picks add false (suc n) x))
     (sym (ap (λ b. b ∷ drop (end + 1) tag) h.is) ∙ sym (drop_more tag end 0 h.within) ∙ drop-drop end at text)
 
-pub picked : (picks : List ℕ → Bool) (add : ℕ → List ℕ) (n : ℕ) (text : List ℕ) (at run end : ℕ) →
-    IsFirstOf 60 (drop at text) run → picks (drop (at + (run + 1)) text) ≡ true →
-    IsFirstOf 62 (drop (at + (run + 1)) text) end →
-    take at text ++ scanned picks add false n (drop at text)
-    ≡ take (at + (run + 1) + end) text
-    ++ (add n ++ scanned picks add false (suc n) (drop (at + (run + 1) + end) text))
-picked picks add n text at run end h is ends =
-    into picks add n text at run h is ∙ to_end picks add n text (at + (run + 1)) end ends
+-- up to the end of the first tag that is picked
+pub picked : (picks : List ℕ → Bool) (add : ℕ → List ℕ) (n : ℕ) (text : List ℕ) (at end : ℕ) → IsTagAt picks text at →
+    IsFirstOf 62 (drop (at + 1) text) end →
+    scanned picks add false n text
+    ≡ take (at + 1 + end) text ++ (add n ++ scanned picks add false (suc n) (drop (at + 1 + end) text))
+picked picks add n text at end h ends = into picks add n text at h ∙ to_end picks add n text (at + 1) end ends
 
 -- a tag that is picked and never ends
-pub unended : (picks : List ℕ → Bool) (add : ℕ → List ℕ) (n : ℕ) (text : List ℕ) (at run : ℕ) →
-    IsFirstOf 60 (drop at text) run → picks (drop (at + (run + 1)) text) ≡ true →
-    list_all (differs 62) (drop (at + (run + 1)) text) ≡ true →
-    take at text ++ scanned picks add false n (drop at text) ≡ text
-unended picks add n text at run h is none =
-    let tag = drop (at + (run + 1)) text in
-    into picks add n text at run h is
-    ∙ ap (λ x. take (at + (run + 1)) text ++ x) (scanned-unclosed picks add n tag none)
-    ∙ take-append-drop (at + (run + 1)) text
+pub unended : (picks : List ℕ → Bool) (add : ℕ → List ℕ) (n : ℕ) (text : List ℕ) (at : ℕ) → IsTagAt picks text at →
+    list_all (differs 62) (drop (at + 1) text) ≡ true → scanned picks add false n text ≡ text
+unended picks add n text at h none =
+    into picks add n text at h
+    ∙ ap (λ x. take (at + 1) text ++ x) (scanned-unclosed picks add n (drop (at + 1) text) none)
+    ∙ take-append-drop (at + 1) text
 
--- no `<` is left
-pub done : (picks : List ℕ → Bool) (add : ℕ → List ℕ) (n : ℕ) (text : List ℕ) (at : ℕ) →
-    list_all (differs 60) (drop at text) ≡ true →
-    take at text ++ scanned picks add false n (drop at text) ≡ text
-done picks add n text at none =
-    ap (λ x. take at text ++ x)
-    (ap (scanned picks add false n) (sym (append-nil (drop at text)))
-    ∙ scanned-run picks add n (drop at text) [] none ∙ append-nil (drop at text))
-    ∙ take-append-drop at text
+-- no tag is picked
+pub done : (picks : List ℕ → Bool) (add : ℕ → List ℕ) (n : ℕ) (text : List ℕ) →
+    clear picks (length text) text ≡ true → scanned picks add false n text ≡ text
+done picks add n text h =
+    clear-scanned picks add n (length text) text h
+    ∙ ap (λ x. take (length text) text ++ scanned picks add false n x) (all text)
+    ∙ ap (λ x. take (length text) text ++ x) (sym (all text))
+    ∙ take-append-drop (length text) text
+  where
+    all : (x : List ℕ) → drop (length x) x ≡ []
+    all [] = refl
+    all (b ∷ x) = all x
 
 -- ---- one turn of what writes the text
 

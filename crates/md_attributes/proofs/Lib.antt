@@ -7,6 +7,7 @@ pub mod Adding
 pub mod Scanning
 pub mod Parts
 pub mod Finding
+pub mod Passing
 pub mod Nearby
 pub mod Rules
 pub mod LinkRule

@@ -1,10 +1,9 @@
 -- The headings that are found by bytes are those of the tokens.
 use Rattle.std.specs.Str.{bytes_eq}
-use Rattle.std.proofs.Common.{◌≡◌, ℕ, ◌+◌, ◌-◌, ◌≤◌, ◌==◌, suc, Bool, true, false, not, ◌&&◌, cond, List, [], ◌∷◌, ◌++◌, map, length, drop, refl, sym, ap, ap₂, ◌∙◌, subst, append_assoc, append-nil, codes, ne_eqb, eqb, eq-eqb, arith}
+use Rattle.std.proofs.Common.{◌≡◌, ℕ, ◌+◌, ◌-◌, ◌≤◌, ◌==◌, suc, Bool, true, false, not, ◌&&◌, cond, List, [], ◌∷◌, ◌++◌, map, length, drop, refl, sym, ap, ap₂, ◌∙◌, subst, append_assoc, append-nil, codes, ne_eqb, eqb, eq-eqb, arith, add-one}
 use Rattle.std.specs.List.{list_all}
 use Rattle.std.specs.Cmp.Lexicographic.{bytes_decides}
 use Rattle.std.proofs.lemmas.Bool.{and_parts, and_from, not-true, eqb-true, cond_both}
-use Rattle.std.proofs.lemmas.List.{length-append}
 use Rattle.md_base.proofs.Lies.{lie}
 use Rattle.md_text.specs.Bytes.{is_one_of, is_between}
 use Rattle.md_text.specs.Encode.{encoded}
@@ -22,8 +21,9 @@ use Rattle.md_standard.proofs.LineFeeds.{line_feeds-escaped, line_feeds-name}
 use Rattle.md_standard.proofs.Steps.{past}
 use Rattle.md_attributes.specs.Added.{Listed, gets_id, heading_names, characters_before, heading_of, headings_after, headings_of}
 use Rattle.md_attributes.specs.Pieces.{Piece, Words, Opening, Single, Closing, all_written, all_tokens, are_sound, are_plain, is_name_byte, is_tag_name, void_names, begins_with_letter, begins_with_words, IsWritten}
-use Rattle.md_attributes.specs.Scan.{differs, past_angle, lined_byte, closes_heading, text_before, picks_heading, scanned_heading, scanned_headings}
+use Rattle.md_attributes.specs.Scan.{differs, past_angle, lined_byte, closes_heading, text_before, picks_heading, scanned_heading, scanned_headings, clear, IsTagAt}
 use Rattle.md_attributes.proofs.Plain.{void-name}
+use Rattle.md_attributes.proofs.Passing.{clear-headings, drop-at}
 use Rattle.md_attributes.proofs.PieceRuns.{after_text}
 use Rattle.md_attributes.proofs.Scanning.{escaped-differs, name-differs, all-join, tag-differs, opens, closes, name_bytes, between}
 use Rattle.md_attributes.proofs.Rules.{attributed}
@@ -341,10 +341,6 @@ pub text-all : (digit : ℕ) (x : List ℕ) → list_all (differs 60) x ≡ true
 text-all digit x h =
     ap (text_before digit false) (sym (append-nil x)) ∙ text-run digit x [] h refl ∙ append-nil (with_line_feeds x)
 
--- a text without a `<` has no heading
-pub headings-all : (n : ℕ) (x : List ℕ) → list_all (differs 60) x ≡ true → scanned_headings n x ≡ []
-headings-all n x h = ap (scanned_headings n) (sym (append-nil x)) ∙ headings-run n x [] h
-
 pub lined-turn : (out line after rest out' out'' whole : List ℕ) → rest ≡ line ++ (13 ∷ after) →
     list_all (differs 13) line ≡ true → out' ≡ out ++ line →
     out'' ≡ out' ++ cond (begins_with_line_feed after) [] (10 ∷ []) →
@@ -386,29 +382,36 @@ text-turn digit out words tag rest out' rest' whole is none first on later all =
     ∙ text-first digit out words tag rest out' whole is none first all
 
 -- a heading is found
-pub heading-turn : (n m : ℕ) (found found' : List Listed) (words tag rest : List ℕ) (whole : List Listed) →
-    rest ≡ words ++ (60 ∷ tag) → list_all (differs 60) words ≡ true → picks_heading tag ≡ true → m ≡ n + 1 →
-    found' ≡ found ++ (scanned_heading m tag ∷ []) → found ++ scanned_headings n rest ≡ whole →
-    found' ++ scanned_headings m tag ≡ whole
-heading-turn n m found found' words tag rest whole is none picks next more all =
+pub heading-turn : (n m at : ℕ) (found found' : List Listed) (rest : List ℕ) (whole : List Listed) →
+    IsTagAt picks_heading rest at → m ≡ n + 1 → found' ≡ found ++ (scanned_heading m (drop (at + 1) rest) ∷ []) →
+    found ++ scanned_headings n rest ≡ whole → found' ++ scanned_headings m (drop (at + 1) rest) ≡ whole
+heading-turn n m at found found' rest whole h next more all =
     let number : m ≡ suc n = omega arith in
-    subst (λ m. found' ≡ found ++ (scanned_heading m tag ∷ []) → found' ++ scanned_headings m tag ≡ whole)
+    subst (λ m. found' ≡ found ++ (scanned_heading m (drop (at + 1) rest) ∷ []) →
+    found' ++ scanned_headings m (drop (at + 1) rest) ≡ whole)
     (sym number)
-    (λ more. ap (λ y. y ++ scanned_headings (suc n) tag) more
-    ∙ append_assoc found (scanned_heading (suc n) tag ∷ []) (scanned_headings (suc n) tag)
-    ∙ ap (λ y. found ++ y) (sym (ap (scanned_headings n) is ∙ headings-run n words (60 ∷ tag) none
-    ∙ headings-picked n tag picks)) ∙ all) more
+    (subst (λ k. found' ≡ found ++ (scanned_heading (suc n) (drop k rest) ∷ []) →
+    found' ++ scanned_headings (suc n) (drop k rest) ≡ whole) (sym (add-one at)) turned) more
+  where
+    tag : List ℕ
+    tag = drop (suc at) rest
 
--- any other tag
-pub other-turn : (n : ℕ) (found : List Listed) (words tag rest : List ℕ) (whole : List Listed) →
-    rest ≡ words ++ (60 ∷ tag) → list_all (differs 60) words ≡ true → picks_heading tag ≡ false →
-    found ++ scanned_headings n rest ≡ whole → found ++ scanned_headings n tag ≡ whole
-other-turn n found words tag rest whole is none passed all =
-    ap (λ y. found ++ y) (sym (ap (scanned_headings n) is ∙ headings-run n words (60 ∷ tag) none
-    ∙ headings-passed n tag passed)) ∙ all
+    turned : found' ≡ found ++ (scanned_heading (suc n) tag ∷ []) → found' ++ scanned_headings (suc n) tag ≡ whole
+    turned more =
+        ap (λ y. y ++ scanned_headings (suc n) tag) more
+        ∙ append_assoc found (scanned_heading (suc n) tag ∷ []) (scanned_headings (suc n) tag)
+        ∙ ap (λ y. found ++ y) (sym (clear-headings n at rest h.before
+        ∙ ap (scanned_headings n) (drop-at rest at h.within h.angle)
+        ∙ headings-picked n tag h.picked))
+        ∙ all
 
-pub shorter : (words tag rest : List ℕ) → rest ≡ words ++ (60 ∷ tag) → length tag + 1 ≤ length rest
-shorter words tag rest is = omega (arith, ap length is, length-append words (60 ∷ tag))
+-- no heading is left
+pub headings-all : (n : ℕ) (x : List ℕ) → clear picks_heading (length x) x ≡ true → scanned_headings n x ≡ []
+headings-all n x h = clear-headings n (length x) x h ∙ ap (scanned_headings n) (all x)
+  where
+    all : (x : List ℕ) → drop (length x) x ≡ []
+    all [] = refl
+    all (b ∷ x) = all x
 
 -- ---- of a text that is written in sound pieces
 

@@ -1,17 +1,13 @@
 -- Quicker ways: a link that stays within the page, and a text without headings.
-use Rattle.std.specs.Str.{bytes_eq}
-use Rattle.std.specs.Prelude.{is_none}
-use Rattle.std.proofs.Common.{◌≡◌, ℕ, ◌+◌, ◌<◌, ◌≤◌, suc, ◌==◌, Bool, true, false, not, ◌&&◌, ◌||◌, cond, List, [], ◌∷◌, ◌++◌, length, take, drop, get_or, map, Option, Some, None, option_map, Result, Ok, Err, IfOk, refl, sym, ap, ◌∙◌, subst, arith, codes, eqb}
-use Rattle.std.specs.List.{list_all}
+use Rattle.std.specs.Prelude.{is_none, is_some}
+use Rattle.std.proofs.Common.{◌≡◌, ℕ, suc, ◌==◌, Bool, true, false, ◌&&◌, cond, List, [], ◌∷◌, ◌++◌, length, drop, map, Option, Some, None, option_map, Result, Ok, Err, IfOk, refl, sym, ap, ◌∙◌, subst, arith, codes, eqb}
 use Rattle.std.specs.Option.{option_map_or}
-use Rattle.std.proofs.lemmas.Bool.{and_parts, and_from, eqb-true}
-use Rattle.std.proofs.lemmas.List.{take_more}
-use Rattle.std.proofs.lemmas.List.Folds.{list_all-append}
+use Rattle.std.proofs.lemmas.Bool.{and_parts, eqb-true}
 use Rattle.md_base.proofs.Lies.{lie}
 use Rattle.md_text.specs.References.{begins_with}
 use Rattle.md_text.specs.Html.{written_attributes}
 use Rattle.md_attributes.specs.Headings.{listed}
-use Rattle.md_attributes.specs.Scan.{differs, IsFirstOf, before_angle, parts_of, value_in, onto_first, is_away, want_rel, picks_link, picks_heading, scanned, scanned_heading, scanned_headings, with_new, new_id}
+use Rattle.md_attributes.specs.Scan.{before_angle, parts_of, value_in, onto_first, is_away, want_rel, picks_link, picks_heading, scanned, scanned_heading, scanned_headings, with_new, new_id, new_rel, IsScannedTo}
 use Rattle.md_attributes.specs.declared.headings.Heading.{Heading}
 
 -- ---- links that stay
@@ -91,3 +87,14 @@ unheaded bytes_of (heading ∷ headings) prefix text none all r copied = absurd 
 unheaded bytes_of [] prefix text none all (Err why) copied = tt
 unheaded bytes_of [] prefix text none all (Ok out) copied =
     copied ∙ sym (none-picked (λ n. written_attributes (new_id prefix n ∷ [])) 0 0 text all)
+
+-- ---- a text without links that are picked
+
+-- a copy of it is what is answered
+pub unlinked : {S E : Type 0} (bytes_of : S → List ℕ) (rel text : List ℕ) (found : Option ℕ) →
+    is_some found ≡ false → IsScannedTo picks_link text found → (r : Result S E) → IfOk r (λ out. bytes_of out ≡ text) →
+    IfOk r (λ out. bytes_of out ≡ with_new picks_link (new_rel rel) text)
+unlinked bytes_of rel text (Some end) none scan r copied = lie (sym none)
+unlinked bytes_of rel text None none scan (Err why) copied = tt
+unlinked bytes_of rel text None none scan (Ok out) copied =
+    copied ∙ sym (scan (λ n. written_attributes (new_rel rel n ∷ [])) 0)

@@ -1,6 +1,6 @@
 -- How the program finds the tags: words of its own, which no public contract cites.
 use Rattle.std.specs.Str.{bytes_eq}
-use Rattle.std.specs.Prelude.{◌≡◌, ℕ, suc, ◌<◌, ◌-◌, ◌==◌, IsTrue, length, take, slice_index, Bool, true, false, not, ◌&&◌, ◌||◌, if◌then◌else◌, List, [], ◌∷◌, ◌++◌, drop, Option, Some, None, option_map, is_none, codes}
+use Rattle.std.specs.Prelude.{◌≡◌, ℕ, zero, suc, ◌<◌, ◌≤◌, ◌-◌, ◌==◌, IsTrue, length, take, slice_index, Bool, true, false, not, ◌&&◌, ◌||◌, if◌then◌else◌, List, [], ◌∷◌, ◌++◌, drop, Option, Some, None, option_map, is_none, codes, MatchOption}
 use Rattle.std.specs.Option.{option_map_or}
 use Rattle.std.specs.List.{list_all}
 use Rattle.std.specs.Fmt.{decimal}
@@ -90,6 +90,40 @@ picks_heading tag = begins_heading tag && option_map_or want_id (before_angle (d
 abbrev pub picks_of : Rule → List ℕ → Bool
 picks_of Link = picks_link
 picks_of Heading = picks_heading
+
+-- no tag that is picked begins at the first so many bytes
+abbrev pub clear : (List ℕ → Bool) → ℕ → List ℕ → Bool
+clear picks zero text = true
+clear picks (suc k) [] = true
+clear picks (suc k) (b ∷ rest) = not ((b == 60) && picks rest) && clear picks k rest
+
+-- where none begins before one place, none begins before another
+abbrev pub IsPassed : Rule → List ℕ → ℕ → ℕ → Type 0
+IsPassed rule text from to = clear (picks_of rule) from text ≡ true → clear (picks_of rule) to text ≡ true
+
+-- the first tag that is picked begins here
+pub record IsTagAt (picks : List ℕ → Bool) (text : List ℕ) (at : ℕ) : Type 0 where
+  pub within : at < length text
+  pub angle : slice_index text at ≡ 60
+  pub picked : picks (drop (suc at) text) ≡ true
+  pub before : clear picks at text ≡ true
+
+-- a `<` stands here, and none of a rule begins from another place up to it
+pub record IsAngleFrom (rule : Rule) (text : List ℕ) (from at : ℕ) : Type 0 where
+  pub later : from ≤ at
+  pub within : at < length text
+  pub angle : slice_index text at ≡ 60
+  pub passed : IsPassed rule text from at
+
+-- the `>` of a tag stands here
+abbrev pub IsEndAt : List ℕ → ℕ → Type 0
+IsEndAt text end = (0 < end) × (end < length text) × (slice_index text end ≡ 62)
+
+-- what becomes of a text whose first tag that is picked ends here, if one does
+abbrev pub IsScannedTo : (List ℕ → Bool) → List ℕ → Option ℕ → Type 0
+IsScannedTo picks text found = (add : ℕ → List ℕ) (n : ℕ) → MatchOption found
+    (scanned picks add false n text ≡ text)
+    (λ end. scanned picks add false n text ≡ take end text ++ (add n ++ scanned picks add false (suc n) (drop end text)))
 
 -- a text with an attribute more in each tag that is picked
 abbrev pub with_new : (List ℕ → Bool) → (ℕ → Attribute) → List ℕ → List ℕ

@@ -5,7 +5,7 @@ ghost use Rattle.md_standard.specs.Input.{with_line_feeds, begins_with_line_feed
 ghost use Rattle.md_attributes.specs.Scan.{past_angle, closes_heading, text_before, scanned_heading, scanned_headings};
 ghost use Rattle.md_attributes.specs.Headings.{listed};
 
-use crate::scan::{picks_heading, split_at_byte};
+use crate::scan::{Rule, next_tag, split_at_byte};
 use std::alloc::{AllocError, Global};
 
 /// A heading that got an `id`.
@@ -25,11 +25,10 @@ pub(crate) fn headings(alloc: Global, text: &str) -> Result<Vec<Heading>, AllocE
 {
     let mut found = Vec::new(alloc);
     let mut rest = text;
-    while let Some((_, tag)) = split_at_byte(b'<', rest) {
-        if picks_heading(tag.as_bytes()) {
-            let heading = heading_at(alloc, tag, found.len() + 1)?;
-            found.push(heading)?;
-        }
+    while let Some(at) = next_tag(Rule::Heading, rest.as_bytes()) {
+        let tag = &rest[at + 1..];
+        let heading = heading_at(alloc, tag, found.len() + 1)?;
+        found.push(heading)?;
         rest = tag;
     }
     Ok(found)

@@ -48,6 +48,16 @@ pub fn with_link_rel<H: Html>(
 pub(crate) fn with_rel(alloc: Global, text: &str, rel: &str) -> Result<String, AllocError>
     ensures { IfOk result (λ out. string_bytes out ≡ with_new picks_link (new_rel rel.now) text.now) }
 {
+    if next_end(Rule::Link, text.as_bytes()).is_none() {
+        return String::from_str(alloc, text);
+    }
+    with_rels(alloc, text, rel)
+}
+
+/// The same, where there is mostly such a link.
+fn with_rels(alloc: Global, text: &str, rel: &str) -> Result<String, AllocError>
+    ensures { IfOk result (λ out. string_bytes out ≡ with_new picks_link (new_rel rel.now) text.now) }
+{
     let attribute = rel_attribute(alloc, rel)?;
     let mut out = String::with_capacity(alloc, text.len())?;
     let mut rest = text;

@@ -1,8 +1,10 @@
 //! The tags that get an attribute, found by their bytes.
 
-ghost use Rattle.std.specs.Prelude.{◌≡◌, ℕ, suc, false, ◌<◌, ◌≤◌, ◌++◌, ◌∷◌, [], List, IsTrue, IfSome, MatchOption, length, take, drop, slice_index, option_copied, IsUtf8};
+ghost use Rattle.std.specs.Prelude.{◌≡◌, ◌==◌, ◌&&◌, ℕ, suc, true, false, ◌+◌, ◌<◌, ◌≤◌, ◌++◌, ◌∷◌, [], List, IsTrue, IfSome, MatchOption, length, take, drop, slice_index, option_copied, codes, IsUtf8};
 ghost use Rattle.std.specs.List.{list_all};
-ghost use Rattle.md_attributes.specs.Scan.{differs, IsFirstOf, parts_of, value_of, before_angle, is_away, want_rel, want_id, picks_link, picks_heading, picks_of, scanned};
+ghost use Rattle.md_text.specs.Bytes.{is_between};
+ghost use Rattle.md_text.specs.References.{begins_with};
+ghost use Rattle.md_attributes.specs.Scan.{differs, IsFirstOf, parts_of, value_of, before_angle, is_away, want_rel, want_id, picks_link, picks_heading, picks_of, clear, IsPassed, IsTagAt, IsAngleFrom, IsEndAt, IsScannedTo};
 
 use memchr::memchr;
 
@@ -20,22 +22,120 @@ pub(crate) enum Rule {
 
 /// The index at which the first tag that the rule picks ends: that of its `>`.
 pub(crate) fn next_end(rule: Rule, text: &[u8]) -> Option<usize>
-    ensures place { IfSome result (λ end. (0 < end) × (end < length text.now) × (slice_index text.now end ≡ 62)) }
-    ensures scan { (add : ℕ → List ℕ) (n : ℕ) → MatchOption result
-        (scanned (picks_of rule) add false n text.now ≡ text.now)
-        (λ end. scanned (picks_of rule) add false n text.now ≡ take end text.now
-        ++ (add n ++ scanned (picks_of rule) add false (suc n) (drop end text.now))) }
+    ensures place { IfSome result (IsEndAt text.now) }
+    ensures scan { IsScannedTo (picks_of rule) text.now result }
+{
+    let tag = next_of(rule, text)?;
+    let end = find_byte(b'>', &text[tag + 1..])?;
+    Some(tag + 1 + end)
+}
+
+/// The index of the first tag that the rule picks.
+#[inline(always)]
+fn next_of(rule: Rule, text: &[u8]) -> Option<usize>
+    ensures { MatchOption result (clear (picks_of rule) (length text.now) text.now ≡ true)
+        (IsTagAt (picks_of rule) text.now) }
+{
+    // What goes by the rule is computed when this is built.
+    match rule {
+        Rule::Link => next_tag(Rule::Link, text),
+        Rule::Heading => next_tag(Rule::Heading, text),
+    }
+}
+
+/// The same, where the rule is known when this is built.
+#[inline(always)]
+pub(crate) fn next_tag(rule: Rule, text: &[u8]) -> Option<usize>
+    ensures { MatchOption result (clear (picks_of rule) (length text.now) text.now ≡ true)
+        (IsTagAt (picks_of rule) text.now) }
 {
     let mut at = 0;
-    while let Some(run) = find_byte(b'<', &text[at..]) {
-        at += run + 1;
-        let tag = &text[at..];
-        if picks(rule, tag) {
-            let end = find_byte(b'>', tag)?;
-            return Some(at + end);
+    while let Some(angle) = next_angle(rule, text, at) {
+        at = angle + 1;
+        if picks(rule, &text[at..]) {
+            return Some(angle);
         }
     }
     None
+}
+
+/// The index of a `<` from an index on, before which no tag begins that the rule picks.
+#[inline(always)]
+fn next_angle(rule: Rule, text: &[u8], at: usize) -> Option<usize>
+    requires { at ≤ length text.now }
+    ensures { MatchOption result (IsPassed rule text.now at (length text.now)) (IsAngleFrom rule text.now at) }
+{
+    if text.len() - at < NEAR + 2 {
+        return first_angle(text, at);
+    }
+    let near = pass_near(rule, text, at);
+    if text[near] == b'<' {
+        Some(near)
+    } else {
+        first_angle(text, near)
+    }
+}
+
+/// The index of the first `<` from an index on.
+#[inline(never)]
+fn first_angle(text: &[u8], at: usize) -> Option<usize>
+    requires { at ≤ length text.now }
+    ensures { (rule : Rule) → MatchOption result (IsPassed rule text.now at (length text.now))
+        (IsAngleFrom rule text.now at) }
+{
+    let run = find_byte(b'<', &text[at..])?;
+    Some(at + run)
+}
+
+/// The index near another one where a `<` stands, or up to which no tag begins that the rule picks: every second byte is
+/// looked at, since it is a `<`, or the letter after that of such a tag, or neither.
+#[inline(always)]
+fn pass_near(rule: Rule, text: &[u8], at: usize) -> usize
+    requires { at + 18 ≤ length text.now }
+    ensures near { (at ≤ result) × (result < length text.now) }
+    ensures passed { IsPassed rule text.now at result }
+{
+    let mut passed = 0;
+    while passed < NEAR {
+        let here = at + passed;
+        if text[here + 1] == b'<' {
+            return here + 1;
+        }
+        if may_begin(rule, text, here) {
+            return here;
+        }
+        passed += 2;
+    }
+    at + passed
+}
+
+/// Whether a tag may begin at an index that the rule picks.
+#[inline(always)]
+fn may_begin(rule: Rule, text: &[u8], at: usize) -> bool
+    requires { at + 2 < length text.now }
+    ensures { result ≡ false → ((slice_index text.now at == 60) && picks_of rule (drop (suc at) text.now)) ≡ false }
+{
+    is_named(rule, text, at) && text[at] == b'<'
+}
+
+/// Whether the name after an index may be that of such a tag.
+#[inline(always)]
+fn is_named(rule: Rule, text: &[u8], at: usize) -> bool
+    requires { at + 2 < length text.now }
+    ensures { result ≡ false → picks_of rule (drop (suc at) text.now) ≡ false }
+{
+    match rule {
+        Rule::Link => text[at + 1] == b'a',
+        Rule::Heading => text[at + 1] == b'h' && is_level(text[at + 2]),
+    }
+}
+
+/// Whether it is the digit of a heading's level.
+#[inline(always)]
+fn is_level(byte: u8) -> bool
+    ensures { result ≡ is_between 49 54 byte }
+{
+    matches!(byte, b'1'..=b'6')
 }
 
 /// Whether the rule picks a tag, by what follows its `<`.
@@ -62,12 +162,24 @@ fn picks_link(tag: &[u8]) -> bool
 fn stays(tag: &[u8]) -> bool
     ensures { IsTrue result → picks_link tag.now ≡ false }
 {
-    tag.starts_with(b"a href=\"#") || tag.starts_with(b"a href=\"\"")
+    stays_within(tag) || tag.starts_with(b"a href=\"\"")
+}
+
+/// Whether it begins with one within the page.
+#[inline(always)]
+fn stays_within(tag: &[u8]) -> bool
+    ensures { result ≡ begins_with (codes "a href=\"#") tag.now }
+{
+    // Byte by byte, which takes half of what `starts_with` does.
+    matches!(
+        tag,
+        [b'a', b' ', b'h', b'r', b'e', b'f', b'=', b'"', b'#', ..]
+    )
 }
 
 /// A heading without an `id`.
 #[inline(always)]
-pub(crate) fn picks_heading(tag: &[u8]) -> bool
+fn picks_heading(tag: &[u8]) -> bool
     ensures { result ≡ picks_heading tag.now }
 {
     match tag {

@@ -19,7 +19,9 @@ pub fn ask_each<R: Print + AllocGlobal>(rt: &R, log: &mut Log) -> io::Result<()>
     }
     ask(rt, log, named(), &NAMES)?;
     let is_right = tells_unsafe_options(rt.alloc(), log);
-    log.tell(rt, is_right, "run_safe", "unsafe options")
+    log.tell(rt, is_right, "run_safe", "unsafe options")?;
+    let is_right = tells_unreadable_line(rt.alloc(), log);
+    log.tell(rt, is_right, "run_safe", "a line that can't be read")
 }
 
 /// Makes each call over each of these documents.
@@ -98,7 +100,8 @@ fn ask_checked<R: Print + AllocGlobal>(
     let is_right = compiles_checked(rt.alloc(), log, row, checked);
     log.tell(rt, is_right, "compile_checked", row.name)?;
     let is_right = aligns(rt.alloc(), log, checked);
-    log.tell(rt, is_right, "gfm_table_align", row.name)
+    log.tell(rt, is_right, "gfm_table_align", row.name)?;
+    plain::ask_of_checked(rt, log, row, checked)
 }
 
 /// Checks each document and compiles it as safe; then, where asked, makes the calls that read what these answered.
@@ -221,10 +224,30 @@ fn runs_safely(alloc: Global, log: &mut Log, row: &Row) -> bool {
 
 /// Whether `run_safe` tells that a script's options aren't safe.
 fn tells_unsafe_options(alloc: Global, log: &mut Log) -> bool {
-    matches!(
-        ran_safely(alloc, log, b"!allow_dangerous_html\n--\n"),
-        Err(SafeRunError::Options)
-    )
+    match ran_safely(alloc, log, b"!allow_dangerous_html\n--\n") {
+        Err(SafeRunError::Options) => {
+            is_written(alloc, log, &SafeRunError::Options, "unsafe options")
+        }
+        _ => false,
+    }
+}
+
+/// Whether `run_safe` tells that the first line can't be read.
+fn tells_unreadable_line(alloc: Global, log: &mut Log) -> bool {
+    match ran_safely(alloc, log, b"*\n--\n") {
+        Err(SafeRunError::Run(cause)) => {
+            is_written(alloc, log, &SafeRunError::Run(cause), "line 1: unreadable")
+        }
+        _ => false,
+    }
+}
+
+/// Whether an error is written so.
+fn is_written(alloc: Global, log: &mut Log, error: &SafeRunError, wanted: &str) -> bool {
+    match again!(log, Err(AllocError), format!(in alloc; "{error}")) {
+        Ok(text) => text.as_str() == wanted,
+        Err(AllocError) => false,
+    }
 }
 
 /// Whether `compile` answers what is wanted.

@@ -70,7 +70,8 @@ fn inner_slice_answers() -> bool {
 /// Makes the calls that ask for what was checked.
 pub fn ask_of_checked<R: Print>(rt: &R, log: &Log, row: &Row, checked: &Checked) -> io::Result<()> {
     ask_of_each(rt, log, row, checked)?;
-    ask_of_link(rt, log, row, checked)
+    ask_of_link(rt, log, row, checked)?;
+    ask_of_footnote(rt, log, row, checked)
 }
 
 /// Makes those that each document has.
@@ -96,6 +97,22 @@ fn ask_of_link<R: Print>(rt: &R, log: &Log, row: &Row, checked: &Checked) -> io:
         return log.tell(rt, link_answers(checked), "the calls of a link", row.name);
     }
     Ok(())
+}
+
+/// Makes the call of a footnote's call and of its definition, where they are the second node and one that ends later.
+fn ask_of_footnote<R: Print>(rt: &R, log: &Log, row: &Row, checked: &Checked) -> io::Result<()> {
+    if checked.exits(6, Name::GfmFootnoteCall) && checked.exits(23, Name::GfmFootnoteDefinition) {
+        return log.tell(rt, footnote_answers(checked), "footnote_of", row.name);
+    }
+    Ok(())
+}
+
+/// Whether both are of the first footnote.
+fn footnote_answers(checked: &Checked) -> bool
+    requires call { ExitsAt checked.now.events 6 name.GfmFootnoteCall }
+    requires definition { ExitsAt checked.now.events 23 name.GfmFootnoteDefinition }
+{
+    checked.footnote_of(6) == Some(0) && checked.footnote_of(23) == Some(0)
 }
 
 /// Whether the events and the bytes are kept, with one visit of each event.

@@ -1,46 +1,41 @@
--- A turn passes a tag, and adds the heading that it is.
-use Rattle.std.proofs.Common.{◌≡◌, ◌+◌, ◌++◌, [], ◌∷◌, map, vec_len, append-nil, sym, ap, ◌∙◌, arith}
-use Rattle.std.proofs.lemmas.List.{map-append}
+-- A turn adds the heading that is found.
+use Rattle.std.proofs.Common.{◌≡◌, ◌+◌, ◌++◌, [], ◌∷◌, drop, length, map, vec_len, append-nil, sym, ap, ◌∙◌, arith}
+use Rattle.std.proofs.lemmas.List.{map-append, length-drop}
+use Rattle.std.proofs.lemmas.Str.{IsCharBoundary-after_ascii}
 use Rattle.md_attributes.specs.Headings.{listed}
-use Rattle.md_attributes.specs.Scan.{picks_heading, scanned_heading}
-use Rattle.md_attributes.proofs.Listing.{heading-turn, other-turn, headings-all, shorter}
+use Rattle.md_attributes.specs.Scan.{picks_heading, scanned_heading, scanned_headings, IsTagAt}
+use Rattle.md_attributes.proofs.Listing.{heading-turn, headings-all}
 use Rattle.md_attributes.proofs.headings.headings.Goals as goal
 
-pub loop-tag-preserved-in_ok-push : goal.loop-tag-preserved-in_ok-push
-loop-tag-preserved-in_ok-push c =
-    let parts = c.in-Some.ensures.parts in
-    let tag = c.in-Some.tag.now in
-    let less = shorter c.in-Some.field-0-0.now tag c.loop-tag.rest.now parts.0 in
-    let before = map listed c.loop-tag.found.items in
+pub range_from-tag-requires : goal.range_from-tag-requires
+range_from-tag-requires c =
+    let found : IsTagAt picks_heading c.loop-at.rest.now c.in-Some.at = rw c.as_bytes.ensures.value at c.in-Some.ensures in
+    λ later. IsCharBoundary-after_ascii c.loop-at.rest.now c.in-Some.at c.loop-at.invariant.2 found.within
+    (omega (arith, found.angle))
+
+pub loop-at-preserved : goal.loop-at-preserved
+loop-at-preserved c =
+    let rest = c.loop-at.rest.now in
+    let at = c.in-Some.at in
+    let found : IsTagAt picks_heading rest at = rw c.as_bytes.ensures.value at c.in-Some.ensures in
+    let tag_is = c.range_from-tag.ensures.value in
+    let before = map listed c.loop-at.found.items in
     let number : c.len.result + 1 ≡ vec_len c.push.new.self = omega (arith, c.len.ensures, c.in_ok-push.ensures.len) in
     let more : map listed c.push.new.self.items
-    ≡ before ++ (scanned_heading (vec_len c.push.new.self) tag ∷ []) =
+    ≡ before ++ (scanned_heading (vec_len c.push.new.self) (drop (at + 1) rest) ∷ []) =
     ap (map listed) c.in_ok-push.ensures.items
-    ∙ map-append listed c.loop-tag.found.items (c.in_ok-heading.heading ∷ [])
-    ∙ ap (λ h. before ++ (h ∷ [])) (c.in_ok-heading.ensures ∙ ap (λ k. scanned_heading k tag) number) in (
-      omega (arith, less, c.loop-tag.invariant.0, c.in_ok-push.ensures.len),
-      heading-turn (vec_len c.loop-tag.found) (vec_len c.push.new.self) before (map listed c.push.new.self.items)
-          c.in-Some.field-0-0.now tag c.loop-tag.rest.now _ parts.0 parts.1
-          (ap picks_heading (sym c.as_bytes.ensures.value) ∙ sym c.picks_heading.ensures ∙ c.if-picks_heading.true)
-          c.in_ok-push.ensures.len more c.loop-tag.invariant.1,
-      c.in-Some.ensures.texts.1,
-    )
-
-pub loop-tag-preserved : goal.loop-tag-preserved
-loop-tag-preserved c =
-    let parts = c.in-Some.ensures.parts in
-    let tag = c.in-Some.tag.now in
-    let less = shorter c.in-Some.field-0-0.now tag c.loop-tag.rest.now parts.0 in (
-      omega (arith, less, c.loop-tag.invariant.0),
-      other-turn (vec_len c.loop-tag.found) (map listed c.loop-tag.found.items) c.in-Some.field-0-0.now tag
-          c.loop-tag.rest.now _ parts.0 parts.1
-          (ap picks_heading (sym c.as_bytes.ensures.value) ∙ sym c.picks_heading.ensures ∙ c.if-picks_heading.false)
-          c.loop-tag.invariant.1,
-      c.in-Some.ensures.texts.1,
+    ∙ map-append listed c.loop-at.found.items (c.in_ok-heading.heading ∷ [])
+    ∙ ap (λ h. before ++ (h ∷ [])) (c.in_ok-heading.ensures ∙ ap (λ k. scanned_heading k c.range_from-tag.result.now) number
+    ∙ ap (scanned_heading (vec_len c.push.new.self)) tag_is) in (
+      omega (arith, found.within, ap length tag_is, length-drop (at + 1) rest, c.loop-at.invariant.0, c.in_ok-push.ensures.len),
+      ap (λ t. map listed c.push.new.self.items ++ scanned_headings (vec_len c.push.new.self) t) tag_is
+          ∙ heading-turn (vec_len c.loop-at.found) (vec_len c.push.new.self) at before (map listed c.push.new.self.items)
+          rest _ found c.in_ok-push.ensures.len more c.loop-at.invariant.1,
+      c.range_from-tag.utf8,
     )
 
 pub returns : goal.returns
 returns c =
-    sym (ap (λ y. map listed c.loop-tag.found.items ++ y)
-    (headings-all (vec_len c.loop-tag.found) c.loop-tag.rest.now c.in_default.ensures.parts)
-    ∙ append-nil (map listed c.loop-tag.found.items)) ∙ c.loop-tag.invariant.1
+    sym (ap (λ y. map listed c.loop-at.found.items ++ y)
+    (headings-all (vec_len c.loop-at.found) c.loop-at.rest.now (rw c.as_bytes.ensures.value at c.in_default.ensures))
+    ∙ append-nil (map listed c.loop-at.found.items)) ∙ c.loop-at.invariant.1

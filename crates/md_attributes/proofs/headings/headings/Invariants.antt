@@ -6,11 +6,11 @@ use denote.Text.{Utf8}
 use denote.Shadow.{shadow}
 use Rattle.md_attributes.proofs.headings.headings.Given as goal
 
-abbrev pub invariant-loop-tag : goal.invariant-loop-tag
-invariant-loop-tag l =
+abbrev pub invariant-loop-at : goal.invariant-loop-at
+invariant-loop-at l =
     (vec_len l.found + length l.rest ≤ length l.fn.text)
     × (map listed l.found.items ++ scanned_headings (vec_len l.found) l.rest ≡ scanned_headings 0 l.fn.text)
     × shadow (Utf8 l.rest)
 
-abbrev pub decreases-loop-tag : goal.decreases-loop-tag
-decreases-loop-tag l = length l.rest
+abbrev pub decreases-loop-at : goal.decreases-loop-at
+decreases-loop-at l = length l.rest

@@ -4,7 +4,7 @@ use denote.Text.{Utf8}
 use denote.Shadow.{shadow}
 use Rattle.md_text.specs.Html.{written_attributes}
 use Rattle.md_attributes.specs.Scan.{scanned, picks_link, with_new, new_rel}
-use Rattle.md_attributes.proofs.rel.with_rel.Given as goal
+use Rattle.md_attributes.proofs.rel.with_rels.Given as goal
 
 abbrev pub invariant-loop-end : goal.invariant-loop-end
 invariant-loop-end l =
