@@ -329,7 +329,7 @@ fn is_between(page: &str, wanted: &Wanted) -> bool {
 }
 
 /// Whether this text is wanted.
-fn is_text(text: &str, wanted: &Wanted) -> bool {
+pub fn is_text(text: &str, wanted: &Wanted) -> bool {
     match wanted {
         Wanted::Text(wanted) => text == *wanted,
         Wanted::Refusal(_, _) => false,
@@ -337,7 +337,7 @@ fn is_text(text: &str, wanted: &Wanted) -> bool {
 }
 
 /// Whether this refusal is wanted.
-fn is_refusal(cause: &CompileError, wanted: &Wanted) -> bool {
+pub fn is_refusal(cause: &CompileError, wanted: &Wanted) -> bool {
     match (cause, wanted) {
         (CompileError::Event { index, rule }, Wanted::Refusal(at, by)) => {
             *index == *at && *rule == *by

@@ -13,6 +13,7 @@ mod plain;
 mod rows;
 mod serving;
 mod texts;
+mod unnested;
 
 use log::Log;
 use std::io;
@@ -48,5 +49,6 @@ fn ask_with_memory<R: Print + AllocGlobal>(rt: &R, log: &mut Log) -> io::Result<
     plain::ask_each(rt, log)?;
     texts::ask_each(rt, log)?;
     documents::ask_each(rt, log)?;
+    unnested::ask_each(rt, log)?;
     attributes::ask_each(rt, log)
 }

@@ -93,6 +93,16 @@ pub fn named() -> &'static Row {
     &NAMED
 }
 
+/// A link in a link, which the grammar of events has.
+pub fn nested() -> &'static Row {
+    &NESTED
+}
+
+/// The same in the label of an image, which has texts alone.
+pub fn in_image() -> &'static Row {
+    &IN_IMAGE
+}
+
 /// A heading with a link, whose tags get attributes.
 pub fn attributed() -> &'static Row {
     &ATTRIBUTED
@@ -226,4 +236,23 @@ static ATTRIBUTED: Row = row! {
     + HeadingAtx 0; + HeadingAtxSequence 0; - HeadingAtxSequence 1; + HeadingAtxText 2; + Link 2; + Label 2;
     + LabelText 3; + Data 3; - Data 4; - LabelText 4; - Label 5; + Resource 5; + ResourceDestinationString 6;
     + Data 6; - Data 7; - ResourceDestinationString 7; - Resource 8; - Link 8; - HeadingAtxText 8; - HeadingAtx 8;
+};
+
+static NESTED: Row = row! {
+    "a link in a link", "[[a](b)](c)", Wanted::Text("<a href=\"c\"><a href=\"b\">a</a></a>");
+    + Link 0; + Label 0; + LabelText 1; + Link 1; + Label 1; + LabelText 2; + Data 2; - Data 3; - LabelText 3;
+    - Label 4; + Resource 4; + ResourceDestinationString 5; + Data 5; - Data 6; - ResourceDestinationString 6;
+    - Resource 7; - Link 7; - LabelText 7; - Label 8; + Resource 8; + ResourceDestinationString 9; + Data 9;
+    - Data 10; - ResourceDestinationString 10; - Resource 11; - Link 11;
+};
+
+static IN_IMAGE: Row = row! {
+    "a link in an image in a link", "[![[a](b)](c)](d)",
+    Wanted::Text("<a href=\"d\"><img src=\"c\" alt=\"a\" /></a>");
+    + Link 0; + Label 0; + LabelText 1; + Image 1; + Label 1; + LabelText 3; + Link 3; + Label 3; + LabelText 4;
+    + Data 4; - Data 5; - LabelText 5; - Label 6; + Resource 6; + ResourceDestinationString 7; + Data 7; - Data 8;
+    - ResourceDestinationString 8; - Resource 9; - Link 9; - LabelText 9; - Label 10; + Resource 10;
+    + ResourceDestinationString 11; + Data 11; - Data 12; - ResourceDestinationString 12; - Resource 13; - Image 13;
+    - LabelText 13; - Label 14; + Resource 14; + ResourceDestinationString 15; + Data 15; - Data 16;
+    - ResourceDestinationString 16; - Resource 17; - Link 17;
 };
