@@ -145,7 +145,8 @@ to-angle rule text at run found =
       later = more at run;
       within = inside;
       angle = got-dropped text at run ∙ found.is;
-      passed = λ h. clear-more (picks_of rule) at run text h (clear-run (picks_of rule) run (drop at text) found.before);
+      passed = λ h.
+          clear-more (picks_of rule) at run text h (clear-run (picks_of rule) run (drop at text) found.before);
     }
   where
     more : (a b : ℕ) → a ≤ a + b
@@ -173,7 +174,8 @@ to-end rule text at within none = λ h.
     whole e = omega (arith, e, within)
 
 -- from a place that is reached first
-pub from-near : (rule : Rule) (text : List ℕ) (at near : ℕ) (found : Option ℕ) → at ≤ near → IsPassed rule text at near →
+pub from-near : (rule : Rule) (text : List ℕ) (at near : ℕ) (found : Option ℕ) → at ≤ near →
+    IsPassed rule text at near →
     MatchOption found (IsPassed rule text near (length text)) (IsAngleFrom rule text near) →
     MatchOption found (IsPassed rule text at (length text)) (IsAngleFrom rule text at)
 from-near rule text at near None later passed on = λ h. on (passed h)
@@ -235,7 +237,8 @@ unlevelled text at within other =
 
     low : (b level : ℕ) (rest : List ℕ) → is_between 49 54 level ≡ false → picks_heading (b ∷ level ∷ rest) ≡ false
     low b level rest other =
-        ap (λ t. t && option_map_or want_id (before_angle rest) false) (both-not (b == 104) (is_between 49 54 level) other)
+        ap (λ t. t && option_map_or want_id (before_angle rest) false)
+        (both-not (b == 104) (is_between 49 54 level) other)
 
 -- no `<`
 pub not-angle : (rule : Rule) (text : List ℕ) (at : ℕ) → (slice_index text at == 60) ≡ false →

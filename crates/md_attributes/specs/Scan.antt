@@ -123,7 +123,8 @@ IsEndAt text end = (0 < end) × (end < length text) × (slice_index text end ≡
 abbrev pub IsScannedTo : (List ℕ → Bool) → List ℕ → Option ℕ → Type 0
 IsScannedTo picks text found = (add : ℕ → List ℕ) (n : ℕ) → MatchOption found
     (scanned picks add false n text ≡ text)
-    (λ end. scanned picks add false n text ≡ take end text ++ (add n ++ scanned picks add false (suc n) (drop end text)))
+    (λ end. scanned picks add false n text
+    ≡ take end text ++ (add n ++ scanned picks add false (suc n) (drop end text)))
 
 -- a text with an attribute more in each tag that is picked
 abbrev pub with_new : (List ℕ → Bool) → (ℕ → Attribute) → List ℕ → List ℕ

@@ -87,8 +87,8 @@ fn first_angle(text: &[u8], at: usize) -> Option<usize>
     Some(at + run)
 }
 
-/// The index near another one where a `<` stands, or up to which no tag begins that the rule picks: every second byte is
-/// looked at, since it is a `<`, or the letter after that of such a tag, or neither.
+/// The index near another one where a `<` stands, or up to which no tag begins that the rule picks. Every second byte is
+/// looked at: a `<`, the letter after that of such a tag, or neither.
 #[inline(always)]
 fn pass_near(rule: Rule, text: &[u8], at: usize) -> usize
     requires { at + 18 ≤ length text.now }

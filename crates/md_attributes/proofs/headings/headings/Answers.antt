@@ -9,7 +9,8 @@ use Rattle.md_attributes.proofs.headings.headings.Goals as goal
 
 pub range_from-tag-requires : goal.range_from-tag-requires
 range_from-tag-requires c =
-    let found : IsTagAt picks_heading c.loop-at.rest.now c.in-Some.at = rw c.as_bytes.ensures.value at c.in-Some.ensures in
+    let found : IsTagAt picks_heading c.loop-at.rest.now c.in-Some.at =
+    rw c.as_bytes.ensures.value at c.in-Some.ensures in
     λ later. IsCharBoundary-after_ascii c.loop-at.rest.now c.in-Some.at c.loop-at.invariant.2 found.within
     (omega (arith, found.angle))
 
@@ -25,12 +26,20 @@ loop-at-preserved c =
     ≡ before ++ (scanned_heading (vec_len c.push.new.self) (drop (at + 1) rest) ∷ []) =
     ap (map listed) c.in_ok-push.ensures.items
     ∙ map-append listed c.loop-at.found.items (c.in_ok-heading.heading ∷ [])
-    ∙ ap (λ h. before ++ (h ∷ [])) (c.in_ok-heading.ensures ∙ ap (λ k. scanned_heading k c.range_from-tag.result.now) number
+    ∙ ap (λ h. before ++ (h ∷ [])) (c.in_ok-heading.ensures
+    ∙ ap (λ k. scanned_heading k c.range_from-tag.result.now) number
     ∙ ap (scanned_heading (vec_len c.push.new.self)) tag_is) in (
-      omega (arith, found.within, ap length tag_is, length-drop (at + 1) rest, c.loop-at.invariant.0, c.in_ok-push.ensures.len),
+      omega (
+        arith,
+        found.within,
+        ap length tag_is,
+        length-drop (at + 1) rest,
+        c.loop-at.invariant.0,
+        c.in_ok-push.ensures.len,
+      ),
       ap (λ t. map listed c.push.new.self.items ++ scanned_headings (vec_len c.push.new.self) t) tag_is
-          ∙ heading-turn (vec_len c.loop-at.found) (vec_len c.push.new.self) at before (map listed c.push.new.self.items)
-          rest _ found c.in_ok-push.ensures.len more c.loop-at.invariant.1,
+          ∙ heading-turn (vec_len c.loop-at.found) (vec_len c.push.new.self) at before
+          (map listed c.push.new.self.items) rest _ found c.in_ok-push.ensures.len more c.loop-at.invariant.1,
       c.range_from-tag.utf8,
     )
 
