@@ -1,19 +1,18 @@
 """Adds a `rel` to links and ids to headings, and has chromium read each text.
 
-    attributes.py [FOLDER]
+    BIVDRAZO_MARKDOWN_LIBRARY=clients/out/libbivdrazo-markdown.so.2 attributes.py
 
 Goes over the documents of clients/checks/attributes_test.py. In what chromium makes of a text with attributes, set by
 `innerHTML` of a `div`, there must be the same elements and texts as in that of the text without them, and exactly these
-attributes more. FOLDER has the module for Python (clients/out/python where it isn't given), and the libraries are found
-as its tests find them. Wants chromium and html5lib.
+attributes more. Wants chromium, html5lib and what `clients/build` made.
 """
-import pathlib
 import sys
 
-import documents
+from documents import ROOT, by_browser
 
-CHECKS = documents.ROOT / "clients" / "checks"
-sys.path.insert(0, str(CHECKS))
+# There is a module of that name beside the tests of the clients too.
+del sys.modules["documents"]
+sys.path.insert(0, str(ROOT / "clients" / "checks"))
 import attributes_test  # noqa: E402
 from bivdrazo import markdown_to_html, markdown_with_headings  # noqa: E402
 
@@ -48,7 +47,7 @@ def main():
     rels = [attributes_test.RELS[at % len(attributes_test.RELS)] for at in range(len(given))]
     plain = [markdown_to_html(text, number_ids=True) for text in given]
     made = [markdown_with_headings(text, "part-", rel=rel, number_ids=True)[0] for text, rel in zip(given, rels)]
-    read = documents.by_browser([["div", text] for text in plain + made])
+    read = by_browser([["div", text] for text in plain + made])
     faults = 0
     for text, rel, before, after in zip(given, rels, read[: len(given)], read[len(given) :]):
         if list(wanted(parts(before), rel)) != list(parts(after)):
