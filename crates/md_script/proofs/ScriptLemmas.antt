@@ -5,7 +5,7 @@ use Rattle.std.specs.Prelude.{filter_map, filter, option_to_list, MatchOption, u
 use Rattle.std.specs.Borrow.{Bor}
 use Rattle.std.specs.List.{join_with_byte, cons_option}
 use Rattle.std.proofs.lemmas.Bool.{true≢false, and_parts}
-use Rattle.std.proofs.lemmas.List.{append_assoc, append-nil, length_push}
+use Rattle.std.proofs.lemmas.List.{append_assoc, append-nil, length-append, length_push}
 use Rattle.std.proofs.lemmas.List.Splits.{join_with_byte-slice_split}
 use Rattle.std.proofs.lemmas.Slice.Eq.{bytes_eq-Decides}
 use Rattle.md_base.specs.declared.event.Event.{Event}
@@ -112,6 +112,14 @@ line_more {input} {rest} {number} {events} {settings} known line following cut s
       counted = omega (arith, known.counted, length_push known.seen line);
       short = omega (arith, known.short, size, read_line_has_bytes settings line taken);
     }
+
+-- each line more is an event or a setting more
+pub counted_more : (events : List Event) (settings : List (List ℕ)) (line : List ℕ) (said : Option Event) →
+    length events + length settings + 1
+    ≡ length (events ++ option_to_list said) + length (settings ++ cond (is_some said) [] (line ∷ []))
+counted_more events settings line (Some event) =
+    omega (arith, length-append events (event ∷ []), length-append settings [])
+counted_more events settings line None = omega (arith, length-append events [], length-append settings (line ∷ []))
 
 -- a plain line more
 pub plain_more : {input rest : List ℕ} {number : ℕ} {events : List Event} {settings : List (List ℕ)} →

@@ -45,18 +45,15 @@ pub(crate) fn read_script(alloc: Global, input: &[u8]) -> Result<Script<'_>, Run
 {
     let mut events = Vec::new(alloc);
     let mut settings = Vec::new(alloc);
-    let mut read_lines = 0;
     let mut rest = input;
     'lines: loop {
         if let Some((event, following)) = read_common_line(rest) {
             keep(&mut events, event, following)?;
-            read_lines += 1;
             rest = following;
             continue;
         }
         if let Some((event, following)) = read_plain_line(rest) {
             keep(&mut events, event, following)?;
-            read_lines += 1;
             rest = following;
             continue;
         }
@@ -70,12 +67,13 @@ pub(crate) fn read_script(alloc: Global, input: &[u8]) -> Result<Script<'_>, Run
                 options,
             });
         }
+        // Each line so far is an event or a setting that is kept.
+        let read_lines = events.len() + settings.len();
         if !take_line(&mut events, &mut settings, line)? {
             return Err(RunError::Line(read_lines + 1));
         }
-        read_lines += 1;
         let Some(following) = following else {
-            return Err(RunError::Line(read_lines + 1));
+            return Err(RunError::Line(read_lines + 2));
         };
         rest = following;
     }

@@ -1,9 +1,14 @@
 -- A line that is read is one step of progress; the line that ends the script, an unreadable one or the input's end
 -- says what is answered. By itself the search can't tell what all lines say from the last one.
-use Rattle.std.proofs.Common.{rules, ◌≡◌, ◌+◌, ◌++◌, true, refl, sym, ◌∙◌, subst, option_to_list}
+use Rattle.std.proofs.Common.{rules, ◌≡◌, ℕ, ◌+◌, ◌++◌, ◌∷◌, [], List, true, cond, refl, sym, ◌∙◌, subst, arith, length, option_to_list, is_some}
+use Rattle.std.specs.Borrow.{Bor}
+use Rattle.std.proofs.lemmas.List.{length-append, length-map}
+use Rattle.md_base.specs.declared.event.Event.{Event}
 use Rattle.md_line.specs.Line.{event_of}
 use Rattle.md_line.specs.Setting.{texts_of, HasOptions}
-use Rattle.md_script.proofs.ScriptLemmas.{Progress, takes, line_more, plain_more, script_ends_at, line_stops, input_stops}
+use Rattle.md_script.specs.Script.{Explains}
+use Rattle.md_script.specs.declared.error.RunError.TheVariants.{Line}
+use Rattle.md_script.proofs.ScriptLemmas.{Progress, takes, line_more, counted_more, plain_more, script_ends_at, line_stops, input_stops}
 use Rattle.md_script.proofs.script.read_script.Goals as goal
 
 pub returns-then-is_end-clause-ok : goal.returns-then-is_end-clause-ok
@@ -16,27 +21,54 @@ returns-then-is_end-clause-ok c =
 
 pub returns-then-not-branch-clause-err : goal.returns-then-not-branch-clause-err
 returns-then-not-branch-clause-err c =
-    line_stops c.lines.invariant c.first_line.result.0.now c.first_line.result.1 c.first_line.ensures.lines
+    let same : length c.lines.events.items + length (texts_of c.lines.settings.items) + 1
+    ≡ c.len.result + c.len-in-lines.result + 1 =
+    omega (
+      arith,
+      c.len.ensures,
+      c.len-in-lines.ensures,
+      length-map c.lines.settings.items (λ (t : Bor (List ℕ)). t.now),
+    ) in
+    subst (λ n. Explains c.args.input.now (Line n)) same
+    (line_stops c.lines.invariant c.first_line.result.0.now c.first_line.result.1 c.first_line.ensures.lines
     (sym c.if-is_end.ensures)
-    (sym c.in_ok-take_line.ensures.taken ∙ c.if-not-branch.true)
+    (sym c.in_ok-take_line.ensures.taken ∙ c.if-not-branch.true))
 
 pub returns-in_default-following-clause-err : goal.returns-in_default-following-clause-err
 returns-in_default-following-clause-err c =
-    input_stops c.lines.invariant c.first_line.result.0.now (rw c.in_default-following.is at c.first_line.ensures.lines)
-    (sym c.in_ok-take_line.ensures.taken ∙ c.if-not-branch.false)
+    let same : length c.lines.events.items + length (texts_of c.lines.settings.items) + 1 + 1
+    ≡ c.len.result + c.len-in-lines.result + 2 =
+    omega (
+      arith,
+      c.len.ensures,
+      c.len-in-lines.ensures,
+      length-map c.lines.settings.items (λ (t : Bor (List ℕ)). t.now),
+    ) in
+    subst (λ n. Explains c.args.input.now (Line n)) same
+    (input_stops c.lines.invariant c.first_line.result.0.now
+    (rw c.in_default-following.is at c.first_line.ensures.lines)
+    (sym c.in_ok-take_line.ensures.taken ∙ c.if-not-branch.false))
 
 pub lines-preserved-in-Some : goal.lines-preserved-in-Some
 lines-preserved-in-Some c =
+    let events : List Event = c.lines.events.items in
+    let settings : List (List ℕ) = texts_of c.lines.settings.items in
     let more = plain_more c.lines.invariant c.in-Some.event c.in-Some.following.now c.in-Some.ensures in
-    subst (λ events. Progress c.args.input.now (c.lines.read_lines + 1) events
-    (texts_of c.lines.settings.items) c.in-Some.following.now) (sym c.in_ok-keep.ensures) more
+    subst (λ es. Progress c.args.input.now (length es + length settings) es settings c.in-Some.following.now)
+    (sym c.in_ok-keep.ensures)
+    (subst (λ n. Progress c.args.input.now n (events ++ c.in-Some.event ∷ []) settings c.in-Some.following.now)
+    (omega (arith, length-append events (c.in-Some.event ∷ []))) more)
 
 pub lines-preserved-in-Some-read_plain_line : goal.lines-preserved-in-Some-read_plain_line
 lines-preserved-in-Some-read_plain_line c =
     let read = c.in-Some-read_plain_line in
+    let events : List Event = c.lines.events.items in
+    let settings : List (List ℕ) = texts_of c.lines.settings.items in
     let more = plain_more c.lines.invariant read.event read.following.now read.ensures in
-    subst (λ events. Progress c.args.input.now (c.lines.read_lines + 1) events
-    (texts_of c.lines.settings.items) read.following.now) (sym c.in_ok-keep-2.ensures) more
+    subst (λ es. Progress c.args.input.now (length es + length settings) es settings read.following.now)
+    (sym c.in_ok-keep-2.ensures)
+    (subst (λ n. Progress c.args.input.now n (events ++ read.event ∷ []) settings read.following.now)
+    (omega (arith, length-append events (read.event ∷ []))) more)
 
 pub lines-preserved : goal.lines-preserved
 lines-preserved c =
@@ -46,12 +78,18 @@ lines-preserved c =
     let more = line_more c.lines.invariant line c.in-Some-following.following.now
     (rw c.in-Some-following.is at c.first_line.ensures.lines)
     (rw c.in-Some-following.is at c.first_line.ensures.len) taken in
-    subst (λ events. Progress c.args.input.now (c.lines.read_lines + 1) events
-    (texts_of c.take_line.new.settings.items) c.in-Some-following.following.now)
+    let events : List Event = c.lines.events.items in
+    let settings : List (List ℕ) = texts_of c.lines.settings.items in
+    let left = c.in-Some-following.following.now in
+    let said = event_of line in
+    subst (λ es. Progress c.args.input.now (length es + length (texts_of c.take_line.new.settings.items)) es
+    (texts_of c.take_line.new.settings.items) left)
     (sym c.in_ok-take_line.ensures.events)
-    (subst (λ settings. Progress c.args.input.now (c.lines.read_lines + 1) (c.lines.events.items
-    ++ option_to_list (event_of line)) settings c.in-Some-following.following.now)
-    (sym (c.in_ok-take_line.ensures.settings c.if-not-branch.false)) more)
+    (subst (λ kept. Progress c.args.input.now (length (events ++ option_to_list said) + length kept)
+    (events ++ option_to_list said) kept left)
+    (sym (c.in_ok-take_line.ensures.settings c.if-not-branch.false))
+    (subst (λ n. Progress c.args.input.now n (events ++ option_to_list said)
+    (settings ++ cond (is_some said) [] (line ∷ [])) left) (counted_more events settings line said) more))
 
 -- The search that proves this one, and no other: a wrong body is refused by it in a second.
 pub lines-init : goal.lines-init

@@ -1,11 +1,14 @@
--- At each turn: the lines so far can be read, and events and settings are theirs (`Progress`). Less is left each time.
-use Rattle.std.proofs.Common.{length}
+-- At each turn: the lines so far can be read, and events and settings are theirs, as many as there are lines
+-- (`Progress`). Less is left each time.
+use Rattle.std.proofs.Common.{◌+◌, length}
 use Rattle.md_line.specs.Setting.{texts_of}
 use Rattle.md_script.proofs.ScriptLemmas.{Progress}
 use Rattle.md_script.proofs.script.read_script.Given as goal
 
 abbrev pub invariant-lines : goal.invariant-lines
-invariant-lines l = Progress l.fn.input l.read_lines l.events.items (texts_of l.settings.items) l.rest
+invariant-lines l =
+    Progress l.fn.input (length l.events.items + length (texts_of l.settings.items)) l.events.items
+    (texts_of l.settings.items) l.rest
 
 abbrev pub decreases-lines : goal.decreases-lines
 decreases-lines l = length l.rest
