@@ -7,7 +7,7 @@ use md_html::{
     CompileError, CompileOptions, SafeError, SafeHtml, UnnestedError, compile_unnested,
     has_nested_link,
 };
-use std::alloc::Global;
+use std::alloc::{AllocError, Global};
 use std::io;
 
 /// Makes these calls over each document, none of which has a link in a link, and over two with links and images.
@@ -19,7 +19,9 @@ pub fn ask_each<R: Print + AllocGlobal>(rt: &R, log: &mut Log) -> io::Result<()>
     let row = nested();
     log.tell(rt, has_nested_link(row.events), "has_nested_link", row.name)?;
     let is_right = refuses_nested(rt.alloc(), log, row);
-    log.tell(rt, is_right, "compile_unnested", row.name)
+    log.tell(rt, is_right, "compile_unnested", row.name)?;
+    let is_right = refuses_options(rt.alloc(), log);
+    log.tell(rt, is_right, "compile_unnested", "unsafe options")
 }
 
 /// Makes them over each of these documents.
@@ -53,7 +55,33 @@ fn compiles_unnested(alloc: Global, log: &mut Log, row: &Row) -> bool {
 
 /// Whether it refuses a document in which a link stands in a link.
 fn refuses_nested(alloc: Global, log: &mut Log, row: &Row) -> bool {
-    matches!(unnested_of(alloc, log, row), Err(UnnestedError::Nested))
+    match unnested_of(alloc, log, row) {
+        Err(UnnestedError::Nested) => {
+            is_written(alloc, log, &UnnestedError::Nested, "a link in a link")
+        }
+        _ => false,
+    }
+}
+
+/// Whether it refuses options that aren't safe.
+fn refuses_options(alloc: Global, log: &mut Log) -> bool {
+    let mut options = CompileOptions::default();
+    options.allow_dangerous_html = true;
+    match compile_unnested(alloc, &[], b"", &options, &[]) {
+        Err(UnnestedError::Safe(SafeError::Options)) => {
+            let error = UnnestedError::Safe(SafeError::Options);
+            is_written(alloc, log, &error, "unsafe options")
+        }
+        _ => false,
+    }
+}
+
+/// Whether an error is written so.
+fn is_written(alloc: Global, log: &mut Log, error: &UnnestedError, wanted: &str) -> bool {
+    match again!(log, Err(AllocError), format!(in alloc; "{error}")) {
+        Ok(text) => text.as_str() == wanted,
+        Err(AllocError) => false,
+    }
 }
 
 /// The answer of `compile_unnested`; where it is out of memory, that of the same call made again.
