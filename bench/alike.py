@@ -3,8 +3,8 @@
 
     bench/alike.py OLD NEW [COUNT [SEED]]
 
-OLD and NEW are programs that read a script, as crates/mdevents/out/mdevents. The scripts are those of crates/md_cases,
-one or two of them put together and changed in some places by chance. It prints how many of each status there were, and
+OLD and NEW are programs that read a script, as crates/mdevents/out/mdevents. The scripts are those of crates/md_cases
+(once bench/cases.py --write has written them), one or two of them put together and changed in some places by chance. It prints how many of each status there were, and
 stops with status 1 at the first script on which outputs, messages or statuses differ, which it then prints.
 """
 

@@ -1,22 +1,25 @@
 #!/usr/bin/env python3
-"""Makes the groups of worked cases that come from programs, and compares them with what stands.
+"""Writes `crates/md_cases/stdin` and `stdout`, the cases that `rt ci` runs, which git doesn't keep.
 
-    bench/cases.py            compares scripts and answers, group by group; the status is 1 where they differ
-    bench/cases.py --write    writes what is made in the place of what stands, and leaves all other cases as they are
+    bench/cases.py            compares both files, as they stand, with what would be written
+    bench/cases.py --write    writes them
+    bench/cases.py --accept   writes the digests of the groups that are made
 
-What stands is in `crates/md_cases/stdin` and `stdout`. What makes the cases is in `crates/md_cases/make`: a module for
-each group, over a model of the rules that was written apart from the crates. Nothing of the crates is run, no answer is
-read from them, and none from what stands.
+Of each group the cases are written by hand, in `crates/md_cases/cases`, or made by a module in `crates/md_cases/make`,
+over a model of the rules that was written apart from the crates. Nothing of the crates is run, and no answer is read
+from them. `make/digests.txt` has the digest of each group that is made: the status is 1 where another one is made, or
+where the files that stand are compared and differ.
 """
 import argparse
+import hashlib
 import os
-import re
+import pathlib
 import sys
 
-ROOT = os.path.dirname(os.path.dirname(os.path.abspath(__file__)))
-CASES = os.path.join(ROOT, "crates", "md_cases")
+CRATE = pathlib.Path(__file__).resolve().parents[1] / "crates" / "md_cases"
+STDIN, STDOUT, DIGESTS = CRATE / "stdin", CRATE / "stdout", CRATE / "make" / "digests.txt"
 sys.dont_write_bytecode = True
-sys.path.insert(0, os.path.join(CASES, "make"))
+sys.path.insert(0, str(CRATE / "make"))
 
 import attacks  # noqa: E402
 import cuts  # noqa: E402
@@ -25,92 +28,72 @@ import footnote_texts  # noqa: E402
 import ids  # noqa: E402
 import labels  # noqa: E402
 import many  # noqa: E402
-from trees import Case  # noqa: E402
+import written  # noqa: E402
 
-# In the order in which their cases stand: a group of which nothing stands is written after the one before it.
+# In the order in which their cases stand, behind those that are written by hand.
 MODULES = [cuts, ids, attacks, flags, footnote_texts, labels, many]
-LAST = b"each call was made\n"
-SHOWN_LINES, SHOWN_BEFORE, SHOWN_BYTES = 5, 40, 160
+FIRST, LAST = b"worked cases, and then each call of md_failure_cases\n", b"each call was made\n"
+SHOWN_CASES, SHOWN_BEFORE, SHOWN_BYTES = 5, 40, 160
 
 
-def standing(name):
-    """What stands before the cases of a file, and their titles and contents: the last script ends with the file."""
-    with open(os.path.join(CASES, name), "rb") as file:
-        source = file.read()
-    source = source.removesuffix(LAST) if name == "stdout" else source + b"\n"
-    parts = re.split(rb"(?m)^%%%% ([^\n]*)\n", source)
-    contents = [content.removesuffix(b"\n") for content in parts[2::2]]
-    return parts[0], list(zip([title.decode() for title in parts[1::2]], contents))
+def files(cases):
+    """What both files have: the last script ends with its file."""
+    titled = [(b"%%%% " + case.title.encode() + b"\n", case) for case in cases]
+    return (FIRST + b"\n".join(title + case.script for title, case in titled),
+            b"".join(title + case.answer + b"\n" for title, case in titled) + LAST)
 
 
-def all_standing():
-    """What stands before the cases of `stdin`, and all cases."""
-    head, scripts = standing("stdin")
-    before, answers = standing("stdout")
-    if before or [title for title, _ in scripts] != [title for title, _ in answers]:
-        sys.exit("bench/cases.py: stdin and stdout don't have the same cases in one order")
-    return head, [Case(title, script, answer) for (title, script), (_, answer) in zip(scripts, answers)]
+def digest(cases):
+    """How many cases there are, and what tells them from others."""
+    return f"{hashlib.sha256(b''.join(files(cases))).hexdigest()[:16]} {len(cases)}"
 
 
-def run_of(cases, start):
-    """Where the cases whose titles begin so stand: the first, and the one after the last."""
-    places = [place for place, case in enumerate(cases) if case.title.startswith(start + ":")]
-    if places and places[-1] - places[0] + 1 != len(places):
-        sys.exit(f"bench/cases.py: the cases of `{start}` stand apart")
-    return (places[0], places[-1] + 1) if places else (None, None)
+def parts(source):
+    """The case, as its file has it, under each title."""
+    return dict(part.partition(b"\n")[::2] for part in (b"\n" + source).split(b"\n%%%% ")[1:])
 
 
-def differences(made, found):
-    """What differs between cases that are made and cases that stand, a line each."""
-    standing_cases = {case.title: case for case in found}
-    titles = {case.title for case in made}
-    lines = [f"is not made: {case.title}" for case in found if case.title not in titles]
-    for case in made:
-        other = standing_cases.get(case.title)
-        if other is None:
-            lines.append(f"does not stand: {case.title}")
-        elif case.script != other.script:
-            lines.append(f"has another script: {case.title}")
-        elif case.answer != other.answer:
-            at = max(len(os.path.commonprefix([case.answer, other.answer])) - SHOWN_BEFORE, 0)
-            lines.append(f"has another answer: {case.title}, from byte {at}\n"
-                         f"    made   {case.answer[at:at + SHOWN_BYTES]!r}\n"
-                         f"    stands {other.answer[at:at + SHOWN_BYTES]!r}")
-    return lines or (["stand in another order"] if made != found else [])
-
-
-def write(head, cases):
-    """Writes both files."""
-    scripts = b"\n".join(b"%%%% " + case.title.encode() + b"\n" + case.script for case in cases)
-    answers = b"".join(b"%%%% " + case.title.encode() + b"\n" + case.answer + b"\n" for case in cases)
-    for name, written in (("stdin", head + scripts), ("stdout", answers + LAST)):
-        with open(os.path.join(CASES, name), "wb") as file:
-            file.write(written)
+def differences(path, wanted):
+    """What differs between a file, where it stands, and what it is to have: a line for each case."""
+    if not path.exists():
+        return [f"crates/md_cases/{path.name} doesn't stand: bench/cases.py --write writes it"]
+    source = path.read_bytes()
+    stands, made, lines = parts(source), parts(wanted), []
+    for title in [*made, *(title for title in stands if title not in made)]:
+        old, new = stands.get(title), made.get(title)
+        if old is None or new is None:
+            lines.append(f"{path.name} {'lacks' if old is None else 'has'} a case: {title.decode()}")
+        elif old != new:
+            at = max(len(os.path.commonprefix([old, new])) - SHOWN_BEFORE, 0)
+            lines.append(f"{path.name} has another text: {title.decode()}, from byte {at}\n"
+                         f"    wanted {new[at:at + SHOWN_BYTES]!r}\n    stands {old[at:at + SHOWN_BYTES]!r}")
+    return lines or ([f"{path.name} has another order"] if source != wanted else [])
 
 
 def main():
     parser = argparse.ArgumentParser(description=__doc__, formatter_class=argparse.RawDescriptionHelpFormatter)
-    parser.add_argument("--write", action="store_true", help="write the cases that are made")
+    parser.add_argument("--write", action="store_true", help="write the files")
+    parser.add_argument("--accept", action="store_true", help="write the digests")
     given = parser.parse_args()
-    head, cases = all_standing()
-    different, size, after = 0, 0, len(cases)
-    for start, made in [section for module in MODULES for section in module.sections().items()]:
-        first, after_last = run_of(cases, start)
-        found = [] if first is None else cases[first:after_last]
-        lines = differences(made, found)
-        for line in lines[:SHOWN_LINES]:
-            print(f"{start}: {line}")
-        print(f"{start}: {len(made)} cases, {f'{len(lines)} differences' if lines else 'as they are made'}")
-        different += bool(lines)
-        size += len(made)
-        first, after_last = (after, after) if first is None else (first, after_last)
-        cases[first:after_last] = made
-        after = first + len(made)
-    print(f"cases: {size} are made, of {len(cases)}; groups that differ from what stands: {different}")
-    if given.write and different:
-        write(head, cases)
-        print("stdin and stdout are written anew")
-    return 1 if different and not given.write else 0
+    by_hand = [case for cases in written.sections().values() for case in cases]
+    made = {group: cases for module in MODULES for group, cases in module.sections().items()}
+    cases = by_hand + [case for group in made.values() for case in group]
+    if len({case.title for case in cases}) != len(cases):
+        sys.exit("bench/cases.py: two cases have one title")
+    digests = [f"{digest(group)} {name}" for name, group in made.items()]
+    if given.accept:
+        DIGESTS.write_text("\n".join([*digests, ""]))
+    known = DIGESTS.read_text().splitlines()
+    wrong = [f"only made: {line}" for line in digests if line not in known]
+    wrong += [f"only in make/digests.txt: {line}" for line in known if line not in digests]
+    for path, wanted in zip((STDIN, STDOUT), files(cases)):
+        if given.write:
+            path.write_bytes(wanted)
+        else:
+            wrong += differences(path, wanted)
+    print(*wrong[:SHOWN_CASES], sep="\n", end="\n" if wrong else "")
+    print(f"cases: {len(cases)}, of which {len(cases) - len(by_hand)} are made; differences: {len(wrong)}")
+    return 1 if wrong else 0
 
 
 if __name__ == "__main__":

@@ -4,7 +4,7 @@
     /usr/bin/python3 bench/html5.py PROGRAM
 
 PROGRAM is the built `mdevents`; html5lib comes with Debian's python3-html5lib, or from pip. The attacks, and the
-ways on which each comes into the text, are in attacks.json; crates/md_cases/stdin has them with their answers. Each
+ways on which each comes into the text, are in attacks.json; they are cases of crates/md_cases, with their answers. Each
 text is read inside a `div` and as a whole page. It fails, with status 1, on an element, an attribute or a comment
 that compiled Markdown never has, and, but where an option lets them, on a link or an image that leads to another
 protocol as a browser takes it.

@@ -2,7 +2,7 @@
 //! `md_failure_cases`.
 //!
 //! Where the first word of standard input isn't `worked`, it says which of those calls are made, and nothing else is
-//! read: so no memory is taken before them.
+//! read: so no memory is taken before them. Where there is no word nothing is asked, which is an error.
 //!
 //! A case begins with a line `%%%% GROUP: NAME`. Its script goes on to the line ending before the next such line. For
 //! each case that line is written, and then the text, or `! ` and why there is none.
@@ -22,6 +22,10 @@ use std::process::ExitCode;
 /// How a case begins.
 const MARK: &[u8] = b"%%%% ";
 
+/// What is said where standard input is empty, and the status then.
+const NOTHING_ASKED: &str = "no case is asked: bench/cases.py --write writes stdin and stdout";
+const FAILED: u8 = 1;
+
 /// A case: its first line, and where its script begins.
 #[derive(Clone, Copy)]
 struct Case<'a> {
@@ -30,7 +34,16 @@ struct Case<'a> {
 }
 
 fn main(rt: HostRuntime) -> ExitCode {
-    match ask(&rt) {
+    let mut word = [0u8; 8];
+    let asked = match rt.reader().read(&mut word) {
+        Ok(0) => {
+            let _ = rt.eprintln(NOTHING_ASKED);
+            return ExitCode::from(FAILED);
+        }
+        Ok(_) => ask(&rt, &word),
+        Err(_) => Err(ServeError::Input),
+    };
+    match asked {
         Ok(()) => ExitCode::SUCCESS,
         Err(error) => {
             let status = error.status();
@@ -40,17 +53,12 @@ fn main(rt: HostRuntime) -> ExitCode {
     }
 }
 
-/// Answers the cases if they are asked for, and makes the calls.
-fn ask<R: Input + Print + AllocGlobal>(rt: &R) -> Result<(), ServeError> {
-    let mut word = [0u8; 8];
-    match rt.reader().read(&mut word) {
-        Ok(_) => {}
-        Err(_) => return Err(ServeError::Input),
-    }
+/// Answers the cases if the first word asks for them, and makes the calls.
+fn ask<R: Input + Print + AllocGlobal>(rt: &R, word: &[u8]) -> Result<(), ServeError> {
     if word.starts_with(b"worked") {
         answer_cases(rt)?;
     }
-    match ask_each(rt, &word) {
+    match ask_each(rt, word) {
         Ok(()) => Ok(()),
         Err(_) => Err(ServeError::Output),
     }
