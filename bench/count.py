@@ -1,0 +1,103 @@
+#!/usr/bin/env python3
+"""Counts what makes the repository long to read, a line each, with the figure that is wanted. It judges nothing.
+
+    bench/count.py [CLONE]
+
+It reads the texts that git keeps but data: the cases that were written by hand, and tables of references. How often
+words stand is counted without must-fail edits and the benchmark too.
+"""
+import collections
+import pathlib
+import re
+import statistics
+import subprocess
+import sys
+
+ROOT = pathlib.Path(sys.argv[1] if len(sys.argv) > 1 else pathlib.Path(__file__).parents[1]).resolve()
+CASES = re.compile(r"crates/md_cases/(cases|make|stdin|stdout)")
+DATA = re.compile(r"crates/md_cases/(cases|stdin|stdout)|.*(\.png|\.lock|\.json|references\.\w+)$")
+NOT_NAMING = re.compile(r"bench/|crates/md_bench/|.*/must-fail/")
+TESTS = re.compile(r"crates/md_(bench|cases|failure_cases|hostile_cases)/|.*/tests\.rt$")
+FUNCTION = re.compile(r"(?m)^( *)(?:pub(?:\(\w+\))? )?(?:const )?(?:unsafe )?(?:extern \"C\" )?fn (\w+)"
+                      r"(?:<(?:[^<>]|->|<[^<>]*>)*>)?\(")
+COLUMNS, LINES, PARAMETERS, SHOWN = 100, 300, 5, 5
+
+
+def kept():
+    """The paths that git keeps."""
+    listed = subprocess.run(["git", "-C", ROOT, "ls-files", "-z"], capture_output=True, text=True, check=True).stdout
+    return [path for path in listed.split("\0") if (ROOT / path).is_file()]
+
+
+def parameters(source, place):
+    """How many parameters stand from a place on, up to the bracket that closes their list."""
+    text, depth = "", 0
+    for mark in source[place:].replace("->", "  "):
+        depth += (mark in "([{<") - (mark in ")]}>")
+        if depth < 0:
+            break
+        text += mark if depth == 0 else " "
+    return sum(bool(part.strip()) for part in text.split(","))
+
+
+def named_in(files, words):
+    """In how many files each of these words stands: the median, and the most."""
+    held = [set(re.findall(r"\w+", source)) for source in files]
+    counts = {word: sum(word in known for known in held) for word in words}
+    most = max(counts, key=counts.get)
+    return f"{statistics.median(counts.values()):g} in the median, {counts[most]} at most ({most})"
+
+
+def shared(sources):
+    """The names that free functions of more than one file have."""
+    names = [{name for indent, name in FUNCTION.findall(source) if not indent} for source in sources]
+    counts = collections.Counter(name for some in names for name in some if name != "main")
+    found = [f"{name} {count}" for name, count in sorted(counts.items()) if count > 1]
+    return f"{len(found)}: {', '.join(found)}"
+
+
+def greatest(counts, least):
+    """How many counts pass a number, and the greatest of them."""
+    passing = {path: count for path, count in counts.items() if count > least}
+    first = sorted(passing, key=lambda path: (-passing[path], path))[:SHOWN]
+    return f"{len(passing)}, first {', '.join(f'{path} {passing[path]}' for path in first)}"
+
+
+def say(what, count, wanted=None):
+    print(f"{what}: {count}" + (f" (wanted: {wanted})" if wanted else ""))
+
+
+def main():
+    paths = kept()
+    texts = {path: (ROOT / path).read_text() for path in paths if not DATA.match(path)}
+    code = {path: source for path, source in texts.items() if path.endswith(".rt")}
+    say("crates", len(re.findall(r"(?m)^\w", texts["crates.txt"])), "19 at most")
+    say("lines of README.md", texts["README.md"].count("\n"), "90 at most")
+    say("lines of docs/GATE.md", texts["docs/GATE.md"].count("\n"), "80 at most")
+
+    wide = {path: sum(len(line) > COLUMNS for line in source.splitlines()) for path, source in texts.items()}
+    kinds = collections.Counter()
+    for path, count in wide.items():
+        kinds[path[path.rfind("."):] if path.endswith((".rt", ".antt")) else "other"] += count
+    say(f"lines over {COLUMNS} columns", ", ".join(f"{kind} {count}" for kind, count in sorted(kinds.items())))
+    say("files that have such lines", greatest(wide, 0))
+    say(f"files over {LINES} lines", greatest({path: source.count("\n") for path, source in texts.items()}, LINES))
+
+    counts = {f"{path} {found.group(2)}": parameters(source, found.end())
+              for path, source in code.items() for found in FUNCTION.finditer(source)}
+    say(f"functions with more than {PARAMETERS} parameters", greatest(counts, PARAMETERS))
+    say("names that free functions share", shared([code[path] for path in code if not TESTS.match(path)]))
+    say("such names in crates of tests", shared([code[path] for path in code if TESTS.match(path)]))
+    say("functions called main", sum("\nfn main(" in source for source in code.values()))
+
+    naming = [source for path, source in texts.items() if not NOT_NAMING.match(path)]
+    options = re.findall(r"(?m)^    pub (\w+):", texts["crates/md_text/src/options.rt"])
+    names = re.search(r"(?s)pub enum Name \{(.*?)\n\}", texts["crates/md_base/src/event.rt"]).group(1)
+    say("files that name an option", named_in(naming, options), "25 at most")
+    say("files that name a name of events", named_in(naming, re.findall(r"(?m)^    (\w+)", names)), "28 at most")
+    size = sum((ROOT / path).stat().st_size for path in paths if CASES.match(path))
+    say("bytes of cases and of what makes them", f"{size:,}", "1,000,000 at most")
+
+
+if __name__ == "__main__":
+    main()
