@@ -22,8 +22,10 @@ use std::process::ExitCode;
 /// How a case begins.
 const MARK: &[u8] = b"%%%% ";
 
-/// What is said where standard input is empty, and the status then.
+/// What is said where standard input is empty.
 const NOTHING_ASKED: &str = "no case is asked: bench/cases.py --write writes stdin and stdout";
+
+/// The status then.
 const FAILED: u8 = 1;
 
 /// A case: its first line, and where its script begins.
