@@ -5,10 +5,11 @@
     bench/cases.py --write    writes them
     bench/cases.py --accept   writes the digests of the groups that are made
 
-Of each group the cases are written by hand, in `crates/md_cases/cases`, or made by a module in `crates/md_cases/make`,
-over a model of the rules that was written apart from the crates. Nothing of the crates is run, and no answer is read
-from them. `make/digests.txt` has the digest of each group that is made: the status is 1 where another one is made, or
-where the files that stand are compared and differ.
+Of each group the cases are written by hand, in `crates/md_cases/cases`, or made by a module in
+`crates/md_cases/make`, over a model of the rules that was written apart from the crates. Nothing of
+the crates is run, and no answer is read from them. `make/digests.txt` has the digest of each group
+that is made: the status is 1 where another one is made, or where the files that stand are compared
+and differ.
 """
 import argparse
 import hashlib
@@ -54,24 +55,27 @@ def parts(source):
 
 
 def differences(path, wanted):
-    """What differs between a file, where it stands, and what it is to have: a line for each case."""
+    """What differs between a file, if it stands, and what it is to have: a line for each case."""
     if not path.exists():
-        return [f"crates/md_cases/{path.name} doesn't stand: bench/cases.py --write writes it"]
+        return [f"{path.name} is missing: bench/cases.py --write writes it"]
     source = path.read_bytes()
     stands, made, lines = parts(source), parts(wanted), []
     for title in [*made, *(title for title in stands if title not in made)]:
         old, new = stands.get(title), made.get(title)
         if old is None or new is None:
-            lines.append(f"{path.name} {'lacks' if old is None else 'has'} a case: {title.decode()}")
+            verb = "lacks" if old is None else "has"
+            lines.append(f"{path.name} {verb} a case: {title.decode()}")
         elif old != new:
             at = max(len(os.path.commonprefix([old, new])) - SHOWN_BEFORE, 0)
             lines.append(f"{path.name} has another text: {title.decode()}, from byte {at}\n"
-                         f"    wanted {new[at:at + SHOWN_BYTES]!r}\n    stands {old[at:at + SHOWN_BYTES]!r}")
+                         f"    wanted {new[at:at + SHOWN_BYTES]!r}\n"
+                         f"    stands {old[at:at + SHOWN_BYTES]!r}")
     return lines or ([f"{path.name} has another order"] if source != wanted else [])
 
 
 def main():
-    parser = argparse.ArgumentParser(description=__doc__, formatter_class=argparse.RawDescriptionHelpFormatter)
+    shown = argparse.RawDescriptionHelpFormatter
+    parser = argparse.ArgumentParser(description=__doc__, formatter_class=shown)
     parser.add_argument("--write", action="store_true", help="write the files")
     parser.add_argument("--accept", action="store_true", help="write the digests")
     given = parser.parse_args()
@@ -92,7 +96,8 @@ def main():
         else:
             wrong += differences(path, wanted)
     print(*wrong[:SHOWN_CASES], sep="\n", end="\n" if wrong else "")
-    print(f"cases: {len(cases)}, of which {len(cases) - len(by_hand)} are made; differences: {len(wrong)}")
+    count = len(cases) - len(by_hand)
+    print(f"cases: {len(cases)}, of which {count} are made; differences: {len(wrong)}")
     return 1 if wrong else 0
 
 

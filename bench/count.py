@@ -1,10 +1,11 @@
 #!/usr/bin/env python3
-"""Counts what makes the repository long to read, a line each, with the figure that is wanted. It judges nothing.
+"""Counts what makes the repository long to read, a line each, with the figure that is wanted.
 
     bench/count.py [CLONE]
 
-It reads the texts that git keeps but data: the cases that were written by hand, and tables of references. How often
-words stand is counted without must-fail edits and the benchmark too.
+It judges nothing. It reads the texts that git keeps but data: the cases that were written by hand,
+and tables of references. How often words stand is counted without must-fail edits and the
+benchmark too.
 """
 import collections
 import pathlib
@@ -13,19 +14,19 @@ import statistics
 import subprocess
 import sys
 
-ROOT = pathlib.Path(sys.argv[1] if len(sys.argv) > 1 else pathlib.Path(__file__).parents[1]).resolve()
+ROOT = pathlib.Path([*sys.argv[1:], pathlib.Path(__file__).parents[1]][0]).resolve()
 CASES = re.compile(r"crates/md_cases/(cases|make|stdin|stdout)")
 DATA = re.compile(r"crates/md_cases/(cases|stdin|stdout)|.*(\.png|\.lock|\.json|references\.\w+)$")
 NOT_NAMING = re.compile(r"bench/|crates/md_bench/|.*/must-fail/")
 TESTS = re.compile(r"crates/md_(bench|cases|failure_cases|hostile_cases)/|.*/tests\.rt$")
-FUNCTION = re.compile(r"(?m)^( *)(?:pub(?:\(\w+\))? )?(?:const )?(?:unsafe )?(?:extern \"C\" )?fn (\w+)"
-                      r"(?:<(?:[^<>]|->|<[^<>]*>)*>)?\(")
+WORDS = r"(?m)^( *)(?:pub(?:\(\w+\))? )?(?:const )?(?:unsafe )?(?:extern \"C\" )?"
+FUNCTION = re.compile(WORDS + r"fn (\w+)(?:<(?:[^<>]|->|<[^<>]*>)*>)?\(")
 COLUMNS, LINES, PARAMETERS, SHOWN = 100, 300, 5, 5
 
 
 def kept():
     """The paths that git keeps."""
-    listed = subprocess.run(["git", "-C", ROOT, "ls-files", "-z"], capture_output=True, text=True, check=True).stdout
+    listed = subprocess.check_output(["git", "-C", ROOT, "ls-files", "-z"], text=True)
     return [path for path in listed.split("\0") if (ROOT / path).is_file()]
 
 
@@ -50,8 +51,8 @@ def named_in(files, words):
 
 def shared(sources):
     """The names that free functions of more than one file have."""
-    names = [{name for indent, name in FUNCTION.findall(source) if not indent} for source in sources]
-    counts = collections.Counter(name for some in names for name in some if name != "main")
+    free = [{name for indent, name in FUNCTION.findall(source) if not indent} for source in sources]
+    counts = collections.Counter(name for some in free for name in some if name != "main")
     found = [f"{name} {count}" for name, count in sorted(counts.items()) if count > 1]
     return f"{len(found)}: {', '.join(found)}"
 
@@ -75,26 +76,32 @@ def main():
     say("lines of README.md", texts["README.md"].count("\n"), "90 at most")
     say("lines of docs/GATE.md", texts["docs/GATE.md"].count("\n"), "80 at most")
 
-    wide = {path: sum(len(line) > COLUMNS for line in source.splitlines()) for path, source in texts.items()}
+    lines = {path: source.splitlines() for path, source in texts.items()}
+    wide = {path: sum(len(line) > COLUMNS for line in some) for path, some in lines.items()}
     kinds = collections.Counter()
     for path, count in wide.items():
         kinds[path[path.rfind("."):] if path.endswith((".rt", ".antt")) else "other"] += count
-    say(f"lines over {COLUMNS} columns", ", ".join(f"{kind} {count}" for kind, count in sorted(kinds.items())))
+    counted = ", ".join(f"{kind} {count}" for kind, count in sorted(kinds.items()))
+    say(f"lines over {COLUMNS} columns", counted)
     say("files that have such lines", greatest(wide, 0))
-    say(f"files over {LINES} lines", greatest({path: source.count("\n") for path, source in texts.items()}, LINES))
+    lengths = {path: len(some) for path, some in lines.items()}
+    say(f"files over {LINES} lines", greatest(lengths, LINES))
 
     counts = {f"{path} {found.group(2)}": parameters(source, found.end())
               for path, source in code.items() for found in FUNCTION.finditer(source)}
     say(f"functions with more than {PARAMETERS} parameters", greatest(counts, PARAMETERS))
-    say("names that free functions share", shared([code[path] for path in code if not TESTS.match(path)]))
-    say("such names in crates of tests", shared([code[path] for path in code if TESTS.match(path)]))
+    tests = [source for path, source in code.items() if TESTS.match(path)]
+    others = [source for path, source in code.items() if not TESTS.match(path)]
+    say("names that free functions share", shared(others))
+    say("such names in crates of tests", shared(tests))
     say("functions called main", sum("\nfn main(" in source for source in code.values()))
 
     naming = [source for path, source in texts.items() if not NOT_NAMING.match(path)]
     options = re.findall(r"(?m)^    pub (\w+):", texts["crates/md_text/src/options.rt"])
-    names = re.search(r"(?s)pub enum Name \{(.*?)\n\}", texts["crates/md_base/src/event.rt"]).group(1)
+    names = texts["crates/md_base/src/event.rt"].split("pub enum Name {")[1].split("\n}")[0]
     say("files that name an option", named_in(naming, options), "25 at most")
-    say("files that name a name of events", named_in(naming, re.findall(r"(?m)^    (\w+)", names)), "28 at most")
+    names = re.findall(r"(?m)^    (\w+)", names)
+    say("files that name a name of events", named_in(naming, names), "28 at most")
     size = sum((ROOT / path).stat().st_size for path in paths if CASES.match(path))
     say("bytes of cases and of what makes them", f"{size:,}", "1,000,000 at most")
 

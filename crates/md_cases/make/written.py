@@ -1,7 +1,8 @@
-"""The cases that are written by hand: a file in `cases` for each group, `cases/rules/code.txt` for `rules::code`.
+"""The cases that are written by hand: `cases/rules/code.txt` has the group `rules::code`.
 
-A case is a line `%%%% NAME`, its script, a line `%%%%` and its answer. In a script a node may stand in one line, `NAME
-START END`, with its children in the lines below it, each one space further in; every other line is taken as it is.
+A case is a line `%%%% NAME`, its script, a line `%%%%` and its answer. In a script a node may stand
+in one line, `NAME START END`, with its children in the lines below it, each one space further in;
+every other line is taken as it is.
 """
 import pathlib
 import re
@@ -36,11 +37,13 @@ def cases_of(group, path):
     names, scripts, answers = parts[1::4], parts[2::4], parts[4::4]
     if parts[0] or None in names or any(parts[3::4]) or len(names) != len(answers):
         sys.exit(f"{path}: a case is a line `%%%% NAME`, its script, a line `%%%%` and its answer")
-    return [Case(f"{group}: {name.decode()}", unfolded(script.removesuffix(b"\n")), answer.removesuffix(b"\n"))
+    return [Case(f"{group}: {name.decode()}", unfolded(script.removesuffix(b"\n")),
+                 answer.removesuffix(b"\n"))
             for name, script, answer in zip(names, scripts, answers)]
 
 
 def sections():
     """The cases of each group, in the order of their files."""
-    paths = {"::".join(path.relative_to(FOLDER).with_suffix("").parts): path for path in FOLDER.rglob("*.txt")}
+    paths = {"::".join(path.relative_to(FOLDER).with_suffix("").parts): path
+             for path in FOLDER.rglob("*.txt")}
     return {group: cases_of(group, paths[group]) for group in sorted(paths)}
