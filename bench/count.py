@@ -21,6 +21,7 @@ NOT_NAMING = re.compile(r"bench/|crates/md_bench/|.*/must-fail/")
 TESTS = re.compile(r"crates/md_(bench|cases|failure_cases|hostile_cases)/|.*/tests\.rt$")
 WORDS = r"(?m)^( *)(?:pub(?:\(\w+\))? )?(?:const )?(?:unsafe )?(?:extern \"C\" )?"
 FUNCTION = re.compile(WORDS + r"fn (\w+)(?:<(?:[^<>]|->|<[^<>]*>)*>)?\(")
+BODY = re.compile(r"(?m)^(\{|[^ \n].* \{)$|\}$")
 COLUMNS, LINES, PARAMETERS, SHOWN = 100, 300, 5, 5
 
 
@@ -50,11 +51,15 @@ def named_in(files, words):
 
 
 def shared(sources):
-    """The names that free functions of more than one file have."""
-    free = [{name for indent, name in FUNCTION.findall(source) if not indent} for source in sources]
-    counts = collections.Counter(name for some in free for name in some if name != "main")
-    found = [f"{name} {count}" for name, count in sorted(counts.items()) if count > 1]
-    return f"{len(found)}: {', '.join(found)}"
+    """The names of free functions that mean several things, each with how many heads it has."""
+    heads = collections.defaultdict(set)
+    for source in sources:
+        for found in FUNCTION.finditer(source):
+            if not found.group(1) and found.group(2) != "main":
+                head = source[found.start(2):BODY.search(source, found.start()).end()]
+                heads[found.group(2)].add(" ".join(head.split()))
+    names = [f"{name} {len(some)}" for name, some in sorted(heads.items()) if len(some) > 1]
+    return f"{len(names)}: {', '.join(names)}"
 
 
 def greatest(counts, least):
@@ -92,8 +97,8 @@ def main():
     say(f"functions with more than {PARAMETERS} parameters", greatest(counts, PARAMETERS))
     tests = [source for path, source in code.items() if TESTS.match(path)]
     others = [source for path, source in code.items() if not TESTS.match(path)]
-    say("names that free functions share", shared(others))
-    say("such names in crates of tests", shared(tests))
+    say("names of several free functions", shared(others))
+    say("such names in tests", shared(tests))
     say("functions called main", sum("\nfn main(" in source for source in code.values()))
 
     naming = [source for path, source in texts.items() if not NOT_NAMING.match(path)]
