@@ -62,10 +62,10 @@ def shared(sources):
     return f"{len(names)}: {', '.join(names)}"
 
 
-def greatest(counts, least):
+def greatest(counts, least, shown=SHOWN):
     """How many counts pass a number, and the greatest of them."""
     passing = {path: count for path, count in counts.items() if count > least}
-    first = sorted(passing, key=lambda path: (-passing[path], path))[:SHOWN]
+    first = sorted(passing, key=lambda path: (-passing[path], path))[:shown]
     return f"{len(passing)}, first {', '.join(f'{path} {passing[path]}' for path in first)}"
 
 
@@ -94,7 +94,7 @@ def main():
 
     counts = {f"{path} {found.group(2)}": parameters(source, found.end())
               for path, source in code.items() for found in FUNCTION.finditer(source)}
-    say(f"functions with more than {PARAMETERS} parameters", greatest(counts, PARAMETERS))
+    say(f"functions with more than {PARAMETERS} parameters", greatest(counts, PARAMETERS, len(counts)))
     tests = [source for path, source in code.items() if TESTS.match(path)]
     others = [source for path, source in code.items() if not TESTS.match(path)]
     say("names of several free functions", shared(others))
