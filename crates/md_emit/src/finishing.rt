@@ -1,6 +1,6 @@
 //! Before the first event and after the last one.
 
-ghost use Rattle.std.specs.Prelude.{◌≡◌, IfOk, string_bytes};
+ghost use Rattle.std.specs.Prelude.{◌≡◌, ◌<◌, [], IfOk, true, length, string_bytes};
 ghost use Rattle.md_meaning.specs.Meaning.At as At;
 ghost use Rattle.md_meaning.specs.Meaning.Layout.{laid_after};
 ghost use Rattle.md_meaning.specs.Meaning.Footnotes.{section};
@@ -46,6 +46,14 @@ impl<'a> Printer<'a> {
         ensures { self.new ≡ steps.passed self.old }
     {
         self.ends(Name::Definition);
+    }
+
+    /// Whether no text is captured and what is printed is longer than this, even without what waits to be put in.
+    #[inline(always)]
+    pub fn is_longer(&self, limit: usize) -> bool
+        ensures { result ≡ true → (self.now.below ≡ []) × (limit < length self.now.text) }
+    {
+        self.output.is_longer(limit)
     }
 
     /// The whole text, with the section of footnotes.

@@ -1,6 +1,6 @@
 //! One text in which captured texts begin one after another.
 
-ghost use Rattle.std.specs.Prelude.{◌≡◌, ◌≤◌, ◌∷◌, ◌++◌, [], OnOk, IfOk, if◌then◌else◌, length, map, string_bytes};
+ghost use Rattle.std.specs.Prelude.{◌≡◌, ◌≤◌, ◌<◌, ◌∷◌, ◌++◌, [], OnOk, IfOk, true, if◌then◌else◌, length, map, string_bytes};
 ghost use Rattle.md_output.specs.Texts as texts;
 ghost use Rattle.md_output.specs.Texts.{first_or, others_of};
 ghost use Rattle.md_meaning.specs.Meaning.Layout.{Needed, laid_after, begins_line};
@@ -317,6 +317,14 @@ impl Output {
         ensures { result ≤ length self.now.text }
     {
         self.bytes.len() - self.start.place
+    }
+
+    /// Whether no text is captured and the only one is longer than this, even without the heads that wait in it.
+    #[inline(always)]
+    pub fn is_longer(&self, limit: usize) -> bool
+        ensures { result ≡ true → (self.now.below ≡ []) × (limit < length self.now.text) }
+    {
+        self.length() > limit && self.outers.is_empty()
     }
 
     /// Ends the innermost text, which stays where it is.

@@ -3,15 +3,18 @@ use Rattle.std.proofs.Common.{◌≡◌, ℕ, zero, suc, Option, Some, None, Lis
 use Rattle.std.specs.Prelude.{slice_get, map, option_map, unwrap_or, option_and_then}
 use Rattle.std.specs.Option.{option_map_or}
 use Rattle.std.proofs.lemmas.Option.{slice_get-map}
+use Rattle.md_base.specs.Reference.{name_table}
 use Rattle.md_base.specs.Tree.{Forest, flatten}
 use Rattle.md_meaning.specs.Meaning.At.{Defined, Given, Target}
 use Rattle.md_meaning.specs.Meaning.Media.{target_defined}
 use Rattle.md_tree.specs.Grammar.{Handed}
-use Rattle.md_writer.specs.Run.{Noticed, defined}
+use Rattle.md_text.specs.declared.options.CompileOptions.{CompileOptions}
+use Rattle.md_writer.specs.Run.{Noticed, defined, given_alone}
 use Rattle.md_writer.specs.Steps.{nowhere}
 use Rattle.md_told.specs.Told.{IsNoticedAt}
 use Rattle.md_told.specs.Definitions.{IsLedTo}
-use Rattle.md_emit.specs.Supplies.{target_at}
+use Rattle.md_emit.specs.Supplies.{Supplies, target_at}
+use Rattle.md_emit.specs.declared.given.Given.{Given as Supplied}
 
 pub none-led : (place : Option ℕ) → target_at [] place ≡ nowhere
 none-led None = refl
@@ -40,3 +43,35 @@ known-led handed document alone at targets index one place flat same known are t
     ∙ mapped-led at.definitions place
     ∙ sym (led one at there
     (document, alone, flat, same, ap (map (λ (d : Defined). d.identifier)) known))
+
+-- ---- all that the code is supplied with
+
+module _ (code : Supplied) (options : CompileOptions) (names : List (List ℕ × List ℕ)) (bytes ending : List ℕ)
+    (same_bytes : bytes ≡ code.checked.now.bytes) (same_names : names ≡ name_table code.names.now)
+    (same_options : options ≡ code.options.now) (same_ending : ending ≡ code.ending.now) where
+  abbrev alone : Given
+  alone = given_alone options names bytes ending
+
+  -- before the definitions are known
+  pub alone-supplied : code.definitions.now ≡ [] → Supplies code alone
+  alone-supplied none = record {
+    bytes = same_bytes;
+    names = same_names;
+    options = same_options;
+    ending = same_ending;
+    finds = λ index one place there led. ap (λ ts. target_at ts place) none ∙ none-led place;
+  }
+
+  -- when they are
+  pub all-supplied : (document : Forest) → flatten document ≡ code.checked.now.events →
+      code.definitions.now ≡ map (λ (d : Defined). d.target) (defined alone document) →
+      Supplies code (record alone { definitions = defined alone document })
+  all-supplied document flat are = record {
+    bytes = same_bytes;
+    names = same_names;
+    options = same_options;
+    ending = same_ending;
+    finds = λ index one place there led.
+        known-led code.checked.now document alone (record alone { definitions = defined alone document })
+        code.definitions.now index one place flat same_bytes refl are there led;
+  }

@@ -17,7 +17,7 @@ drop-got (y ∷ xs) zero x e = ap (λ z. z ∷ xs) (some e)
     some f = cc
 drop-got (y ∷ xs) (suc i) x e = drop-got xs i x e
 
-window-first : {A : Type 0} (xs : List A) (i to : ℕ) (x : A) → i < to → slice_get xs i ≡ Some x →
+pub window-first : {A : Type 0} (xs : List A) (i to : ℕ) (x : A) → i < to → slice_get xs i ≡ Some x →
     window i to xs ≡ x ∷ window (suc i) to xs
 window-first xs i to x lt e =
     ap (λ ys. take (to - i) ys) (drop-got xs i x e)
@@ -45,7 +45,7 @@ drop-take (suc n) (suc m) (x ∷ xs) = drop-take n m xs ∙ ap (λ k. take k (dr
     less : (k l : ℕ) → k - l ≡ suc k - suc l
     less k l = omega arith
 
-window-drop : {A : Type 0} (xs : List A) (i to n next : ℕ) → next ≡ i + n →
+pub window-drop : {A : Type 0} (xs : List A) (i to n next : ℕ) → next ≡ i + n →
     drop n (window i to xs) ≡ window next to xs
 window-drop xs i to n next e =
     drop-take n (to - i) (drop i xs)

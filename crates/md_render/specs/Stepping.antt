@@ -1,15 +1,18 @@
 -- What is done at one event, as the steps over the events do it.
-use Rattle.std.specs.Prelude.{◌≡◌, ◌<◌, ℕ, suc, true, if◌then◌else◌}
+use Rattle.std.specs.Prelude.{◌≡◌, ◌<◌, ◌≤◌, ℕ, suc, true, if◌then◌else◌, length}
 use Rattle.md_base.specs.declared.event.Event.{Event}
 use Rattle.md_base.specs.declared.event.Kind.TheVariants.{Enter}
 use Rattle.md_base.specs.declared.event.Name.{Name}
 use Rattle.md_meaning.specs.Meaning.At.{Given}
-use Rattle.md_writer.specs.Run.{Noticed, stepped, passes}
+use Rattle.md_base.specs.Tree.{Forest, flatten}
+use Rattle.md_writer.specs.Run.{Noticed, noticed, run, stepped, passes}
 use Rattle.md_tree.specs.Texts.{ExitsAt}
 use Rattle.md_writer.specs.Steps.{State, entered, passed, is_passed}
 use Rattle.md_told.specs.Told.{IsNoticedAt}
 use Rattle.md_emit.specs.Supplies.{Supplies, Leaves, is_alone}
 use Rattle.md_emit.specs.declared.given.Given.{Given as Supplied}
+use Rattle.md_render.specs.Windows.{window}
+use Rattle.md_render.specs.Fits.{fits}
 
 -- an event is gone over, and so many after it are passed over
 abbrev pub Steps : Supplied → ℕ → Event → ℕ → State → State → Type 0
@@ -32,3 +35,19 @@ pub record Leafs (code : Supplied) (index to : ℕ) (event : Event) (before afte
   pub alone : is_alone event.name ≡ true
   pub noticed : (one : Noticed) → IsNoticedAt code.checked.now index one → IsNoticedAt code.checked.now (suc index) one
   pub left : Leaves code index event.name before after
+
+-- up to any end that isn't before `to`, going on from one event is as going on from an earlier one, and if each text that
+-- ended there had begun, then so here
+pub record Goes (code : Supplied) (from next to : ℕ) (before after : State) : Type 0 where
+  pub runs : (at : Given) (document : Forest) (end : ℕ) → Supplies code at →
+      flatten document ≡ code.checked.now.events → to ≤ end →
+      run at 0 (window next end code.checked.now.events)
+      (window next end (noticed code.checked.now.bytes true document)) after
+      ≡ run at 0 (window from end code.checked.now.events)
+      (window from end (noticed code.checked.now.bytes true document)) before
+  pub fits : (at : Given) (document : Forest) (end : ℕ) → Supplies code at →
+      flatten document ≡ code.checked.now.events → to ≤ end →
+      fits 0 (length before.below) (window from end code.checked.now.events)
+      (window from end (noticed code.checked.now.bytes true document)) ≡ true →
+      fits 0 (length after.below) (window next end code.checked.now.events)
+      (window next end (noticed code.checked.now.bytes true document)) ≡ true

@@ -89,7 +89,8 @@ fn run_definition<'a>(
     let _events = given.checked.events();
     printer.enter(given, index, Name::Definition)?;
     let inside = inside_at(given.checked, index);
-    run(printer, given, index + 1, index + inside)
+    run(printer, given, index + 1, index + inside)?;
+    Ok(())
 }
 
 /// Nothing is done: the document is one of the grammar.

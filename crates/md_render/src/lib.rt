@@ -5,5 +5,7 @@ mod definitions;
 mod ending;
 mod rendering;
 mod running;
+mod within;
 
 pub use rendering::render;
+pub use within::render_within;

@@ -10,14 +10,15 @@ ghost use Rattle.md_writer.specs.Steps.{is_passed};
 ghost use Rattle.md_told.specs.Told.{IsNoticedAt};
 ghost use Rattle.md_emit.specs.Supplies.{Supplies};
 ghost use Rattle.md_render.specs.Windows.{window};
-ghost use Rattle.md_render.specs.Stepping.{Steps, Opens, Leafs};
+ghost use Rattle.md_render.specs.Stepping.{Steps, Opens, Leafs, Goes};
 
 use md_base::{Event, Kind, Name};
 use md_emit::{Given, Printer};
 use md_told::{inside_at, is_leaf_at};
 use std::alloc::AllocError;
 
-/// Prints the events from one index up to another.
+/// Prints the events from one index up to another, and answers the index of the next one: a definition that begins
+/// before the end is passed over whole.
 ///
 /// # Errors
 ///
@@ -27,12 +28,16 @@ pub(crate) fn run<'a>(
     given: &Given<'a>,
     from: usize,
     to: usize,
-) -> Result<(), AllocError>
+) -> Result<usize, AllocError>
     requires supplied { (at : At.Given) × Supplies given.now at }
     requires cells { printer.old.cells ≤ from }
     requires fences { printer.old.fences ≤ from }
     requires within { to ≤ length given.now.checked.now.events }
-    ensures { OnOk result ((at : At.Given) (document : Forest) → Supplies given.now at
+    ensures far { IfOk result (λ next. to ≤ next) }
+    ensures cells { IfOk result (λ next. printer.new.cells ≤ next) }
+    ensures fences { IfOk result (λ next. printer.new.fences ≤ next) }
+    ensures goes { IfOk result (λ next. Goes given.now from next to printer.old printer.new) }
+    ensures ran { OnOk result ((at : At.Given) (document : Forest) → Supplies given.now at
         → flatten document ≡ given.now.checked.now.events
         → printer.new ≡ steps.run at 0 (window from to given.now.checked.now.events)
         (window from to (steps.noticed given.now.checked.now.bytes true document)) printer.old) }
@@ -48,7 +53,7 @@ pub(crate) fn run<'a>(
             index += 1 + more;
         }
     }
-    Ok(())
+    Ok(index)
 }
 
 /// Goes over a node without children, if it is entered here and has a frequent name; answers whether it did.

@@ -6,7 +6,6 @@ use Rattle.md_told.specs.Definitions.{within}
 use Rattle.md_writer.specs.Run.{noticed, run}
 use Rattle.md_writer.specs.Steps.{State, entered}
 use Rattle.md_render.specs.Windows.{window}
-use Rattle.md_render.proofs.Answered.{on_answer}
 use Rattle.md_render.proofs.Owns.{window-within}
 use Rattle.md_render.proofs.Stepping.{inside-within}
 use Rattle.md_render.proofs.definitions.run_definition.Goals as goal
@@ -71,9 +70,9 @@ run-requires-clause-within c =
 pub returns : goal.returns
 returns c =
     let handed = c.args.given.now.checked.now in
-    on_answer _ _ (λ _ ran at document one supplies flat there.
+    λ at document one supplies flat there.
     let same = c.inside_at-inside.ensures one there in
-    ran at document supplies flat
+    c.in_ok-run.ensures.ran at document supplies flat
     ∙ ap (λ es. run at 0 es (window (c.args.index + 1) (c.args.index + c.inside_at-inside.result)
     (noticed handed.bytes true document)) c.enter.new.self)
     (window-within handed.events c.args.index one.inside c.inside_at-inside.result same)
@@ -81,5 +80,4 @@ returns c =
     (window-within (noticed handed.bytes true document) c.args.index one.inside c.inside_at-inside.result same)
     ∙ ap (λ s. run at 0 (within c.args.index one.inside handed.events)
     (within c.args.index one.inside (noticed handed.bytes true document)) s)
-    (c.in_ok-enter.ensures at one supplies there ∙ ap (λ s. entered at one.told Definition s) c.requires.new))
-    c.run.result c.run.ensures
+    (c.in_ok-enter.ensures at one supplies there ∙ ap (λ s. entered at one.told Definition s) c.requires.new)

@@ -17,7 +17,7 @@ returns c = λ at document supplies flat.
     let after : State = c.run-ran.new.printer in
     let count : length c.events.result.now ≡ length handed.events = ap (λ es. length es) c.events.ensures.events in
     let ran : after ≡ run at 0 (flatten document) (noticed at.bytes true document) beginning =
-    c.in_ok-ran.ensures at document supplies flat
+    c.in_ok-ran.ensures.ran at document supplies flat
     ∙ ap (λ es. run at 0 es (window 0 (length c.events.result.now) (noticed handed.bytes true document))
     c.reserve.new.self) (window-all handed.events (length c.events.result.now) count ∙ sym flat)
     ∙ ap (λ ts. run at 0 (flatten document) ts c.reserve.new.self)

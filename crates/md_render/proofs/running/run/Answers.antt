@@ -7,8 +7,8 @@ use Rattle.md_base.specs.Tree.{flatten}
 use Rattle.md_emit.specs.declared.given.Given.{Given as Supplied}
 use Rattle.md_writer.specs.Run.{noticed, run}
 use Rattle.md_writer.specs.Steps.{State}
-use Rattle.md_render.specs.Windows.{window}
-use Rattle.md_render.proofs.Turns.{turn-within, turn-cells, turn-fences, turn-runs, leaf-cells, leaf-fences, leaf-runs}
+use Rattle.md_render.specs.Stepping.{Goes}
+use Rattle.md_render.proofs.Turns.{turn-within, turn-cells, turn-fences, leaf-cells, leaf-fences, goes-turn, goes-leaf}
 use Rattle.md_render.proofs.running.run.Goals as goal
 
 inner : (index to n : ℕ) → index < to → to ≤ n → index < n
@@ -70,10 +70,9 @@ loop-index-preserved-then-branch c =
       leaf-fences code c.loop-index.index c.args.to _ c.loop-index.printer c.leaf.new.printer leafs
           c.requires.supplied.0 c.events-events.ensures.grammatical c.requires.supplied.1 there
           c.loop-index.invariant.1,
-      λ at document supplies flat.
-          leaf-runs code c.loop-index.index c.args.to _ c.loop-index.printer c.leaf.new.printer leafs at document
-          (c.loop-index.index + 2) (two c.loop-index.index) supplies flat c.loop-index-test.true there
-          ∙ c.loop-index.invariant.2 at document supplies flat,
+      goes-leaf code c.args.from c.loop-index.index c.args.to (c.loop-index.index + 2) _ c.args.printer.now
+          c.loop-index.printer c.leaf.new.printer (two c.loop-index.index) c.loop-index-test.true there leafs
+          c.loop-index.invariant.2,
     )
 
 pub loop-index-preserved : goal.loop-index-preserved
@@ -90,10 +89,8 @@ loop-index-preserved c =
       turn-fences code c.requires.supplied.0 c.loop-index.index _ c.in_ok-more.more c.leaf.new.printer
           c.step.new.printer c.events-events.ensures.grammatical c.requires.supplied.1 there c.in_ok-more.ensures
           (subst (λ (s : State). s.fences ≤ c.loop-index.index) (sym same) c.loop-index.invariant.1),
-      λ at document supplies flat.
-          turn-runs code at document c.loop-index.index c.args.to _ c.in_ok-more.more c.leaf.new.printer
-          c.step.new.printer supplies flat c.loop-index-test.true there c.in_ok-more.ensures
-          ∙ ap (λ s. run at 0 (window c.loop-index.index c.args.to code.checked.now.events)
-          (window c.loop-index.index c.args.to (noticed code.checked.now.bytes true document)) s) same
-          ∙ c.loop-index.invariant.2 at document supplies flat,
+      goes-turn code c.args.from c.loop-index.index c.args.to _ c.in_ok-more.more c.args.printer.now c.leaf.new.printer
+          c.step.new.printer c.loop-index-test.true there c.in_ok-more.ensures
+          (subst (λ (s : State). Goes code c.args.from c.loop-index.index c.args.to c.args.printer.now s) (sym same)
+          c.loop-index.invariant.2),
     )
