@@ -1,0 +1,227 @@
+/* What a text within limits costs: one call of bivdrazo_compile_within over events that give much to read or to print.
+
+   usage: bounds SHAPE DOCUMENT COUNT TEXT WORK
+
+   DOCUMENT bytes, some COUNT nodes, the limits TEXT and WORK. Prints the status, the text's length, the seconds of a
+   processor and the most memory of the process in kB, before the call and after it. */
+#include "bivdrazo.h"
+#include <stdint.h>
+#include <stdio.h>
+#include <stdlib.h>
+#include <string.h>
+#include <sys/resource.h>
+#include <time.h>
+
+#define NAME(name) BIVDRAZO_NAME_##name
+
+static bivdrazo_event *events;
+static size_t count, room;
+
+static void put(int kind, int name, size_t at) {
+    if (count == room) {
+        room = room * 2 + 64;
+        events = realloc(events, room * sizeof *events);
+        if (events == NULL) exit(2);
+    }
+    bivdrazo_event event = {at, (uint16_t)name, 0, (uint8_t)kind, 0};
+    events[count++] = event;
+}
+
+static void in(int name) { put(1, name, 0); }
+static void out(int name) { put(2, name, 0); }
+
+static void leaf(int name, size_t start, size_t end) {
+    put(1, name, start);
+    put(2, name, end);
+}
+
+/* Texts that are each the whole document. */
+static void texts(size_t nodes, size_t length) {
+    for (size_t i = 0; i < nodes; i++) leaf(NAME(DATA), 0, length);
+}
+
+static void label(size_t start, size_t end) {
+    in(NAME(LABEL));
+    leaf(NAME(LABEL_TEXT), start, end);
+    out(NAME(LABEL));
+}
+
+static void definition(size_t start, size_t end, size_t length) {
+    in(NAME(DEFINITION));
+    leaf(NAME(DEFINITION_LABEL_STRING), start, end);
+    in(NAME(DEFINITION_DESTINATION_STRING));
+    texts(1, length);
+    out(NAME(DEFINITION_DESTINATION_STRING));
+    out(NAME(DEFINITION));
+}
+
+static void reference(int name, size_t start, size_t end) {
+    in(name);
+    label(start, end);
+    out(name);
+}
+
+static void references(size_t nodes) {
+    for (size_t i = 0; i < nodes; i++) reference(NAME(LINK), 0, 1);
+}
+
+static void begin_footnote(size_t start, size_t end) {
+    in(NAME(GFM_FOOTNOTE_DEFINITION));
+    in(NAME(GFM_FOOTNOTE_DEFINITION_PREFIX));
+    leaf(NAME(GFM_FOOTNOTE_DEFINITION_LABEL_STRING), start, end);
+    out(NAME(GFM_FOOTNOTE_DEFINITION_PREFIX));
+}
+
+static void row(size_t cells) {
+    in(NAME(GFM_TABLE_ROW));
+    for (size_t i = 0; i < cells; i++) {
+        in(NAME(GFM_TABLE_CELL));
+        out(NAME(GFM_TABLE_CELL));
+    }
+    out(NAME(GFM_TABLE_ROW));
+}
+
+/* The head of a table, up to its body. */
+static void begin_table(size_t columns) {
+    in(NAME(GFM_TABLE));
+    in(NAME(GFM_TABLE_HEAD));
+    row(0);
+    in(NAME(GFM_TABLE_DELIMITER_ROW));
+    for (size_t i = 0; i < columns; i++) leaf(NAME(GFM_TABLE_DELIMITER_CELL_VALUE), 0, 0);
+    out(NAME(GFM_TABLE_DELIMITER_ROW));
+    out(NAME(GFM_TABLE_HEAD));
+    in(NAME(GFM_TABLE_BODY));
+}
+
+static void end_table(void) {
+    out(NAME(GFM_TABLE_BODY));
+    out(NAME(GFM_TABLE));
+}
+
+static void table(size_t columns, size_t rows) {
+    begin_table(columns);
+    for (size_t i = 0; i < rows; i++) row(0);
+    end_table();
+}
+
+/* A row whose second cell is past the only column, up to that cell. */
+static void begin_dropped(void) {
+    begin_table(1);
+    in(NAME(GFM_TABLE_ROW));
+    in(NAME(GFM_TABLE_CELL));
+    out(NAME(GFM_TABLE_CELL));
+    in(NAME(GFM_TABLE_CELL));
+}
+
+static void end_dropped(void) {
+    out(NAME(GFM_TABLE_CELL));
+    out(NAME(GFM_TABLE_ROW));
+    end_table();
+}
+
+static int make(const char *shape, size_t length, size_t nodes) {
+    if (!strcmp(shape, "texts")) {
+        texts(nodes, length);
+    } else if (!strcmp(shape, "title")) {
+        in(NAME(DEFINITION));
+        leaf(NAME(DEFINITION_LABEL_STRING), 0, 1);
+        in(NAME(DEFINITION_TITLE_STRING));
+        texts(nodes, length);
+        out(NAME(DEFINITION_TITLE_STRING));
+        out(NAME(DEFINITION));
+    } else if (!strcmp(shape, "dropped-texts")) {
+        begin_dropped();
+        texts(nodes, length);
+        end_dropped();
+    } else if (!strcmp(shape, "dropped-links")) {
+        definition(0, 1, length);
+        begin_dropped();
+        references(nodes);
+        end_dropped();
+    } else if (!strcmp(shape, "footnote-texts")) {
+        begin_footnote(0, 1);
+        texts(nodes, length);
+        out(NAME(GFM_FOOTNOTE_DEFINITION));
+    } else if (!strcmp(shape, "footnote-links")) {
+        definition(0, 1, length);
+        begin_footnote(0, 1);
+        references(nodes);
+        out(NAME(GFM_FOOTNOTE_DEFINITION));
+    } else if (!strcmp(shape, "footnote-table")) {
+        begin_footnote(0, 1);
+        table(nodes / 2, nodes / 2);
+        out(NAME(GFM_FOOTNOTE_DEFINITION));
+    } else if (!strcmp(shape, "links")) {
+        definition(0, 1, length);
+        references(nodes);
+    } else if (!strcmp(shape, "label-images")) {
+        definition(0, 1, length);
+        in(NAME(LINK));
+        in(NAME(LABEL));
+        put(1, NAME(LABEL_TEXT), 0);
+        for (size_t i = 0; i < nodes; i++) reference(NAME(IMAGE), 0, 1);
+        put(2, NAME(LABEL_TEXT), 1);
+        out(NAME(LABEL));
+        out(NAME(LINK));
+    } else if (!strcmp(shape, "table")) {
+        table(nodes / 2, nodes / 2);
+    } else if (!strcmp(shape, "calls")) {
+        begin_footnote(0, length);
+        out(NAME(GFM_FOOTNOTE_DEFINITION));
+        for (size_t i = 0; i < nodes; i++) reference(NAME(GFM_FOOTNOTE_CALL), 0, length);
+    } else if (!strcmp(shape, "short-calls")) {
+        begin_footnote(0, 1);
+        out(NAME(GFM_FOOTNOTE_DEFINITION));
+        for (size_t i = 0; i < nodes; i++) reference(NAME(GFM_FOOTNOTE_CALL), 0, 1);
+    } else if (!strcmp(shape, "labels")) {
+        for (size_t i = 0; i < nodes / 2; i++) definition(i, length, 0);
+        for (size_t i = 0; i < nodes / 2; i++) reference(NAME(LINK), i, length);
+    } else if (!strcmp(shape, "images")) {
+        definition(0, 1, 0);
+        for (size_t i = 0; i < nodes; i++) {
+            in(NAME(IMAGE));
+            in(NAME(LABEL));
+            put(1, NAME(LABEL_TEXT), 0);
+        }
+        for (size_t i = 0; i < nodes; i++) {
+            put(2, NAME(LABEL_TEXT), 1);
+            out(NAME(LABEL));
+            in(NAME(REFERENCE_STRING));
+            texts(1, length);
+            put(2, NAME(REFERENCE_STRING), 1);
+            out(NAME(IMAGE));
+        }
+    } else if (!strcmp(shape, "code")) {
+        in(NAME(CODE_FENCED));
+        in(NAME(CODE_FENCED_FENCE));
+        in(NAME(CODE_FENCED_FENCE_META));
+        texts(nodes, length);
+        out(NAME(CODE_FENCED_FENCE_META));
+        out(NAME(CODE_FENCED_FENCE));
+        out(NAME(CODE_FENCED));
+    } else {
+        return 0;
+    }
+    return 1;
+}
+
+int main(int given, char **words) {
+    if (given != 6) return 2;
+    size_t length = strtoull(words[2], NULL, 10);
+    if (!make(words[1], length, strtoull(words[3], NULL, 10))) return 2;
+    uint8_t *document = malloc(length + 1), *text = NULL;
+    if (document == NULL) return 2;
+    memset(document, '"', length);
+    bivdrazo_limits limits = {strtoull(words[4], NULL, 10), strtoull(words[5], NULL, 10)};
+    struct rusage before, after;
+    getrusage(RUSAGE_SELF, &before);
+    clock_t began = clock();
+    bivdrazo_answer answer =
+        bivdrazo_compile_within_alloc(events, count, document, length, NULL, NULL, 0, &limits, &text);
+    double seconds = (double)(clock() - began) / CLOCKS_PER_SEC;
+    getrusage(RUSAGE_SELF, &after);
+    printf("%u %zu %.6f %ld %ld %zu\n", answer.status, answer.length, seconds, before.ru_maxrss, after.ru_maxrss,
+           count);
+    free(text);
+    return 0;
+}
