@@ -1,0 +1,87 @@
+-- How much a list of events gives to read and to print, told of the events alone: they may be no document.
+use Rattle.std.specs.Prelude.{ℕ, ◌+◌, ◌-◌, ◌*◌, max, suc, Bool, true, false, ◌||◌, if◌then◌else◌, List, [], ◌∷◌}
+use Rattle.md_base.specs.declared.event.Event.{Event}
+use Rattle.md_base.specs.declared.event.Kind.TheVariants.{Enter, Exit}
+use Rattle.md_base.specs.declared.event.Name.{Name}
+use Rattle.md_base.specs.declared.event.Name.TheVariants.{Definition, Image, Link, Resource}
+use Rattle.md_base.specs.declared.event.Name.TheVariants.{GfmTable, GfmTableDelimiterCellValue, GfmTableRow}
+use Rattle.md_tree.specs.Texts.{is_text_name, is_identifier_name}
+
+-- the text of a node of this name is read, or it identifies what it stands in
+abbrev pub is_read : Name → Bool
+is_read name = is_text_name name || is_identifier_name name
+
+-- an event enters a node whose name passes a test, or exits one
+abbrev pub enters : (Name → Bool) → Event → Bool
+enters is event = elim event.kind [ Enter ↦ is event.name | Exit ↦ false ]
+
+abbrev pub exits : (Name → Bool) → Event → Bool
+exits is event = elim event.kind [ Enter ↦ false | Exit ↦ is event.name ]
+
+-- how many nodes that are read are open after an event
+abbrev pub depth_after : ℕ → Event → ℕ
+depth_after depth event =
+    if enters is_read event then suc depth else if exits is_read event then depth - 1 else depth
+
+-- the way on through the document from an index, each byte of it counted for every open node that is read
+abbrev pub read_from : ℕ → ℕ → List Event → ℕ
+read_from index depth [] = 0
+read_from index depth (event ∷ events) =
+    depth * (event.point.index - index) + read_from event.point.index (depth_after depth event) events
+
+-- the lengths of the nodes that are read, added up: more where indices go back
+abbrev pub read_length : List Event → ℕ
+read_length events = read_from 0 0 events
+
+abbrev pub is_definition : Name → Bool
+is_definition name = elim name [ Definition ↦ true | _ ↦ false ]
+
+-- the events before the next one of a definition
+abbrev pub before_definition : List Event → List Event
+before_definition [] = []
+before_definition (event ∷ events) = if is_definition event.name then [] else event ∷ before_definition events
+
+-- what is read in one definition, at most
+abbrev pub longest_definition : List Event → ℕ
+longest_definition [] = 0
+longest_definition (event ∷ events) =
+    max (if enters is_definition event then read_length (before_definition events) else 0) (longest_definition events)
+
+-- how many events enter a node whose name passes a test
+abbrev pub entries : (Name → Bool) → List Event → ℕ
+entries is [] = 0
+entries is (event ∷ events) = (if enters is event then 1 else 0) + entries is events
+
+abbrev pub is_media : Name → Bool
+is_media name = elim name [ Link ↦ true | Image ↦ true | _ ↦ false ]
+
+abbrev pub is_resource : Name → Bool
+is_resource name = elim name [ Resource ↦ true | _ ↦ false ]
+
+-- links and images without a resource, which lead to a definition
+abbrev pub references : List Event → ℕ
+references events = entries is_media events - entries is_resource events
+
+abbrev pub is_table : Name → Bool
+is_table name = elim name [ GfmTable ↦ true | _ ↦ false ]
+
+abbrev pub is_column : Name → Bool
+is_column name = elim name [ GfmTableDelimiterCellValue ↦ true | _ ↦ false ]
+
+abbrev pub is_row : Name → Bool
+is_row name = elim name [ GfmTableRow ↦ true | _ ↦ false ]
+
+-- how many columns are known after an event of the table that is open
+abbrev pub columns_after : ℕ → Event → ℕ
+columns_after columns event =
+    if enters is_table event then 0 else if enters is_column event then suc columns else columns
+
+-- the cells of all rows, each with as many as its table has columns
+abbrev pub cells : ℕ → List Event → ℕ
+cells columns [] = 0
+cells columns (event ∷ events) =
+    (if exits is_row event then columns else 0) + cells (columns_after columns event) events
+
+-- what is read; the longest definition for each reference, since what it leads to is printed there; and the cells
+abbrev pub work : List Event → ℕ
+work events = read_length events + references events * longest_definition events + cells 0 events
