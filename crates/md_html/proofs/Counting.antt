@@ -1,5 +1,5 @@
--- The work is counted event by event, in numbers that stop at the most that a `u128` holds: after the last event nothing
--- is still to come.
+-- The work is counted event by event, in numbers that stop at the most that a `u128` holds: after the last event
+-- nothing is still to come.
 use Rattle.std.proofs.Common.{◌≡◌, ℕ, ◌+◌, ◌-◌, ◌^◌, ◌≤◌, max, Bool, true, List, [], ◌∷◌, ap, sym, ◌∙◌}
 use Rattle.std.specs.Prelude.{if◌then◌else◌}
 use Rattle.std.proofs.Math.Nat.{min-eq_left, max-zero, add-zero}

@@ -5,4 +5,6 @@ pub mod SafeHtml
 pub mod Nesting
 pub mod Unnested
 pub mod Work
+pub mod Within
+pub mod SafeWithin
 pub mod Counting

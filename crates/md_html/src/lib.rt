@@ -5,6 +5,7 @@ mod compiler;
 pub mod laws;
 mod safe_html;
 mod unnested;
+mod within;
 mod work;
 
 pub use compiler::{Counted, compile, compile_checked, compile_counted};
@@ -21,4 +22,5 @@ pub use md_tree::{
 };
 pub use safe_html::{SafeError, SafeHtml, compile_safe};
 pub use unnested::{UnnestedError, compile_unnested, has_nested_link};
+pub use within::{Limits, SafeWithinError, WithinError, compile_safe_within, compile_within};
 pub use work::{is_over, work_of};

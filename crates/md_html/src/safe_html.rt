@@ -24,7 +24,8 @@ use std::marker::Model;
 use thiserror::Error;
 
 /// A text that has exactly one reading in the HTML grammar, in which each `href` and `src` has no protocol or a
-/// permitted one, and each element stands where it may. Only [`compile_safe`] makes one.
+/// permitted one, and each element stands where it may. Only [`compile_safe`] and
+/// [`compile_safe_within`](crate::compile_safe_within) make one.
 #[derive(Drop)]
 pub struct SafeHtml {
     text: String,
@@ -48,7 +49,7 @@ impl SafeHtml {
     ghost use Rattle.std.specs.Prelude.{◌≡◌, string_bytes};
 
     /// A text that is safe.
-    fn new(text: String) -> SafeHtml
+    pub(crate) fn new(text: String) -> SafeHtml
         requires { IsSafe (string_bytes text) }
         ensures { result ≡ string_bytes text }
     {
@@ -155,7 +156,7 @@ pub fn compile_safe(
 }
 
 /// Whether options are safe.
-fn are_safe(options: &CompileOptions) -> bool
+pub(crate) fn are_safe(options: &CompileOptions) -> bool
     ensures { IsTrue result ↔ KeepsImages options.now }
 {
     !options.allow_dangerous_html

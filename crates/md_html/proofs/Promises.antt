@@ -1,0 +1,82 @@
+-- What holds of a text that is what a checked document means: what holds of each meaning.
+use Rattle.std.proofs.Common.{◌≡◌, ℕ, ◌<◌, ◌^◌, false, List, length, ap, sym, ◌∙◌, subst, arith}
+use Rattle.md_base.specs.Tree.{Forest, flatten}
+use Rattle.md_base.specs.declared.event.Name.TheVariants.{Paragraph}
+use Rattle.md_base.specs.declared.event.Point.{Point}
+use Rattle.md_text.specs.Html.{any_attribute, HasOneReadingWith}
+use Rattle.md_text.specs.Ids.{HasDistinctIds}
+use Rattle.md_text.specs.Safe.{is_safe_link, is_safe_image}
+use Rattle.md_text.specs.declared.options.CompileOptions.{CompileOptions}
+use Rattle.md_tree.specs.Grammar.{Handed, IsChecked, IsGrammatical}
+use Rattle.md_tree.proofs.Indexed.{flatten_one}
+use Rattle.md_meaning.specs.Meaning.{meaning}
+use Rattle.md_shape.specs.Built.{IsBuilt, Blocks}
+use Rattle.md_shape.specs.Underlined.{IsUnderlined}
+use Rattle.md_shape.proofs.Grammatical.{grammatical-built}
+use Rattle.md_shape.proofs.Underlines.{grammatical-underlined}
+use Rattle.md_safe.specs.Links.{has_nested_link}
+use Rattle.md_safe.specs.Options.{KeepsGrammar, KeepsLinks, KeepsImages, KeepsIds}
+use Rattle.md_safe.proofs.Whole.{one-reading, safe-links, safe-images, distinct-ids}
+use Rattle.md_safe.proofs.ContainedWhole.{meaning-contained, meaning-unnested}
+use Rattle.md_standard.specs.Built.{IsBuiltAsRead}
+use Rattle.md_standard.specs.Contents.{IsContained, IsUnnested}
+use Rattle.md_standard.specs.SafeTokens.{has_safe_links, has_safe_images}
+use Rattle.md_standard.specs.Tokenized.{HasTokensWith, IsTokenizedAsRead}
+use Rattle.md_standard.proofs.Tokenized.{read-tokenized, link-tokens, image-tokens}
+use Rattle.md_standard.proofs.WholeTrees.{text-built}
+
+-- what is promised of a text
+pub record Promises (options : CompileOptions) (given : Handed) (text : List ℕ) : Type 0 where
+  pub one_reading : KeepsGrammar options → HasOneReadingWith any_attribute text
+  pub safe_links : KeepsLinks options → HasOneReadingWith is_safe_link text
+  pub safe_images : KeepsImages options → HasOneReadingWith is_safe_image text
+  pub contained : KeepsGrammar options → IsContained text
+  pub tree : (document : Forest) → flatten document ≡ given.events → has_nested_link false document ≡ false →
+      KeepsGrammar options → IsBuiltAsRead text
+  pub tokenized : KeepsGrammar options → IsTokenizedAsRead text
+  pub safe_link_tokens : KeepsLinks options → HasTokensWith has_safe_links text
+  pub safe_image_tokens : KeepsImages options → HasTokensWith has_safe_images text
+  pub distinct_ids : KeepsIds options → HasDistinctIds text
+
+-- a point
+start : Point
+start = record { line = 1; column = 1; index = 0; vs = 0 }
+
+pub promises : (options : CompileOptions) (given : Handed) (text : List ℕ) → IsChecked given →
+    length given.events < 2 ^ 63 →
+    ((document : Forest) → flatten document ≡ given.events →
+    text ≡ meaning options given.names given.bytes document) → Promises options given text
+promises options given text read few meant =
+    let built : IsBuilt given.bytes Blocks read.0 = grammatical-built given.bytes given.names read.0
+    read.1.grammatical in
+    let underlined : IsUnderlined false read.0 = grammatical-underlined given.bytes given.names read.0
+    read.1.grammatical in
+    let fewer : length (flatten read.0) < 2 ^ 64 = omega (ap length read.1.flattened, few, arith) in
+    let same = sym (meant read.0 read.1.flattened) in
+    let one : KeepsGrammar options → HasOneReadingWith any_attribute text = λ keeps.
+    subst (λ t. HasOneReadingWith any_attribute t) same
+    (one-reading given.bytes given.names options read.0 built keeps) in
+    let links : KeepsLinks options → HasOneReadingWith is_safe_link text = λ keeps.
+    subst (λ t. HasOneReadingWith is_safe_link t) same
+    (safe-links given.bytes given.names options read.0 built keeps) in
+    let images : KeepsImages options → HasOneReadingWith is_safe_image text = λ keeps.
+    subst (λ t. HasOneReadingWith is_safe_image t) same
+    (safe-images given.bytes given.names options read.0 built keeps) in
+    record {
+      one_reading = one;
+      safe_links = links;
+      safe_images = images;
+      contained = λ keeps. subst IsContained same
+          (meaning-contained given.bytes given.names options read.0 read.1.grammatical keeps);
+      tree = λ document flat unnested keeps.
+          text-built text (subst IsUnnested (sym (meant document flat))
+          (meaning-unnested given.bytes given.names options document
+          (subst (IsGrammatical given.bytes given.names)
+          (flatten_one Paragraph start read.0 document (read.1.flattened ∙ sym flat)) read.1.grammatical)
+          keeps unnested));
+      tokenized = λ keeps. read-tokenized any_attribute text (one keeps);
+      safe_link_tokens = λ keeps. link-tokens text (links keeps);
+      safe_image_tokens = λ keeps. image-tokens text (images keeps);
+      distinct_ids = λ keeps. subst HasDistinctIds same
+          (distinct-ids given.bytes given.names options read.0 built underlined keeps fewer);
+    }

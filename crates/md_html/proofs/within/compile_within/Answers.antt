@@ -1,0 +1,54 @@
+-- The events that were checked are those handed in, so a text is what their document means, and what holds of each
+-- meaning holds of it.
+use Rattle.std.proofs.Common.{rules, ◌≡◌, ◌<◌, ◌^◌, length, string_bytes, subst, arith}
+use Rattle.std.specs.Prelude.{Option, Some, IfSome}
+use Rattle.md_base.specs.Tree.{Forest, flatten}
+use Rattle.md_tree.specs.Grammar.{Handed, IsChecked, handed}
+use Rattle.md_meaning.specs.Meaning.{meaning}
+use Rattle.md_html.specs.Within.{IsLonger}
+use Rattle.md_html.proofs.Promises.{promises}
+use Rattle.md_html.proofs.within.compile_within.Goals as goal
+
+some-at : {X : Type 0} (P : X → Type 0) (o : Option X) (x : X) → o ≡ Some x → IfSome o P → P x
+some-at P o x is held = subst (λ answer. IfSome answer P) is held
+
+pub returns-in-Some : goal.returns-in-Some
+returns-in-Some c =
+    let given : Handed = handed c.args.events.now c.args.bytes.now c.args.names.now in
+    let text = string_bytes c.in-Some.text in
+    let means : Handed → Type 0 = λ given.
+    (document : Forest) → flatten document ≡ given.events →
+    text ≡ meaning c.args.options.now given.names given.bytes document in
+    let meant : means given = subst means c.in_ok-checked.ensures.ok
+    (some-at _ c.in_ok-text.field-0 c.in-Some.text c.in-Some.is c.in_ok-text.ensures.meaning) in
+    let few : length given.events < 2 ^ 63 = omega arith in
+    let read : IsChecked given = c.in_ok-checked.ensures.grammatical in
+    let kept = promises c.args.options.now given text read few meant in
+    record {
+      within = some-at _ c.in_ok-text.field-0 c.in-Some.text c.in-Some.is c.in_ok-text.ensures.within;
+      work = search rules;
+      grammatical = read;
+      meaning = meant;
+      one_reading = kept.one_reading;
+      safe_links = kept.safe_links;
+      safe_images = kept.safe_images;
+      contained = kept.contained;
+      tree = kept.tree;
+      tokenized = kept.tokenized;
+      safe_link_tokens = kept.safe_link_tokens;
+      safe_image_tokens = kept.safe_image_tokens;
+      distinct_ids = kept.distinct_ids;
+      too_much = search rules;
+      too_long = search rules;
+      long_grammatical = search rules;
+      outside = search rules;
+      order = search rules;
+      mdx = search rules;
+      of_node = search rules;
+      lost = search rules;
+    }
+
+pub returns-clause-too_long : goal.returns-clause-too_long
+returns-clause-too_long c =
+    subst (λ (given : Handed). IsLonger c.args.options.now given c.args.limits.text) c.in_ok-checked.ensures.ok
+    (c.in_ok-text.ensures.too_long c.in-None.is)

@@ -1,0 +1,243 @@
+//! Texts within limits: how long a text may be, and how much work it may take.
+
+ghost use Rattle.std.specs.Prelude.{◌≡◌, ◌≤◌, ◌<◌, OnOk, IfOk, IfErr, true, false, length, string_bytes};
+ghost use Rattle.md_base.specs.Reference.{name_table};
+ghost use Rattle.md_base.specs.Tree.{Forest, flatten};
+ghost use Rattle.md_tree.specs.Grammar.{IsChecked, handed};
+ghost use Rattle.md_tree.specs.Refusal.{IsOutside, IsOrder, IsMdx, IsOfNode, IsLost};
+ghost use Rattle.md_meaning.specs.Meaning.{meaning};
+ghost use Rattle.md_text.specs.Html.{any_attribute, HasOneReadingWith};
+ghost use Rattle.md_text.specs.Safe.{is_safe_link, is_safe_image};
+ghost use Rattle.md_text.specs.Ids.{HasDistinctIds};
+ghost use Rattle.md_standard.specs.SafeTokens.{has_safe_links, has_safe_images};
+ghost use Rattle.md_standard.specs.Tokenized.{HasTokensWith, IsTokenizedAsRead, IsSafelyTokenized};
+ghost use Rattle.md_standard.specs.Contents.{IsContained};
+ghost use Rattle.md_safe.specs.Links.{has_nested_link};
+ghost use Rattle.md_standard.specs.Built.{IsBuiltAsRead};
+ghost use Rattle.md_safe.specs.Options.{KeepsGrammar, KeepsLinks, KeepsImages, KeepsIds};
+ghost use Rattle.md_html.specs.Work.{work};
+ghost use Rattle.md_html.specs.Within.{IsLonger, OfTooLong, IsTooMuchFor, OfWithin};
+ghost use Rattle.md_html.specs.SafeWithin.{IsUnsafeFor, OfLimits};
+
+use crate::safe_html::{SafeHtml, are_safe};
+use crate::work::is_over;
+use md_base::Event;
+use md_render::render_within;
+use md_text::CompileOptions;
+use md_tree::{CompileError, check};
+use std::alloc::{AllocError, Global};
+use std::fmt;
+use thiserror::Error;
+
+/// How long a text may be, and how much work it may take.
+#[derive(Clone, Copy, Debug, PartialEq, Eq)]
+pub struct Limits {
+    /// How many bytes the text may have.
+    pub text: usize,
+    /// How much there may be to read and to print, as [`work_of`](crate::work_of) counts it: the lengths of texts and
+    /// of labels (of a parser's events the document's length, and that of labels again), the longest definition for
+    /// each link or image that leads to one, and for each row of a table its columns.
+    pub work: usize,
+}
+
+/// Why there is no text within limits.
+#[derive(Debug, PartialEq, Eq, Drop, Error)]
+pub enum WithinError {
+    /// The text is longer than it may be.
+    TooLong,
+    /// There is more to read and to print than there may be.
+    TooMuch,
+    /// The compiler refuses the events, or memory runs out.
+    Compile(CompileError),
+}
+
+impl fmt::Display for WithinError {
+    ghost use Rattle.std.specs.Prelude.{Some};
+    ghost use Rattle.md_html.specs.Within.{within_line};
+
+    ghost output = { λ error. Some (within_line error) };
+
+    fn fmt<W: fmt::Write>(&self, f: &mut fmt::Formatter<W>) -> fmt::Result {
+        match self {
+            WithinError::TooLong => write!(f, "text too long"),
+            WithinError::TooMuch => write!(f, "too much work"),
+            WithinError::Compile(error) => write!(f, "{error}"),
+        }
+    }
+}
+
+impl From<CompileError> for WithinError {
+    ghost use Rattle.std.specs.Prelude.{◌≡◌};
+    ghost use Rattle.md_html.specs.declared.within.WithinError.TheVariants.{Compile};
+
+    ghost from_gives = { λ cause error. error ≡ Compile cause };
+
+    fn from(error: CompileError) -> WithinError {
+        WithinError::Compile(error)
+    }
+}
+
+impl From<AllocError> for WithinError {
+    ghost use Rattle.std.specs.Prelude.{◌≡◌};
+    ghost use Rattle.md_tree.specs.declared.rule.CompileError.TheVariants.{Memory};
+    ghost use Rattle.md_html.specs.declared.within.WithinError.TheVariants.{Compile};
+
+    ghost from_gives = { λ _ error. error ≡ Compile Memory };
+
+    fn from(_error: AllocError) -> WithinError {
+        WithinError::Compile(CompileError::Memory)
+    }
+}
+
+/// The HTML of a list of Markdown events, as [`compile`](crate::compile) gives it, where it is within limits.
+///
+/// What it costs goes by these limits, though no clause can say so: time and memory grow with the number of events, the
+/// document's length and `limits.work`, and printing stops soon after the text is too long.
+///
+/// # Errors
+///
+/// [`WithinError::TooMuch`] exactly where there is more work than `limits.work`, before anything else is looked at;
+/// [`WithinError::TooLong`] only where the events are a document's whose text has more than `limits.text` bytes; else
+/// the refusal of [`compile`](crate::compile).
+///
+/// # Examples
+///
+/// ```
+/// let limits = Limits { text: 1 << 20, work: 1 << 23 };
+/// let html = compile_within(alloc, &events, bytes, &CompileOptions::gfm(), names, limits)?;
+/// ```
+pub fn compile_within(
+    alloc: Global,
+    events: &[Event],
+    bytes: &[u8],
+    options: &CompileOptions,
+    names: &[(&str, &str)],
+    limits: Limits,
+) -> Result<String, WithinError>
+    ensures within { IfOk result (λ text. length (string_bytes text) ≤ limits.text) }
+    ensures work { OnOk result (work events.now ≤ limits.work) }
+    ensures grammatical { OnOk result (IsChecked (handed events.now bytes.now names.now)) }
+    ensures meaning { IfOk result (λ text. (document : Forest) → flatten document ≡ events.now →
+        string_bytes text ≡ meaning options.now (name_table names.now) bytes.now document) }
+    ensures one_reading { IfOk result (λ text. KeepsGrammar options.now
+        → HasOneReadingWith any_attribute (string_bytes text)) }
+    ensures safe_links { IfOk result (λ text. KeepsLinks options.now
+        → HasOneReadingWith is_safe_link (string_bytes text)) }
+    ensures safe_images { IfOk result (λ text. KeepsImages options.now
+        → HasOneReadingWith is_safe_image (string_bytes text)) }
+    ensures contained { IfOk result (λ text. KeepsGrammar options.now → IsContained (string_bytes text)) }
+    ensures tree { IfOk result (λ text. (document : Forest) → flatten document ≡ events.now
+        → has_nested_link false document ≡ false → KeepsGrammar options.now → IsBuiltAsRead (string_bytes text)) }
+    ensures tokenized { IfOk result (λ text. KeepsGrammar options.now → IsTokenizedAsRead (string_bytes text)) }
+    ensures safe_link_tokens { IfOk result (λ text. KeepsLinks options.now
+        → HasTokensWith has_safe_links (string_bytes text)) }
+    ensures safe_image_tokens { IfOk result (λ text. KeepsImages options.now
+        → HasTokensWith has_safe_images (string_bytes text)) }
+    ensures distinct_ids { IfOk result (λ text. KeepsIds options.now → HasDistinctIds (string_bytes text)) }
+
+    ensures too_much { IfErr result (IsTooMuchFor events.now limits.work) }
+    ensures too_long { IfErr result (OfTooLong (IsLonger options.now (handed events.now bytes.now names.now)
+        limits.text)) }
+    ensures long_grammatical { IfErr result (OfTooLong (IsChecked (handed events.now bytes.now names.now))) }
+    ensures outside { IfErr result (OfWithin (IsOutside (handed events.now bytes.now names.now))) }
+    ensures order { IfErr result (OfWithin (IsOrder (handed events.now bytes.now names.now))) }
+    ensures mdx { IfErr result (OfWithin (IsMdx (handed events.now bytes.now names.now))) }
+    ensures of_node { IfErr result (OfWithin (IsOfNode (handed events.now bytes.now names.now))) }
+    ensures lost { IfErr result (OfWithin (IsLost (handed events.now bytes.now names.now))) }
+{
+    if is_over(events, limits.work) {
+        return Err(WithinError::TooMuch);
+    }
+    let checked = check(alloc, events, bytes, names)?;
+    match render_within(alloc, &checked, options, limits.text)? {
+        Some(text) => Ok(text),
+        None => Err(WithinError::TooLong),
+    }
+}
+
+/// Why there is no safe text within limits.
+#[derive(Debug, PartialEq, Eq, Drop, Error)]
+pub enum SafeWithinError {
+    /// The options aren't safe.
+    Options,
+    /// There is no text within limits.
+    Within(WithinError),
+}
+
+impl fmt::Display for SafeWithinError {
+    ghost use Rattle.std.specs.Prelude.{Some};
+    ghost use Rattle.md_html.specs.SafeWithin.{safe_within_line};
+
+    ghost output = { λ error. Some (safe_within_line error) };
+
+    fn fmt<W: fmt::Write>(&self, f: &mut fmt::Formatter<W>) -> fmt::Result {
+        match self {
+            SafeWithinError::Options => write!(f, "unsafe options"),
+            SafeWithinError::Within(error) => write!(f, "{error}"),
+        }
+    }
+}
+
+impl From<WithinError> for SafeWithinError {
+    ghost use Rattle.std.specs.Prelude.{◌≡◌};
+    ghost use Rattle.md_html.specs.declared.within.SafeWithinError.TheVariants.{Within};
+
+    ghost from_gives = { λ cause error. error ≡ Within cause };
+
+    fn from(error: WithinError) -> SafeWithinError {
+        SafeWithinError::Within(error)
+    }
+}
+
+/// The HTML of a list of Markdown events, as [`compile_safe`](crate::compile_safe) gives it, where it is within limits:
+/// what a server calls that takes text from strangers.
+///
+/// # Errors
+///
+/// [`SafeWithinError::Options`] exactly where the options aren't safe, whatever else is handed in; else the refusal of
+/// [`compile_within`].
+///
+/// # Examples
+///
+/// ```
+/// let limits = Limits { text: 1 << 20, work: 1 << 23 };
+/// let html = compile_safe_within(alloc, &events, bytes, &CompileOptions::gfm(), names, limits)?;
+/// ```
+pub fn compile_safe_within(
+    alloc: Global,
+    events: &[Event],
+    bytes: &[u8],
+    options: &CompileOptions,
+    names: &[(&str, &str)],
+    limits: Limits,
+) -> Result<SafeHtml, SafeWithinError>
+    ensures within { IfOk result (λ html. length html ≤ limits.text) }
+    ensures work { OnOk result (work events.now ≤ limits.work) }
+    ensures safe { OnOk result (KeepsImages options.now) }
+    ensures options { IfErr result (IsUnsafeFor options.now) }
+    ensures grammatical { OnOk result (IsChecked (handed events.now bytes.now names.now)) }
+    ensures meaning { IfOk result (λ html. (document : Forest) → flatten document ≡ events.now →
+        html ≡ meaning options.now (name_table names.now) bytes.now document) }
+    ensures tokens { IfOk result (λ html. IsSafelyTokenized html) }
+    ensures contained { IfOk result (λ html. IsContained html) }
+    ensures tree { IfOk result (λ html. (document : Forest) → flatten document ≡ events.now
+        → has_nested_link false document ≡ false → IsBuiltAsRead html) }
+    ensures distinct_ids { IfOk result (λ html. options.now.gfm_footnote_number_ids ≡ true → HasDistinctIds html) }
+
+    ensures too_much { IfErr result (OfLimits (IsTooMuchFor events.now limits.work)) }
+    ensures too_long { IfErr result (OfLimits (OfTooLong (IsLonger options.now
+        (handed events.now bytes.now names.now) limits.text))) }
+    ensures long_grammatical { IfErr result (OfLimits (OfTooLong (IsChecked
+        (handed events.now bytes.now names.now)))) }
+    ensures outside { IfErr result (OfLimits (OfWithin (IsOutside (handed events.now bytes.now names.now)))) }
+    ensures order { IfErr result (OfLimits (OfWithin (IsOrder (handed events.now bytes.now names.now)))) }
+    ensures mdx { IfErr result (OfLimits (OfWithin (IsMdx (handed events.now bytes.now names.now)))) }
+    ensures of_node { IfErr result (OfLimits (OfWithin (IsOfNode (handed events.now bytes.now names.now)))) }
+    ensures lost { IfErr result (OfLimits (OfWithin (IsLost (handed events.now bytes.now names.now)))) }
+{
+    if !are_safe(options) {
+        return Err(SafeWithinError::Options);
+    }
+    let text = compile_within(alloc, events, bytes, options, names, limits)?;
+    Ok(SafeHtml::new(text))
+}
