@@ -172,15 +172,13 @@ fn longest_after(longest: u128, event: &Event, following: &[Event]) -> u128
         then read_length (before_definition following.now) else 0)) }
 {
     match event.kind {
-        Kind::Enter if is_definition(event.name) => longest.max(length_before_definition(
-            following,
-        )),
+        Kind::Enter if is_definition(event.name) => longest.max(definition_length(following)),
         _ => longest,
     }
 }
 
 /// What is read before the next event of a definition.
-fn length_before_definition(events: &[Event]) -> u128
+fn definition_length(events: &[Event]) -> u128
     ensures { result ≡ capped (read_length (before_definition events.now)) }
 {
     let mut progress = Progress::new();

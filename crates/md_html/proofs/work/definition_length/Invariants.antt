@@ -3,7 +3,7 @@
 use Rattle.std.proofs.Common.{◌≡◌, ◌+◌, ◌-◌, ◌^◌, ◌≤◌, length}
 use Rattle.md_html.specs.Work.{before_definition, read_from, read_length}
 use Rattle.md_html.specs.Counting.{capped}
-use Rattle.md_html.proofs.work.length_before_definition.Given as goal
+use Rattle.md_html.proofs.work.definition_length.Given as goal
 
 abbrev pub invariant-loop-event : goal.invariant-loop-event
 invariant-loop-event l = record {

@@ -3,7 +3,7 @@ use Rattle.std.proofs.Common.{ap, sym, ◌∙◌}
 use Rattle.std.proofs.lemmas.List.{nil_from_length}
 use Rattle.md_html.specs.Work.{before_definition, read_from, read_length}
 use Rattle.md_html.proofs.Counting.{all-added, none-before}
-use Rattle.md_html.proofs.work.length_before_definition.Goals as goal
+use Rattle.md_html.proofs.work.definition_length.Goals as goal
 
 pub returns-then-is_definition : goal.returns-then-is_definition
 returns-then-is_definition c =
