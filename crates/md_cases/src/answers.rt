@@ -2,7 +2,7 @@
 
 use crate::parts::{QUESTION, answer_questions};
 use crate::reading::{REFERENCE_NAMES, Script};
-use md_html::{CompileError, Counted};
+use md_html::{CompileError, Counted, WithinError};
 use md_script::{RunError, run};
 use std::alloc::{AllocError, Global};
 
@@ -59,7 +59,36 @@ fn say_others(
     let counted = text_of(script, script.compile_counted(alloc, names));
     say_unless(said, is_same(counted, answer), "compile_counted")?;
     let checked = script.compile_checked(alloc, names);
-    say_unless(said, is_same(checked, answer), "compile_checked")
+    say_unless(said, is_same(checked, answer), "compile_checked")?;
+    say_unless(said, keeps_limit(alloc, script, answer), "compile_within")
+}
+
+/// Whether `compile_within` answers what `run` does where the text may be as long as it is, and that it is too long
+/// where it may have a byte less.
+fn keeps_limit(alloc: Global, script: &Script<'_>, answer: &Result<String, RunError>) -> bool {
+    let length = match answer {
+        Ok(text) => text.len(),
+        Err(_) => 0,
+    };
+    let within = script.compile_within(alloc, &REFERENCE_NAMES, length);
+    is_same_within(within, answer) && (length == 0 || is_too_long(alloc, script, length - 1))
+}
+
+/// Whether a call within limits answers what `run` does.
+fn is_same_within(answer: Result<String, WithinError>, wanted: &Result<String, RunError>) -> bool {
+    match answer {
+        Ok(text) => Ok(text) == *wanted,
+        Err(WithinError::Compile(cause)) => Err(RunError::from(cause)) == *wanted,
+        Err(WithinError::TooLong | WithinError::TooMuch) => false,
+    }
+}
+
+/// Whether the text is too long where it may have so many bytes.
+fn is_too_long(alloc: Global, script: &Script<'_>, length: usize) -> bool {
+    match script.compile_within(alloc, &REFERENCE_NAMES, length) {
+        Err(WithinError::TooLong) => true,
+        _ => false,
+    }
 }
 
 /// Whether a call answers what `run` does.

@@ -1,7 +1,10 @@
 //! The calls that compile a script.
 
 use crate::reading::Script;
-use md_html::{CompileError, Counted, check, compile, compile_checked, compile_counted};
+use md_html::{
+    CompileError, Counted, Limits, WithinError, check, compile, compile_checked, compile_counted,
+    compile_within, work_of,
+};
 use std::alloc::Global;
 
 impl Script<'_> {
@@ -33,5 +36,20 @@ impl Script<'_> {
     ) -> Result<String, CompileError> {
         let checked = check(alloc, self.events.as_slice(), self.document, names)?;
         compile_checked(alloc, &checked, &self.options).map_err(CompileError::from)
+    }
+
+    /// What `compile_within` answers where a text may have so many bytes, and the work is just what there is.
+    pub(crate) fn compile_within(
+        &self,
+        alloc: Global,
+        names: &[(&str, &str)],
+        text: usize,
+    ) -> Result<String, WithinError> {
+        let events = self.events.as_slice();
+        let limits = Limits {
+            text,
+            work: work_of(events),
+        };
+        compile_within(alloc, events, self.document, &self.options, names, limits)
     }
 }

@@ -14,6 +14,7 @@ mod rows;
 mod serving;
 mod texts;
 mod unnested;
+mod within;
 
 use log::Log;
 use std::io;
@@ -50,5 +51,6 @@ fn ask_with_memory<R: Print + AllocGlobal>(rt: &R, log: &mut Log) -> io::Result<
     texts::ask_each(rt, log)?;
     documents::ask_each(rt, log)?;
     unnested::ask_each(rt, log)?;
+    within::ask_each(rt, log)?;
     attributes::ask_each(rt, log)
 }
