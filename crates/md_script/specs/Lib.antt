@@ -4,3 +4,4 @@ pub mod Run
 pub mod SafeRun
 pub mod Script
 pub mod Serve
+pub mod Within

@@ -10,7 +10,7 @@ use md_html::{SafeHtml, compile, compile_safe};
 use std::alloc::Global;
 
 /// The names of character references in a script's document, each with its text.
-const REFERENCE_NAMES: [(&str, &str); 9] = [
+pub(crate) const REFERENCE_NAMES: [(&str, &str); 9] = [
     ("amp", "&"),
     ("lt", "<"),
     ("gt", ">"),

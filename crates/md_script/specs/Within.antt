@@ -1,0 +1,102 @@
+-- What `run_within` answers: a text within limits, or why there is none.
+use Rattle.std.specs.Prelude.{ℕ, ◌≤◌, ◌<◌, List, length, codes}
+use Rattle.md_base.specs.declared.event.Event.{Event}
+use Rattle.md_tree.specs.declared.rule.Rule.{Rule}
+use Rattle.md_tree.specs.declared.rule.CompileError.TheVariants as refusal
+use Rattle.md_tree.specs.Grammar.{IsChecked}
+use Rattle.md_tree.specs.Refusal.{IsRefusal}
+use Rattle.md_text.specs.declared.options.CompileOptions.{CompileOptions}
+use Rattle.md_html.specs.Work.{work}
+use Rattle.md_html.specs.Within.{IsLonger}
+use Rattle.md_html.specs.declared.within.Limits.{Limits}
+use Rattle.md_html.specs.declared.within.WithinError.{WithinError}
+use Rattle.md_html.specs.declared.within.WithinError.TheVariants as within
+use Rattle.md_script.specs.declared.error.RunError.TheVariants as error
+use Rattle.md_script.specs.declared.running_within.RunWithinError.{RunWithinError}
+use Rattle.md_script.specs.declared.running_within.RunWithinError.TheVariants.{TooLong, TooMuch, Run}
+use Rattle.md_script.specs.Error.{message_of, status_of, run_error_of}
+use Rattle.md_script.specs.Run.{document_of, IsCompiled, ExplainsEvents, ExplainsRun}
+use Rattle.md_script.specs.Script.{StandsFor}
+
+-- the line on standard error
+abbrev pub within_message : RunWithinError → List ℕ
+within_message TooLong = codes "text too long"
+within_message TooMuch = codes "too much work"
+within_message (Run cause) = message_of cause
+
+-- the status of a program that ends with it
+abbrev pub within_status : RunWithinError → ℕ
+within_status TooLong = 5
+within_status TooMuch = 6
+within_status (Run cause) = status_of cause
+
+-- the error of a compiler as one of a script
+abbrev pub run_within_error_of : WithinError → RunWithinError
+run_within_error_of within.TooLong = TooLong
+run_within_error_of within.TooMuch = TooMuch
+run_within_error_of (within.Compile cause) = Run (run_error_of cause)
+
+-- the text is that of the events and has no more bytes than it may; nor is there more work
+pub record IsCompiledWithin (events : List Event) (bytes : List ℕ) (options : CompileOptions)
+    (limits : Limits) (text : List ℕ) : Type 0 where
+  pub compiled : IsCompiled events bytes options text
+  pub fits : length text ≤ limits.text
+  pub bounded : work events ≤ limits.work
+
+-- the events are of the grammar, and the meaning of their document has more bytes than it may
+pub record IsTooLong (events : List Event) (bytes : List ℕ) (options : CompileOptions)
+    (limits : Limits) : Type 0 where
+  pub grammatical : IsChecked (document_of events bytes)
+  pub longer : IsLonger options (document_of events bytes) limits.text
+  pub bounded : work events ≤ limits.work
+
+-- why events give no text within limits: too much work exactly where there is more than may be
+abbrev pub ExplainsEventsWithin : List Event → List ℕ → CompileOptions → Limits →
+    RunWithinError → Type 0
+ExplainsEventsWithin events bytes options limits TooLong = IsTooLong events bytes options limits
+ExplainsEventsWithin events bytes options limits TooMuch = limits.work < work events
+ExplainsEventsWithin events bytes options limits (Run cause) =
+    (work events ≤ limits.work) × ExplainsEvents events bytes cause
+
+-- the text is that of what the input stands for, within limits
+pub record IsTextWithin (input : List ℕ) (limits : Limits) (text : List ℕ) : Type 0 where
+  pub events : List Event
+  pub bytes : List ℕ
+  pub options : CompileOptions
+  pub stands : StandsFor input events bytes options
+  pub compiled : IsCompiledWithin events bytes options limits text
+
+-- the text of what the input stands for is too long
+pub record IsTooLongFor (input : List ℕ) (limits : Limits) : Type 0 where
+  pub events : List Event
+  pub bytes : List ℕ
+  pub options : CompileOptions
+  pub stands : StandsFor input events bytes options
+  pub too_long : IsTooLong events bytes options limits
+
+-- the events of what the input stands for give too much work
+pub record IsTooMuchFor (input : List ℕ) (limits : Limits) : Type 0 where
+  pub events : List Event
+  pub bytes : List ℕ
+  pub options : CompileOptions
+  pub stands : StandsFor input events bytes options
+  pub too_much : limits.work < work events
+
+-- an event of what the input stands for is refused, and there is no more work than there may be
+pub record IsRefusedWithin (input : List ℕ) (limits : Limits) (index : ℕ) (rule : Rule)
+    : Type 0 where
+  pub events : List Event
+  pub bytes : List ℕ
+  pub options : CompileOptions
+  pub stands : StandsFor input events bytes options
+  pub bounded : work events ≤ limits.work
+  pub refused : IsRefusal (document_of events bytes) (refusal.Event index rule)
+
+-- why a script gives no text within limits
+abbrev pub ExplainsRunWithin : List ℕ → Limits → RunWithinError → Type 0
+ExplainsRunWithin input limits TooLong = IsTooLongFor input limits
+ExplainsRunWithin input limits TooMuch = IsTooMuchFor input limits
+ExplainsRunWithin input limits (Run error.Memory) = Unit {0}
+ExplainsRunWithin input limits (Run (error.Line number)) = ExplainsRun input (error.Line number)
+ExplainsRunWithin input limits (Run (error.Event index rule)) =
+    IsRefusedWithin input limits index rule
