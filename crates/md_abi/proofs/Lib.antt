@@ -4,3 +4,4 @@ pub mod AnswerLemmas
 pub mod OptionLemmas
 pub mod StandingLemmas
 pub mod AttributedLemmas
+pub mod WithinLemmas

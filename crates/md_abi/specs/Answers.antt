@@ -1,6 +1,7 @@
 -- Which statuses an answer has, and which of its fields tell something.
-use Rattle.std.specs.Prelude.{◌≡◌, ◌≢◌, ◌<◌, ◌≤◌}
+use Rattle.std.specs.Prelude.{◌≡◌, ◌≢◌, ◌⊎◌, ℕ, ◌<◌, ◌≤◌}
 use Rattle.md_abi.specs.Numbers.{too_short, refused, no_line, no_option, no_event, no_memory, unsafe_options, no_attribute}
+use Rattle.md_abi.specs.Numbers.{too_long, too_much}
 use Rattle.md_abi.specs.declared.answer.Answer.{Answer}
 
 -- a rule is told only of a refusal, an index of what is refused or unreadable, a length of a text
@@ -30,3 +31,17 @@ pub record IsOfAttributed (answer : Answer) : Type 0 where
   pub no_place : answer.status ≡ no_memory → answer.index ≡ 0
   pub no_option_place : answer.status ≡ unsafe_options → answer.index ≡ 0
   pub no_length : too_short < answer.status → answer.length ≡ 0
+
+-- within limits no attribute is told of
+pub record IsOfWithin (answer : Answer) : Type 0 where
+  pub known : answer.status ≤ too_much
+  pub without_lines : answer.status ≢ no_line
+  pub without_attributes : no_memory < answer.status → too_long ≤ answer.status
+  pub no_rule : answer.status ≢ refused → answer.rule ≡ 0
+  pub no_index : answer.status ≤ too_short → answer.index ≡ 0
+  pub no_place : no_memory ≤ answer.status → answer.index ≡ 0
+  pub no_length : too_short < answer.status → answer.length ≡ 0
+
+-- the work was looked at, and more: a text, one that is too long, or a refused event is told of
+abbrev pub TellsOfEvents : ℕ → Type 0
+TellsOfEvents status = (status ≤ refused) ⊎ (status ≡ too_long)

@@ -13,3 +13,5 @@ pub mod Answers
 pub mod Attributes
 pub mod Attributed
 pub mod Refusals
+pub mod Within
+pub mod WithinFailures

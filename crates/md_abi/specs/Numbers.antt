@@ -45,6 +45,14 @@ unsafe_options = 8
 abbrev pub no_attribute : ℕ
 no_attribute = 9
 
+-- the text is longer than it may be
+abbrev pub too_long : ℕ
+too_long = 10
+
+-- there is more to read and to print than there may be
+abbrev pub too_much : ℕ
+too_much = 11
+
 -- ---- rules; 0 is none
 
 abbrev pub rule_number : Rule → ℕ

@@ -4,10 +4,12 @@ ghost use Rattle.std.specs.Prelude.{◌≡◌};
 ghost use Rattle.md_abi.specs.Numbers.{rule_number};
 ghost use Rattle.md_abi.specs.Failures.{answer_of};
 ghost use Rattle.md_abi.specs.Refusals.{answer_of_refusal};
+ghost use Rattle.md_abi.specs.WithinFailures.{answer_of_within};
 ghost use Rattle.md_abi.specs.Buffer.{IsHandedOver, IsListHandedOver};
 
 use crate::failure::Failure;
 use crate::refusal::Refusal;
+use crate::within::WithinFailure;
 use md_tree::Rule;
 
 /// The text is in the buffer.
@@ -39,6 +41,12 @@ const UNSAFE: u32 = 8;
 
 /// An attribute stands for none.
 const NO_ATTRIBUTE: u32 = 9;
+
+/// The text is longer than it may be.
+const TOO_LONG: u32 = 10;
+
+/// There is more to read and to print than there may be.
+const TOO_MUCH: u32 = 11;
 
 /// What a call answers. A field of which the status says nothing is 0.
 #[repr(C)]
@@ -79,6 +87,17 @@ pub fn answer_to_refusal(refusal: &Refusal) -> Answer
         Refusal::Unsafe => about(UNSAFE, 0),
         Refusal::Attribute(number) => about(NO_ATTRIBUTE, *number),
         Refusal::Failed(failure) => answer_to(failure),
+    }
+}
+
+/// The answer to a failure within limits.
+pub fn answer_to_within(failure: &WithinFailure) -> Answer
+    ensures { result ≡ answer_of_within failure.now }
+{
+    match failure {
+        WithinFailure::TooLong => about(TOO_LONG, 0),
+        WithinFailure::TooMuch => about(TOO_MUCH, 0),
+        WithinFailure::Failed(failure) => answer_to(failure),
     }
 }
 

@@ -12,8 +12,11 @@ mod option;
 mod reference;
 mod refusal;
 mod text;
+mod within;
 
-pub use answer::{Answer, answer_to, answer_to_refusal, hand_over, hand_over_listed};
+pub use answer::{
+    Answer, answer_to, answer_to_refusal, answer_to_within, hand_over, hand_over_listed,
+};
 pub use attributed::{Attributed, compile_attributed};
 pub use attributes::CAttributes;
 pub use event::CEvent;
@@ -22,3 +25,4 @@ pub use given::compile_given;
 pub use option::{COptions, CText};
 pub use reference::CReference;
 pub use refusal::Refusal;
+pub use within::{CLimits, WithinFailure, compile_given_within};

@@ -4,6 +4,7 @@ ghost use Rattle.std.specs.Prelude.{◌≡◌};
 ghost use Rattle.md_script.specs.Run.{IsTextOf};
 ghost use Rattle.md_script.specs.Script.{IsReadable, IsFirstUnreadable};
 ghost use Rattle.md_abi.specs.Numbers.{refused, no_event, no_name, no_option, no_line, unsafe_options, no_attribute};
+ghost use Rattle.md_abi.specs.Numbers.{too_long, too_much};
 ghost use Rattle.md_abi.specs.Standing.{IsFirstWithout};
 ghost use Rattle.md_abi.specs.Events.{event_of};
 ghost use Rattle.md_abi.specs.References.{reference_of};
@@ -11,12 +12,15 @@ ghost use Rattle.md_abi.specs.Options.{StandsForNone, KeepsImages};
 ghost use Rattle.md_abi.specs.Attributes.{StandsForNoAttribute};
 ghost use Rattle.md_abi.specs.Attributed.{IsAttributedText};
 ghost use Rattle.md_abi.specs.Rendered.{IsRendered, IsRefusedBy, IsRefusedIn};
+ghost use Rattle.md_abi.specs.Within.{IsRenderedWithin, IsTooLong, IsTooMuch, IsBounded};
 ghost use Rattle.md_abi.specs.Buffer.{HandsOver};
 ghost use Rattle.md_abi.specs.Answers.{IsOfCompile, IsOfAttributed, IsOfRun};
+ghost use Rattle.md_abi.specs.Answers.{IsOfWithin, TellsOfEvents};
 
 use md_abi::{
-    Answer, CAttributes, CEvent, COptions, CReference, Failure, answer_to, answer_to_refusal,
-    compile_attributed, compile_given, hand_over, hand_over_listed,
+    Answer, CAttributes, CEvent, CLimits, COptions, CReference, Failure, answer_to,
+    answer_to_refusal, answer_to_within, compile_attributed, compile_given, compile_given_within,
+    hand_over, hand_over_listed,
 };
 use md_script::run;
 use std::alloc::Global;
@@ -119,6 +123,56 @@ pub extern "C" fn bivdrazo_compile_attributed(
     match compile_attributed(alloc, events, bytes, options, names, attributes) {
         Ok(made) => hand_over_listed(made.whole.as_str(), made.start, buffer),
         Err(refusal) => answer_to_refusal(&refusal),
+    }
+}
+
+/// As [`bivdrazo_compile`], where the text has at most as many bytes as `limits` say, and there is at
+/// most as much work: so what it costs is bounded. Printing stops soon after the text is too long.
+///
+/// The work is told from the events alone: what is read of the bytes, by the places of the events;
+/// for each link and image that leads to a definition, what is read in the longest one; for each row
+/// of a table, its columns.
+///
+/// Its seven parameters are those of C's call, which has ten in the same order: none for `alloc`, one
+/// each for `options` and `limits`, and two for each of the four slices. What a C caller passes is
+/// told at [`bivdrazo_compile`].
+///
+/// # Statuses
+///
+/// - 0 to 5, 7: as of [`bivdrazo_compile`]. With 1, `length` isn't more than the text may have.
+/// - 10: the text is longer than it may be.
+/// - 11: there is more work than there may be; whether the events are a document isn't told.
+///
+/// With all but 0 the buffer is as it was. Which of 3 to 5 is told, if several are true, is left open.
+/// With 0, 1, 2 and 10 there isn't more work than there may be.
+#[unsafe(no_mangle)]
+pub extern "C" fn bivdrazo_compile_within(
+    alloc: Global,
+    events: &[CEvent],
+    bytes: &[u8],
+    options: &COptions,
+    names: &[CReference],
+    limits: &CLimits,
+    buffer: &mut [u8],
+) -> Answer
+    // The text is as that of `bivdrazo_compile`, and within limits.
+    ensures text { HandsOver
+        (IsRenderedWithin events.now bytes.now options.now names.now limits.now)
+        buffer.old buffer.new result }
+    ensures refused { result.status ≡ refused →
+        IsRefusedBy events.now bytes.now names.now result.index result.rule }
+    ensures no_event { result.status ≡ no_event → IsFirstWithout event_of events.now result.index }
+    ensures no_name { result.status ≡ no_name → IsFirstWithout reference_of names.now result.index }
+    ensures no_option { result.status ≡ no_option → StandsForNone options.now result.index }
+    ensures too_long { result.status ≡ too_long →
+        IsTooLong events.now bytes.now options.now names.now limits.now }
+    ensures too_much { result.status ≡ too_much → IsTooMuch events.now limits.now }
+    ensures bounded { TellsOfEvents result.status → IsBounded events.now limits.now }
+    ensures fields { IsOfWithin result }
+{
+    match compile_given_within(alloc, events, bytes, options, names, limits) {
+        Ok(text) => hand_over(text.as_str(), buffer),
+        Err(failure) => answer_to_within(&failure),
     }
 }
 

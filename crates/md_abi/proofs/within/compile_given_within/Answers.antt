@@ -1,0 +1,37 @@
+-- What was read stands for what C handed in, also as slices: so what `compile_read_within` says holds
+-- of C's arguments. By itself the search can't carry its promise from the one to the other.
+use Rattle.std.proofs.Common.{refl}
+use Rattle.std.specs.Prelude.{string_bytes}
+use Rattle.md_abi.proofs.GivenLemmas.{read_as}
+use Rattle.md_abi.proofs.WithinLemmas.{text_within, bounded_within, failure_given}
+use Rattle.md_abi.proofs.within.compile_given_within.Goals as goal
+
+pub returns-clause-ok : goal.returns-clause-ok
+returns-clause-ok c =
+    let a = c.args in
+    let read = read_as a.events.now a.options.now a.names.now c.as_slice.result.now _
+    c.in_ok-options.options c.as_slice-2.result.now _
+    c.as_slice.ensures.value c.as_slice-2.ensures.value c.in_ok-events.ensures.ok
+    c.in_ok-options.ensures.ok c.in_ok-names.ensures.ok in
+    text_within _ a.bytes.now _ _ _ _ _ a.limits.now _ read string_bytes
+    c.compile_read_within.result refl c.compile_read_within.ensures.ok
+
+pub returns-clause-bounded : goal.returns-clause-bounded
+returns-clause-bounded c =
+    let a = c.args in
+    let read = read_as a.events.now a.options.now a.names.now c.as_slice.result.now _
+    c.in_ok-options.options c.as_slice-2.result.now _
+    c.as_slice.ensures.value c.as_slice-2.ensures.value c.in_ok-events.ensures.ok
+    c.in_ok-options.ensures.ok c.in_ok-names.ensures.ok in
+    bounded_within _ a.bytes.now _ _ _ _ _ a.limits.now _ read string_bytes
+    c.compile_read_within.result refl c.compile_read_within.ensures.ok
+
+pub returns-clause-err : goal.returns-clause-err
+returns-clause-err c =
+    let a = c.args in
+    let read = read_as a.events.now a.options.now a.names.now c.as_slice.result.now _
+    c.in_ok-options.options c.as_slice-2.result.now _
+    c.as_slice.ensures.value c.as_slice-2.ensures.value c.in_ok-events.ensures.ok
+    c.in_ok-options.ensures.ok c.in_ok-names.ensures.ok in
+    failure_given _ a.bytes.now _ _ _ _ _ a.limits.now _ read c.compile_read_within.result refl refl
+    c.compile_read_within.ensures.err

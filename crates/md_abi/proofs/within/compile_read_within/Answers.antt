@@ -1,0 +1,14 @@
+-- The compiler's error stays true as the failure that `?` makes of it.
+-- By itself the search can't put the clauses of a text and of an error together.
+use Rattle.md_tree.specs.Grammar.{handed}
+use Rattle.md_abi.proofs.WithinLemmas.{refusal_within, told_within}
+use Rattle.md_abi.proofs.within.compile_read_within.Goals as goal
+
+pub returns-in_err-compile_within-clause-err : goal.returns-in_err-compile_within-clause-err
+returns-in_err-compile_within-clause-err c =
+    let why = c.in_err-compile_within.ensures in
+    let error = c.in_err-compile_within.field-0.0 in
+    let given = handed c.args.events.now c.args.bytes.now c.args.names.now in
+    told_within given c.args.options.now c.args.limits error c.from_residual.result
+    c.from_residual.ensures.1 why.too_much why.too_long why.long_grammatical
+    (refusal_within given error why.order why.mdx why.of_node why.lost why.outside)

@@ -1,0 +1,116 @@
+//! From what C hands in to a text within limits.
+
+ghost use Rattle.std.specs.Prelude.{OnOk, IfOk, IfErr, string_bytes};
+ghost use Rattle.md_tree.specs.Grammar.{handed};
+ghost use Rattle.md_abi.specs.Within.{IsRenderedWithin, IsBounded};
+ghost use Rattle.md_abi.specs.WithinFailures.{IsCompiledWithin, IsFailureWithin, ExplainsWithin};
+
+use crate::event::{CEvent, read_events};
+use crate::failure::Failure;
+use crate::option::{COptions, read_options};
+use crate::reference::{CReference, read_references};
+use md_base::Event;
+use md_html::{Limits, WithinError, compile_within};
+use md_text::CompileOptions;
+use std::alloc::Global;
+
+/// How long a text may be, and how much work it may take.
+#[repr(C)]
+#[derive(Clone, Copy)]
+pub struct CLimits {
+    /// How many bytes the text may have.
+    pub text: usize,
+    /// How much there may be to read and to print.
+    pub work: usize,
+}
+
+/// Why a call has no text within limits to hand over.
+#[derive(Drop)]
+pub enum WithinFailure {
+    /// The text is longer than it may be.
+    TooLong,
+    /// There is more to read and to print than there may be.
+    TooMuch,
+    /// There is no text at all.
+    Failed(Failure),
+}
+
+impl From<Failure> for WithinFailure {
+    ghost use Rattle.std.specs.Prelude.{◌≡◌};
+    ghost use Rattle.md_abi.specs.declared.within.WithinFailure.TheVariants.{Failed};
+
+    ghost from_gives = { λ failure made. made ≡ Failed failure };
+
+    fn from(failure: Failure) -> WithinFailure {
+        WithinFailure::Failed(failure)
+    }
+}
+
+impl From<WithinError> for WithinFailure {
+    ghost use Rattle.std.specs.Prelude.{◌≡◌};
+    ghost use Rattle.md_abi.specs.WithinFailures.{within_failure_of};
+
+    ghost from_gives = { λ error made. made ≡ within_failure_of error };
+
+    fn from(error: WithinError) -> WithinFailure {
+        match error {
+            WithinError::TooLong => WithinFailure::TooLong,
+            WithinError::TooMuch => WithinFailure::TooMuch,
+            WithinError::Compile(cause) => WithinFailure::Failed(Failure::from(cause)),
+        }
+    }
+}
+
+/// The HTML of what is handed in, where it is within limits.
+///
+/// # Errors
+///
+/// Tells what stands for none, that there is too much work or the text is too long, the refusal of
+/// the compiler, or that it is out of memory.
+pub fn compile_given_within(
+    alloc: Global,
+    events: &[CEvent],
+    bytes: &[u8],
+    options: &COptions,
+    names: &[CReference],
+    limits: &CLimits,
+) -> Result<String, WithinFailure>
+    ensures ok { IfOk result (λ text. IsRenderedWithin
+        events.now bytes.now options.now names.now limits.now (string_bytes text)) }
+    ensures bounded { OnOk result (IsBounded events.now limits.now) }
+    ensures err { IfErr result
+        (ExplainsWithin events.now bytes.now options.now names.now limits.now) }
+{
+    let events = read_events(alloc, events)?;
+    let names = read_references(alloc, names)?;
+    let options = read_options(alloc, options)?;
+    let limits = Limits {
+        text: limits.text,
+        work: limits.work,
+    };
+    compile_read_within(
+        alloc,
+        events.as_slice(),
+        bytes,
+        &options,
+        names.as_slice(),
+        limits,
+    )
+}
+
+/// The HTML of what was read, where it is within limits.
+fn compile_read_within(
+    alloc: Global,
+    events: &[Event],
+    bytes: &[u8],
+    options: &CompileOptions,
+    names: &[(&str, &str)],
+    limits: Limits,
+) -> Result<String, WithinFailure>
+    ensures ok { IfOk result (λ text. IsCompiledWithin
+        (handed events.now bytes.now names.now) options.now limits (string_bytes text)) }
+    ensures err { IfErr result
+        (IsFailureWithin (handed events.now bytes.now names.now) options.now limits) }
+{
+    Ok(compile_within(alloc, events, bytes, options, names, limits)?)
+}
