@@ -1,24 +1,21 @@
 #!/usr/bin/env python3
-"""Makes the tables by which the check goes over a spine and a script's reader tells names, and compares what stands.
+"""Makes the tables by which the check goes over a spine, and compares what stands.
 
     bench/tables.py            compares; the status is 1 where a table isn't what this makes
     bench/tables.py --write    writes them
 
 The rows of `md_pattern/src/places.rt`, and the list of places in its `specs/Places.antt`, are made of the patterns in
-`specs/Pattern.antt`, in the order of the roles and symbols in `src/kinds.rt`. The slots of `md_line/src/common_name.rt`
-are made of its rows, which are the names of events of under sixteen bytes. Both are proved to be right as they stand:
+`specs/Pattern.antt`, in the order of the roles and symbols in `src/kinds.rt`. They are proved to be right as they stand:
 this says how they are made. Numbers of rows that proofs name (`PlaceLemmas.antt`) are changed by hand.
+What is made of the names of events: `bench/names.py`.
 """
 import argparse
-import itertools
 import os
 import re
 import sys
 
 ROOT = os.path.dirname(os.path.dirname(os.path.abspath(__file__)))
 PATTERN = os.path.join(ROOT, "crates", "md_pattern")
-LINE = os.path.join(ROOT, "crates", "md_line")
-NAMES = os.path.join(ROOT, "crates", "md_base", "specs", "EventNames.antt")
 STAGES = ["Whole", "Marker", "Numeric", "Hexadecimal", "Setext"]
 GROUPS = {
     ("Marker", "ReferenceNumeric"): "Numeric",
@@ -163,40 +160,12 @@ def replaced(source, pattern, new):
     return re.sub(pattern, lambda match: new, source, flags=re.S)
 
 
-def slot_tables():
-    """The new text of `common_name.rt`."""
-    path = os.path.join(LINE, "src", "common_name.rt")
-    source = read(path)
-    names = re.findall(r'codes "(\w+)"', read(NAMES)) or re.findall(r'"(\w+)"', read(NAMES))
-    rows = [text.rstrip() for text in re.findall(r'^    \(\*b"(.{16})", Name::\w+\),$', source, re.M)]
-    short = [name for name in names if len(name) < 16 and name != "Other"]
-    if sorted(rows) != sorted(short):
-        sys.exit(f"bench/tables.py: rows of common_name.rt that are no short names, or lack: {sorted(set(rows) ^ set(short))}")
-    by, times = map(int, re.search(r"usize::from\(first\) \+ (\d+) \* usize::from\(middle\) \+ (\d+) \* usize::from\(last\)",
-                                   source).groups())
-
-    def sums(by, times):
-        return [(ord(name[0]) + by * ord(name[len(name) // 2]) + times * ord(name[-1])) % 256 for name in rows]
-
-    if len(set(sums(by, times))) < len(rows):
-        by, times = next(pair for pair in itertools.product(range(1, 256), range(1, 256))
-                         if len(set(sums(*pair))) == len(rows))
-    slots = ["~"] * 256
-    for number, at in enumerate(sums(by, times)):
-        slots[at] = chr(ord("(") + number)
-    lines = "\\\n    ".join("".join(slots[at:at + 64]) for at in range(0, 256, 64))
-    source = replaced(source, r'static SLOTS: \[u8; 256\] = \*b"\\\n.*?";', f'static SLOTS: [u8; 256] = *b"\\\n    {lines}";')
-    source = replaced(source, r"\d+ \* usize::from\(middle\) \+ \d+ \* usize::from\(last\)",
-                      f"{by} * usize::from(middle) + {times} * usize::from(last)")
-    return [(path, replaced(source, r"static ROWS: \[Row; \d+\]", f"static ROWS: [Row; {len(rows)}]"))]
-
-
 def main():
     parser = argparse.ArgumentParser(description=__doc__, formatter_class=argparse.RawDescriptionHelpFormatter)
     parser.add_argument("--write", action="store_true", help="write the tables")
     given = parser.parse_args()
     different = 0
-    for path, made in place_tables() + slot_tables():
+    for path, made in place_tables():
         with open(path, encoding="utf-8") as file:
             if file.read() == made:
                 continue

@@ -15,9 +15,9 @@ LIST = pathlib.Path(__file__).resolve().parent.parent / "numbers" / "numbers.txt
 
 
 def listed(group):
-    """The list's pairs of a name and a number in one group."""
+    """The list's pairs of a name and a number in one group, by their numbers."""
     lines = re.findall(rf"^{group} (\d+) (\w+)", LIST.read_text(), re.MULTILINE)
-    return [(name, int(number)) for number, name in lines]
+    return sorted(((name, int(number)) for number, name in lines), key=lambda pair: pair[1])
 
 
 def camel(name):

@@ -8,6 +8,7 @@ use md_base::Name;
 /// The number of a name that is none of the others.
 const OTHER: u16 = 65535;
 
+// bench/names.py: begin
 /// The names by their numbers, from 1; a number never changes.
 static NAMES: [Name; 86] = [
     Name::AutolinkEmail,
@@ -97,6 +98,7 @@ static NAMES: [Name; 86] = [
     Name::MdxJsxFlowTag,
     Name::MdxJsxTextTag,
 ];
+// bench/names.py: end
 
 /// The name under a number.
 pub(crate) fn read_name(number: u16, other: u16) -> Option<Name>

@@ -10,103 +10,193 @@ pub enum Kind {
 /// What an event enters or exits.
 #[derive(Clone, Copy, Debug, PartialEq, Eq)]
 pub enum Name {
-    // Autolinks
+    // bench/names.py: begin
+    // Links that are written out as such: `<a@b.c>`, `<https://a.b>`, and the literal ones of GFM.
+    /// An address between angle brackets, without these: a link to it.
     AutolinkEmail,
+    /// A URL between angle brackets, without these: a link to it.
     AutolinkProtocol,
+    /// A bare address: a link to it.
     GfmAutolinkLiteralEmail,
+    /// A bare `mailto:` with its address: a link.
     GfmAutolinkLiteralMailto,
+    /// A bare URL that begins with `http://` or `https://`: a link.
     GfmAutolinkLiteralProtocol,
+    /// A bare domain that begins with `www.`: a link, by `http://`.
     GfmAutolinkLiteralWww,
+    /// A bare `xmpp:` with its address: a link.
     GfmAutolinkLiteralXmpp,
-    // Line endings
+    // Line endings: a LineEnding is printed where the rules say so, a BlankLineEnding makes lists
+    // loose and ends the text with a line ending.
+    /// A line ending, over LF, CR or CR LF.
     LineEnding,
+    /// The line ending of a blank line, likewise.
     BlankLineEnding,
-    // Containers
+    // Containers: quotes, lists with their items, definitions of footnotes.
+    /// A quote, around what it holds.
     BlockQuote,
+    /// The mark of a quote: it prints nothing, and what it holds is printed.
     BlockQuotePrefix,
+    /// A list with numbers, around its items.
     ListOrdered,
+    /// A list without numbers, around its items.
     ListUnordered,
+    /// An item, which begins with its prefix.
     ListItem,
+    /// The mark of an item, around its parts.
     ListItemPrefix,
+    /// The number of an item; of a list's first item it is read.
     ListItemValue,
+    /// The character of an item's mark.
     ListItemMarker,
+    /// A footnote, which begins with its prefix.
     GfmFootnoteDefinition,
+    /// The mark of a footnote, around its label.
     GfmFootnoteDefinitionPrefix,
+    /// The label by which a footnote is called.
     GfmFootnoteDefinitionLabelString,
-    // Characters
+    // Characters: text as it is, escaped characters, references such as `&amp;` by their parts.
+    /// A text as it is.
     Data,
+    /// A character that follows a backslash.
     CharacterEscapeValue,
+    /// The `&` of a character reference.
     CharacterReferenceMarker,
+    /// The `#` of a character reference by number.
     CharacterReferenceMarkerNumeric,
+    /// The `x` of a character reference by a hexadecimal number.
     CharacterReferenceMarkerHexadecimal,
+    /// The name or the digits of a character reference.
     CharacterReferenceValue,
-    // Raw
+    // Code and math, as blocks.
+    /// Indented code, around its chunks.
     CodeIndented,
+    /// Fenced code, around its fences and chunks.
     CodeFenced,
+    /// A fence of code: the first one, or the last one.
     CodeFencedFence,
+    /// The language of code, in the first fence.
     CodeFencedFenceInfo,
+    /// What follows the language: it prints nothing.
     CodeFencedFenceMeta,
+    /// A text of code.
     CodeFlowChunk,
+    /// Math, around its fences and chunks.
     MathFlow,
+    /// A fence of math: the first one, or the last one.
     MathFlowFence,
+    /// What follows the first fence of math: it prints nothing.
     MathFlowFenceMeta,
+    /// A text of math.
     MathFlowChunk,
+    // Code, math and HTML in text, HTML as a block.
+    /// Code in a text, around its data.
     CodeText,
+    /// The text of code in a text.
     CodeTextData,
+    /// Math in a text, around its data.
     MathText,
+    /// The text of math in a text.
     MathTextData,
+    /// A block of HTML, around its data.
     HtmlFlow,
+    /// The text of a block of HTML.
     HtmlFlowData,
+    /// HTML in a text, around its data.
     HtmlText,
+    /// The text of HTML in a text.
     HtmlTextData,
-    // Definitions
+    // Definitions of links: `[label]: destination "title"`.
+    /// A definition: it prints nothing, and links and images refer to it.
     Definition,
+    /// The label of a definition.
     DefinitionLabelString,
+    /// The URL of a definition.
     DefinitionDestinationString,
+    /// The title of a definition.
     DefinitionTitleString,
-    // Media
+    // Links, images, calls of footnotes.
+    /// A link, which begins with its label.
     Link,
+    /// An image, which begins with its label.
     Image,
+    /// The text of a link, an image or a call, with its brackets.
     Label,
+    /// The same without its brackets.
     LabelText,
+    /// What a link or an image leads to, where it stands there itself.
     Resource,
+    /// The URL of a resource.
     ResourceDestinationString,
+    /// The title of a resource.
     ResourceTitleString,
+    /// The label of the definition to which a link or an image refers.
     ReferenceString,
+    /// A call of a footnote, around its label.
     GfmFootnoteCall,
-    // Headings
+    // Headings: `# text`, or a text that is underlined.
+    /// A heading with a mark, which begins with that.
     HeadingAtx,
+    /// The mark of a heading; the length of the first one is the rank.
     HeadingAtxSequence,
+    /// The text of a heading with a mark.
     HeadingAtxText,
+    /// The text of a heading that is underlined.
     HeadingSetextText,
+    /// Its underline, of `=` or `-`.
     HeadingSetextUnderlineSequence,
-    // Tables
+    // Tables.
+    /// A table, around its head and body.
     GfmTable,
+    /// The first row of a table, and its delimiter row.
     GfmTableHead,
+    /// The other rows of a table.
     GfmTableBody,
+    /// A row, around its cells.
     GfmTableRow,
+    /// A cell, around its text.
     GfmTableCell,
+    /// The row that says how columns are aligned, around a value for each.
     GfmTableDelimiterRow,
+    /// How a column is aligned: by a marker as its first and as its last child.
     GfmTableDelimiterCellValue,
+    /// A `:` of a delimiter value.
     GfmTableDelimiterMarker,
-    // Others
+    // Spans, tasks, breaks, paragraphs, and what prints nothing.
+    /// Emphasis, around its text.
     Emphasis,
+    /// Strong emphasis, around its text.
     Strong,
+    /// A text that is struck through.
     GfmStrikethrough,
+    /// The box of a task.
     GfmTaskListItemCheck,
+    /// What says in a box that the task is done.
     GfmTaskListItemValueChecked,
+    /// A backslash at the end of a line: a `<br />`.
     HardBreakEscape,
+    /// Spaces at the end of a line: a `<br />`.
     HardBreakTrailing,
+    /// A paragraph, around its text.
     Paragraph,
+    /// A rule between blocks.
     ThematicBreak,
+    /// Data before the document: it prints nothing.
     Frontmatter,
+    /// Spaces and tabs that aren't text: they print nothing.
     SpaceOrTab,
-    // MDX, which is refused
+    // MDX: always refused.
+    /// Refused.
     MdxEsm,
+    /// Refused.
     MdxFlowExpression,
+    /// Refused.
     MdxTextExpression,
+    /// Refused.
     MdxJsxFlowTag,
+    /// Refused.
     MdxJsxTextTag,
+    // bench/names.py: end
     /// Every other name of the parser, by a number of its own.
     Other(u16),
 }

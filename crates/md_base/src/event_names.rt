@@ -14,6 +14,7 @@ pub fn names_by_length() -> &'static [&'static [(&'static str, Name)]]
     &EVENT_NAMES
 }
 
+// bench/names.py: begin
 /// The names of events as scripts write them, by how many bytes they have; `Other` is followed by its number.
 static EVENT_NAMES: [&[(&str, Name)]; 36] = [
     &[],
@@ -170,3 +171,4 @@ static EVENT_NAMES: [&[(&str, Name)]; 36] = [
         Name::CharacterReferenceMarkerHexadecimal,
     )],
 ];
+// bench/names.py: end

@@ -182,6 +182,7 @@ fn listed(names: &[(&str, Name)], text: &str) -> Option<Name> {
     None
 }
 
+// bench/names.py: begin
 /// The names of containers, headings and lines.
 static BLOCKS: [(&str, Name); 22] = [
     ("LineEnding", Name::LineEnding),
@@ -216,7 +217,9 @@ static BLOCKS: [(&str, Name); 22] = [
     ("Frontmatter", Name::Frontmatter),
     ("SpaceOrTab", Name::SpaceOrTab),
 ];
+// bench/names.py: end
 
+// bench/names.py: begin
 /// The names of code, math, HTML and MDX.
 static CODE: [(&str, Name); 23] = [
     ("CodeIndented", Name::CodeIndented),
@@ -243,7 +246,9 @@ static CODE: [(&str, Name); 23] = [
     ("MdxJsxFlowTag", Name::MdxJsxFlowTag),
     ("MdxJsxTextTag", Name::MdxJsxTextTag),
 ];
+// bench/names.py: end
 
+// bench/names.py: begin
 /// The names of links, images, definitions and calls of footnotes.
 static MEDIA: [(&str, Name); 20] = [
     ("AutolinkEmail", Name::AutolinkEmail),
@@ -273,7 +278,9 @@ static MEDIA: [(&str, Name); 20] = [
     ("ReferenceString", Name::ReferenceString),
     ("GfmFootnoteCall", Name::GfmFootnoteCall),
 ];
+// bench/names.py: end
 
+// bench/names.py: begin
 /// The names of tables, and of what else stands in a text.
 static TEXTS: [(&str, Name); 21] = [
     ("Data", Name::Data),
@@ -310,3 +317,4 @@ static TEXTS: [(&str, Name); 21] = [
     ("HardBreakEscape", Name::HardBreakEscape),
     ("HardBreakTrailing", Name::HardBreakTrailing),
 ];
+// bench/names.py: end

@@ -131,12 +131,14 @@ fn place_of(first: u8, middle: u8, last: u8) -> usize {
     usize::from(SLOTS[sum % 256].wrapping_sub(b'('))
 }
 
+// bench/names.py: begin
 /// At each such sum the place of its row, as a character counted from `(`; `~` where there is none.
 static SLOTS: [u8; 256] = *b"\
     ~~~~~~2~~~~/~~~~~~~~~~~~~S~~~.?~~~~~~~~~~~~~~~W~~~~~~P=~~~~~~<~~\
     (~~~~~~B~U~~~X+~~~~G~~~~~R~~~~6~~~~~~~~~;~~~~~~~~~~~~~~~~L~~~~~~\
     ~~~~~~~~~~~Q~~~4~~>I~~~~~~-~~~~E~@~~~~~~V~~~~~~~~~9~~~~0~~~K3~~~\
     ~1~CN~~~F~~~~D~J~~)~~Y~87~,:~~~~~~~A~~~~~TM~~~~~5Z*~O~~~~~~H~~~~";
+// bench/names.py: end
 
 #[inline(always)]
 fn rows() -> &'static [Row]
@@ -145,6 +147,7 @@ fn rows() -> &'static [Row]
     &ROWS
 }
 
+// bench/names.py: begin
 static ROWS: [Row; 51] = [
     (*b"Data            ", Name::Data),
     (*b"Link            ", Name::Link),
@@ -198,3 +201,4 @@ static ROWS: [Row; 51] = [
     (*b"GfmFootnoteCall ", Name::GfmFootnoteCall),
     (*b"HardBreakEscape ", Name::HardBreakEscape),
 ];
+// bench/names.py: end
