@@ -77,8 +77,11 @@ def listed():
     for line in read(NUMBERS / "numbers.txt").splitlines():
         if line.startswith("## "):
             part = line[3:]
-        elif (match := re.fullmatch(r"name (\d+) (\w+)(?:: (.+))?", line)) and match[2] != "Other":
-            names.append(Name(int(match[1]), match[2], match[3] or "", part))
+        elif line.startswith("name ") and not line.endswith(" Other"):
+            match = re.fullmatch(r"name (\d+) (\w+): (.+)", line)
+            if match is None:
+                sys.exit(f"clients/numbers/numbers.txt: no name with what it is: {line}")
+            names.append(Name(int(match[1]), match[2], match[3], part))
             part = ""
     return names
 
@@ -92,9 +95,9 @@ def faults_of(names):
         yield "a name stands twice"
     if absent := set(TABLES) - set(texts):
         yield f"names at which a table of md_cases begins: {' '.join(sorted(absent))}"
-    for _, text, meaning, _ in names:
-        if not re.fullmatch(r"(?!Other)[A-Z][A-Za-z]*", text) or not meaning:
-            yield f"{text} has other signs than letters, begins with `Other`, or isn't told about"
+    for text in texts:
+        if not re.fullmatch(r"(?!Other)[A-Z][A-Za-z]*", text):
+            yield f"{text} isn't in letters, or begins with `Other`"
         if LENGTHS <= len(text):
             yield (f"{text} is too long: change {LENGTHS} here, in md_base/src/event_names.rt,"
                    " and in the answer file of names_by_length")
@@ -213,7 +216,7 @@ def slots(texts, factors):
     """At each sum the place of its row, counted from `(`; `~` where there is none."""
     found = ["~"] * 256
     for place, at in enumerate(sums(texts, factors)):
-        found[at] = chr(ord("(") + place)
+        found[at] = chr(ord("(") + place).replace("\\", "\\\\")
     return ["static SLOTS: [u8; 256] = *b\"\\",
             *("    " + "".join(found[at:at + 64]) + "\\" for at in (0, 64, 128)),
             "    " + "".join(found[192:]) + "\";"]
