@@ -3,13 +3,12 @@
    usage: bounds SHAPE DOCUMENT COUNT TEXT WORK
 
    DOCUMENT bytes, some COUNT nodes, the limits TEXT and WORK. Prints the status, the text's length, the seconds of a
-   processor and the most memory of the process in kB, before the call and after it. */
+   processor, the most memory of the process in kB, before the call and after it, and how many events there were. */
 #include "bivdrazo.h"
 #include <stdint.h>
 #include <stdio.h>
 #include <stdlib.h>
 #include <string.h>
-#include <sys/resource.h>
 #include <time.h>
 
 #define NAME(name) BIVDRAZO_NAME_##name
@@ -205,6 +204,16 @@ static int make(const char *shape, size_t length, size_t nodes) {
     return 1;
 }
 
+/* The most memory that this program had in kB, without that of the one that started it. */
+static long peak(void) {
+    FILE *status = fopen("/proc/self/status", "r");
+    char line[256];
+    long most = 0;
+    while (status != NULL && fgets(line, sizeof line, status) != NULL) sscanf(line, "VmHWM: %ld", &most);
+    if (status != NULL) fclose(status);
+    return most;
+}
+
 int main(int given, char **words) {
     if (given != 6) return 2;
     size_t length = strtoull(words[2], NULL, 10);
@@ -213,15 +222,12 @@ int main(int given, char **words) {
     if (document == NULL) return 2;
     memset(document, '"', length);
     bivdrazo_limits limits = {strtoull(words[4], NULL, 10), strtoull(words[5], NULL, 10)};
-    struct rusage before, after;
-    getrusage(RUSAGE_SELF, &before);
+    long before = peak();
     clock_t began = clock();
     bivdrazo_answer answer =
         bivdrazo_compile_within_alloc(events, count, document, length, NULL, NULL, 0, &limits, &text);
     double seconds = (double)(clock() - began) / CLOCKS_PER_SEC;
-    getrusage(RUSAGE_SELF, &after);
-    printf("%u %zu %.6f %ld %ld %zu\n", answer.status, answer.length, seconds, before.ru_maxrss, after.ru_maxrss,
-           count);
+    printf("%u %zu %.6f %ld %ld %zu\n", answer.status, answer.length, seconds, before, peak(), count);
     free(text);
     return 0;
 }

@@ -1,12 +1,12 @@
 #!/usr/bin/env python3
 """What a text within limits costs, of events that give as much to read or to print as they can.
 
-usage: bench/bounds.py ARCHIVE     (crates/md_ffi/out/libmd_ffi.a)
+usage: bench/bounds.py ARCHIVE     (crates/md_ffi/out/libmd_ffi.a, or clients/out/libbivdrazo.a)
 
 Each shape of bench/bounds.c is compiled by `bivdrazo_compile_within` in a process of its own, with some 1 kB to 1 MB of
-document and events, texts of at most 10 kB and 1 MB, and eight times as much work as input and text together may have.
-Prints what each took, and the most that any took for a byte of input and limit. Ends with status 1 where a process
-dies, or needs more than 64 MB of memory for 100 kB of input or less.
+document and events, texts of at most 10 kB and 1 MB, and four times as much work as input and text together may have:
+with as many nodes, up to that size, as give no more work. Prints what each took, and the most that any took for a byte
+of input and limit. Inputs of up to 100 kB have an address space of 64 MB. Ends with status 1 where a process dies.
 """
 
 import os
@@ -21,8 +21,9 @@ SHAPES = [
 ]
 SIZES = [1_000, 10_000, 100_000, 1_000_000]
 LIMITS = [10_000, 1_000_000]
-WORK = 8
+WORK = 4
 EVENT = 16
+TOO_MUCH = 11
 STATUSES = {0: "a text", 2: "refused", 7: "no memory", 10: "too long", 11: "too much"}
 HELD = 64_000_000
 
@@ -31,14 +32,15 @@ def built(archive, folder):
     """The program, linked with an archive."""
     here = os.path.dirname(os.path.realpath(__file__))
     program = os.path.join(folder, "bounds")
-    command = [os.environ.get("CC", "cc"), "-O2", "-o", program, f"{here}/bounds.c", archive]
-    subprocess.run([*command, f"-I{here}/../clients/c", "-lm"], check=True)
+    page = subprocess.run(["rt", "doc"], capture_output=True, text=True, check=True).stdout.strip()
+    libraries = [archive, f"{os.path.dirname(page)}/c/liblibc_c.a", "-lm"]
+    command = [os.environ.get("CC", "cc"), "-O2", f"-I{here}/../clients/c", "-o", program, f"{here}/bounds.c"]
+    subprocess.run([*command, *libraries], check=True)
     return program
 
 
-def asked(program, shape, size, text, held):
-    """One call: its status, the text's length, seconds, kB before and after, and the bytes of input."""
-    length, nodes = size // 2, size // 2 // (4 * EVENT)
+def asked(program, shape, length, nodes, text, held):
+    """One call: its status, the text's length, seconds, bytes of memory that it took, and bytes of input."""
 
     def limit():
         if held:
@@ -48,12 +50,24 @@ def asked(program, shape, size, text, held):
         words = [program, shape, str(length), str(nodes), str(text), str(work)]
         done = subprocess.run(words, capture_output=True, text=True, preexec_fn=limit, check=False)
         if done.returncode:
-            sys.exit(f"{shape} of {size} bytes: status {done.returncode} {done.stderr}")
+            sys.exit(f"{shape} of {length} bytes and {nodes} nodes: status {done.returncode} {done.stderr}")
         return done.stdout.split()
 
     given = length + EVENT * int(call(0)[5])
     answer = call(WORK * (given + text))
-    return int(answer[0]), int(answer[1]), float(answer[2]), int(answer[3]), int(answer[4]), given
+    return int(answer[0]), int(answer[1]), float(answer[2]), 1024 * (int(answer[4]) - int(answer[3])), given
+
+
+def most_nodes(program, shape, length, most, text, held):
+    """With how many nodes, at most so many, there isn't too much work."""
+    low, high = 1, most
+    while low < high:
+        middle = (low + high + 1) // 2
+        if asked(program, shape, length, middle, text, held)[0] == TOO_MUCH:
+            high = middle - 1
+        else:
+            low = middle
+    return low
 
 
 def main():
@@ -64,11 +78,13 @@ def main():
             for size in SIZES:
                 for text in LIMITS:
                     held = HELD if size <= 100_000 else 0
-                    status, length, seconds, before, after, given = asked(program, shape, size, text, held)
+                    length = size // 2
+                    nodes = most_nodes(program, shape, length, length // (4 * EVENT), text, held)
+                    status, printed, seconds, memory, given = asked(program, shape, length, nodes, text, held)
                     what = f"{shape} of {given:,} bytes, at most {text:,}"
-                    print(f"{what}: {STATUSES.get(status, status)}, {length:,} bytes, {seconds:.3f} s, "
-                          f"{(after - before) / 1000:.1f} MB more", flush=True)
-                    for name, cost in (("time", seconds * 1e9), ("memory", (after - before) * 1024)):
+                    print(f"{what}: {STATUSES.get(status, status)}, {printed:,} bytes, {seconds * 1000:.1f} ms, "
+                          f"{memory / 1e6:.1f} MB", flush=True)
+                    for name, cost in (("time", seconds * 1e9), ("memory", memory)):
                         worst[name] = max(worst[name], (cost / (given + text), what))
     print(f"most time: {worst['time'][0]:.0f} ns a byte of input and limit ({worst['time'][1]})")
     print(f"most memory: {worst['memory'][0]:.1f} bytes a byte of input and limit ({worst['memory'][1]})")
