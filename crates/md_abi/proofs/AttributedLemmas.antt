@@ -1,16 +1,15 @@
 -- From what a safe text and its attributes promise to what C is handed, and what an answer says of it.
-use Rattle.std.proofs.Common.{◌≡◌, ℕ, ◌+◌, ◌<◌, ◌≤◌, Bool, true, false, cond, eqb, List, [], ◌∷◌, ◌++◌, length, map, take, drop, Option, Some, None, Result, Ok, Err, IfOk, IfErr, OnOk, refl, sym, ap, ◌∙◌, subst, inl, inr, arith, append_assoc}
-use Rattle.std.specs.Prelude.{IsErrAnd, IsTrue, option_map, option_and_then, string_bytes, is_some, slice_get}
+use Rattle.std.proofs.Common.{◌≡◌, ℕ, ◌<◌, ◌≤◌, Bool, true, false, cond, eqb, List, [], ◌∷◌, ◌++◌, length, take, drop, Option, Some, None, Result, Ok, Err, IfOk, IfErr, refl, sym, ap, ◌∙◌, subst, inl, inr, arith}
+use Rattle.std.specs.Prelude.{IsErrAnd, IsTrue, option_map, option_and_then, string_bytes}
 use Rattle.std.proofs.lemmas.Bool.{eqb-true}
 use Rattle.std.proofs.lemmas.List.{length-append, take-append-le, drop-append-le, take_all, drop_all}
-use Rattle.std.specs.Borrow.{Bor}
 use Rattle.md_base.specs.Place.{text_when}
 use Rattle.md_text.specs.Html.{any_attribute, HasOneReadingWith}
 use Rattle.md_text.specs.Ids.{are_distinct}
 use Rattle.md_text.proofs.HtmlReading.{one_reading, all-any}
 use Rattle.md_text.specs.declared.options.CompileOptions.{CompileOptions}
-use Rattle.md_tree.specs.Grammar.{Handed, handed}
-use Rattle.md_tree.specs.Refusal.{IsRefusal, IsOutside, IsOrder, IsMdx, IsOfNode, IsLost}
+use Rattle.md_tree.specs.Grammar.{Handed}
+use Rattle.md_tree.specs.Refusal.{IsOutside, IsOrder, IsMdx, IsOfNode, IsLost}
 use Rattle.md_standard.specs.Token.{Token, EndOfFile}
 use Rattle.md_standard.specs.Tokens.{tokens}
 use Rattle.md_standard.specs.Tokenizer.{IsTokenized}
@@ -24,11 +23,11 @@ use Rattle.md_attributes.specs.Attributed.{IsAttributed}
 use Rattle.md_attributes.specs.Ids.{ids_among, none_begins}
 use Rattle.md_attributes.specs.Pieces.{IsWritten}
 use Rattle.md_attributes.proofs.Rules.{attributed}
-use Rattle.md_abi.specs.Options.{flag_of, text_of, HasOptions, KeepsGrammar, KeepsLinks, KeepsImages}
-use Rattle.md_abi.specs.Attributes.{asked, with_rel, with_ids, headings_with, heading_line, listing, readable_attributes, StandsForNoAttribute}
-use Rattle.md_abi.specs.Attributed.{none_begins_with, IsListedAfter, IsAttributedText}
-use Rattle.md_abi.specs.Failures.{answer_of, about, failure_of, Explains, IsRefusalOf}
-use Rattle.md_abi.specs.Refusals.{refusal_of, answer_of_refusal, IsAttributeFault, IsRefusalFor, ExplainsRefusal}
+use Rattle.md_abi.specs.Options.{flag_of, text_of, HasOptions, KeepsImages}
+use Rattle.md_abi.specs.Attributes.{asked, with_rel, listing, StandsForNoAttribute}
+use Rattle.md_abi.specs.Attributed.{IsListedAfter, IsAttributedText}
+use Rattle.md_abi.specs.Failures.{answer_of, about}
+use Rattle.md_abi.specs.Refusals.{refusal_of, answer_of_refusal, IsRefusalFor, ExplainsRefusal}
 use Rattle.md_abi.specs.Events.{event_of}
 use Rattle.md_abi.specs.References.{reference_of}
 use Rattle.md_abi.specs.Standing.{IsFirstWithout}
@@ -42,8 +41,6 @@ use Rattle.md_abi.specs.declared.reference.CReference.{CReference}
 use Rattle.md_abi.specs.declared.option.CText.{CText}
 use Rattle.md_abi.specs.declared.option.COptions.{COptions}
 use Rattle.md_abi.specs.declared.attributes.CAttributes.{CAttributes}
-use Rattle.md_abi.specs.declared.failure.Failure.{Failure}
-use Rattle.md_abi.specs.declared.failure.Failure.TheVariants as failure
 use Rattle.md_abi.specs.declared.refusal.Refusal.{Refusal}
 use Rattle.md_abi.specs.declared.refusal.Refusal.TheVariants as refusal
 use Rattle.md_abi.proofs.AnswerLemmas.{never, handed_over, failure_hands_over, failed, failure_of_compile, failure_says}
