@@ -22,17 +22,18 @@
  *
  * Link with libbivdrazo.a, as clients/build makes it. docs/CLIENTS.md tells more.
  *
- * What a caller of bivdrazo_compile(), bivdrazo_compile_attributed() and bivdrazo_run() must keep to, since nothing
- * checks it:
+ * What a caller of bivdrazo_compile(), bivdrazo_compile_within(), bivdrazo_compile_attributed() and
+ * bivdrazo_run() must keep to, since nothing checks it:
  *  - No pointer is null, also where the length beside it is 0: then pass the address of any object that lives and is
  *    aligned for the type. Each points to as many readable elements as its length says; `buffer` to writable bytes.
  *    That holds of the pointers inside of options, names and attributes too, also of a text whose `is_set` is 0.
  *  - The buffer overlaps nothing else that is handed in, and nobody writes what is handed in during the call.
  *  - No length in bytes is past PTRDIFF_MAX.
  *  - malloc, realloc and free are the C library's. No call is made from a signal handler.
- * The functions named .._alloc take null for events, bytes, names and a script where the length is 0, for the options and
- * for the attributes, and check these lengths; pointers inside of options, names and attributes they don't look at. A
- * script sets its own options: its text is safe only where it sets none that isn't.
+ * The functions named .._alloc take null for events, bytes, names and a script where the length is 0,
+ * for the options, the attributes and the limits, and check these lengths; pointers inside of options,
+ * names and attributes they don't look at. A script sets its own options: its text is safe only where
+ * it sets none that isn't.
  *
  * There is no state between calls: any number of threads may call at once, also over the same events and bytes.
  */
@@ -118,6 +119,20 @@ typedef struct bivdrazo_attributes {
     bivdrazo_text heading_ids; /* what the `id` of each heading without one begins with: its number, from 1, follows */
 } bivdrazo_attributes;
 
+/*
+ * How long a text may be, and how much work it may take; SIZE_MAX is no limit. What a call costs is
+ * bounded by both, the number of events and the document's length.
+ *
+ * The work is told from the events alone, before anything is read: the lengths of texts and labels, by
+ * the places of the events (of a parser's events the document's length at most, and that of its labels
+ * once more); for each link and image that leads to a definition, what is read in the longest one; and
+ * for each row of a table, its columns.
+ */
+typedef struct bivdrazo_limits {
+    size_t text; /* how many bytes the text may have */
+    size_t work; /* how much there may be to read and to print */
+} bivdrazo_limits;
+
 /* A heading that got an id. Its text has no tags and is escaped: it may be set into HTML as it is. */
 typedef struct bivdrazo_heading {
     size_t number;      /* from 1: its id is what was asked for, and this number */
@@ -133,6 +148,7 @@ BIVDRAZO_ASSERT(sizeof(bivdrazo_text) == 24, "a text's size");
 BIVDRAZO_ASSERT(sizeof(bivdrazo_reference) == 32, "a reference's size");
 BIVDRAZO_ASSERT(sizeof(bivdrazo_options) == 128, "the options' size");
 BIVDRAZO_ASSERT(sizeof(bivdrazo_attributes) == 48, "the attributes' size");
+BIVDRAZO_ASSERT(sizeof(bivdrazo_limits) == 16, "the limits' size");
 BIVDRAZO_ASSERT(offsetof(bivdrazo_answer, rule) == 4, "an answer's rule");
 BIVDRAZO_ASSERT(offsetof(bivdrazo_answer, index) == 8, "an answer's index");
 BIVDRAZO_ASSERT(offsetof(bivdrazo_answer, length) == 16, "an answer's length");
@@ -146,6 +162,7 @@ BIVDRAZO_ASSERT(offsetof(bivdrazo_options, gfm_footnote_number_ids) == 6, "the l
 BIVDRAZO_ASSERT(offsetof(bivdrazo_options, gfm_footnote_back_label) == 8, "the first text");
 BIVDRAZO_ASSERT(offsetof(bivdrazo_options, gfm_footnote_label_tag_name) == 104, "the last text");
 BIVDRAZO_ASSERT(offsetof(bivdrazo_attributes, heading_ids) == 24, "the last attribute");
+BIVDRAZO_ASSERT(offsetof(bivdrazo_limits, work) == 8, "the last limit");
 
 /*
  * The HTML of a list of events over a document's bytes, written into the buffer. `names` are the character references
@@ -156,6 +173,17 @@ bivdrazo_answer bivdrazo_compile(const bivdrazo_event *events, size_t events_len
                                  size_t bytes_length, const bivdrazo_options *options,
                                  const bivdrazo_reference *names, size_t names_length, uint8_t *buffer,
                                  size_t buffer_length);
+
+/*
+ * As bivdrazo_compile(), within limits. Where there is more work than `limits->work` the status is
+ * BIVDRAZO_TOO_MUCH, whether or not the events are a document; where they are one whose text has more
+ * than `limits->text` bytes it is BIVDRAZO_TOO_LONG. Under BIVDRAZO_TOO_SHORT `length` isn't more than
+ * `limits->text`: a buffer of as many bytes is never too short.
+ */
+bivdrazo_answer bivdrazo_compile_within(const bivdrazo_event *events, size_t events_length, const uint8_t *bytes,
+                                        size_t bytes_length, const bivdrazo_options *options,
+                                        const bivdrazo_reference *names, size_t names_length,
+                                        const bivdrazo_limits *limits, uint8_t *buffer, size_t buffer_length);
 
 /*
  * As bivdrazo_compile(), with attributes, under options that are safe: else the status is BIVDRAZO_UNSAFE. Under
@@ -210,6 +238,12 @@ static inline bivdrazo_attributes bivdrazo_attributes_none(void) {
     return attributes;
 }
 
+/* No limits. */
+static inline bivdrazo_limits bivdrazo_limits_none(void) {
+    bivdrazo_limits limits = {SIZE_MAX, SIZE_MAX};
+    return limits;
+}
+
 /*
  * Reads the first heading of a list that ends at `end`, and moves `*at` past it; 0 where none is left. The list is what
  * bivdrazo_compile_attributed() wrote from the text's end up to `length`.
@@ -254,6 +288,10 @@ static inline const char *bivdrazo_status_text(uint32_t status) {
         return "the options aren't safe";
     case BIVDRAZO_NO_ATTRIBUTE:
         return "an attribute has no such value";
+    case BIVDRAZO_TOO_LONG:
+        return "the text is too long";
+    case BIVDRAZO_TOO_MUCH:
+        return "there is too much work";
     default:
         return "an unknown status";
     }
@@ -325,6 +363,38 @@ static inline bivdrazo_answer bivdrazo_compile_alloc(const bivdrazo_event *event
                                       bytes_length ? bytes : (const uint8_t *)"", bytes_length,
                                       options ? options : &defaults, names_length ? names : &no_name, names_length,
                                       *text, room);
+    }
+    bivdrazo_settle(&answer, text);
+    return answer;
+}
+
+/*
+ * As bivdrazo_compile_within(), with the text in memory of its own, as bivdrazo_compile_alloc() gives
+ * it. The buffer has no more than one byte more than the text may have. Null limits are none.
+ */
+static inline bivdrazo_answer bivdrazo_compile_within_alloc(
+    const bivdrazo_event *events, size_t events_length, const uint8_t *bytes, size_t bytes_length,
+    const bivdrazo_options *options, const bivdrazo_reference *names, size_t names_length,
+    const bivdrazo_limits *limits, uint8_t **text) {
+    static const bivdrazo_event no_event = {0, 0, 0, 0, 0};
+    static const bivdrazo_reference no_name = {(const uint8_t *)"", 0, (const uint8_t *)"", 0};
+    const bivdrazo_options defaults = bivdrazo_options_default();
+    const bivdrazo_limits within = limits ? *limits : bivdrazo_limits_none();
+    bivdrazo_answer answer = {BIVDRAZO_TOO_SHORT, 0, 0, bivdrazo_first_size(events_length, bytes_length)};
+    *text = NULL;
+    if (bivdrazo_is_too_long(events_length, sizeof *events) || bivdrazo_is_too_long(bytes_length, 1) ||
+        bivdrazo_is_too_long(names_length, sizeof *names))
+        return bivdrazo_answer_memory();
+    if (answer.length > within.text)
+        answer.length = within.text;
+    for (int turn = 0; turn < 2 && answer.status == BIVDRAZO_TOO_SHORT; turn++) {
+        const size_t room = answer.length;
+        bivdrazo_grow(&answer, text);
+        if (answer.status == BIVDRAZO_TOO_SHORT)
+            answer = bivdrazo_compile_within(events_length ? events : &no_event, events_length,
+                                             bytes_length ? bytes : (const uint8_t *)"", bytes_length,
+                                             options ? options : &defaults, names_length ? names : &no_name,
+                                             names_length, &within, *text, room);
     }
     bivdrazo_settle(&answer, text);
     return answer;

@@ -34,6 +34,10 @@ enum {
     BIVDRAZO_UNSAFE = 8,
     /* The attributes stand for none: the one with the number `index` is neither set nor unset, or isn't UTF-8. */
     BIVDRAZO_NO_ATTRIBUTE = 9,
+    /* The text has more bytes than it may have. */
+    BIVDRAZO_TOO_LONG = 10,
+    /* There is more to read and to print than there may be. */
+    BIVDRAZO_TOO_MUCH = 11,
 };
 
 /* Why events are refused. */

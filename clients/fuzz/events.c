@@ -1,9 +1,10 @@
 /*
- * Event scripts by bivdrazo_run(), and their events by bivdrazo_compile(), for libFuzzer. The first byte of an input
- * says how large the first buffer is, the rest is the script. What is handed in and the buffer end at the end of a page
- * before one that can't be read or written. A call that gives no text leaves the buffer as it was, and one that does
- * leaves what lies after the text; where the script sets no option both calls answer the same, and the text is of the
- * HTML grammar.
+ * Event scripts by bivdrazo_run(), and their events by bivdrazo_compile() and bivdrazo_compile_within(),
+ * for libFuzzer. The first byte of an input says how large the first buffer is, the rest is the script.
+ * What is handed in and the buffer end at the end of a page before one that can't be read or written. A
+ * call that gives no text leaves the buffer as it was, and one that does leaves what lies after the
+ * text; where the script sets no option all calls answer the same, and the text is of the HTML grammar.
+ * Where it may have a byte less it is too long.
  */
 #include "bivdrazo.h"
 #include "guard.h"
@@ -31,12 +32,17 @@ struct job {
     size_t events_length;
     const uint8_t *document;
     size_t document_length;
+    const bivdrazo_limits *limits;
 };
 
 static bivdrazo_answer call(const struct job *job, uint8_t *buffer, size_t room) {
     const bivdrazo_options options = bivdrazo_options_default();
     if (job->script != NULL)
         return bivdrazo_run(job->script, job->script_length, buffer, room);
+    if (job->limits != NULL)
+        return bivdrazo_compile_within(job->events, job->events_length, job->document,
+                                       job->document_length, &options, NAMES,
+                                       sizeof NAMES / sizeof *NAMES, job->limits, buffer, room);
     return bivdrazo_compile(job->events, job->events_length, job->document, job->document_length, &options, NAMES,
                             sizeof NAMES / sizeof *NAMES, buffer, room);
 }
@@ -115,6 +121,23 @@ static int read_script(const uint8_t *script, size_t length, struct job *job, bi
     return 0;
 }
 
+/* Compiles the events within their text's length, which changes no answer, and within one less. */
+static void compare_within(struct job *job, const bivdrazo_answer *wanted, size_t room) {
+    bivdrazo_limits limits = {wanted->length, SIZE_MAX};
+    struct guarded buffer;
+    job->limits = &limits;
+    const bivdrazo_answer answer = answer_of(job, room, &buffer);
+    if (memcmp(&answer, wanted, sizeof answer) != 0)
+        fail("another answer within limits", answer.index);
+    unguard(buffer);
+    if (wanted->length == 0)
+        return;
+    limits.text--;
+    if (answer_of(job, room, &buffer).status != BIVDRAZO_TOO_LONG)
+        fail("a text that is longer than its limit", wanted->length);
+    unguard(buffer);
+}
+
 /* Compiles the events, which must answer as the script did. */
 static void compare(struct job *job, const bivdrazo_event *events, const bivdrazo_answer *wanted,
                     const struct guarded *text, size_t room) {
@@ -130,6 +153,7 @@ static void compare(struct job *job, const bivdrazo_event *events, const bivdraz
     if (answer.status == BIVDRAZO_OK && memcmp(buffer.bytes, text->bytes, answer.length) != 0)
         fail("another text of the events than of the script", answer.length);
     unguard(buffer);
+    compare_within(job, &answer, room);
     unguard(copy);
 }
 
@@ -139,7 +163,7 @@ int LLVMFuzzerTestOneInput(const uint8_t *data, size_t size) {
         return 0;
     const size_t room = data[0] < 128 ? data[0] : (size_t)(data[0] - 127) << 6;
     const struct guarded script = guard(data + 1, size - 1);
-    struct job job = {script.bytes, size - 1, NULL, 0, NULL, 0};
+    struct job job = {script.bytes, size - 1, NULL, 0, NULL, 0, NULL};
     struct guarded text;
     const bivdrazo_answer answer = answer_of(&job, room, &text);
     if (read_script(script.bytes, size - 1, &job, events)) {

@@ -1,8 +1,8 @@
 //! What the arguments ask for.
 
 use crate::files;
-use crate::parser::Limits;
-use bivdrazo::{Attributes, DocumentHtml, MarkdownOptions, Options};
+use crate::parser::ParserLimits;
+use bivdrazo::{Attributes, DocumentHtml, Limits, MarkdownOptions, Options};
 use clap::error::ErrorKind;
 use clap::{value_parser, CommandFactory, Parser, ValueEnum, ValueHint};
 use clap_complete::Shell;
@@ -13,7 +13,7 @@ use std::process;
 ///
 /// Tables, strikethrough, tasks, footnotes and bare links are read. Links and images whose protocol isn't permitted
 /// lead nowhere. Ends with status 0 if all was rendered, 1 if a file couldn't be (the others are written), 2 for other
-/// arguments.
+/// arguments; 5 if that is for --max-output alone, 6 for --max-work alone.
 #[derive(Debug, Parser)]
 #[command(name = "bivdrazo-render", version = bivdrazo::VERSION_TEXT)]
 pub struct Arguments {
@@ -97,9 +97,14 @@ pub struct Arguments {
     #[arg(long, value_name = "BYTES")]
     pub max_input: Option<usize>,
 
-    /// How many bytes the HTML of a document may have.
+    /// How many bytes the HTML of a document may have; 5 is the status where one would have more.
     #[arg(long, value_name = "BYTES")]
     pub max_output: Option<usize>,
+
+    /// How much there may be to read and to print in what the parser makes of a document, in bytes; 6
+    /// is the status where one has more.
+    #[arg(long, value_name = "BYTES")]
+    pub max_work: Option<usize>,
 
     /// Print what makes this shell complete these options, and render nothing.
     #[arg(long, value_name = "SHELL", value_enum, exclusive = true)]
@@ -168,8 +173,8 @@ impl Arguments {
     }
 
     /// What cmark-gfm's parser may take.
-    pub fn limits(&self) -> Limits {
-        Limits {
+    pub fn parser_limits(&self) -> ParserLimits {
+        ParserLimits {
             seconds: self.parser_seconds.unwrap_or(10),
             megabytes: self.parser_memory.unwrap_or(512),
         }
@@ -191,6 +196,14 @@ impl Arguments {
         Attributes {
             rel: self.rel.clone(),
             heading_ids: self.heading_ids.clone(),
+        }
+    }
+
+    /// The limits of the text and of the work, for the events of cmark-gfm's parser.
+    pub fn limits(&self) -> Limits {
+        Limits {
+            text: self.max_output.unwrap_or(usize::MAX),
+            work: self.max_work.unwrap_or(usize::MAX),
         }
     }
 
@@ -218,6 +231,7 @@ impl Arguments {
         options.heading_ids = self.heading_ids.clone();
         options.max_input = self.max_input;
         options.max_output = self.max_output;
+        options.max_work = self.max_work;
         options
     }
 }

@@ -16,21 +16,46 @@ use std::error::Error;
 use std::path::Path;
 use std::process::ExitCode;
 
+/// The statuses where something isn't rendered: for a text that is too long, for too much work, and
+/// for anything else.
+const TOO_LONG: u8 = 5;
+const TOO_MUCH: u8 = 6;
+const FAILED: u8 = 1;
+
 /// Why a file isn't rendered.
 type Failure = Box<dyn Error + Send + Sync>;
+
+/// What is told of a file that isn't rendered, and the program's status where it is the only one.
+struct Failed {
+    told: String,
+    status: u8,
+}
 
 fn main() -> ExitCode {
     let arguments = Arguments::read();
     let failed = match run(&arguments) {
         Ok(failed) => failed,
-        Err(error) => vec![error.to_string()],
+        Err(error) => vec![Failed {
+            told: error.to_string(),
+            status: FAILED,
+        }],
     };
-    failed.iter().for_each(|each| files::tell(each));
-    ExitCode::from(u8::from(!failed.is_empty()))
+    failed.iter().for_each(|each| files::tell(&each.told));
+    ExitCode::from(status_of(&failed))
+}
+
+/// The status of the program: that of all that failed where it is one.
+fn status_of(failed: &[Failed]) -> u8 {
+    let mut statuses = failed.iter().map(|each| each.status);
+    match statuses.next() {
+        None => 0,
+        Some(first) if statuses.all(|other| other == first) => first,
+        Some(_) => FAILED,
+    }
 }
 
 /// Does what the arguments ask for; which files failed, each with its cause.
-fn run(arguments: &Arguments) -> Result<Vec<String>, Failure> {
+fn run(arguments: &Arguments) -> Result<Vec<Failed>, Failure> {
     if let Some(shell) = arguments.completions {
         print(&[&Arguments::completions(shell)])?;
         return Ok(Vec::new());
@@ -38,7 +63,14 @@ fn run(arguments: &Arguments) -> Result<Vec<String>, Failure> {
     let page = Page::of(arguments)?;
     let told = |name: &str| {
         let name = name.to_string();
-        move |error: Failure| format!("{name}: {error}")
+        move |error: Failure| Failed {
+            told: format!("{name}: {error}"),
+            status: match error.downcast_ref() {
+                Some(bivdrazo::Error::OutputTooLong { .. }) => TOO_LONG,
+                Some(bivdrazo::Error::TooMuchWork { .. }) => TOO_MUCH,
+                _ => FAILED,
+            },
+        }
     };
     match &arguments.out_dir {
         Some(folder) => {
@@ -95,9 +127,9 @@ fn html_of(text: String, arguments: &Arguments) -> Result<String, Failure> {
     if arguments.parser == ParserName::PulldownCmark {
         return Ok(markdown_to_html(&text, &arguments.options())?);
     }
-    let document = parser::events_of(text, arguments.limits())?;
+    let document = parser::events_of(text, arguments.parser_limits())?;
     let (options, attributes) = (arguments.library_options(), arguments.attributes());
-    let made = document.compile_attributed(&options, &attributes, arguments.max_output);
+    let made = document.compile_attributed(&options, &attributes, arguments.limits());
     made.map(|made| made.html).map_err(|error| match error {
         bivdrazo::Error::Refused { .. } => ParserError::Refused(error).into(),
         _ => error.into(),

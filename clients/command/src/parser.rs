@@ -37,14 +37,14 @@ const MOST_TOLD: u64 = 500;
 
 /// What the parser may take.
 #[derive(Clone, Copy, Debug)]
-pub struct Limits {
+pub struct ParserLimits {
     /// Seconds of processor time; by the clock it is three times as many.
     pub seconds: u32,
     /// Megabytes of address space; its events may take as many in this process.
     pub megabytes: u32,
 }
 
-impl Limits {
+impl ParserLimits {
     /// By the clock.
     fn time(self) -> Duration {
         Duration::from_secs(3 * u64::from(self.seconds))
@@ -115,7 +115,7 @@ impl From<io::Error> for ParserError {
 }
 
 /// The events of a Markdown text.
-pub fn events_of(text: String, limits: Limits) -> Result<Document, ParserError> {
+pub fn events_of(text: String, limits: ParserLimits) -> Result<Document, ParserError> {
     let end = Instant::now() + limits.time();
     let mut child = start(limits)?;
     let mut input = pipe(child.stdin.take())?;
@@ -145,7 +145,7 @@ pub fn events_of(text: String, limits: Limits) -> Result<Document, ParserError> 
 }
 
 /// Starts the parser under its limits.
-fn start(limits: Limits) -> Result<Child, ParserError> {
+fn start(limits: ParserLimits) -> Result<Child, ParserError> {
     let program = env::current_exe()?.with_file_name(PROGRAM);
     if let Err(error) = program.metadata() {
         return Err(ParserError::Missing(program, error));
@@ -206,7 +206,7 @@ fn is_plain(status: ExitStatus) -> bool {
 }
 
 /// Why the parser ended so, where it said this.
-fn cause_of(status: ExitStatus, told: String, limits: Limits) -> ParserError {
+fn cause_of(status: ExitStatus, told: String, limits: ParserLimits) -> ParserError {
     match (status.code(), status.signal()) {
         (_, Some(PROCESSOR_TIME)) => ParserError::ProcessorTime(limits.seconds),
         (Some(NO_MEMORY), _) => ParserError::Memory(limits.megabytes),

@@ -29,8 +29,8 @@ bivdrazo.errors.Refused: event 3: ORDER
 Calls may be made from any number of threads, and run side by side.
 """
 
-from .calls import Event, compile, run
-from .errors import Error, Invalid, MarkdownError, Refused, TooLong, Unreadable
+from .calls import Event, compile, compile_within, run
+from .errors import Error, Invalid, MarkdownError, Refused, TooLong, TooMuchWork, Unreadable
 from .markdown import Heading, markdown_to_html, markdown_with_headings
 from .numbers import VERSION, Kind, LineEnding, Name, Rule
 from .numbers import VERSION_TEXT as __version__
@@ -50,9 +50,11 @@ __all__ = [
     "Refused",
     "Rule",
     "TooLong",
+    "TooMuchWork",
     "Unreadable",
     "__version__",
     "compile",
+    "compile_within",
     "markdown_to_html",
     "markdown_with_headings",
     "run",

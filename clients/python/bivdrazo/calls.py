@@ -6,12 +6,13 @@ import ctypes
 import functools
 import struct
 from collections.abc import Callable, Iterable, Mapping
-from typing import NamedTuple, Union
+from typing import Any, NamedTuple, Union
 
-from .errors import Invalid, error_of
-from .library import LIBRARY, CAnswer, CEvent, COptions, CReference, CText
+from .errors import Invalid, TooLong, TooMuchWork, error_of
+from .library import LIBRARY, CAnswer, CEvent, CLimits, COptions, CReference, CText
 from .numbers import Kind, LineEnding, Name, Status
 from .references import REFERENCES
+from .values import bound_of
 
 Bytes = Union[bytes, bytearray, memoryview]
 EVENT = struct.Struct("@NHHBB2x")
@@ -63,30 +64,70 @@ def compile(
 
     Raises Refused where the events are refused, Invalid where an event or an option stands for none, MemoryError.
     """
-    flags = (
-        allow_any_img_src,
-        allow_dangerous_html,
-        allow_dangerous_protocol,
-        gfm_task_list_item_checkable,
-        gfm_tagfilter,
+    options = options_of(
+        allow_any_img_src=allow_any_img_src,
+        allow_dangerous_html=allow_dangerous_html,
+        allow_dangerous_protocol=allow_dangerous_protocol,
+        gfm_task_list_item_checkable=gfm_task_list_item_checkable,
+        gfm_tagfilter=gfm_tagfilter,
+        default_line_ending=default_line_ending,
+        gfm_footnote_back_label=gfm_footnote_back_label,
+        gfm_footnote_clobber_prefix=gfm_footnote_clobber_prefix,
+        gfm_footnote_label=gfm_footnote_label,
+        gfm_footnote_label_attributes=gfm_footnote_label_attributes,
+        gfm_footnote_label_tag_name=gfm_footnote_label_tag_name,
+        gfm_footnote_number_ids=gfm_footnote_number_ids,
     )
-    texts = (
-        gfm_footnote_back_label,
-        gfm_footnote_clobber_prefix,
-        gfm_footnote_label,
-        gfm_footnote_label_attributes,
-        gfm_footnote_label_tag_name,
-    )
-    ending = line_ending_of(default_line_ending)
-    options = COptions(*map(bool, flags), ending, bool(gfm_footnote_number_ids), *map(text_of, texts))
     made, length = events_of(events)
     references = references_of(names)
     document = bytes(data)
     return answered(
-        8 * length + 2 * len(document) + 64,
+        first_size(length, len(document)),
         lambda buffer, room: LIBRARY.bivdrazo_compile(
             made, length, document, len(document), options, references, len(references) - 1, buffer, room
         ),
+    )
+
+
+def compile_within(
+    events: Iterable[Event],
+    data: Bytes,
+    *,
+    max_output: int | None = None,
+    max_work: int | None = None,
+    names: Mapping[str, str] | Iterable[tuple[str, str]] = (),
+    **options: Any,
+) -> str:
+    """As compile, whose other options it takes, where text and work are within bounds.
+
+    >>> from bivdrazo import Event, Name, compile_within
+    >>> events = [Event.enter(Name.DATA, 0), Event.exit(Name.DATA, 6)]
+    >>> compile_within(events, b"Hi <b>", max_output=12, max_work=6)
+    'Hi &lt;b&gt;'
+    >>> compile_within(events, b"Hi <b>", max_output=11)
+    Traceback (most recent call last):
+        ...
+    bivdrazo.errors.TooLong: the output has more than 11 bytes
+
+    max_output: how many bytes of UTF-8 the text may have.
+    max_work: how much there may be to read and to print, told from the events alone: the lengths
+    of texts and labels, by the places of the events; for each link and image that leads to a
+    definition, what is read in the longest one; and for each row of a table, its columns.
+
+    Raises, beside what compile does, TooLong where the text is longer, and TooMuchWork where there
+    is more work, whether or not the events are a document.
+    """
+    given = options_of(**options)
+    limits = CLimits(bound_of("max_output", max_output), bound_of("max_work", max_work, "work"))
+    made, length = events_of(events)
+    references = references_of(names)
+    document = bytes(data)
+    return answered(
+        min(first_size(length, len(document)), limits.text),
+        lambda buffer, room: LIBRARY.bivdrazo_compile_within(
+            made, length, document, len(document), given, references, len(references) - 1, limits, buffer, room
+        ),
+        limits,
     )
 
 
@@ -96,20 +137,63 @@ def run(script: Bytes) -> str:
     Raises Unreadable where a line can't be read, Refused where the events are refused, MemoryError.
     """
     given = bytes(script)
-    return answered(2 * len(given) + 64, lambda buffer, room: LIBRARY.bivdrazo_run(given, len(given), buffer, room))
+    return answered(first_size(0, len(given)), lambda buffer, room: LIBRARY.bivdrazo_run(given, len(given), buffer, room))
 
 
-def answered(room: int, call: Callable[[ctypes.Array[ctypes.c_char], int], CAnswer]) -> str:
+def first_size(events: int, length: int) -> int:
+    """A first size of the buffer that most texts fit into."""
+    return 8 * events + 2 * length + 64
+
+
+def answered(
+    room: int, call: Callable[[ctypes.Array[ctypes.c_char], int], CAnswer], limits: CLimits | None = None
+) -> str:
     """The text that a call writes into a buffer, which is made longer where it is too short."""
-    buffer = ctypes.create_string_buffer(room)
+    buffer = ctypes.create_string_buffer(max(room, 1))
     answer = call(buffer, room)
     if answer.status == Status.TOO_SHORT:
         room = answer.length
         buffer = ctypes.create_string_buffer(room)
         answer = call(buffer, room)
+    if limits is not None and answer.status == Status.TOO_LONG:
+        raise TooLong("output", limits.text)
+    if limits is not None and answer.status == Status.TOO_MUCH:
+        raise TooMuchWork(limits.work)
     if answer.status != Status.OK:
         raise error_of(answer.status, answer.index, answer.rule)
     return ctypes.string_at(buffer, answer.length).decode("utf-8")
+
+
+def options_of(
+    *,
+    allow_any_img_src: bool = False,
+    allow_dangerous_html: bool = False,
+    allow_dangerous_protocol: bool = False,
+    gfm_task_list_item_checkable: bool = False,
+    gfm_tagfilter: bool = False,
+    default_line_ending: LineEnding = LineEnding.LINE_FEED,
+    gfm_footnote_back_label: str | None = None,
+    gfm_footnote_clobber_prefix: str | None = None,
+    gfm_footnote_label: str | None = None,
+    gfm_footnote_label_attributes: str | None = None,
+    gfm_footnote_label_tag_name: str | None = None,
+    gfm_footnote_number_ids: bool = False,
+) -> COptions:
+    """The options as C has them."""
+    return COptions(
+        bool(allow_any_img_src),
+        bool(allow_dangerous_html),
+        bool(allow_dangerous_protocol),
+        bool(gfm_task_list_item_checkable),
+        bool(gfm_tagfilter),
+        line_ending_of(default_line_ending),
+        bool(gfm_footnote_number_ids),
+        text_of(gfm_footnote_back_label),
+        text_of(gfm_footnote_clobber_prefix),
+        text_of(gfm_footnote_label),
+        text_of(gfm_footnote_label_attributes),
+        text_of(gfm_footnote_label_tag_name),
+    )
 
 
 def events_of(events: Iterable[Event]) -> tuple[ctypes.Array[CEvent], int]:

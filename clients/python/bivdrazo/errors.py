@@ -61,6 +61,18 @@ class TooLong(Error):
         return type(self), (self.what, self.limit)
 
 
+class TooMuchWork(Error):
+    """There is more to read and to print than `limit`."""
+
+    def __init__(self, limit: int) -> None:
+        super().__init__(f"there is more work than {limit}")
+        self.limit = limit
+
+    def __reduce__(self) -> tuple[type, tuple[int]]:
+        """How it is pickled."""
+        return type(self), (self.limit,)
+
+
 class MarkdownError(RuntimeError):
     """The parser of Markdown failed: a fault that should be reported."""
 

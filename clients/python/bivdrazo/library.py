@@ -68,6 +68,12 @@ class COptions(ctypes.Structure):
     ]
 
 
+class CLimits(ctypes.Structure):
+    """How long a text may be, and how much work it may take."""
+
+    _fields_ = [("text", ctypes.c_size_t), ("work", ctypes.c_size_t)]
+
+
 def load() -> ctypes.CDLL:
     """The shared object that BIVDRAZO_LIBRARY names, or else the one in this package."""
     path = os.environ.get("BIVDRAZO_LIBRARY") or pathlib.Path(__file__).with_name("out") / "libbivdrazo.so"
@@ -79,6 +85,9 @@ def load() -> ctypes.CDLL:
     events, options, names = ctypes.POINTER(CEvent), ctypes.POINTER(COptions), ctypes.POINTER(CReference)
     library.bivdrazo_compile.argtypes = [events, size, text, size, options, names, size, text, size]
     library.bivdrazo_compile.restype = CAnswer
+    limits = ctypes.POINTER(CLimits)
+    library.bivdrazo_compile_within.argtypes = [events, size, text, size, options, names, size, limits, text, size]
+    library.bivdrazo_compile_within.restype = CAnswer
     library.bivdrazo_run.argtypes = [text, size, text, size]
     library.bivdrazo_run.restype = CAnswer
     library.bivdrazo_version.argtypes = []

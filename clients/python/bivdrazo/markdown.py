@@ -6,15 +6,14 @@ import ctypes
 import functools
 import os
 import pathlib
-from typing import Any, Literal, NamedTuple, TypeVar
+from typing import Any, Literal, NamedTuple
 
 from .errors import MarkdownError, TooLong, error_of
 from .library import CAnswer, CText
 from .numbers import MARKDOWN_OPTIONS, MARKDOWN_VERSION, DocumentHtml, MarkdownStatus, Status
+from .values import bound_of, typed
 
 HTML = {"text": DocumentHtml.TEXT, "left-out": DocumentHtml.LEFT_OUT, "without-comments": DocumentHtml.WITHOUT_COMMENTS}
-MOST = ctypes.c_size_t(-1).value
-T = TypeVar("T")
 
 
 class Heading(NamedTuple):
@@ -198,13 +197,6 @@ def rendered(document: bytes, options: CMarkdownOptions) -> tuple[str, str]:
         library.bivdrazo_markdown_free(headings)
 
 
-def typed(name: str, value: object, type_: type[T]) -> T:
-    """The value, which has that type."""
-    if not isinstance(value, type_):
-        raise TypeError(f"{name}: {type_.__name__} is wanted, not {type(value).__name__}")
-    return value
-
-
 def html_of(html: str) -> int:
     """The number of what becomes of HTML."""
     number = HTML.get(typed("html", html, str))
@@ -217,15 +209,6 @@ def text_of(name: str, text: str | None) -> CText:
     """A text as C has it, set or unset."""
     coded = b"" if text is None else typed(name, text, str).encode("utf-8")
     return CText(coded, len(coded), text is not None)
-
-
-def bound_of(name: str, bound: int | None) -> int:
-    """A bound as C has it; none is the greatest number."""
-    if bound is None:
-        return MOST
-    if isinstance(bound, bool) or typed(name, bound, int) < 0:
-        raise (TypeError if isinstance(bound, bool) else ValueError)(f"{name}: a count of bytes is wanted, not {bound}")
-    return min(bound, MOST)
 
 
 def markdown_error_of(answer: CAnswer, options: CMarkdownOptions) -> Exception:

@@ -67,6 +67,10 @@ class Status(enum.IntEnum):
     UNSAFE = 8
     # The attributes stand for none: the one with the number `index` is neither set nor unset, or isn't UTF-8.
     NO_ATTRIBUTE = 9
+    # The text has more bytes than it may have.
+    TOO_LONG = 10
+    # There is more to read and to print than there may be.
+    TOO_MUCH = 11
 
 
 class Rule(enum.IntEnum):

@@ -1,13 +1,27 @@
 """Tests of the Python module: each call, each error, and calls from many threads."""
 
 import ctypes
+import pickle
 import threading
 import unittest
 
 import bivdrazo
-from bivdrazo import Event, Invalid, LineEnding, Name, Refused, Rule, Unreadable, compile, run
+from bivdrazo import (
+    Event,
+    Invalid,
+    LineEnding,
+    Name,
+    Refused,
+    Rule,
+    TooLong,
+    TooMuchWork,
+    Unreadable,
+    compile,
+    compile_within,
+    run,
+)
 from bivdrazo.errors import error_of
-from bivdrazo.library import CAnswer, CEvent, COptions, CReference, CText
+from bivdrazo.library import CAnswer, CEvent, CLimits, COptions, CReference, CText
 
 
 def paragraph(length):
@@ -114,6 +128,57 @@ class Texts(unittest.TestCase):
         self.assertEqual(run(b"+ThematicBreak 0\n-ThematicBreak 3\n--\n***"), "<hr />")
 
 
+class Limits(unittest.TestCase):
+    """A text within bounds, and what is told where it isn't."""
+
+    TEXT = "<p>Hi &lt;b&gt;</p>"
+
+    def within(self, **bounds):
+        return compile_within(paragraph(6), b"Hi <b>", **bounds)
+
+    def test_texts(self):
+        for bounds in [{}, {"max_output": 19}, {"max_work": 6}, {"max_output": 1 << 70, "max_work": 1 << 70}]:
+            self.assertEqual(self.within(**bounds), self.TEXT)
+        self.assertEqual(compile_within([], b"", max_output=0, max_work=0), "")
+        long = compile_within(paragraph(1000), b'"' * 1000, max_output=6007, max_work=1000)
+        self.assertEqual(len(long), 6007)
+
+    def test_options(self):
+        html = node(Name.HTML_FLOW, node(Name.HTML_FLOW_DATA, end=8), end=8)
+        self.assertEqual(compile_within(html, b"<script>", max_output=8, allow_dangerous_html=True), "<script>")
+        reference = node(Name.CHARACTER_REFERENCE_MARKER, end=1) + node(Name.CHARACTER_REFERENCE_VALUE, start=1, end=2)
+        self.assertEqual(compile_within(reference, b"&x;", names={"x": "y"}), "y")
+        with self.assertRaises(TypeError):
+            self.within(max_input=1)
+
+    def test_too_long(self):
+        for limit in [18, 1, 0]:
+            with self.assertRaises(TooLong) as caught:
+                self.within(max_output=limit, max_work=6)
+            self.assertEqual((caught.exception.what, caught.exception.limit), ("output", limit))
+        with self.assertRaises(TooLong):
+            compile_within(paragraph(1000), b'"' * 1000, max_output=6006)
+
+    def test_too_much_work(self):
+        for limit in [5, 0]:
+            with self.assertRaises(TooMuchWork) as caught:
+                self.within(max_output=0, max_work=limit)
+            self.assertEqual(str(caught.exception), f"there is more work than {limit}")
+            copy = pickle.loads(pickle.dumps(caught.exception))
+            self.assertEqual((type(copy), copy.limit), (TooMuchWork, limit))
+        with self.assertRaises(TooMuchWork):
+            compile_within(paragraph(6)[:3], b"Hi <b>", max_work=5)
+
+    def test_refused(self):
+        with self.assertRaises(Refused):
+            compile_within(paragraph(6)[:3], b"Hi <b>", max_output=0, max_work=6)
+
+    def test_bounds_that_are_none(self):
+        for bound, error in [(-1, ValueError), (True, TypeError), ("1", TypeError)]:
+            with self.subTest(bound=bound), self.assertRaises(error):
+                self.within(max_work=bound)
+
+
 class Errors(unittest.TestCase):
     """Where there is no text."""
 
@@ -171,7 +236,7 @@ class Interface(unittest.TestCase):
     """What holds of the module as a whole."""
 
     def test_sizes(self):
-        sizes = [(CAnswer, 24), (CEvent, 16), (CText, 24), (CReference, 32), (COptions, 128)]
+        sizes = [(CAnswer, 24), (CEvent, 16), (CText, 24), (CReference, 32), (COptions, 128), (CLimits, 16)]
         self.assertEqual([ctypes.sizeof(type_) for type_, _ in sizes], [size for _, size in sizes])
 
     def test_threads(self):

@@ -4,9 +4,9 @@ use crate::numbers::{
     Rule, KIND_ENTER, KIND_EXIT, LINE_ENDING_CARRIAGE_RETURN,
     LINE_ENDING_CARRIAGE_RETURN_LINE_FEED, LINE_ENDING_LINE_FEED, STATUS_MEMORY,
     STATUS_NO_ATTRIBUTE, STATUS_NO_EVENT, STATUS_NO_LINE, STATUS_NO_NAME, STATUS_NO_OPTION,
-    STATUS_OK, STATUS_REFUSED, STATUS_TOO_SHORT, STATUS_UNSAFE,
+    STATUS_OK, STATUS_REFUSED, STATUS_TOO_LONG, STATUS_TOO_MUCH, STATUS_TOO_SHORT, STATUS_UNSAFE,
 };
-use crate::{Attributes, Error, Event, Heading, Kind, LineEnding, Options, Rendered};
+use crate::{Attributes, Error, Event, Heading, Kind, Limits, LineEnding, Options, Rendered};
 use std::mem::size_of;
 use std::str;
 
@@ -64,12 +64,19 @@ struct CAttributes {
     heading_ids: CText,
 }
 
+#[repr(C)]
+struct CLimits {
+    text: usize,
+    work: usize,
+}
+
 const _: () = assert!(size_of::<CAnswer>() == 24);
 const _: () = assert!(size_of::<CEvent>() == 16 && size_of::<Event>() == 16);
 const _: () = assert!(size_of::<CText>() == 24);
 const _: () = assert!(size_of::<CReference>() == 32);
 const _: () = assert!(size_of::<COptions>() == 128);
 const _: () = assert!(size_of::<CAttributes>() == 48);
+const _: () = assert!(size_of::<CLimits>() == 16);
 
 extern "C" {
     fn bivdrazo_compile(
@@ -80,6 +87,18 @@ extern "C" {
         options: *const COptions,
         names: *const CReference,
         names_length: usize,
+        buffer: *mut u8,
+        buffer_length: usize,
+    ) -> CAnswer;
+    fn bivdrazo_compile_within(
+        events: *const CEvent,
+        events_length: usize,
+        bytes: *const u8,
+        bytes_length: usize,
+        options: *const COptions,
+        names: *const CReference,
+        names_length: usize,
+        limits: *const CLimits,
         buffer: *mut u8,
         buffer_length: usize,
     ) -> CAnswer;
@@ -104,40 +123,56 @@ extern "C" {
     fn bivdrazo_version() -> u32;
 }
 
-/// As `crate::compile`, with a bound on the text's length.
+/// As `crate::compile`.
 pub(crate) fn compile(
     events: &[Event],
     bytes: &[u8],
     options: &Options,
     names: &[(&str, &str)],
-    limit: Option<usize>,
 ) -> Result<String, Error> {
     let events = collect(events.iter().map(c_event))?;
-    compile_c(&events, bytes, options, names, limit)
+    compile_c(&events, bytes, options, names)
 }
 
-/// As `crate::compile_attributed`, with a bound on the text's length.
+/// As `crate::compile_within`.
+pub(crate) fn compile_within(
+    events: &[Event],
+    bytes: &[u8],
+    options: &Options,
+    names: &[(&str, &str)],
+    limits: Limits,
+) -> Result<String, Error> {
+    let events = collect(events.iter().map(c_event))?;
+    compile_within_c(&events, bytes, options, names, limits)
+}
+
+/// As `crate::compile_attributed`, within limits.
 pub(crate) fn compile_attributed(
     events: &[Event],
     bytes: &[u8],
     options: &Options,
     names: &[(&str, &str)],
     attributes: &Attributes,
-    limit: Option<usize>,
+    limits: Limits,
 ) -> Result<Rendered, Error> {
     let events = collect(events.iter().map(c_event))?;
-    compile_attributed_c(&events, bytes, options, names, attributes, limit)
+    compile_attributed_c(&events, bytes, options, names, attributes, limits)
 }
 
-/// As [`compile`], of events that nobody needs any more. C's take the memory of these, since they are as large.
+/// As [`compile_within`], of events that nobody needs any more. C's take the memory of these, since
+/// they are as large.
 #[cfg(feature = "markdown")]
 pub(crate) fn compile_owned(
     events: Vec<Event>,
     bytes: &[u8],
     options: &Options,
-    limit: Option<usize>,
+    limits: Limits,
 ) -> Result<String, Error> {
-    compile_c(&c_events(events), bytes, options, &[], limit)
+    let events = c_events(events);
+    if limits == Limits::default() {
+        return compile_c(&events, bytes, options, &[]);
+    }
+    compile_within_c(&events, bytes, options, &[], limits)
 }
 
 /// As [`compile_attributed`], of events that nobody needs any more.
@@ -147,9 +182,9 @@ pub(crate) fn compile_attributed_owned(
     bytes: &[u8],
     options: &Options,
     attributes: &Attributes,
-    limit: Option<usize>,
+    limits: Limits,
 ) -> Result<Rendered, Error> {
-    compile_attributed_c(&c_events(events), bytes, options, &[], attributes, limit)
+    compile_attributed_c(&c_events(events), bytes, options, &[], attributes, limits)
 }
 
 #[cfg(feature = "markdown")]
@@ -162,12 +197,11 @@ fn compile_c(
     bytes: &[u8],
     options: &Options,
     names: &[(&str, &str)],
-    limit: Option<usize>,
 ) -> Result<String, Error> {
     let names = collect(names.iter().map(c_reference))?;
     let options = c_options(options);
     let room = first_size(events.len(), bytes.len());
-    into_text(room, limit, |buffer| {
+    into_text(room, Limits::default(), |buffer| {
         // SAFETY: the pointers are those of slices, of a struct that refers to strings of the caller's, and of a buffer
         // that nothing else refers to; each goes with its own length and isn't null.
         unsafe {
@@ -186,14 +220,54 @@ fn compile_c(
     })
 }
 
+fn compile_within_c(
+    events: &[CEvent],
+    bytes: &[u8],
+    options: &Options,
+    names: &[(&str, &str)],
+    limits: Limits,
+) -> Result<String, Error> {
+    let names = collect(names.iter().map(c_reference))?;
+    let options = c_options(options);
+    let c_limits = CLimits {
+        text: limits.text,
+        work: limits.work,
+    };
+    let room = first_size(events.len(), bytes.len());
+    into_text(room, limits, |buffer| {
+        // SAFETY: the pointers are those of slices, of structs of which one refers to strings of
+        // the caller's, and of a buffer that nothing else refers to; each goes with its own length
+        // and isn't null.
+        unsafe {
+            bivdrazo_compile_within(
+                events.as_ptr(),
+                events.len(),
+                bytes.as_ptr(),
+                bytes.len(),
+                &options,
+                names.as_ptr(),
+                names.len(),
+                &c_limits,
+                buffer.as_mut_ptr(),
+                buffer.capacity(),
+            )
+        }
+    })
+}
+
+/// Where the work has a limit, the text without attributes is made first: it alone is made within
+/// limits, and no text with attributes is shorter.
 fn compile_attributed_c(
     events: &[CEvent],
     bytes: &[u8],
     options: &Options,
     names: &[(&str, &str)],
     attributes: &Attributes,
-    limit: Option<usize>,
+    limits: Limits,
 ) -> Result<Rendered, Error> {
+    if limits.work != usize::MAX {
+        compile_within_c(events, bytes, options, names, limits)?;
+    }
     let names = collect(names.iter().map(c_reference))?;
     let options = c_options(options);
     let attributes = CAttributes {
@@ -219,7 +293,7 @@ fn compile_attributed_c(
             )
         }
     };
-    let (whole, start) = into_bytes(room, limit, |answer| answer.index, call)?;
+    let (whole, start) = into_bytes(room, limits, |answer| answer.index, call)?;
     rendered_of(whole, start).ok_or(Error::Unknown)
 }
 
@@ -249,7 +323,7 @@ fn heading_of(line: &str) -> Option<Heading> {
 
 /// As `crate::run`.
 pub(crate) fn run(script: &[u8]) -> Result<String, Error> {
-    into_text(first_size(0, script.len()), None, |buffer| {
+    into_text(first_size(0, script.len()), Limits::default(), |buffer| {
         // SAFETY: the pointers are those of a slice and of a buffer that nothing else refers to, with their lengths.
         unsafe {
             bivdrazo_run(
@@ -276,25 +350,25 @@ pub(crate) fn first_size(events: usize, bytes: usize) -> usize {
         .saturating_add(64)
 }
 
-/// The text that a call writes into a buffer. Where there is a limit, the text isn't longer.
+/// The text that a call writes into a buffer, which isn't longer than the limits permit.
 fn into_text(
     room: usize,
-    limit: Option<usize>,
+    limits: Limits,
     call: impl Fn(&mut Vec<u8>) -> CAnswer,
 ) -> Result<String, Error> {
-    let (text, _) = into_bytes(room, limit, |answer| answer.length, call)?;
+    let (text, _) = into_bytes(room, limits, |answer| answer.length, call)?;
     String::from_utf8(text).map_err(|_| Error::Unknown)
 }
 
-/// What a call writes into a buffer, with a second call where the first buffer is too short, and what is measured of the
-/// answer: where there is a limit, that isn't more.
+/// What a call writes into a buffer, with a second call where the first buffer is too short, and
+/// what is measured of the answer, which isn't more than the text may have.
 fn into_bytes(
     room: usize,
-    limit: Option<usize>,
+    limits: Limits,
     measure: impl Fn(&CAnswer) -> usize,
     call: impl Fn(&mut Vec<u8>) -> CAnswer,
 ) -> Result<(Vec<u8>, usize), Error> {
-    let limit = limit.unwrap_or(usize::MAX);
+    let limit = limits.text;
     let mut buffer = buffer_of(room.min(limit))?;
     let mut answer = call(&mut buffer);
     if matches!(answer.status, STATUS_OK | STATUS_TOO_SHORT) && measure(&answer) > limit {
@@ -305,7 +379,7 @@ fn into_bytes(
         answer = call(&mut buffer);
     }
     if answer.status != STATUS_OK || answer.length > buffer.capacity() {
-        return Err(error_of(&answer));
+        return Err(error_within(&answer, limits));
     }
     // SAFETY: under this status the library wrote the buffer's first `length` bytes.
     unsafe { buffer.set_len(answer.length) };
@@ -329,7 +403,16 @@ fn collect<T>(elements: impl ExactSizeIterator<Item = T>) -> Result<Vec<T>, Erro
     Ok(collected)
 }
 
-/// The error that an answer without a text stands for.
+/// The error that an answer without a text within limits stands for.
+fn error_within(answer: &CAnswer, limits: Limits) -> Error {
+    match answer.status {
+        STATUS_TOO_LONG => Error::OutputTooLong { limit: limits.text },
+        STATUS_TOO_MUCH => Error::TooMuchWork { limit: limits.work },
+        _ => error_of(answer),
+    }
+}
+
+/// The error that another answer without a text stands for.
 pub(crate) fn error_of(answer: &CAnswer) -> Error {
     match answer.status {
         STATUS_REFUSED => match Rule::from_number(answer.rule) {

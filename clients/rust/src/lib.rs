@@ -163,6 +163,30 @@ pub struct Attributes {
     pub heading_ids: Option<String>,
 }
 
+/// How long a text may be, and how much work it may take. The default has no limits.
+///
+/// What a call costs is bounded by both, the number of events and the document's length. The work
+/// is told from the events alone, before anything is read: the lengths of texts and labels, by the
+/// places of the events (of a parser's events the document's length at most, and that of its labels
+/// once more); for each link and image that leads to a definition, what is read in the longest one;
+/// and for each row of a table, its columns.
+#[derive(Clone, Copy, Debug, Eq, Hash, PartialEq)]
+pub struct Limits {
+    /// How many bytes the text may have.
+    pub text: usize,
+    /// How much there may be to read and to print.
+    pub work: usize,
+}
+
+impl Default for Limits {
+    fn default() -> Limits {
+        Limits {
+            text: usize::MAX,
+            work: usize::MAX,
+        }
+    }
+}
+
 /// A heading that got an `id`.
 #[derive(Clone, Debug, Eq, Hash, PartialEq)]
 #[non_exhaustive]
@@ -222,6 +246,11 @@ pub enum Error {
         /// How many it may have.
         limit: usize,
     },
+    /// There is more to read and to print than a limit permits.
+    TooMuchWork {
+        /// How much there may be.
+        limit: usize,
+    },
     /// The library answered what this crate doesn't know: it is of another version.
     Unknown,
 }
@@ -248,6 +277,9 @@ impl fmt::Display for Error {
             }
             Error::OutputTooLong { limit } => {
                 write!(formatter, "the text has more than {limit} bytes")
+            }
+            Error::TooMuchWork { limit } => {
+                write!(formatter, "there is more work than {limit}")
             }
             Error::Unknown => write!(formatter, "a library of another version"),
         }
@@ -278,7 +310,41 @@ pub fn compile(
     options: &Options,
     names: &[(&str, &str)],
 ) -> Result<String, Error> {
-    ffi::compile(events, bytes, options, names, None)
+    ffi::compile(events, bytes, options, names)
+}
+
+/// As [`compile`], where the text has at most as many bytes as it may have, and there is at most as
+/// much work.
+///
+/// # Errors
+///
+/// Those of [`compile`]; [`Error::OutputTooLong`] where the events are a document whose text is
+/// longer, and [`Error::TooMuchWork`] exactly where there is more work, whether or not they are
+/// one, but for want of memory.
+///
+/// ```
+/// use bivdrazo::{compile_within, Error, Event, Limits, Name, Options};
+///
+/// let events = [
+///     Event::enter(Name::Data, 0),
+///     Event::exit(Name::Data, 6),
+/// ];
+/// let within = |text, work| {
+///     compile_within(&events, b"Hi <b>", &Options::default(), &[], Limits { text, work })
+/// };
+/// assert_eq!(within(12, 6)?, "Hi &lt;b&gt;");
+/// assert_eq!(within(11, 6), Err(Error::OutputTooLong { limit: 11 }));
+/// assert_eq!(within(12, 5), Err(Error::TooMuchWork { limit: 5 }));
+/// # Ok::<(), Error>(())
+/// ```
+pub fn compile_within(
+    events: &[Event],
+    bytes: &[u8],
+    options: &Options,
+    names: &[(&str, &str)],
+    limits: Limits,
+) -> Result<String, Error> {
+    ffi::compile_within(events, bytes, options, names, limits)
 }
 
 /// As [`compile`], with attributes that are added to the tags of the text, and the headings that got an `id`.
@@ -316,7 +382,8 @@ pub fn compile_attributed(
     names: &[(&str, &str)],
     attributes: &Attributes,
 ) -> Result<Rendered, Error> {
-    ffi::compile_attributed(events, bytes, options, names, attributes, None)
+    let limits = Limits::default();
+    ffi::compile_attributed(events, bytes, options, names, attributes, limits)
 }
 
 /// The HTML of an event script: lines of options and events, a line `--`, the document.

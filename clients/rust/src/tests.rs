@@ -3,8 +3,8 @@
 use crate::ffi::{error_of, first_size, CAnswer};
 use crate::numbers::NAMES;
 use crate::{
-    compile, compile_attributed, run, Attributes, Error, Event, LineEnding, Name, Options,
-    Rendered, Rule, REFERENCES, VERSION_TEXT,
+    compile, compile_attributed, compile_within, run, Attributes, Error, Event, Limits, LineEnding,
+    Name, Options, Rendered, Rule, REFERENCES, VERSION_TEXT,
 };
 use std::thread;
 
@@ -49,6 +49,61 @@ fn attributes_under_unsafe_options() {
     assert_eq!(told, Err(Error::Unsafe));
     let made = compile_attributed(&[], b"", &Options::default(), &[], &Attributes::default());
     assert_eq!(made, Ok(Rendered::default()));
+}
+
+fn within(events: &[Event], bytes: &[u8], text: usize, work: usize) -> Result<String, Error> {
+    compile_within(
+        events,
+        bytes,
+        &Options::default(),
+        &[],
+        Limits { text, work },
+    )
+}
+
+#[test]
+fn limits() {
+    let most = usize::MAX;
+    let text = "<p>Hi &lt;b&gt;</p>".to_string();
+    let of = |limit, work| within(&paragraph(6), b"Hi <b>", limit, work);
+    assert_eq!(
+        Limits::default(),
+        Limits {
+            text: most,
+            work: most
+        }
+    );
+    assert_eq!(of(most, most), Ok(text.clone()));
+    assert_eq!(of(text.len(), 6), Ok(text.clone()));
+    let limit = text.len() - 1;
+    assert_eq!(of(limit, 6), Err(Error::OutputTooLong { limit }));
+    assert_eq!(of(0, most), Err(Error::OutputTooLong { limit: 0 }));
+    assert_eq!(of(most, 5), Err(Error::TooMuchWork { limit: 5 }));
+    assert_eq!(of(0, 0), Err(Error::TooMuchWork { limit: 0 }));
+    assert_eq!(within(&[], b"", 0, 0), Ok(String::new()));
+}
+
+#[test]
+fn limits_past_the_first_buffer() {
+    let text = format!("<p>{}</p>", "&quot;".repeat(1000));
+    let of = |limit| within(&paragraph(1000), &[b'"'; 1000], limit, 1000);
+    assert_eq!(of(text.len()), Ok(text.clone()));
+    let limit = text.len() - 1;
+    assert_eq!(of(limit), Err(Error::OutputTooLong { limit }));
+}
+
+#[test]
+fn limits_over_what_is_refused() {
+    let open = &paragraph(1)[..3];
+    let refused = Error::Refused {
+        index: 3,
+        rule: Rule::Order,
+    };
+    assert_eq!(within(open, b"a", 0, 1), Err(refused));
+    assert_eq!(
+        within(open, b"a", 0, 0),
+        Err(Error::TooMuchWork { limit: 0 })
+    );
 }
 
 #[test]
@@ -272,6 +327,11 @@ fn texts_of_errors() {
         (Error::Memory, "out of memory"),
         (Error::Unsafe, "attributes under unsafe options"),
         (Error::Attribute(1), "attribute 1: no such value"),
+        (
+            Error::OutputTooLong { limit: 7 },
+            "the text has more than 7 bytes",
+        ),
+        (Error::TooMuchWork { limit: 8 }, "there is more work than 8"),
         (Error::Unknown, "a library of another version"),
     ] {
         assert_eq!(error.to_string(), text);

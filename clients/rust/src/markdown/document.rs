@@ -1,6 +1,8 @@
 //! A document as the library takes it.
 
-use crate::{compile, ffi, Attributes, Error, Event, Kind, Name, Options, Rendered};
+use crate::{
+    compile, compile_within, ffi, Attributes, Error, Event, Kind, Limits, Name, Options, Rendered,
+};
 use std::borrow::Cow;
 use std::ops::Range;
 
@@ -24,31 +26,29 @@ impl Document {
         compile(&self.events, &self.bytes, options, &[])
     }
 
-    /// The document's HTML, if it has at most so many bytes.
+    /// The document's HTML, if it is within limits.
     ///
     /// # Errors
     ///
-    /// As [`compile`](crate::compile), and [`Error::OutputTooLong`].
-    pub fn compile_within(
-        &self,
-        options: &Options,
-        limit: Option<usize>,
-    ) -> Result<String, Error> {
-        ffi::compile(&self.events, &self.bytes, options, &[], limit)
+    /// As [`compile_within`](crate::compile_within).
+    pub fn compile_within(&self, options: &Options, limits: Limits) -> Result<String, Error> {
+        compile_within(&self.events, &self.bytes, options, &[], limits)
     }
 
-    /// The document's HTML with attributes, if that has at most so many bytes, and the headings that got an `id`.
+    /// The document's HTML with attributes, if that is within limits, and the headings that got an
+    /// `id`. The headings' own texts are beside these limits.
     ///
     /// # Errors
     ///
-    /// As [`compile_attributed`](crate::compile_attributed), and [`Error::OutputTooLong`].
+    /// As [`compile_attributed`](crate::compile_attributed), [`Error::OutputTooLong`] and
+    /// [`Error::TooMuchWork`].
     pub fn compile_attributed(
         &self,
         options: &Options,
         attributes: &Attributes,
-        limit: Option<usize>,
+        limits: Limits,
     ) -> Result<Rendered, Error> {
-        ffi::compile_attributed(&self.events, &self.bytes, options, &[], attributes, limit)
+        ffi::compile_attributed(&self.events, &self.bytes, options, &[], attributes, limits)
     }
 
     /// As [`compile_attributed`](Document::compile_attributed), of a document that nobody needs any more.
@@ -56,7 +56,7 @@ impl Document {
         self,
         options: &Options,
         attributes: &Attributes,
-        limit: Option<usize>,
+        limits: Limits,
     ) -> Result<Rendered, Error> {
         if *attributes != Attributes::default() {
             return ffi::compile_attributed_owned(
@@ -64,10 +64,10 @@ impl Document {
                 &self.bytes,
                 options,
                 attributes,
-                limit,
+                limits,
             );
         }
-        let html = ffi::compile_owned(self.events, &self.bytes, options, limit)?;
+        let html = ffi::compile_owned(self.events, &self.bytes, options, limits)?;
         let headings = Vec::new();
         Ok(Rendered { html, headings })
     }

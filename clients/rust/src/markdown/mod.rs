@@ -16,7 +16,7 @@ mod tables;
 pub use document::Document;
 pub use events::events_of;
 
-use crate::{Attributes, Error, Options, Rendered};
+use crate::{Attributes, Error, Limits, Options, Rendered};
 use pulldown_cmark::{CowStr, Parser};
 
 /// What becomes of HTML in a document. Whatever is chosen, none of it is HTML in the text.
@@ -74,6 +74,10 @@ pub struct MarkdownOptions {
     /// out, for its protocol. What a definition with a character reference or an escaped character leads to is bounded
     /// in any case: by this bound or 16 megabytes, or by 256 if there is none, for all links that may use it.
     pub max_output: Option<usize>,
+    /// How much there may be to read and to print in what the parser makes of the document, as
+    /// [`Limits`] counts it; else any amount. With [`rel`](MarkdownOptions::rel) or
+    /// [`heading_ids`](MarkdownOptions::heading_ids) the text is made twice then.
+    pub max_work: Option<usize>,
 }
 
 impl Default for MarkdownOptions {
@@ -91,6 +95,7 @@ impl Default for MarkdownOptions {
             heading_ids: None,
             max_input: None,
             max_output: None,
+            max_work: None,
         }
     }
 }
@@ -114,6 +119,14 @@ impl MarkdownOptions {
             heading_ids: self.heading_ids.clone(),
         }
     }
+
+    /// The limits of the text and of the work.
+    fn limits(&self) -> Limits {
+        Limits {
+            text: self.max_output.unwrap_or(usize::MAX),
+            work: self.max_work.unwrap_or(usize::MAX),
+        }
+    }
 }
 
 /// The HTML of a Markdown document, with tables, strikethrough, tasks, footnotes and bare links. A byte order mark
@@ -125,9 +138,9 @@ impl MarkdownOptions {
 ///
 /// # Errors
 ///
-/// [`Error::InputTooLong`] and [`Error::OutputTooLong`] where a bound of the options is passed, [`Error::Memory`] where
-/// the library finds no memory. [`Error::Refused`] would be a fault of this crate or of the parser: no document is
-/// known that gets it.
+/// [`Error::InputTooLong`], [`Error::OutputTooLong`] and [`Error::TooMuchWork`] where a bound of
+/// the options is passed, [`Error::Memory`] where the library finds no memory. [`Error::Refused`]
+/// would be a fault of this crate or of the parser: no document is known that gets it.
 ///
 /// ```
 /// use bivdrazo::{markdown_to_html, MarkdownOptions};
@@ -173,7 +186,7 @@ pub fn markdown_with_headings(text: &str, options: &MarkdownOptions) -> Result<R
     document.into_rendered(
         &options.for_library(),
         &options.attributes(),
-        options.max_output,
+        options.limits(),
     )
 }
 

@@ -315,6 +315,27 @@ fn bounds() {
     );
 }
 
+/// Work: four letters, two line endings, and four cells of two rows, of which nobody wrote two.
+#[test]
+fn work() {
+    let table = "| a | b |\n|---|---|\n| c |\n| d |\n";
+    for rel in [None, Some("nofollow".to_string())] {
+        let with = |work, output| {
+            html_with(table, |options| {
+                options.rel = rel.clone();
+                options.max_work = Some(work);
+                options.max_output = output;
+            })
+        };
+        assert_eq!(with(10, None), Ok(html(table)));
+        assert_eq!(with(10, Some(html(table).len())), Ok(html(table)));
+        assert_eq!(with(9, None), Err(Error::TooMuchWork { limit: 9 }));
+        assert_eq!(with(0, Some(0)), Err(Error::TooMuchWork { limit: 0 }));
+        let limit = html(table).len() - 1;
+        assert_eq!(with(10, Some(limit)), Err(Error::OutputTooLong { limit }));
+    }
+}
+
 /// A destination that is used often stands in the bytes once, and is told early where it passes the bound.
 #[test]
 fn long_destinations() {

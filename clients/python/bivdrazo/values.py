@@ -1,0 +1,26 @@
+"""What callers hand in, as C has it."""
+
+from __future__ import annotations
+
+import ctypes
+from typing import TypeVar
+
+MOST = ctypes.c_size_t(-1).value
+T = TypeVar("T")
+
+
+def typed(name: str, value: object, type_: type[T]) -> T:
+    """The value, which has that type."""
+    if not isinstance(value, type_):
+        raise TypeError(f"{name}: {type_.__name__} is wanted, not {type(value).__name__}")
+    return value
+
+
+def bound_of(name: str, bound: int | None, counted: str = "bytes") -> int:
+    """A bound as C has it; none is the greatest number."""
+    if bound is None:
+        return MOST
+    if isinstance(bound, bool) or typed(name, bound, int) < 0:
+        error = TypeError if isinstance(bound, bool) else ValueError
+        raise error(f"{name}: a count of {counted} is wanted, not {bound}")
+    return min(bound, MOST)
