@@ -17,6 +17,8 @@ import sys
 ROOT = pathlib.Path(__file__).resolve().parents[1]
 CRATES = ["md_base", "md_text", "md_tree", "md_html", "md_script", "md_page", "md_attributes"]
 BELOW_HTML = ["md_base", "md_text", "md_tree"]
+# Crates whose own table has what they hand on of a crate below.
+HANDED_ON = {"md_script": "md_html"}
 # The C interface, the program and the benchmark, whose folder stays as it is; what the README of each other crate says.
 OTHERS = ["md_ffi", "mdevents", "md_bench"]
 INTERNAL = "Internal: users call nothing of it ([docs/API.md](../../docs/API.md))."
@@ -83,6 +85,7 @@ def crates_faults(found):
     for crate in CRATES:
         others = {name for crates, names in inner if crate in crates for name in names}
         own, handed = exported(crate)
+        own |= handed.pop(HANDED_ON.get(crate), set())
         faults += told(crate, public[crate] | others, own | methods(crate, own))
         if crate == "md_html":
             for below in BELOW_HTML:
