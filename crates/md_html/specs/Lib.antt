@@ -5,6 +5,7 @@ pub mod SafeHtml
 pub mod Nesting
 pub mod Unnested
 pub mod Work
+pub mod Lengths
 pub mod Within
 pub mod SafeWithin
 pub mod Counting

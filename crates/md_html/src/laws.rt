@@ -1,9 +1,11 @@
-//! What holds of the meaning of every document, as the contracts of functions that do nothing.
+//! What holds of every document, as the contracts of functions that do nothing.
 
-ghost use Rattle.std.specs.Prelude.{◌≡◌, ℕ, Bool, false, List};
-ghost use Rattle.md_base.specs.Tree.{Forest};
+ghost use Rattle.std.specs.Prelude.{◌≡◌, ◌≤◌, ℕ, Bool, false, List};
+ghost use Rattle.md_base.specs.Tree.{Forest, flatten};
 ghost use Rattle.md_text.specs.declared.options.CompileOptions.{CompileOptions};
 ghost use Rattle.md_meaning.specs.Meaning.{meaning};
+ghost use Rattle.md_html.specs.Work.{read_length};
+ghost use Rattle.md_html.specs.Lengths.{lengths, GoesForward};
 
 /// Where HTML isn't allowed, the tag filter changes no meaning.
 pub fn tagfilter_is_moot_when_escaped()
@@ -12,4 +14,12 @@ pub fn tagfilter_is_moot_when_escaped()
         → options.allow_dangerous_html ≡ false
         → meaning (record options { gfm_tagfilter = filter }) names bytes document
         ≡ meaning options names bytes document }
+{}
+
+/// What work counts as read is no less than the lengths of a document's nodes that are read, and just these where no
+/// event stands before the one before it.
+pub fn work_counts_what_is_read()
+    ensures no_less { (document : Forest) → lengths document ≤ read_length (flatten document) }
+    ensures exact { (document : Forest) → GoesForward 0 (flatten document)
+        → read_length (flatten document) ≡ lengths document }
 {}
