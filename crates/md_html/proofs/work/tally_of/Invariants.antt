@@ -7,7 +7,8 @@ use Rattle.md_html.proofs.work.tally_of.Given as goal
 
 abbrev pub invariant-loop-event : goal.invariant-loop-event
 invariant-loop-event l = record {
-  read : capped (l.progress.length + read_from l.progress.index l.progress.depth l.rest) ≡ capped (read_length l.events);
+  read : capped (l.progress.length + read_from l.progress.index l.progress.depth l.rest)
+      ≡ capped (read_length l.events);
   longest : capped (max l.longest (longest_definition l.rest)) ≡ capped (longest_definition l.events);
   media : l.media + entries is_media l.rest ≡ entries is_media l.events;
   resources : l.resources + entries is_resource l.rest ≡ entries is_resource l.events;
