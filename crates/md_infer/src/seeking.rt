@@ -87,6 +87,7 @@ fn wanted_by(name: Name) -> Wanted
 }
 
 /// A spine of a name, of which nothing has been searched.
+#[inline(never)]
 pub fn search_of(name: Name) -> Sought
     ensures { result ≡ spec.search_of name }
 {
