@@ -6,6 +6,7 @@ ghost use Rattle.md_text.specs.Url.{sanitized};
 ghost use Rattle.md_meaning.specs.Meaning.Footnotes as meaning;
 
 use crate::called::Called;
+use crate::decimal::push_decimal;
 use md_text::{CompileOptions, push_encoded, push_sanitized};
 use std::alloc::{AllocError, Global};
 
@@ -40,7 +41,7 @@ fn push_name(
         else sanitized called.now.identifier.now)) }
 {
     if options.gfm_footnote_number_ids {
-        out.push_str(called.number.to_string(alloc)?.as_str())
+        push_decimal(alloc, out, called.number)
     } else {
         push_sanitized(out, called.identifier)
     }
@@ -81,7 +82,7 @@ fn push_occurrence(
         return Ok(());
     }
     out.push_str("-")?;
-    out.push_str(occurrence.to_string(alloc)?.as_str())
+    push_decimal(alloc, out, occurrence)
 }
 
 /// Adds the id of one of a footnote's calls, by its occurrence from 1.

@@ -4,6 +4,7 @@
 mod body;
 mod called;
 mod calls;
+mod decimal;
 mod footnotes;
 mod ids;
 mod lines;

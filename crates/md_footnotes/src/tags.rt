@@ -7,6 +7,7 @@ ghost use Rattle.md_meaning.specs.Meaning.Footnotes as meaning;
 ghost use Rattle.md_footnotes.specs.Words.{tags};
 
 use crate::called::Called;
+use crate::decimal::push_decimal;
 use crate::ids::{push_call_id, push_id};
 use md_text::CompileOptions;
 use std::alloc::{AllocError, Global};
@@ -31,13 +32,13 @@ fn push_ids(
 }
 
 /// Adds the rest of a call, around its number.
-fn push_number(out: &mut String, number: &str) -> Result<(), AllocError>
+fn push_number(alloc: Global, out: &mut String, number: usize) -> Result<(), AllocError>
     ensures { OnOk result (string_bytes out.new ≡ laid_after [] (string_bytes out.old)
-        (Text (codes "\" data-footnote-ref=\"\" aria-describedby=\"footnote-label\">") ∷ Text number.now
+        (Text (codes "\" data-footnote-ref=\"\" aria-describedby=\"footnote-label\">") ∷ Text (decimal number)
         ∷ Text (codes "</a></sup>") ∷ [])) }
 {
     out.push_str("\" data-footnote-ref=\"\" aria-describedby=\"footnote-label\">")?;
-    out.push_str(number)?;
+    push_decimal(alloc, out, number)?;
     out.push_str("</a></sup>")
 }
 
@@ -57,6 +58,5 @@ pub(crate) fn push_tags(
         (tags options.now called.now.identifier.now called.now.number occurrence)) }
 {
     push_ids(alloc, out, options, called, occurrence)?;
-    let number = called.number.to_string(alloc)?;
-    push_number(out, number.as_str())
+    push_number(alloc, out, called.number)
 }

@@ -6,6 +6,7 @@ ghost use Rattle.md_meaning.specs.Meaning.Footnotes as meaning;
 ghost use Rattle.md_footnotes.specs.Words as words;
 
 use crate::called::Called;
+use crate::decimal::push_decimal;
 use crate::ids::{push_call_id, push_option};
 use md_text::CompileOptions;
 use std::alloc::{AllocError, Global};
@@ -19,7 +20,7 @@ fn push_mark(alloc: Global, out: &mut String, occurrence: usize) -> Result<(), A
         return Ok(());
     }
     out.push_str("<sup>")?;
-    out.push_str(occurrence.to_string(alloc)?.as_str())?;
+    push_decimal(alloc, out, occurrence)?;
     out.push_str("</sup>")
 }
 
