@@ -2,7 +2,7 @@
 use Rattle.std.specs.Prelude.{ℕ, Bool, true, false, not, ◌&&◌, ◌||◌, ◌==◌, nat_lt, if◌then◌else◌, List, [], ◌∷◌, length, slice_index, codes}
 use Rattle.std.specs.Option.{option_map_or}
 use Rattle.md_base.specs.declared.event.Name.{Name}
-use Rattle.md_base.specs.declared.event.Name.TheVariants.{AutolinkEmail, AutolinkProtocol, BlankLineEnding, BlockQuote, BlockQuotePrefix, CharacterEscapeValue, CharacterReferenceValue, CodeFenced, CodeFencedFence, CodeFencedFenceInfo, CodeFlowChunk, CodeIndented, CodeText, CodeTextData, Data, Definition, DefinitionDestinationString, DefinitionTitleString, Emphasis, Frontmatter, GfmAutolinkLiteralEmail, GfmAutolinkLiteralMailto, GfmAutolinkLiteralProtocol, GfmAutolinkLiteralWww, GfmAutolinkLiteralXmpp, GfmFootnoteCall, GfmFootnoteDefinition, GfmStrikethrough, GfmTable, GfmTableBody, GfmTableCell, GfmTableHead, GfmTableRow, GfmTaskListItemCheck, GfmTaskListItemValueChecked, HardBreakEscape, HardBreakTrailing, HeadingAtx, HeadingSetextText, HeadingSetextUnderlineSequence, HtmlFlow, HtmlFlowData, HtmlText, HtmlTextData, Image, Label, LineEnding, Link, ListItem, ListOrdered, ListUnordered, MathFlow, MathFlowChunk, MathFlowFence, MathText, MathTextData, Other, Paragraph, Resource, ResourceDestinationString, ResourceTitleString, SpaceOrTab, Strong, ThematicBreak}
+use Rattle.md_base.specs.declared.event.Name.TheVariants.{AutolinkEmail, AutolinkProtocol, BlankLineEnding, BlockQuote, BlockQuotePrefix, CharacterEscapeValue, CharacterReferenceValue, CodeFenced, CodeFencedFence, CodeFencedFenceInfo, CodeFlowChunk, CodeIndented, CodeText, CodeTextData, Data, Definition, DefinitionDestinationString, DefinitionTitleString, Emphasis, Frontmatter, GfmAutolinkLiteralEmail, GfmAutolinkLiteralMailto, GfmAutolinkLiteralProtocol, GfmAutolinkLiteralWww, GfmAutolinkLiteralXmpp, GfmFootnoteCall, GfmFootnoteDefinition, GfmFootnoteDefinitionLabelString, GfmStrikethrough, GfmTable, GfmTableBody, GfmTableCell, GfmTableDelimiterCellValue, GfmTableDelimiterMarker, GfmTableHead, GfmTableRow, GfmTaskListItemCheck, GfmTaskListItemValueChecked, HardBreakEscape, HardBreakTrailing, HeadingAtx, HeadingAtxText, HeadingSetextText, HeadingSetextUnderlineSequence, HtmlFlow, HtmlFlowData, HtmlText, HtmlTextData, Image, Label, LabelText, LineEnding, Link, ListItem, ListItemPrefix, ListOrdered, ListUnordered, MathFlow, MathFlowChunk, MathFlowFence, MathText, MathTextData, Other, Paragraph, Resource, ResourceDestinationString, ResourceTitleString, SpaceOrTab, Strong, ThematicBreak}
 use Rattle.md_base.specs.NameTests.{is_definition}
 use Rattle.md_meaning.specs.Meaning.Layout.{Piece, said}
 use Rattle.md_meaning.specs.Meaning.Spans.{is_at}
@@ -22,6 +22,14 @@ is_common_entry name = elim name [
   | CharacterEscapeValue ↦ true
   | CodeTextData ↦ true
   | MathTextData ↦ true
+  | ListItemPrefix ↦ true
+  | Label ↦ true
+  | LabelText ↦ true
+  | HeadingAtxText ↦ true
+  | CodeFencedFence ↦ true
+  | GfmFootnoteDefinitionLabelString ↦ true
+  | GfmTableDelimiterCellValue ↦ true
+  | GfmTableDelimiterMarker ↦ true
   | LineEnding ↦ true
   | Other number ↦ true
   | BlockQuotePrefix ↦ true
@@ -67,6 +75,12 @@ is_common_exit name = elim name [
   | Other number ↦ true
   | BlockQuotePrefix ↦ true
   | SpaceOrTab ↦ true
+  | ListItemPrefix ↦ true
+  | LabelText ↦ true
+  | HeadingAtxText ↦ true
+  | GfmFootnoteDefinitionLabelString ↦ true
+  | GfmTableDelimiterCellValue ↦ true
+  | GfmTableDelimiterMarker ↦ true
   | _ ↦ false
 ]
 

@@ -44,7 +44,18 @@ impl<'a> Printer<'a> {
             Name::GfmStrikethrough => self.enter_span("<del>"),
             Name::GfmTableCell => self.enter_cell(given.ending),
             Name::GfmTableRow => self.enter_row(given.ending),
-            Name::Data | Name::CharacterEscapeValue | Name::CodeTextData | Name::MathTextData => {
+            Name::Data
+            | Name::CharacterEscapeValue
+            | Name::CodeTextData
+            | Name::MathTextData
+            | Name::ListItemPrefix
+            | Name::Label
+            | Name::LabelText
+            | Name::HeadingAtxText
+            | Name::CodeFencedFence
+            | Name::GfmFootnoteDefinitionLabelString
+            | Name::GfmTableDelimiterCellValue
+            | Name::GfmTableDelimiterMarker => {
                 self.enters();
                 Ok(())
             }

@@ -59,16 +59,18 @@ impl<'a> Printer<'a> {
                     Name::CharacterEscapeValue,
                 )
             }
-            Name::Other(number) => {
-                self.ended = Some(Name::Other(number));
+            Name::Other(_) | Name::BlockQuotePrefix | Name::SpaceOrTab => {
+                self.ended = Some(name);
                 Ok(())
             }
-            Name::BlockQuotePrefix => {
-                self.ended = Some(Name::BlockQuotePrefix);
-                Ok(())
-            }
-            Name::SpaceOrTab => {
-                self.ended = Some(Name::SpaceOrTab);
+            Name::ListItemPrefix
+            | Name::LabelText
+            | Name::HeadingAtxText
+            | Name::GfmFootnoteDefinitionLabelString
+            | Name::GfmTableDelimiterCellValue
+            | Name::GfmTableDelimiterMarker => {
+                self.ended = Some(name);
+                self.marker = b'&';
                 Ok(())
             }
             _ => self.exit_block(given, index, name),
