@@ -8,7 +8,7 @@ ghost use Rattle.md_infer.specs.Columns.{columns_exited};
 ghost use Rattle.md_infer.specs.Told.{nothing_told};
 
 use crate::columns::{Columns, collects_in};
-use crate::seeking::{Sought, is_idle, search_of, seen};
+use crate::seeking::{NOTHING_SOUGHT, Sought, is_idle, search_of, see};
 use crate::told::{Last, Looseness, NOT_LOOSE, NOTHING_TOLD, Told, spaced, tell, told_looseness};
 use md_base::name_tests::{contributes, is_link_definition, is_transparent};
 use md_base::{AlignKind, Event, Kind, Name};
@@ -50,7 +50,7 @@ fn document_node() -> OpenNode
         entry: 0,
         contributing: 0,
         collects: false,
-        sought: search_of(Name::Paragraph),
+        sought: NOTHING_SOUGHT,
         told: NOTHING_TOLD,
     }
 }
@@ -143,7 +143,7 @@ fn search_after(sought: &mut Sought, name: Name, entry: usize, own: &Sought)
             found: own.found,
         };
     } else if !is_idle(*sought) {
-        *sought = seen(*sought, name, entry, own.read_at);
+        see(sought, name, entry, own.read_at);
     }
 }
 
@@ -208,7 +208,7 @@ fn search_leaf(sought: &mut Sought, name: Name, entry: usize)
     if is_idle(*sought) || is_transparent(name) {
         return;
     }
-    *sought = seen(*sought, name, entry, 0);
+    see(sought, name, entry, 0);
 }
 
 /// What is found at each event, the alignments of the tables and the entries of the definitions, both in

@@ -53,6 +53,13 @@ pub struct Sought {
     pub found: Found,
 }
 
+/// Nothing is sought on a spine.
+pub const NOTHING_SOUGHT: Sought = Sought {
+    read_at: 0,
+    wanted: Wanted::Nothing,
+    found: Found::Nothing,
+};
+
 /// What a node is on a spine on which something is sought.
 #[derive(Clone, Copy)]
 pub enum Sight {
@@ -142,31 +149,23 @@ fn sight_of(wanted: Wanted, name: Name) -> Sight
     }
 }
 
-/// A search that finds this, unless it has found something.
-fn first(sought: Sought, index: usize) -> Sought
-    ensures { result ≡ spec.first sought index }
+/// Finds this, unless something was found.
+fn first(sought: &mut Sought, index: usize)
+    ensures { sought.new ≡ spec.first sought.old index }
 {
-    match sought.found {
-        Found::Nothing => Sought {
-            found: Found::First,
-            read_at: index,
-            ..sought
-        },
-        _ => sought,
+    if matches!(sought.found, Found::Nothing) {
+        sought.found = Found::First;
+        sought.read_at = index;
     }
 }
 
-/// A search that finds a reference, unless it has found one.
-fn refer(sought: Sought, index: usize) -> Sought
-    ensures { result ≡ spec.refer sought index }
+/// Finds a reference, unless one was found.
+fn refer(sought: &mut Sought, index: usize)
+    ensures { sought.new ≡ spec.refer sought.old index }
 {
-    match sought.found {
-        Found::Reference => sought,
-        _ => Sought {
-            found: Found::Reference,
-            read_at: index,
-            ..sought
-        },
+    if !matches!(sought.found, Found::Reference) {
+        sought.found = Found::Reference;
+        sought.read_at = index;
     }
 }
 
@@ -178,16 +177,13 @@ pub fn is_idle(sought: Sought) -> bool
     matches!(sought.wanted, Wanted::Nothing)
 }
 
-/// A search after a node that is entered here, and in which this was found.
-#[inline(always)]
-pub fn seen(sought: Sought, name: Name, entry: usize, inner: usize) -> Sought
-    ensures { result ≡ spec.seen sought name entry inner }
+/// Goes on with a search after a node that is entered here, and in which this was found.
+#[inline(never)]
+pub fn see(sought: &mut Sought, name: Name, entry: usize, inner: usize)
+    ensures { sought.new ≡ spec.seen sought.old name entry inner }
 {
-    if is_idle(sought) {
-        return sought;
-    }
     match sight_of(sought.wanted, name) {
-        Sight::Other => sought,
+        Sight::Other => {}
         Sight::Itself => first(sought, entry),
         Sight::Holder => first(sought, inner),
         Sight::Reference => refer(sought, entry),
