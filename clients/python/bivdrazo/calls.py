@@ -137,7 +137,10 @@ def run(script: Bytes) -> str:
     Raises Unreadable where a line can't be read, Refused where the events are refused, MemoryError.
     """
     given = bytes(script)
-    return answered(first_size(0, len(given)), lambda buffer, room: LIBRARY.bivdrazo_run(given, len(given), buffer, room))
+    return answered(
+        first_size(0, len(given)),
+        lambda buffer, room: LIBRARY.bivdrazo_run(given, len(given), buffer, room),
+    )
 
 
 def first_size(events: int, length: int) -> int:
