@@ -169,6 +169,23 @@ class Limits(unittest.TestCase):
         with self.assertRaises(TooMuchWork):
             compile_within(paragraph(6)[:3], b"Hi <b>", max_work=5)
 
+    def test_work_of_references(self):
+        def over(name, start, end, *children):
+            return node(name, *children, start=start, end=end)
+
+        string = over(Name.DEFINITION_DESTINATION_STRING, 5, 8, over(Name.DATA, 5, 8))
+        definition = over(Name.DEFINITION, 0, 8, over(Name.DEFINITION_LABEL_STRING, 1, 2), string)
+        label = over(Name.LABEL_TEXT, 11, 12, over(Name.DATA, 11, 12))
+        link = over(Name.LINK, 10, 13, over(Name.LABEL, 10, 13, label))
+        for links in [0, 1, 2, 10]:
+            # A label and a destination; of each link its label and its text, and these once more.
+            work = 4 + links * (2 + 4)
+            events, data = definition + links * link, b"[a]: bcd\n\n[a]"
+            text = compile_within(events, data, max_work=work)
+            self.assertEqual(text, links * '<a href="bcd">a</a>')
+            with self.assertRaises(TooMuchWork):
+                compile_within(events, data, max_work=work - 1)
+
     def test_refused(self):
         with self.assertRaises(Refused):
             compile_within(paragraph(6)[:3], b"Hi <b>", max_output=0, max_work=6)
