@@ -32,6 +32,7 @@ impl<'a> Printer<'a> {
     /// # Errors
     ///
     /// Only where memory runs out.
+    #[inline(always)]
     pub fn enter(&mut self, given: &Given<'a>, index: usize, name: Name) -> Result<(), AllocError>
         requires { EntersAt given.now.checked.now.events index name }
         ensures { OnOk result (Enters given.now index name self.old self.new) }

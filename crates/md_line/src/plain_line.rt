@@ -13,7 +13,6 @@ use md_base::{Event, Point};
 /// The event of the first line and what follows its line feed, where the line is plain: a sign, a name, one space, an
 /// index, and after a dot perhaps columns. Nothing where it is another one, and near the end of the input also where
 /// it has columns.
-#[inline(never)]
 pub fn read_plain_line(input: &[u8]) -> Option<(Event, &[u8])>
     ensures { IfSome result (λ read. BeginsWithEvent input.now read.0 read.1.now) }
 {
@@ -24,6 +23,7 @@ pub fn read_plain_line(input: &[u8]) -> Option<(Event, &[u8])>
 }
 
 /// The same of a line that ends with an index, in parts.
+#[inline(never)]
 fn read_uncut_line(input: &[u8]) -> Option<(Event, &[u8])>
     ensures { IfSome result (λ read. BeginsWithEvent input.now read.0 read.1.now) }
 {
