@@ -1,12 +1,13 @@
 #!/usr/bin/env python3
 """What a text within limits costs, of events that give as much to read or to print as they can.
 
-usage: bench/bounds.py ARCHIVE     (crates/md_ffi/out/libmd_ffi.a, or clients/out/libbivdrazo.a)
+usage: bench/bounds.py ARCHIVE [--each]     (crates/md_ffi/out/libmd_ffi.a, once clients/link has linked it)
 
 Each shape of bench/bounds.c is compiled by `bivdrazo_compile_within` in a process of its own, with some 1 kB to 1 MB of
 document and events, texts of at most 10 kB and 1 MB, and four times as much work as input and text together may have:
-with as many nodes, up to that size, as give no more work. Prints what each took, and the most that any took for a byte
-of input and limit. Inputs of up to 100 kB have an address space of 64 MB. Ends with status 1 where a process dies.
+with as many nodes, up to that size, as give no more work. Prints the most that any took for a byte of input and limit, and
+with --each what each took. Inputs of up to 100 kB have an address space of 64 MB. Ends with status 1 where a process dies
+or a text is longer than its limit.
 """
 
 import os
@@ -24,7 +25,7 @@ LIMITS = [10_000, 1_000_000]
 WORK = 4
 EVENT = 16
 TOO_MUCH = 11
-STATUSES = {0: "a text", 2: "refused", 7: "no memory", 10: "too long", 11: "too much"}
+STATUSES = {0: "a text", 7: "no memory", 10: "too long", 11: "too much"}
 HELD = 64_000_000
 
 
@@ -72,6 +73,7 @@ def most_nodes(program, shape, length, most, text, held):
 
 def main():
     worst = {"time": (0, ""), "memory": (0, "")}
+    calls = 0
     with tempfile.TemporaryDirectory() as folder:
         program = built(sys.argv[1], folder)
         for shape in SHAPES:
@@ -82,11 +84,16 @@ def main():
                     nodes = most_nodes(program, shape, length, length // (4 * EVENT), text, held)
                     status, printed, seconds, memory, given = asked(program, shape, length, nodes, text, held)
                     what = f"{shape} of {given:,} bytes, at most {text:,}"
-                    print(f"{what}: {STATUSES.get(status, status)}, {printed:,} bytes, {seconds * 1000:.1f} ms, "
-                          f"{memory / 1e6:.1f} MB", flush=True)
+                    calls += 1
+                    if status not in STATUSES or printed > text:
+                        sys.exit(f"{what}: status {status}, a text of {printed:,} bytes")
+                    if "--each" in sys.argv:
+                        print(f"{what}: {STATUSES[status]}, {printed:,} bytes, {seconds * 1000:.1f} ms, "
+                              f"{memory / 1e6:.1f} MB", flush=True)
                     for name, cost in (("time", seconds * 1e9), ("memory", memory)):
                         worst[name] = max(worst[name], (cost / (given + text), what))
-    print(f"most time: {worst['time'][0]:.0f} ns a byte of input and limit ({worst['time'][1]})")
+    print(f"bounds: {calls} calls within limits; most time: {worst['time'][0]:.0f} ns a byte of input and limit "
+          f"({worst['time'][1]})")
     print(f"most memory: {worst['memory'][0]:.1f} bytes a byte of input and limit ({worst['memory'][1]})")
 
 
