@@ -33,11 +33,12 @@ pub record Leafs (code : Supplied) (index to : ℕ) (event : Event) (before afte
   pub exits : ExitsAt code.checked.now.events (suc index) event.name
   pub within : suc index < to
   pub alone : is_alone event.name ≡ true
-  pub noticed : (one : Noticed) → IsNoticedAt code.checked.now index one → IsNoticedAt code.checked.now (suc index) one
+  pub noticed : (one : Noticed) → IsNoticedAt code.checked.now index one →
+      IsNoticedAt code.checked.now (suc index) one
   pub left : Leaves code index event.name before after
 
--- up to any end that isn't before `to`, going on from one event is as going on from an earlier one, and if each text that
--- ended there had begun, then so here
+-- up to any end that isn't before `to`, going on from one event is as going on from an earlier one; and
+-- if each captured text that ended there had begun, then so here
 pub record Goes (code : Supplied) (from next to : ℕ) (before after : State) : Type 0 where
   pub runs : (at : Given) (document : Forest) (end : ℕ) → Supplies code at →
       flatten document ≡ code.checked.now.events → to ≤ end →
