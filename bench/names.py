@@ -24,7 +24,7 @@ from typing import NamedTuple
 ROOT = pathlib.Path(__file__).resolve().parents[1]
 CRATES = ROOT / "crates"
 NUMBERS = ROOT / "clients" / "numbers"
-COMMON = CRATES / "md_line" / "src" / "common_name.rt"
+COMMON = CRATES / "md_script" / "src" / "common_name.rt"
 BEGIN, END = (rf"^ *// bench/names\.py: {word}$" for word in ("begin", "end"))
 BLOCK = re.compile(rf"({BEGIN}\n)(.*?)({END})", re.M | re.S)
 HEAD = re.compile(r"(?:/// .*\n)*")

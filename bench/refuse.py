@@ -1,5 +1,5 @@
 #!/usr/bin/env python3
-"""Refuses each request for memory of the calls of md_failure_cases in turn, which md_cases makes.
+"""Refuses each request for memory of the calls that md_cases makes, in turn.
 
 usage: bench/refuse.py PROGRAM      (crates/md_cases/out/md_cases, once `rt run` there has built it)
 

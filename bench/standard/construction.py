@@ -1,4 +1,4 @@
-"""crates/md_standard/specs once more in Python, by hand: tree construction of tokens, None where it is stuck."""
+"""crates/md_safe/specs once more in Python, by hand: tree construction of tokens, None where it is stuck."""
 
 SPECIAL = set("address article blockquote body br div h1 h2 h3 h4 h5 h6 hr html img input li main ol p".split())
 SPECIAL |= set("pre section table tbody td th thead tr ul".split())

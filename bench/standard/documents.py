@@ -7,12 +7,12 @@
     /usr/bin/python3 bench/standard/documents.py --tests FOLDER [--prove]
 
 COUNT random documents: each second one is a page as `md_page` writes it around a text of the content model of
-crates/md_standard/specs/Contents.antt without a link in a link, and has to be built as its own document; the others are such pages with any
+crates/md_safe/specs/Contents.antt without a link in a link, and has to be built as its own document; the others are such pages with any
 elements anywhere, pages with a few characters changed, and pieces of documents put together. With --browser they are
 compared with what chromium's `DOMParser` builds, and forests of the content model with what it builds of them by
 `innerHTML` of a div, a td, a list's item and a section. FOLDER has tests of tree construction in the format of
 html5lib's (`*.dat`). With --prove the definitions themselves answer: each document under 300 characters, or each test
-that tokenizer.py and construction.py aren't stuck on, becomes an equation of a copy of crates/md_standard, which the prover
+that tokenizer.py and construction.py aren't stuck on, becomes an equation of a copy of crates/md_safe, which the prover
 closes by computing: what is built of it, or that they are stuck. Status 1, where one answers otherwise, or where they
 are stuck on a page of the content model.
 """
@@ -294,13 +294,13 @@ def run_tests(folder, is_proved):
 HEAD = """-- Made by bench/standard/documents.py.
 use Rattle.std.proofs.Common.{◌≡◌, ℕ, true, false, List, [], ◌∷◌, refl}
 use Rattle.std.specs.Prelude.{Some, None, option_and_then, codes}
-use Rattle.md_standard.specs.Input.{with_line_feeds}
-use Rattle.md_standard.specs.Token.{TokenAttribute}
-use Rattle.md_standard.specs.Tokenizer.{Data, run}
-use Rattle.md_standard.proofs.Steps.{attribute}
-use Rattle.md_standard.specs.Node.{Empty, Text, Element, InBody}
-use Rattle.md_standard.specs.Built.{at, open_at}
-use Rattle.md_standard.specs.Page.{constructed, document_of}
+use Rattle.md_safe.specs.Input.{with_line_feeds}
+use Rattle.md_safe.specs.Token.{TokenAttribute}
+use Rattle.md_safe.specs.Tokenizer.{Data, run}
+use Rattle.md_safe.proofs.Steps.{attribute}
+use Rattle.md_safe.specs.Node.{Empty, Text, Element, InBody}
+use Rattle.md_safe.specs.Built.{at, open_at}
+use Rattle.md_safe.specs.Page.{constructed, document_of}
 """
 
 
@@ -330,8 +330,8 @@ def equation(text, context, built):
 
 
 def answered(made):
-    """Whether a copy of md_standard, and what is below it, proves these equations, and refuses a wrong one."""
-    needed, lines = {"md_standard"}, (ROOT / "crates.txt").read_text().splitlines(keepends=True)
+    """Whether a copy of md_safe, and what is below it, proves these equations, and refuses a wrong one."""
+    needed, lines = {"md_safe"}, (ROOT / "crates.txt").read_text().splitlines(keepends=True)
     for line in reversed(lines):
         if line.split(":")[0] in needed:
             needed |= set(line.split(":")[1].split())
@@ -343,7 +343,7 @@ def answered(made):
                 shutil.copytree(ROOT / "crates" / crate, copy / "crates" / crate, ignore=ignored)
         (copy / "crates.txt").write_text("".join(line for line in lines if line.split(":")[0] in needed))
         shutil.copy(ROOT / "HANDLES", copy / "HANDLES")
-        crate = copy / "crates" / "md_standard"
+        crate = copy / "crates" / "md_safe"
         lib = (crate / "proofs" / "Lib.antt").read_text()
 
         def is_proved(cases):

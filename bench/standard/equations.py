@@ -3,7 +3,7 @@
 
     /usr/bin/python3 bench/standard/equations.py [TEXTS] [URLS] [SEED]
 
-Each text and each URL of texts.py becomes an equation of a copy of crates/md_standard, which the prover closes by
+Each text and each URL of texts.py becomes an equation of a copy of crates/md_safe, which the prover closes by
 computing: what the definitions make of it is what html5lib, or node, answers, or None where tokenizer.py is stuck. It
 fails, with status 1, where one is refused, or where it is stuck on a text of the grammar or a page. Texts are kept
 under 80 characters, pages under 300.
@@ -25,11 +25,11 @@ ROOT = pathlib.Path(__file__).parents[2]
 IN_A_FILE = 250
 HEAD = """-- Made by bench/standard/equations.py.
 use Rattle.std.proofs.Common.{◌≡◌, ℕ, true, false, List, [], ◌∷◌, refl, Some, None}
-use Rattle.md_standard.specs.Input.{with_line_feeds}
-use Rattle.md_standard.specs.Token.{TokenAttribute, Doctype, Character, StartTag, EndTag, EndOfFile}
-use Rattle.md_standard.specs.Tokenizer.{Data, run}
-use Rattle.md_standard.specs.Scheme.{scheme_of}
-use Rattle.md_standard.proofs.Steps.{attribute}
+use Rattle.md_safe.specs.Input.{with_line_feeds}
+use Rattle.md_safe.specs.Token.{TokenAttribute, Doctype, Character, StartTag, EndTag, EndOfFile}
+use Rattle.md_safe.specs.Tokenizer.{Data, run}
+use Rattle.md_safe.specs.Scheme.{scheme_of}
+use Rattle.md_safe.proofs.Steps.{attribute}
 """
 
 
@@ -76,15 +76,15 @@ def of_urls(count, random):
 
 
 def copied(folder, equations):
-    """A copy of md_standard and what is below it, with the equations."""
+    """A copy of md_safe and what is below it, with the equations."""
     (folder / "crates").mkdir()
-    for crate in "md_base", "md_text", "md_standard":
+    for crate in "md_base", "md_text", "md_safe":
         shutil.copytree(ROOT / "crates" / crate, folder / "crates" / crate, ignore=shutil.ignore_patterns("out"))
     lines = (ROOT / "crates.txt").read_text().splitlines(keepends=True)
-    kept = [line for line in lines if line.split(":")[0] in ("md_base", "md_text", "md_standard")]
+    kept = [line for line in lines if line.split(":")[0] in ("md_base", "md_text", "md_safe")]
     (folder / "crates.txt").write_text("".join(kept))
     shutil.copy(ROOT / "HANDLES", folder / "HANDLES")
-    proofs = folder / "crates" / "md_standard" / "proofs"
+    proofs = folder / "crates" / "md_safe" / "proofs"
     modules = []
     for start in range(0, len(equations), IN_A_FILE):
         modules.append(f"Equations{start // IN_A_FILE}")
@@ -95,7 +95,7 @@ def copied(folder, equations):
         (proofs / f"{modules[-1]}.antt").write_text(HEAD + "".join(cases))
     with (proofs / "Lib.antt").open("a") as lib:
         lib.writelines(f"pub mod {module}\n" for module in modules)
-    return folder / "crates" / "md_standard"
+    return folder / "crates" / "md_safe"
 
 
 def checked(equations):

@@ -1,4 +1,4 @@
-"""crates/md_standard/specs/Tokenizer.antt and Scheme.antt once more in Python, state by state, written by hand.
+"""crates/md_safe/specs/Tokenizer.antt and Scheme.antt once more in Python, state by state, written by hand.
 
 equations.py ties this to the definitions: what it answers of a text, they compute to.
 """

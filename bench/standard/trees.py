@@ -1,6 +1,6 @@
 """Compares construction.py with html5lib on random forests, in a div, a td, a list's item and a section.
 
-trees.py COUNT SEED: every second forest keeps to the content model of crates/md_standard/specs/Contents.antt without a link in a link, and has
+trees.py COUNT SEED: every second forest keeps to the content model of crates/md_safe/specs/Contents.antt without a link in a link, and has
 to be built as its own tree; the others are changed ones, in which elements may stand anywhere. Every fourth stands
 between two pieces of a template that construction.py doesn't know: html5lib has to build what it builds of the template
 alone, with the forest's own tree where the mark stands in that.

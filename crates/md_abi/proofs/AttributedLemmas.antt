@@ -10,19 +10,19 @@ use Rattle.md_text.proofs.HtmlReading.{one_reading, all-any}
 use Rattle.md_text.specs.declared.options.CompileOptions.{CompileOptions}
 use Rattle.md_tree.specs.Grammar.{Handed}
 use Rattle.md_tree.specs.Refusal.{IsOutside, IsOrder, IsMdx, IsOfNode, IsLost}
-use Rattle.md_standard.specs.Token.{Token, EndOfFile}
-use Rattle.md_standard.specs.Tokens.{tokens}
-use Rattle.md_standard.specs.Tokenizer.{IsTokenized}
-use Rattle.md_standard.specs.Tokenized.{IsTokenizedAsRead}
+use Rattle.md_safe.specs.Token.{Token, EndOfFile}
+use Rattle.md_safe.specs.Tokens.{tokens}
+use Rattle.md_safe.specs.Tokenizer.{IsTokenized}
+use Rattle.md_safe.specs.Tokenized.{IsTokenizedAsRead}
 use Rattle.md_html.specs.Safe.{IsRefusedFor, OfCompile}
 use Rattle.md_html.specs.declared.safe_html.SafeError.{SafeError}
 use Rattle.md_html.specs.declared.safe_html.SafeError.TheVariants as wrong
 use Rattle.md_safe.specs.Options as safe
-use Rattle.md_attributes.specs.Added.{Listed, with_heading_ids, headings_of, shown}
-use Rattle.md_attributes.specs.Attributed.{IsAttributed}
-use Rattle.md_attributes.specs.Ids.{ids_among, none_begins}
-use Rattle.md_attributes.specs.Pieces.{IsWritten}
-use Rattle.md_attributes.proofs.Rules.{attributed}
+use Rattle.md_page.specs.Added.{Listed, with_heading_ids, headings_of, shown}
+use Rattle.md_page.specs.Attributed.{IsAttributed}
+use Rattle.md_page.specs.Ids.{ids_among, none_begins}
+use Rattle.md_page.specs.Pieces.{IsWritten}
+use Rattle.md_page.proofs.Rules.{attributed}
 use Rattle.md_abi.specs.Options.{flag_of, text_of, HasOptions, KeepsImages}
 use Rattle.md_abi.specs.Attributes.{asked, with_rel, listing, StandsForNoAttribute}
 use Rattle.md_abi.specs.Attributed.{IsListedAfter, IsAttributedText}

@@ -2,11 +2,11 @@
 use Rattle.std.specs.Prelude.{◌≡◌, ℕ, ◌≤◌, Bool, true, IsTrue, List, length, take, drop, Option}
 use Rattle.std.specs.Option.{option_map_or}
 use Rattle.md_text.specs.Ids.{are_distinct}
-use Rattle.md_standard.specs.Token.{Token}
-use Rattle.md_standard.specs.Tokenizer.{IsTokenized}
-use Rattle.md_attributes.specs.Added.{shown}
-use Rattle.md_attributes.specs.Attributed.{IsAttributed}
-use Rattle.md_attributes.specs.Ids.{ids_among, none_begins}
+use Rattle.md_safe.specs.Token.{Token}
+use Rattle.md_safe.specs.Tokenizer.{IsTokenized}
+use Rattle.md_page.specs.Added.{shown}
+use Rattle.md_page.specs.Attributed.{IsAttributed}
+use Rattle.md_page.specs.Ids.{ids_among, none_begins}
 use Rattle.md_abi.specs.Options.{KeepsImages}
 use Rattle.md_abi.specs.Rendered.{IsRendered}
 use Rattle.md_abi.specs.Attributes.{asked, with_rel, with_ids, headings_with, listing}

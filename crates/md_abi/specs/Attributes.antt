@@ -3,8 +3,8 @@ use Rattle.std.specs.Prelude.{◌≡◌, ℕ, Bool, false, List, [], ◌∷◌, 
 use Rattle.std.specs.Option.{option_map_or}
 use Rattle.std.specs.List.{flat_map}
 use Rattle.std.specs.Fmt.{decimal}
-use Rattle.md_standard.specs.Token.{Token}
-use Rattle.md_attributes.specs.Added.{Listed, with_link_rel, with_heading_ids, headings_of}
+use Rattle.md_safe.specs.Token.{Token}
+use Rattle.md_page.specs.Added.{Listed, with_link_rel, with_heading_ids, headings_of}
 use Rattle.md_abi.specs.Options.{text_of}
 use Rattle.md_abi.specs.declared.option.CText.{CText}
 use Rattle.md_abi.specs.declared.attributes.CAttributes.{CAttributes}

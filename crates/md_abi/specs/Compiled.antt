@@ -8,11 +8,11 @@ use Rattle.md_safe.specs.Options.{KeepsGrammar, KeepsLinks, KeepsImages, KeepsId
 use Rattle.md_text.specs.Html.{any_attribute, HasOneReadingWith}
 use Rattle.md_text.specs.Safe.{is_safe_link, is_safe_image}
 use Rattle.md_text.specs.Ids.{HasDistinctIds}
-use Rattle.md_standard.specs.SafeTokens.{has_safe_links, has_safe_images}
-use Rattle.md_standard.specs.Tokenized.{HasTokensWith, IsTokenizedAsRead}
-use Rattle.md_standard.specs.Contents.{IsContained}
+use Rattle.md_safe.specs.SafeTokens.{has_safe_links, has_safe_images}
+use Rattle.md_safe.specs.Tokenized.{HasTokensWith, IsTokenizedAsRead}
+use Rattle.md_safe.specs.Contents.{IsContained}
 use Rattle.md_safe.specs.Links.{has_nested_link}
-use Rattle.md_standard.specs.Built.{IsBuiltAsRead}
+use Rattle.md_safe.specs.Built.{IsBuiltAsRead}
 
 -- it is the meaning of the document that the events flatten, and safe where the options are
 pub record IsCompiled (given : Handed) (options : CompileOptions) (text : List ℕ) : Type 0 where

@@ -11,11 +11,11 @@ use Rattle.md_meaning.specs.Meaning.{meaning}
 use Rattle.md_text.specs.Html.{any_attribute, HasOneReadingWith}
 use Rattle.md_text.specs.Safe.{is_safe_link, is_safe_image}
 use Rattle.md_text.specs.Ids.{HasDistinctIds}
-use Rattle.md_standard.specs.SafeTokens.{has_safe_links, has_safe_images}
-use Rattle.md_standard.specs.Tokenized.{HasTokensWith, IsTokenizedAsRead}
-use Rattle.md_standard.specs.Contents.{IsContained}
+use Rattle.md_safe.specs.SafeTokens.{has_safe_links, has_safe_images}
+use Rattle.md_safe.specs.Tokenized.{HasTokensWith, IsTokenizedAsRead}
+use Rattle.md_safe.specs.Contents.{IsContained}
 use Rattle.md_safe.specs.Links.{has_nested_link}
-use Rattle.md_standard.specs.Built.{IsBuiltAsRead}
+use Rattle.md_safe.specs.Built.{IsBuiltAsRead}
 use Rattle.md_script.specs.Run.{IsRefusedAt}
 use Rattle.md_abi.specs.Numbers.{rule_number}
 use Rattle.md_abi.specs.Standing.{StandFor}

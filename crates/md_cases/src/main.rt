@@ -1,5 +1,5 @@
-//! Runs the worked cases that come on standard input, and writes what each answers; then makes the calls of
-//! `md_failure_cases`.
+//! Runs the worked cases that come on standard input, and writes what each answers; then makes calls
+//! whose memory, reads and writes fail (`failing`), and tries hostile events (`hostile`).
 //!
 //! Where the first word of standard input isn't `worked`, it says which of those calls are made, and nothing else is
 //! read: so no memory is taken before them. Where there is no word nothing is asked, which is an error.
@@ -10,13 +10,14 @@
 
 mod answers;
 mod compiling;
+mod failing;
+mod hostile;
 mod parts;
 mod reading;
 
 use answers::answer;
-use md_failure_cases::ask_each;
 use md_script::{ServeError, read_input};
-use std::io::Read;
+use std::io::{self, Read};
 use std::process::ExitCode;
 
 /// How a case begins.
@@ -59,8 +60,21 @@ fn main(rt: HostRuntime) -> ExitCode {
 fn ask<R: Input + Print + AllocGlobal>(rt: &R, word: &[u8]) -> Result<(), ServeError> {
     if word.starts_with(b"worked") {
         answer_cases(rt)?;
+        make_each(rt, word)?;
+        told(hostile::ask_each(rt))
+    } else {
+        make_each(rt, word)
     }
-    match ask_each(rt, word) {
+}
+
+/// Makes the calls that a word asks for.
+fn make_each<R: Print + AllocGlobal>(rt: &R, word: &[u8]) -> Result<(), ServeError> {
+    told(failing::ask_each(rt, word))
+}
+
+/// What became of writing, as a program ends with it.
+fn told(written: io::Result<()>) -> Result<(), ServeError> {
+    match written {
         Ok(()) => Ok(()),
         Err(_) => Err(ServeError::Output),
     }

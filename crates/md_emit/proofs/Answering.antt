@@ -4,8 +4,8 @@ use Rattle.std.specs.Prelude.{Result, Ok, Err, OnOk, IfOk}
 use Rattle.md_base.specs.declared.event.Name.{Name}
 use Rattle.md_meaning.specs.Meaning.At.{Given}
 use Rattle.md_told.specs.Told.{IsNoticedAt}
-use Rattle.md_writer.specs.Run.{Noticed}
-use Rattle.md_writer.specs.Steps.{State, entered, exited}
+use Rattle.md_shape.specs.Run.{Noticed}
+use Rattle.md_shape.specs.Steps.{State, entered, exited}
 use Rattle.md_emit.specs.declared.given.Given.{Given as Supplied}
 use Rattle.md_emit.specs.Supplies.{Supplies, Enters, Leaves}
 

@@ -5,8 +5,8 @@ use Rattle.md_base.specs.declared.event.Name.TheVariants.{Data, LineEnding, Spac
 use Rattle.md_base.specs.Reference.{name_table}
 use Rattle.md_meaning.specs.Meaning.At.{Given, Target}
 use Rattle.md_meaning.specs.Meaning.Media.{target_defined}
-use Rattle.md_writer.specs.Steps.{State, entered, exited, nowhere}
-use Rattle.md_writer.specs.Run.{Noticed}
+use Rattle.md_shape.specs.Steps.{State, entered, exited, nowhere}
+use Rattle.md_shape.specs.Run.{Noticed}
 use Rattle.md_told.specs.Told.{IsNoticedAt}
 use Rattle.md_told.specs.Definitions.{IsLedTo}
 use Rattle.md_emit.specs.declared.given.Given.{Given as Supplied}

@@ -4,7 +4,7 @@ ghost use Rattle.std.specs.Prelude.{◌≡◌, ◌<◌, [], IfOk, true, length, 
 ghost use Rattle.md_meaning.specs.Meaning.At as At;
 ghost use Rattle.md_meaning.specs.Meaning.Layout.{laid_after};
 ghost use Rattle.md_meaning.specs.Meaning.Footnotes.{section};
-ghost use Rattle.md_writer.specs.Steps as steps;
+ghost use Rattle.md_shape.specs.Steps as steps;
 
 use crate::around::OUTSIDE;
 use crate::printer::Printer;

@@ -2,7 +2,7 @@
 
 ghost use Rattle.std.specs.Prelude.{◌≡◌, IfOk, true, false};
 ghost use Rattle.md_tree.specs.Texts.{EntersAt, ExitsAt};
-ghost use Rattle.md_writer.specs.Run.{Noticed};
+ghost use Rattle.md_shape.specs.Run.{Noticed};
 ghost use Rattle.md_told.specs.Told.{IsNoticedAt};
 ghost use Rattle.md_emit.specs.Supplies.{Leaves, is_alone};
 

@@ -13,8 +13,8 @@ ghost use Rattle.md_meaning.specs.Meaning.Spans.{trimmed, without_escapes, marke
 ghost use Rattle.md_meaning.specs.Meaning.Tables.{cell_of};
 ghost use Rattle.md_text.specs.Encode.{encoded};
 ghost use Rattle.md_tree.specs.Texts.{ExitsAt};
-ghost use Rattle.md_writer.specs.Steps as steps;
-ghost use Rattle.md_writer.specs.Run.{Noticed};
+ghost use Rattle.md_shape.specs.Steps as steps;
+ghost use Rattle.md_shape.specs.Run.{Noticed};
 ghost use Rattle.md_emit.specs.Supplies.{Leaves, Supplies};
 ghost use Rattle.md_told.specs.Told.{IsNoticedAt};
 ghost use Rattle.md_emit.specs.Parts as parts;

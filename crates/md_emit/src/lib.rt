@@ -1,4 +1,4 @@
-//! The printer's state, and what is done to it at each event, by the steps of `md_writer`.
+//! The printer's state, and what is done to it at each event, by the steps of `md_shape`.
 #![tactic(auto)]
 
 mod around;

@@ -2,7 +2,7 @@
 
 ghost use Rattle.std.specs.Prelude.{◌≡◌, ◌++◌, OnOk, List, ℕ, option_copied, if◌then◌else◌, unwrap_or, Some, None};
 ghost use Rattle.md_meaning.specs.Meaning.Media.{href, src};
-ghost use Rattle.md_writer.specs.Steps.{nowhere};
+ghost use Rattle.md_shape.specs.Steps.{nowhere};
 ghost use Rattle.md_emit.specs.Heads.{anchor_head, picture_head, picture_tail, title_text};
 
 use crate::target::Target;

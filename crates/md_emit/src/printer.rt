@@ -5,7 +5,7 @@ ghost use Rattle.md_meaning.specs.Meaning.Layout.{Needed, Forced, laid_after, sa
 ghost use Rattle.md_meaning.specs.Meaning.Spans.{marker};
 ghost use Rattle.md_base.specs.NameTests.{is_transparent};
 ghost use Rattle.md_text.specs.Encode.{encoded};
-ghost use Rattle.md_writer.specs.Steps as steps;
+ghost use Rattle.md_shape.specs.Steps as steps;
 ghost use Rattle.md_emit.specs.View.{around_of};
 
 use crate::around::{Around, OUTSIDE};
@@ -49,7 +49,7 @@ pub struct Printer<'a> {
 
 impl<'a> Model for Printer<'a> {
     ghost use Rattle.std.specs.Prelude.{map, reverse, string_bytes, Some, None, if◌then◌else◌};
-    ghost use Rattle.md_writer.specs.Steps as steps;
+    ghost use Rattle.md_shape.specs.Steps as steps;
     ghost use Rattle.md_emit.specs.View.{around_of};
 
     ghost Value = { steps.State };

@@ -1,7 +1,7 @@
 //! Where a link or an image leads, as it is kept.
 
 ghost use Rattle.std.specs.Prelude.{◌≡◌, IfOk, option_copied};
-ghost use Rattle.md_writer.specs.Steps.{nowhere};
+ghost use Rattle.md_shape.specs.Steps.{nowhere};
 
 use crate::media::Lead;
 use std::alloc::{AllocError, Global};

@@ -4,7 +4,7 @@ ghost use Rattle.std.specs.Prelude.{◌≡◌};
 ghost use Rattle.md_base.specs.declared.event.Name.TheVariants as name;
 ghost use Rattle.md_tree.specs.Texts.{EntersAt};
 ghost use Rattle.md_told.specs.Told.{IsNoticedAt};
-ghost use Rattle.md_writer.specs.Run.{Noticed};
+ghost use Rattle.md_shape.specs.Run.{Noticed};
 
 use md_base::AlignKind;
 use md_tree::Checked;

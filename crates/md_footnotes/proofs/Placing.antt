@@ -10,7 +10,7 @@ use Rattle.std.proofs.lemmas.List.{map-append, length-append}
 use Rattle.std.proofs.lemmas.Map.Text.{btree_map_updates_text}
 use Rattle.std.proofs.lemmas.Slice.Eq.{bytes_eq-Decides}
 use Rattle.md_meaning.specs.Meaning.Footnotes.{count_of}
-use Rattle.md_writer.specs.Steps.{noted}
+use Rattle.md_shape.specs.Steps.{noted}
 use Rattle.md_footnotes.specs.Entries.{Counted, tally, counts_in, footnotes_in, identifier_in, calls_in, AreBelow, again, place_in, FindsPlaces, count_in}
 use Rattle.md_footnotes.specs.Words.{text_of}
 use Rattle.md_footnotes.proofs.Tally.{counted, counted-tally}

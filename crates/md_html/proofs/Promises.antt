@@ -18,12 +18,12 @@ use Rattle.md_safe.specs.Links.{has_nested_link}
 use Rattle.md_safe.specs.Options.{KeepsGrammar, KeepsLinks, KeepsImages, KeepsIds}
 use Rattle.md_safe.proofs.Whole.{one-reading, safe-links, safe-images, distinct-ids}
 use Rattle.md_safe.proofs.ContainedWhole.{meaning-contained, meaning-unnested}
-use Rattle.md_standard.specs.Built.{IsBuiltAsRead}
-use Rattle.md_standard.specs.Contents.{IsContained, IsUnnested}
-use Rattle.md_standard.specs.SafeTokens.{has_safe_links, has_safe_images}
-use Rattle.md_standard.specs.Tokenized.{HasTokensWith, IsTokenizedAsRead}
-use Rattle.md_standard.proofs.Tokenized.{read-tokenized, link-tokens, image-tokens}
-use Rattle.md_standard.proofs.WholeTrees.{text-built}
+use Rattle.md_safe.specs.Built.{IsBuiltAsRead}
+use Rattle.md_safe.specs.Contents.{IsContained, IsUnnested}
+use Rattle.md_safe.specs.SafeTokens.{has_safe_links, has_safe_images}
+use Rattle.md_safe.specs.Tokenized.{HasTokensWith, IsTokenizedAsRead}
+use Rattle.md_safe.proofs.Tokenized.{read-tokenized, link-tokens, image-tokens}
+use Rattle.md_safe.proofs.WholeTrees.{text-built}
 
 -- what is promised of a text
 pub record Promises (options : CompileOptions) (given : Handed) (text : List ℕ) : Type 0 where

@@ -10,7 +10,7 @@ use Rattle.md_text.specs.Encode.{encoded}
 use Rattle.md_text.specs.Filter.{tag_filtered}
 use Rattle.md_base.specs.Tree.{Forest, Empty, Node}
 use Rattle.md_base.specs.Children.{is_empty}
-use Rattle.md_infer.specs.Looseness.{is_loose}
+use Rattle.md_pattern.specs.Looseness.{is_loose}
 use Rattle.md_text.specs.declared.options.CompileOptions.{CompileOptions}
 use Rattle.md_meaning.specs.declared.context.Surroundings.{Surroundings}
 use Rattle.md_meaning.specs.Meaning.Around.{inside, outermost}

@@ -9,3 +9,9 @@ pub mod Lengths
 pub mod Within
 pub mod SafeWithin
 pub mod Counting
+-- The events between two indices, what is done at one of them, and the text of all: only contracts of private functions
+-- speak of these.
+pub mod Windows
+pub mod Fits
+pub mod Stepping
+pub mod Printed

@@ -5,7 +5,7 @@ use Rattle.md_text.specs.Safe.{is_safe_link, is_safe_image}
 use Rattle.md_tree.specs.declared.rule.CompileError.{CompileError}
 use Rattle.md_tree.specs.Names.{message_of}
 use Rattle.md_text.specs.declared.options.CompileOptions.{CompileOptions}
-use Rattle.md_standard.specs.Contents.{IsContained}
+use Rattle.md_safe.specs.Contents.{IsContained}
 use Rattle.md_safe.specs.Options.{KeepsImages}
 use Rattle.md_html.specs.declared.safe_html.SafeError.{SafeError}
 use Rattle.md_html.specs.declared.safe_html.SafeError.TheVariants.{Options, Compile}

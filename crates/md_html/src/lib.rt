@@ -2,7 +2,12 @@
 #![tactic(auto)]
 
 mod compiler;
+mod definitions;
+mod ending;
 pub mod laws;
+mod rendering;
+mod rendering_within;
+mod running;
 mod safe_html;
 mod unnested;
 mod within;

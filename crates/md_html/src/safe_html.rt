@@ -6,12 +6,12 @@ ghost use Rattle.md_base.specs.Tree.{Forest, flatten};
 ghost use Rattle.md_tree.specs.Grammar.{IsChecked, handed};
 ghost use Rattle.md_tree.specs.Refusal.{IsOutside, IsOrder, IsMdx, IsOfNode, IsLost};
 ghost use Rattle.md_meaning.specs.Meaning.{meaning};
-ghost use Rattle.md_standard.specs.Contents.{IsContained};
+ghost use Rattle.md_safe.specs.Contents.{IsContained};
 ghost use Rattle.md_safe.specs.Links.{has_nested_link};
-ghost use Rattle.md_standard.specs.Built.{IsBuiltAsRead};
+ghost use Rattle.md_safe.specs.Built.{IsBuiltAsRead};
 ghost use Rattle.md_safe.specs.Options.{KeepsImages};
 ghost use Rattle.md_text.specs.Ids.{HasDistinctIds};
-ghost use Rattle.md_standard.specs.Tokenized.{IsSafelyTokenized};
+ghost use Rattle.md_safe.specs.Tokenized.{IsSafelyTokenized};
 ghost use Rattle.md_html.specs.Safe.{IsRefusedFor, OfCompile};
 
 use crate::compiler::compile;
@@ -45,7 +45,7 @@ impl Model for SafeHtml {
 
 impl SafeHtml {
     ghost use Rattle.md_html.specs.Safe.{IsSafe};
-    ghost use Rattle.md_standard.specs.Tokenized.{IsSafelyTokenized};
+    ghost use Rattle.md_safe.specs.Tokenized.{IsSafelyTokenized};
     ghost use Rattle.std.specs.Prelude.{◌≡◌, string_bytes};
 
     /// A text that is safe.

@@ -8,16 +8,16 @@ use Rattle.md_text.specs.References.{is_escaped, read_back}
 use Rattle.md_text.specs.Html.{Forest, Empty, Text, written, all_attributes}
 use Rattle.md_text.specs.Safe.{is_safe_image}
 use Rattle.md_text.proofs.EncodeLaws.{is_escaped-encoded, read_back-encoded}
-use Rattle.md_standard.specs.Input.{with_line_feeds}
-use Rattle.md_standard.specs.Tokens.{seen}
-use Rattle.md_standard.specs.Tokenizer.{IsTokenized}
-use Rattle.md_standard.specs.PageTokens.{page_tokens, IsTokenizedPage}
-use Rattle.md_standard.proofs.PageRuns.{page-tokenized}
-use Rattle.md_standard.proofs.Schemes.{seen-is}
-use Rattle.md_standard.specs.Built.{IsBuiltAsRead}
-use Rattle.md_standard.specs.Page.{IsBuiltPage}
-use Rattle.md_standard.proofs.TreeSteps.{is_character, seen-characters}
-use Rattle.md_standard.proofs.Pages.{text-page-built}
+use Rattle.md_safe.specs.Input.{with_line_feeds}
+use Rattle.md_safe.specs.Tokens.{seen}
+use Rattle.md_safe.specs.Tokenizer.{IsTokenized}
+use Rattle.md_safe.specs.PageTokens.{page_tokens, IsTokenizedPage}
+use Rattle.md_safe.proofs.PageRuns.{page-tokenized}
+use Rattle.md_safe.proofs.Schemes.{seen-is}
+use Rattle.md_safe.specs.Built.{IsBuiltAsRead}
+use Rattle.md_safe.specs.Page.{IsBuiltPage}
+use Rattle.md_safe.proofs.TreeSteps.{is_character, seen-characters}
+use Rattle.md_safe.proofs.Pages.{text-page-built}
 use Rattle.md_html.specs.Safe.{IsSafe}
 use Rattle.md_page.specs.Page.{is_title, IsPage, IsPageOf, page_text}
 use Rattle.md_page.proofs.Pages.{before_title, before_body, after_body, page_written, one_page}

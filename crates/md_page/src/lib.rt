@@ -1,16 +1,30 @@
-//! A whole page around a text of the HTML grammar that is safe.
+//! What is made of a safe text: attributes that are added to its tags, and a whole page around it.
 #![tactic(auto)]
+
+mod around;
+mod headings;
+mod html;
+mod ids;
+mod rel;
+mod scan;
+#[cfg(test)]
+mod tests;
 
 ghost use Rattle.std.specs.Prelude.{◌≡◌, false, IfOk, string_bytes};
 ghost use Rattle.md_text.specs.Encode.{encoded};
-ghost use Rattle.md_standard.specs.Input.{with_line_feeds};
-ghost use Rattle.md_standard.specs.PageTokens.{IsTokenizedPage};
-ghost use Rattle.md_standard.specs.Built.{IsBuiltAsRead};
-ghost use Rattle.md_standard.specs.Page.{IsBuiltPage};
+ghost use Rattle.md_safe.specs.Input.{with_line_feeds};
+ghost use Rattle.md_safe.specs.PageTokens.{IsTokenizedPage};
+ghost use Rattle.md_safe.specs.Built.{IsBuiltAsRead};
+ghost use Rattle.md_safe.specs.Page.{IsBuiltPage};
 ghost use Rattle.md_page.specs.Page.{IsPageOf, page_text};
 
+pub use around::page_around;
+pub use headings::Heading;
+pub use html::{AttributedHtml, Html};
+pub use ids::{WithHeadingIds, with_heading_ids};
 use md_html::SafeHtml;
 use md_text::encode;
+pub use rel::with_link_rel;
 use std::alloc::{AllocError, Global};
 
 /// A whole page: `title`, escaped, in its head, and `body` as it is.

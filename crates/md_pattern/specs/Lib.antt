@@ -6,3 +6,14 @@ pub mod Spine
 pub mod Shape
 pub mod Steps
 pub mod Places
+-- What is inferred of a node. `Looseness`, `Alignments`, `Partners` and `Ending` are as the rules say it; `Told`,
+-- `Columns`, `Seeking` and `Facts` event by event, as the pass finds it.
+pub mod Looseness
+pub mod Blanks
+pub mod Alignments
+pub mod Told
+pub mod Columns
+pub mod Seeking
+pub mod Ending
+pub mod Facts
+pub mod Partners

@@ -32,7 +32,7 @@ use Rattle.md_safe.proofs.Tags.{flat as flattened}
 use Rattle.md_safe.proofs.Elements.{IsInfo, IsRaw, code_tag, math_tag, code_closing}
 use Rattle.md_safe.proofs.BlockNodes.{setext-fits, chunk-escaped}
 use Rattle.md_safe.proofs.CountedForest.{Document, read_in}
-use Rattle.md_standard.specs.Contents.{Content, Flow, Phrasing, Linked, Items, Parts, Rows, Cells, Preformatted, Characters, held_in}
+use Rattle.md_safe.specs.Contents.{Content, Flow, Phrasing, Linked, Items, Parts, Rows, Cells, Preformatted, Characters, held_in}
 use Rattle.md_safe.specs.Placed.{Block, sort_of, is_inner, may_stand}
 use Rattle.md_safe.proofs.Linking.{is_spans, with_links}
 use Rattle.md_safe.proofs.Stands.{Stands, stands-join, stands-nothing, stands-text, stands-void, stands-tag, stands-white, Turns, turns-tag, turns-plain, turns-two, IsWhite, is_spaced, line_ends-white}

@@ -10,7 +10,7 @@ use Rattle.md_base.specs.Is.{is as named}
 use Rattle.md_base.specs.Tree.{Forest, Empty, Node}
 use Rattle.md_base.specs.NameTests.{is_transparent}
 use Rattle.md_base.specs.Children.{is_empty, or_else}
-use Rattle.md_infer.specs.Looseness.{is_loose}
+use Rattle.md_pattern.specs.Looseness.{is_loose}
 use Rattle.md_text.specs.declared.options.CompileOptions.{CompileOptions}
 use Rattle.md_tree.specs.Rules.{place}
 use Rattle.md_meaning.specs.declared.context.Surroundings.{Surroundings}
@@ -27,7 +27,7 @@ use Rattle.md_safe.proofs.Nodes.{not_part}
 use Rattle.md_safe.proofs.Forests.{Ready, AreFound, ready-inside, ready-after, inside-means, found-at}
 use Rattle.md_safe.proofs.Forests.{Means as SafeMeans, means as safe-means}
 use Rattle.md_safe.proofs.CountedForest.{Document, read_in, no_footnotes}
-use Rattle.md_standard.specs.Contents.{Content, Flow, Phrasing}
+use Rattle.md_safe.specs.Contents.{Content, Flow, Phrasing}
 use Rattle.md_safe.specs.Links.{has_nested_link}
 use Rattle.md_safe.specs.Placed.{Block, sort_of, IsPlaced}
 use Rattle.md_safe.specs.Placed.{may_stand as may_place}

@@ -20,7 +20,7 @@ use Rattle.md_safe.proofs.Tags.{flat as flattened}
 use Rattle.md_safe.proofs.Media.{id-escaped, call_id-escaped, label-escaped}
 use Rattle.md_safe.proofs.Section.{tag_of, attributes_of, heading_label_of, heading_text, rest-ends, text_among, section_end, li_id}
 use Rattle.md_safe.proofs.CountedForest.{Document}
-use Rattle.md_standard.specs.Contents.{Flow, Phrasing, Linked, Items}
+use Rattle.md_safe.specs.Contents.{Flow, Phrasing, Linked, Items}
 use Rattle.md_safe.proofs.Stands.{Stands, stands-join, stands-nothing, stands-tag, stands-wider, Turns, turns-tag, turns-plain, IsWhite}
 use Rattle.md_safe.proofs.ContainedLaid.{lays-white, lays-nothing, lays-both, lays-turned, IsSpaced, spaced, spaced-needed, spaced-forced, white-nil, white-needed, white-forced}
 use Rattle.md_safe.proofs.Linking.{in_link}

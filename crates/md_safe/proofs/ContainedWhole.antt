@@ -23,7 +23,7 @@ use Rattle.md_safe.proofs.Laid.{adds-alone}
 use Rattle.md_safe.proofs.CountedForest.{Document, read_in}
 use Rattle.md_safe.proofs.Whole.{IsEnding, first-is_ending, outermost-ready, prepared, reads-whole}
 use Rattle.md_base.proofs.Lies.{lie}
-use Rattle.md_standard.specs.Contents.{Flow, Phrasing, IsContained, IsUnnested}
+use Rattle.md_safe.specs.Contents.{Flow, Phrasing, IsContained, IsUnnested}
 use Rattle.md_safe.specs.Links.{has_nested_link}
 use Rattle.md_safe.specs.Placed.{IsPlaced}
 use Rattle.md_safe.proofs.Placing.{shaped-placed}

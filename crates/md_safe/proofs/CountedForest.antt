@@ -12,7 +12,7 @@ use Rattle.md_base.specs.Is.{is as named}
 use Rattle.md_base.specs.Tree.{Forest, Empty, Node}
 use Rattle.md_base.specs.NameTests.{is_transparent, is_call}
 use Rattle.md_base.specs.Children.{is_empty, or_else, spine_names}
-use Rattle.md_infer.specs.Looseness.{is_loose}
+use Rattle.md_pattern.specs.Looseness.{is_loose}
 use Rattle.md_text.specs.Html.{any_attribute}
 use Rattle.md_text.specs.References.{read_back}
 use Rattle.md_text.proofs.HtmlJoin.{nothing}

@@ -10,7 +10,7 @@ use Rattle.md_base.specs.Is.{is as named}
 use Rattle.md_base.specs.Tree.{Forest, Empty, Node}
 use Rattle.md_base.specs.NameTests.{is_transparent}
 use Rattle.md_base.specs.Children.{is_empty, or_else}
-use Rattle.md_infer.specs.Looseness.{is_loose}
+use Rattle.md_pattern.specs.Looseness.{is_loose}
 use Rattle.md_text.specs.declared.options.CompileOptions.{CompileOptions}
 use Rattle.md_tree.specs.Rules.{place}
 use Rattle.md_meaning.specs.declared.context.Surroundings.{Surroundings}

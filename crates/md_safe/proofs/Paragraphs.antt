@@ -6,7 +6,7 @@ use Rattle.md_text.specs.Bytes.{is_one_of}
 use Rattle.md_text.specs.Laws.{is_line_ends}
 use Rattle.md_text.specs.Html.{Attribute, Forest, Empty, Text, Void, Element, is_forest, is_tag, elements, void_tags, written, written_attributes, opening_tag, closing_tag}
 use Rattle.md_text.proofs.HtmlPut.{IsMade, made-before}
-use Rattle.md_standard.specs.Contents.{Content, Flow, Phrasing, held_in, voids_in, is_contained}
+use Rattle.md_safe.specs.Contents.{Content, Flow, Phrasing, held_in, voids_in, is_contained}
 use Rattle.md_safe.proofs.Stands.{Stands, stands-join, stands-nothing, stands-text, turns-tag, is_held}
 
 -- a forest with an element among its roots, after the children of which a text is inserted

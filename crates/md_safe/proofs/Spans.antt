@@ -32,7 +32,7 @@ use Rattle.md_safe.proofs.StringNodes.{line_ending-escaped}
 use Rattle.md_safe.proofs.SpanNodes.{html-escaped}
 use Rattle.md_safe.proofs.BlockNodes.{is_hidden, is_silent, chunk-escaped, when-needed}
 use Rattle.md_safe.proofs.CountedForest.{Document, read_in}
-use Rattle.md_standard.specs.Contents.{Content, Phrasing, Linked, Characters, voids_in}
+use Rattle.md_safe.specs.Contents.{Content, Phrasing, Linked, Characters, voids_in}
 use Rattle.md_safe.specs.Links.{prints_link}
 use Rattle.md_safe.specs.Placed.{place_of}
 use Rattle.md_safe.proofs.Linking.{is_linked, is_spans, without_links, in_link, place_in, place-other}

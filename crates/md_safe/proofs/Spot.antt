@@ -8,7 +8,7 @@ use Rattle.md_text.specs.Html.{Attribute}
 use Rattle.md_text.specs.Encode.{encoded}
 use Rattle.md_text.proofs.EncodeLaws.{is_escaped-encoded}
 use Rattle.md_text.proofs.HtmlJoin.{text}
-use Rattle.md_infer.specs.Looseness.{is_loose}
+use Rattle.md_pattern.specs.Looseness.{is_loose}
 use Rattle.md_meaning.specs.Meaning.Around.{inside}
 use Rattle.md_meaning.specs.Meaning.At.{Target, Defined, Given, At, nothing_found, target_in, identifier_of}
 use Rattle.md_meaning.specs.Meaning.Layout.{Piece}

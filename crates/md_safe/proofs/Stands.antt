@@ -14,7 +14,7 @@ use Rattle.md_text.proofs.HtmlJoin.{text_before, joined, after_forest, opening-b
 use Rattle.md_text.proofs.HtmlReading.{only_reading, all-any}
 use Rattle.md_text.proofs.HtmlWriting.{attributes_before, written_attributes-before}
 use Rattle.md_safe.proofs.Texts.{Escaped, line_ends-escaped}
-use Rattle.md_standard.specs.Contents.{Content, Flow, Phrasing, Linked, Items, Parts, Rows, Cells, Preformatted, Characters, span_elements, block_elements, held_in, voids_in, is_space, may_say, is_contained, IsContainedAs}
+use Rattle.md_safe.specs.Contents.{Content, Flow, Phrasing, Linked, Items, Parts, Rows, Cells, Preformatted, Characters, span_elements, block_elements, held_in, voids_in, is_space, may_say, is_contained, IsContainedAs}
 
 -- a text has a reading in which everything stands where it may
 pub record Stands (nested : Bool) (content : Content) (x : List ℕ) : Type 0 where

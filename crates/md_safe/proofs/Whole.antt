@@ -27,7 +27,7 @@ use Rattle.std.proofs.lemmas.List.{length-append}
 use Rattle.md_base.specs.Is.{is as named}
 use Rattle.md_base.specs.Tree.{Forest, Empty, Node, flatten, exiting}
 use Rattle.md_base.specs.Children.{or_else, is_empty}
-use Rattle.md_infer.specs.Looseness.{is_loose}
+use Rattle.md_pattern.specs.Looseness.{is_loose}
 use Rattle.md_text.specs.Ids.{ids, HasDistinctIds}
 use Rattle.md_text.proofs.HtmlIds.{occurs, counted-once}
 use Rattle.md_shape.specs.Underlined.{IsUnderlined}

@@ -5,7 +5,7 @@ use Rattle.md_base.specs.declared.event.Name.{Name}
 use Rattle.md_base.specs.declared.event.Name.TheVariants.{LineEnding, BlankLineEnding, BlockQuote, ListOrdered, ListUnordered, ListItem, GfmFootnoteDefinition, CodeIndented, CodeFenced, CodeFlowChunk, MathFlow, HtmlFlow, Definition, HeadingAtx, HeadingSetextText, HeadingSetextUnderlineSequence, GfmTable, GfmTableHead, GfmTableBody, GfmTableRow, GfmTableCell, GfmTableDelimiterRow, Paragraph, ThematicBreak, Frontmatter}
 use Rattle.md_base.specs.Tree.{Forest, Empty, Node}
 use Rattle.md_base.specs.NameTests.{is_transparent}
-use Rattle.md_standard.specs.Contents.{Content, Flow, Phrasing, Linked, Items, Parts, Rows, Cells, Preformatted, Characters}
+use Rattle.md_safe.specs.Contents.{Content, Flow, Phrasing, Linked, Items, Parts, Rows, Cells, Preformatted, Characters}
 
 -- what a name is to the node around it: a block, an item, a table's part, a row, a cell, a line ending, a line of code,
 -- the row of delimiters, or anything else

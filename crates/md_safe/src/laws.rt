@@ -14,7 +14,7 @@ ghost use Rattle.md_shape.specs.Built.{Blocks, IsBuilt};
 ghost use Rattle.md_safe.specs.Options.{KeepsGrammar, KeepsLinks, KeepsImages, KeepsIds};
 ghost use Rattle.md_safe.specs.Apart.{prefix_of, ShareNoId};
 ghost use Rattle.md_safe.specs.Links.{has_nested_link};
-ghost use Rattle.md_standard.specs.Contents.{IsContained, IsUnnested};
+ghost use Rattle.md_safe.specs.Contents.{IsContained, IsUnnested};
 
 /// A document that is built of what may stand where it is means a text of the HTML grammar with exactly one
 /// reading, where the options write nothing as it is given; and in that reading each link, and each image, has

@@ -9,14 +9,14 @@ use Rattle.std.proofs.lemmas.List.{append_assoc, append-nil, length-append, leng
 use Rattle.std.proofs.lemmas.List.Splits.{join_with_byte-slice_split}
 use Rattle.std.proofs.lemmas.Slice.Eq.{bytes_eq-Decides}
 use Rattle.md_base.specs.declared.event.Event.{Event}
-use Rattle.md_line.specs.Line.{lines_of, event_of}
+use Rattle.md_script.specs.Line.{lines_of, event_of}
 use Rattle.md_script.specs.Script.{end_line, is_readable_after, ReadsAfter, StandsFor, StopsAfter, IsFirstUnreadable}
 use Rattle.md_script.specs.Script.{Explains}
-use Rattle.md_line.specs.PlainLine.{BeginsWithEvent}
+use Rattle.md_script.specs.PlainLine.{BeginsWithEvent}
 use Rattle.md_script.specs.declared.error.RunError.TheVariants.{Line}
 use Rattle.md_text.specs.declared.options.CompileOptions.{CompileOptions}
-use Rattle.md_line.specs.Setting.{is_setting, option_name, is_new, HasOptions}
-use Rattle.md_line.proofs.SettingLemmas.{is_marked, setting_is_marked, event_is_unmarked, new_by_marked, options_by_marked}
+use Rattle.md_script.specs.Setting.{is_setting, option_name, is_new, HasOptions}
+use Rattle.md_script.proofs.SettingLemmas.{is_marked, setting_is_marked, event_is_unmarked, new_by_marked, options_by_marked}
 
 -- what is known while lines are read: those seen, and what the reader holds
 pub record Progress (input : List ℕ) (number : ℕ) (events : List Event) (settings : List (List ℕ))

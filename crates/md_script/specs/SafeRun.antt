@@ -9,11 +9,11 @@ use Rattle.md_tree.specs.Refusal.{IsRefusal}
 use Rattle.md_meaning.specs.Meaning.{meaning}
 use Rattle.md_text.specs.declared.options.CompileOptions.{CompileOptions}
 use Rattle.md_text.specs.Ids.{HasDistinctIds}
-use Rattle.md_standard.specs.Tokenized.{IsSafelyTokenized}
+use Rattle.md_safe.specs.Tokenized.{IsSafelyTokenized}
 use Rattle.md_safe.specs.Options.{KeepsImages}
-use Rattle.md_standard.specs.Contents.{IsContained}
+use Rattle.md_safe.specs.Contents.{IsContained}
 use Rattle.md_safe.specs.Links.{has_nested_link}
-use Rattle.md_standard.specs.Built.{IsBuiltAsRead}
+use Rattle.md_safe.specs.Built.{IsBuiltAsRead}
 use Rattle.md_html.specs.declared.safe_html.SafeError.{SafeError}
 use Rattle.md_html.specs.declared.safe_html.SafeError.TheVariants as safe
 use Rattle.md_script.specs.declared.error.SafeRunError.{SafeRunError}

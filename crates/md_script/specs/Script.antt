@@ -4,8 +4,8 @@ use Rattle.std.specs.List.{join_with_byte}
 use Rattle.md_base.specs.declared.event.Event as event
 use Rattle.md_script.specs.declared.error.RunError.{RunError}
 use Rattle.md_script.specs.declared.error.RunError.TheVariants.{Memory, Line, Event}
-use Rattle.md_line.specs.Line.{lines_of, event_of}
-use Rattle.md_line.specs.Setting.{is_setting, option_name, is_new, HasOptions}
+use Rattle.md_script.specs.Line.{lines_of, event_of}
+use Rattle.md_script.specs.Setting.{is_setting, option_name, is_new, HasOptions}
 use Rattle.md_text.specs.declared.options.CompileOptions.{CompileOptions}
 
 -- the line that ends a script

@@ -1,11 +1,21 @@
-//! Reads and compiles event scripts.
+//! Reads and compiles event scripts: their lines, events, short forms and settings, and what a
+//! program does with them.
 #![tactic(auto)]
 
+mod common_name;
+mod digits;
 mod error;
+mod line;
+mod name;
+mod number;
+mod plain_line;
 mod running;
 mod running_within;
 mod script;
 mod serving;
+mod setting;
+mod split;
+mod table;
 
 pub use error::{RunError, SafeRunError};
 pub use md_html::Limits;

@@ -2,18 +2,18 @@
 
 ghost use Rattle.std.specs.Prelude.{◌≡◌, bytes_eq, ◌+◌, ◌<◌, vec_len, ◌&&◌, ◌||◌, [], ◌∷◌, ◌++◌, true, if◌then◌else◌, is_some, option_to_list, length, MatchOption, IfOk, OnOk, IfErr};
 ghost use Rattle.std.specs.Vec.{vec_capacity};
-ghost use Rattle.md_line.specs.Line.{lines_of, event_of};
-ghost use Rattle.md_line.specs.Setting.{texts_of, is_setting, option_name, is_new};
+ghost use Rattle.md_script.specs.Line.{lines_of, event_of};
+ghost use Rattle.md_script.specs.Setting.{texts_of, is_setting, option_name, is_new};
 ghost use Rattle.md_script.specs.Script.{Explains};
 ghost use Rattle.md_script.specs.Script.{end_line, StandsFor};
 
 use crate::error::RunError;
+use crate::line::read_event;
+use crate::plain_line::{read_common_line, read_plain_line};
+use crate::setting::{is_new, is_setting, options_given};
+use crate::split::split_at_first;
 use md_base::Event;
 use md_html::CompileOptions;
-use md_line::{
-    is_new, is_setting, options_given, read_common_line, read_event, read_plain_line,
-    split_at_first,
-};
 use std::alloc::{AllocError, Global};
 use std::simd::prelude::*;
 

@@ -13,3 +13,18 @@ pub mod Decoding
 pub mod Fitting
 pub mod Grammatical
 pub mod Underlines
+-- Lemmas; other crates use those on pieces that are laid in parts.
+mod ContentSymbols
+mod ContentFits
+mod Past
+pub mod Laid
+mod Places
+mod Sides
+mod Standing
+mod Noted
+mod Inside
+mod Leaving
+mod Quiet
+mod Runs
+mod Defined
+mod Whole

@@ -5,7 +5,7 @@ use Rattle.std.specs.Prelude.{map, if◌then◌else◌, ◌&&◌}
 use Rattle.std.proofs.lemmas.List.{map-append}
 use Rattle.md_base.specs.Tree.{Forest, Empty, Node}
 use Rattle.md_base.specs.Children.{is_empty}
-use Rattle.md_infer.specs.Looseness.{is_loose}
+use Rattle.md_pattern.specs.Looseness.{is_loose}
 use Rattle.md_base.specs.Is.{is}
 use Rattle.md_base.specs.declared.event.Name.TheVariants.{Definition, GfmFootnoteDefinition}
 use Rattle.md_tree.specs.Rules.{place}

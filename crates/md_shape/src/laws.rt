@@ -2,12 +2,15 @@
 
 ghost use Rattle.std.specs.Prelude.{◌≡◌, ℕ, List, [], map, false, find, bytes_eq};
 ghost use Rattle.md_base.specs.Tree.{Forest};
+ghost use Rattle.md_text.specs.declared.options.CompileOptions.{CompileOptions};
 ghost use Rattle.md_tree.specs.Grammar.{IsGrammatical};
 ghost use Rattle.md_meaning.specs.declared.context.Surroundings.{Surroundings};
 ghost use Rattle.md_meaning.specs.Meaning.At.{Given, Before, Defined, Footnote};
 ghost use Rattle.md_meaning.specs.Meaning.Nodes.{outcome};
+ghost use Rattle.md_meaning.specs.Meaning.{meaning};
 ghost use Rattle.md_shape.specs.Built.{Blocks, IsBuilt};
 ghost use Rattle.md_shape.specs.Underlined.{IsUnderlined};
+ghost use Rattle.md_shape.specs.Run.{printed};
 ghost use Rattle.md_shape.specs.Leads.{Everywhere, EverywhereAfter, HasItsText, HasItsLabel, Decodes, RefersAlike, LeadsSomewhere, LeadsAlike, first_of, found_at, defined_in, footnotes_defined_in};
 
 /// Each document of the grammar is built of what may stand where it is, beginning with blocks.
@@ -60,4 +63,11 @@ pub fn references_lead_somewhere()
     ensures footnotes { (given : Given) (around : Surroundings) (before : Before) (document : Forest)
         → map (λ footnote. footnote.identifier) (outcome given around before document).footnotes
         ≡ footnotes_defined_in given.bytes document }
+{}
+
+/// The steps over the events of a document of the grammar, after those over its definitions, print its meaning.
+pub fn steps_print_what_is_meant()
+    ensures { (options : CompileOptions) (names : List (List ℕ × List ℕ)) (bytes : List ℕ) (document : Forest)
+        → IsGrammatical bytes names document
+        → printed options names bytes document ≡ meaning options names bytes document }
 {}

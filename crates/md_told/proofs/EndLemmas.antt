@@ -8,7 +8,7 @@ use Rattle.md_base.specs.Tree.{Forest, Empty, Node, flatten, entering, exiting}
 use Rattle.md_tree.specs.Grammar.{Handed}
 use Rattle.md_tree.specs.Texts.{EntersAt, ExitsAt}
 use Rattle.md_tree.proofs.Entering.{got_inside}
-use Rattle.md_writer.specs.Run.{Noticed, noticed}
+use Rattle.md_shape.specs.Run.{Noticed, noticed}
 use Rattle.md_told.specs.Told.{IsNoticedAt}
 use Rattle.md_told.proofs.Nodes.{NodeAt, node-entered, Entered, entered, Exited, exited}
 

@@ -13,8 +13,8 @@ use Rattle.md_base.specs.Is.{is}
 use Rattle.md_base.specs.NameTests.{contributes, is_heading_mark, is_item, is_item_prefix, is_item_value}
 use Rattle.md_base.specs.Place.{fits}
 use Rattle.md_base.specs.Tree.{Forest, Empty, Node, flatten, entering, exiting}
-use Rattle.md_infer.specs.Partners.{index_after, last_contributing_at}
-use Rattle.md_infer.proofs.Passing.{length_one}
+use Rattle.md_pattern.specs.Partners.{index_after, last_contributing_at}
+use Rattle.md_pattern.proofs.Passing.{length_one}
 use Rattle.md_meaning.specs.Meaning.Finds.{first_named, number_in_list}
 use Rattle.md_meaning.specs.Places.{length_of}
 use Rattle.md_pattern.specs.declared.kinds.Role.TheVariants as role

@@ -23,8 +23,8 @@ use Rattle.md_tree.specs.Grammar.{Handed, IsChecked}
 use Rattle.md_tree.specs.Mentions.{mention_of, mentions_of}
 use Rattle.md_tree.specs.Numbers.{definition_for, is_of_definitions, ExitsOf, IsDefinitionFor}
 use Rattle.md_tree.specs.Rules.{reading_of, target_of}
-use Rattle.md_writer.specs.Run.{Noticed}
-use Rattle.md_writer.specs.Steps.{nowhere}
+use Rattle.md_shape.specs.Run.{Noticed}
+use Rattle.md_shape.specs.Steps.{nowhere}
 use Rattle.md_told.specs.Told.{IsNoticedAt}
 use Rattle.md_told.specs.Definitions.{AreKnown}
 use Rattle.md_told.proofs.FoundLemmas.{grammatical-there}

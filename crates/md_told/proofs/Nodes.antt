@@ -9,7 +9,7 @@ use Rattle.md_base.specs.declared.event.Name.{Name}
 use Rattle.md_base.specs.declared.event.Name.TheVariants.{Paragraph}
 use Rattle.md_base.specs.declared.event.Point.{Point}
 use Rattle.md_base.specs.Tree.{Forest, flatten, entering, exiting}
-use Rattle.md_infer.specs.Partners.{partners_of}
+use Rattle.md_pattern.specs.Partners.{partners_of}
 use Rattle.md_pattern.specs.Standing.{standing_of}
 use Rattle.md_tree.specs.declared.mention.Referral.TheVariants.{Missing}
 use Rattle.md_tree.specs.Entered.{children_of, IsEnteredAt}
@@ -20,8 +20,8 @@ use Rattle.md_tree.specs.Rules.{reading_of, target_of}
 use Rattle.md_tree.specs.Texts.{EntersAt, ExitsAt}
 use Rattle.md_tree.proofs.Indexed.{flatten_one}
 use Rattle.md_shape.specs.Leads.{Everywhere}
-use Rattle.md_writer.specs.Steps.{told_of}
-use Rattle.md_writer.specs.Run.{Noticed, noticed}
+use Rattle.md_shape.specs.Steps.{told_of}
+use Rattle.md_shape.specs.Run.{Noticed, noticed}
 use Rattle.md_told.specs.Told.{IsNoticedAt}
 use Rattle.md_told.proofs.Rows.{Row, rows_of, event_of, noticed_of, children_at, partner_at, mention_at, event-rows, noticed-rows, children-rows, partner-rows, mention-rows, Paired, paired, everywhere-at}
 

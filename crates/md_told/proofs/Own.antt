@@ -6,15 +6,15 @@ use Rattle.md_base.specs.declared.event.Name.TheVariants.{Definition}
 use Rattle.md_base.specs.Children.{is_empty}
 use Rattle.md_base.specs.NameTests.{is_link_definition}
 use Rattle.md_base.specs.Tree.{Forest, Empty, Node, flatten, entering, exiting}
-use Rattle.md_infer.specs.Partners.{index_after, definition_entries}
-use Rattle.md_infer.proofs.Passing.{length_one}
+use Rattle.md_pattern.specs.Partners.{index_after, definition_entries}
+use Rattle.md_pattern.proofs.Passing.{length_one}
 use Rattle.md_meaning.specs.Meaning.At.{Defined, Given, Target, identifier_of}
 use Rattle.md_shape.specs.Built.{Blocks}
 use Rattle.md_shape.specs.Leads.{Everywhere}
 use Rattle.md_shape.proofs.Grammatical.{grammatical-built}
 use Rattle.md_tree.specs.Grammar.{Handed, IsChecked}
-use Rattle.md_writer.specs.Steps.{State, told_of, entered, is_passed, over, beginning}
-use Rattle.md_writer.specs.Run.{Noticed, noticed, run, defined}
+use Rattle.md_shape.specs.Steps.{State, told_of, entered, is_passed, over, beginning}
+use Rattle.md_shape.specs.Run.{Noticed, noticed, run, defined}
 use Rattle.md_told.specs.Told.{IsNoticedAt}
 use Rattle.md_told.specs.Definitions.{within, own_defined}
 use Rattle.md_told.proofs.FoundLemmas.{grammatical-there}

@@ -7,8 +7,8 @@ use Rattle.md_base.specs.declared.event.Name.{Name}
 use Rattle.md_base.specs.declared.event.Point.{Point}
 use Rattle.md_base.specs.Tree.{Forest, Empty, Node, flatten, entering, exiting}
 use Rattle.md_base.specs.Children.{is_empty}
-use Rattle.md_infer.specs.Partners.{index_after, partners_of}
-use Rattle.md_infer.proofs.Passing.{length_one}
+use Rattle.md_pattern.specs.Partners.{index_after, partners_of}
+use Rattle.md_pattern.proofs.Passing.{length_one}
 use Rattle.md_pattern.specs.Standing.{standing_of}
 use Rattle.md_tree.specs.declared.mention.Mention.{Mention}
 use Rattle.md_tree.specs.declared.mention.Mention.TheVariants.{Nothing}
@@ -19,8 +19,8 @@ use Rattle.md_tree.specs.Rules.{reading_of, target_of}
 use Rattle.md_tree.proofs.Entering.{get_at}
 use Rattle.md_tree.proofs.Placing.{at_entry, in_node, after_node}
 use Rattle.md_shape.specs.Leads.{Everywhere}
-use Rattle.md_writer.specs.Steps.{told_of}
-use Rattle.md_writer.specs.Run.{Noticed, noticed}
+use Rattle.md_shape.specs.Steps.{told_of}
+use Rattle.md_shape.specs.Run.{Noticed, noticed}
 
 -- an event of a node: whether it enters it; the node's name, its two ends and its children, whether nothing follows it
 -- in the document, and the indices of its two events

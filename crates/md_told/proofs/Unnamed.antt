@@ -7,7 +7,7 @@ use Rattle.std.proofs.lemmas.List.{length-map}
 use Rattle.std.proofs.lemmas.Option.{slice_get-map, slice_get-get_or}
 use Rattle.md_base.specs.declared.event.Name.TheVariants.{Definition}
 use Rattle.md_base.specs.Tree.{Forest, flatten}
-use Rattle.md_infer.specs.Partners.{definition_entries}
+use Rattle.md_pattern.specs.Partners.{definition_entries}
 use Rattle.md_meaning.specs.Meaning.At.{Defined, Given}
 use Rattle.md_meaning.specs.Meaning.Media.{target_defined}
 use Rattle.md_shape.specs.Built.{Blocks}
@@ -18,8 +18,8 @@ use Rattle.md_text.specs.Defaults.{default_options}
 use Rattle.md_tree.specs.Grammar.{Handed, IsChecked}
 use Rattle.md_tree.specs.Indices.{AreDefinitions}
 use Rattle.md_tree.specs.Texts.{EntersAt}
-use Rattle.md_writer.specs.Run.{Noticed, defined}
-use Rattle.md_writer.specs.Steps.{nowhere}
+use Rattle.md_shape.specs.Run.{Noticed, defined}
+use Rattle.md_shape.specs.Steps.{nowhere}
 use Rattle.md_told.specs.Told.{IsNoticedAt}
 use Rattle.md_told.specs.Definitions.{AreKnown}
 use Rattle.md_told.proofs.FoundLemmas.{grammatical-there}

@@ -7,8 +7,8 @@ use Rattle.md_base.specs.Tree.{Forest, flatten}
 use Rattle.md_meaning.specs.Meaning.At.{Defined, Given}
 use Rattle.md_meaning.specs.Meaning.Media.{target_defined}
 use Rattle.md_tree.specs.Grammar.{Handed}
-use Rattle.md_writer.specs.Steps.{entered, beginning, nowhere}
-use Rattle.md_writer.specs.Run.{Noticed, run, defined}
+use Rattle.md_shape.specs.Steps.{entered, beginning, nowhere}
+use Rattle.md_shape.specs.Run.{Noticed, run, defined}
 use Rattle.md_told.specs.Told.{IsNoticedAt}
 
 -- what comes of a list between a node's entry, at an index, and its exit

@@ -6,7 +6,7 @@ use Rattle.md_base.specs.declared.event.Name.TheVariants.{GfmFootnoteCall, Defin
 use Rattle.md_base.specs.Tree.{Forest, flatten}
 use Rattle.md_tree.specs.Grammar.{Handed}
 use Rattle.md_tree.specs.Texts.{EntersAt, ExitsAt}
-use Rattle.md_writer.specs.Run.{Noticed, noticed}
+use Rattle.md_shape.specs.Run.{Noticed, noticed}
 
 -- what is noticed at the event at an index, in the document that the events flatten
 abbrev pub IsNoticedAt : Handed → ℕ → Noticed → Type 0

@@ -9,8 +9,8 @@ ghost use Rattle.md_meaning.specs.Meaning.Media.{target_defined};
 ghost use Rattle.md_shape.specs.Leads.{defined_in, first_of};
 ghost use Rattle.md_tree.specs.Numbers.{ExitsOf, is_of_definitions};
 ghost use Rattle.md_tree.specs.Texts.{EntersAt};
-ghost use Rattle.md_writer.specs.Run.{Noticed};
-ghost use Rattle.md_writer.specs.Steps.{nowhere};
+ghost use Rattle.md_shape.specs.Run.{Noticed};
+ghost use Rattle.md_shape.specs.Steps.{nowhere};
 ghost use Rattle.md_told.specs.Told.{IsNoticedAt};
 ghost use Rattle.md_told.specs.Definitions.{AreKnown, IsLedTo};
 

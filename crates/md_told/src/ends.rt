@@ -8,7 +8,7 @@ ghost use Rattle.md_base.specs.declared.event.Name.{Name};
 ghost use Rattle.md_meaning.specs.Meaning.At.{text_in};
 ghost use Rattle.md_tree.specs.Found.{EntersSome};
 ghost use Rattle.md_tree.specs.Texts.{EntersAt, ExitsAt};
-ghost use Rattle.md_writer.specs.Run.{Noticed};
+ghost use Rattle.md_shape.specs.Run.{Noticed};
 ghost use Rattle.md_told.specs.Told.{IsNoticedAt, ExitsSome};
 
 use md_base::{Event, Kind, Point, Position};

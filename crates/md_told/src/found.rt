@@ -6,7 +6,7 @@ ghost use Rattle.md_base.specs.declared.event.Name.TheVariants as name;
 ghost use Rattle.md_meaning.specs.Places.{length_of};
 ghost use Rattle.md_tree.specs.Grammar.{IsChecked};
 ghost use Rattle.md_tree.specs.Texts.{EntersAt, ExitsAt};
-ghost use Rattle.md_writer.specs.Run.{Noticed};
+ghost use Rattle.md_shape.specs.Run.{Noticed};
 ghost use Rattle.md_told.specs.Told.{IsNoticedAt};
 
 use crate::ends::entry_of;

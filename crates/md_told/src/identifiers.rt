@@ -4,7 +4,7 @@ ghost use Rattle.std.specs.Prelude.{◌≡◌, IfOk, string_bytes};
 ghost use Rattle.md_meaning.specs.Given as given;
 ghost use Rattle.md_meaning.specs.Places as places;
 ghost use Rattle.md_tree.specs.Numbers.{ExitsOf};
-ghost use Rattle.md_writer.specs.Run.{Noticed};
+ghost use Rattle.md_shape.specs.Run.{Noticed};
 ghost use Rattle.md_told.specs.Told.{IsNoticedAt, EntersOf, is_labelled};
 
 use crate::ends::entry_of;

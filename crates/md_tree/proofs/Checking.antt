@@ -37,7 +37,7 @@ use Rattle.md_tree.proofs.Breaks.{IsOfNode, of_node}
 use Rattle.md_tree.proofs.Trees.{Runs-append}
 use Rattle.md_tree.proofs.Verdicts.{Reached-runs, BeginNoTree-stuck, outside-stopped}
 use Rattle.md_base.specs.Tree.{Forest, flatten}
-use Rattle.md_infer.specs.Facts.{facts_at}
+use Rattle.md_pattern.specs.Facts.{facts_at}
 use Rattle.md_tree.specs.Numbers.{all_numbered, number_for, facts_with}
 use Rattle.md_tree.proofs.Numbers.{all_numbered-listed}
 use Rattle.md_tree.proofs.Endings.{EndsBroken-exit, LeaveOpen-undone, outside-undone, IsWalked}

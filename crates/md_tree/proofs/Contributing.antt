@@ -4,8 +4,8 @@ use Rattle.std.specs.Prelude.{unwrap_or}
 use Rattle.md_base.specs.Tree.{Forest, Empty, Node}
 use Rattle.md_base.specs.NameTests.{contributes}
 use Rattle.md_base.specs.Children.{or_else}
-use Rattle.md_infer.specs.Partners.{index_after, last_contributing_at}
-use Rattle.md_infer.specs.Facts.{contributing_over}
+use Rattle.md_pattern.specs.Partners.{index_after, last_contributing_at}
+use Rattle.md_pattern.specs.Facts.{contributing_over}
 use Rattle.md_tree.specs.Found.{index_if}
 
 one_more : (later : Option ℕ) (here : Bool) (index before : ℕ) →

@@ -9,9 +9,9 @@ use Rattle.md_base.specs.declared.event.Name.{Name}
 use Rattle.md_base.specs.declared.event.Name.TheVariants.{Definition}
 use Rattle.md_base.specs.Tree.{Forest, Empty, Node, flatten, entering, exiting}
 use Rattle.md_base.specs.NameTests.{is_link_definition}
-use Rattle.md_infer.specs.Partners.{index_after, definition_entries}
+use Rattle.md_pattern.specs.Partners.{index_after, definition_entries}
 use Rattle.md_tree.specs.Texts.{EntersAt}
-use Rattle.md_infer.proofs.Passing.{length_one}
+use Rattle.md_pattern.proofs.Passing.{length_one}
 use Rattle.md_tree.proofs.Entering.{get_at}
 use Rattle.md_tree.proofs.Placing.{at_entry, in_node, after_node, length_events}
 

@@ -12,18 +12,18 @@ use Rattle.md_base.specs.declared.event.Position.{Position}
 use Rattle.md_base.specs.declared.event.Name.{Name}
 use Rattle.md_base.specs.declared.event.Kind.TheVariants.{Enter}
 use Rattle.md_base.specs.declared.event.Event.{Event}
-use Rattle.md_infer.specs.declared.facts.Fact.{Fact}
+use Rattle.md_pattern.specs.declared.facts.Fact.{Fact}
 use Rattle.md_base.specs.Tree.{Forest, Empty, Node, flatten, entering, exiting}
 use Rattle.md_base.specs.NameTests.{is_table}
-use Rattle.md_infer.specs.Alignments.{alignments}
+use Rattle.md_pattern.specs.Alignments.{alignments}
 use Rattle.md_tree.specs.Grammar.{Handed}
 use Rattle.md_tree.specs.Rules.{place}
 use Rattle.md_tree.specs.Texts.{EntersAt, positions_of}
 use Rattle.md_tree.specs.Entered.{children_of, IsEnteredAt, EntersNode}
-use Rattle.md_infer.specs.Partners.{index_after, partners_of}
-use Rattle.md_infer.specs.Columns.{tables_of}
-use Rattle.md_infer.specs.Facts.{partner_alone, tables_with, tables_after, fact_at, facts_of, facts_at, tables_at}
-use Rattle.md_infer.proofs.Passing.{facts-flatten, tables-flatten, length_table, length_tables}
+use Rattle.md_pattern.specs.Partners.{index_after, partners_of}
+use Rattle.md_pattern.specs.Columns.{tables_of}
+use Rattle.md_pattern.specs.Facts.{partner_alone, tables_with, tables_after, fact_at, facts_of, facts_at, tables_at}
+use Rattle.md_pattern.proofs.Passing.{facts-flatten, tables-flatten, length_table, length_tables}
 
 -- an event, its index, what is found at it, at an entry the node's children, and at an exit where the node lies
 pub record Row : Type 0 where

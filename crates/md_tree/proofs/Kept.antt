@@ -9,16 +9,16 @@ use Rattle.md_base.specs.declared.event.Position.{Position}
 use Rattle.md_base.specs.declared.event.Name.{Name}
 use Rattle.md_base.specs.declared.event.Name.TheVariants.{Definition, GfmTable}
 use Rattle.md_tree.specs.declared.checked.Checked.TheInside.{Inside}
-use Rattle.md_infer.specs.declared.facts.Fact.{Fact}
+use Rattle.md_pattern.specs.declared.facts.Fact.{Fact}
 use Rattle.md_pattern.specs.declared.kinds.Reading.{Reading}
 use Rattle.md_base.specs.Tree.{Forest, flatten}
-use Rattle.md_infer.specs.Alignments.{alignments}
+use Rattle.md_pattern.specs.Alignments.{alignments}
 use Rattle.md_tree.specs.Grammar.{Handed, IsReadAs, IsChecked}
 use Rattle.md_pattern.specs.Standing.{standing_of}
 use Rattle.md_tree.specs.Texts.{EntersAt, ExitsAt, has_reading}
 use Rattle.md_tree.specs.Entered.{IsEnteredAt, EntersNode}
 use Rattle.md_tree.specs.Checked.{handed_of, IsKept}
-use Rattle.md_infer.specs.Facts.{facts_at, tables_at, definitions_at, fact_at}
+use Rattle.md_pattern.specs.Facts.{facts_at, tables_at, definitions_at, fact_at}
 use Rattle.md_tree.specs.Found.{EntersSome, IsFactAt, position_ended}
 use Rattle.md_tree.specs.Indices.{AreDefinitions}
 use Rattle.md_tree.specs.Mentions.{mentions_of, mention_of}
@@ -30,7 +30,7 @@ use Rattle.md_tree.specs.Rules.{reading_of}
 use Rattle.md_tree.specs.Numbers.{number_for, with_number, facts_with, AreNumbered, ExitsOf, is_of_definitions, is_of_footnotes, definition_for, footnote_for, place_of}
 use Rattle.md_tree.proofs.Numbers.{told-at, got-with, ended-with, length-with, kept-number, number-definition, number-footnote}
 use Rattle.md_tree.proofs.Defining.{definitions-entered}
-use Rattle.md_infer.proofs.Passing.{definitions-flatten}
+use Rattle.md_pattern.proofs.Passing.{definitions-flatten}
 use Rattle.md_tree.proofs.Indexed.{HaveText, EndedAt, EndedAt-checked}
 use Rattle.md_tree.proofs.Entering.{got_inside, EntersNode-entered, found-entered, facts_at-inside}
 

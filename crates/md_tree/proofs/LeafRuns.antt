@@ -8,10 +8,10 @@ use Rattle.md_base.specs.declared.event.Event.{Event}
 use Rattle.md_base.specs.declared.event.Kind.{Kind}
 use Rattle.md_base.specs.declared.event.Kind.TheVariants.{Enter, Exit}
 use Rattle.md_tree.specs.declared.rule.CompileError.{CompileError}
-use Rattle.md_infer.specs.Ending.{first_index, ending_after}
-use Rattle.md_infer.specs.Facts.{PassState, pass_beginning, passed, passed_entry, passed_exit, passed_over}
-use Rattle.md_infer.proofs.FirstIndex.{first_index-more}
-use Rattle.md_infer.proofs.Passing.{passed_more}
+use Rattle.md_pattern.specs.Ending.{first_index, ending_after}
+use Rattle.md_pattern.specs.Facts.{PassState, pass_beginning, passed, passed_entry, passed_exit, passed_over}
+use Rattle.md_pattern.proofs.FirstIndex.{first_index-more}
+use Rattle.md_pattern.proofs.Passing.{passed_more}
 use Rattle.md_tree.specs.Grammar.{Handed}
 use Rattle.md_tree.specs.Refusal.{IsRefusal}
 use Rattle.md_tree.specs.Machine.{Course, Runs, StepsBy, Enters, beginning}

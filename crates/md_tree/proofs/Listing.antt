@@ -11,7 +11,7 @@ use Rattle.md_tree.specs.declared.mention.Referral.TheVariants.{Missing}
 use Rattle.md_base.specs.Tree.{Forest, Empty, Node}
 use Rattle.md_pattern.specs.Standing.{standing_of}
 use Rattle.md_tree.specs.Rules.{reading_of, target_of}
-use Rattle.md_infer.specs.Partners.{index_after}
+use Rattle.md_pattern.specs.Partners.{index_after}
 use Rattle.md_tree.specs.Mentions.{mention_of, mentions_of, mentions_with, mentions_among, identifier_at, defined, footnoted, IsResolved}
 use Rattle.md_tree.proofs.Trees.{mentions_over}
 

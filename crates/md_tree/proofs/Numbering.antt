@@ -15,7 +15,7 @@ use Rattle.std.proofs.lemmas.Option.{slice_get-get_or}
 use Rattle.std.proofs.lemmas.Map.Text.{is_eq-slice_cmp}
 use Rattle.std.proofs.lemmas.Slice.Eq.{bytes_eq-Decides}
 use Rattle.md_base.specs.declared.event.Position.{Position}
-use Rattle.md_infer.specs.declared.facts.Fact.{Fact}
+use Rattle.md_pattern.specs.declared.facts.Fact.{Fact}
 use Rattle.md_tree.specs.declared.mention.Mention.{Mention}
 use Rattle.md_tree.specs.declared.mention.Mention.TheVariants.{Nothing, Reference, Call, Definition, FootnoteDefinition}
 use Rattle.md_tree.specs.declared.mention.Mentioned.{Mentioned}

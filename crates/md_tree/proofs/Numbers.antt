@@ -5,10 +5,10 @@ use Rattle.md_base.specs.declared.event.Name.{Name}
 use Rattle.md_base.specs.declared.event.Name.TheVariants.{Link, Image, GfmFootnoteCall, GfmFootnoteDefinition}
 use Rattle.md_base.specs.declared.event.Kind.TheVariants.{Enter, Exit}
 use Rattle.md_base.specs.declared.event.Event.{Event}
-use Rattle.md_infer.specs.declared.facts.Fact.{Fact}
-use Rattle.md_infer.specs.Partners.{index_after}
-use Rattle.md_infer.specs.Facts.{facts_at, facts_of, fact_at, partner_alone, tables_with, tables_after}
-use Rattle.md_infer.proofs.Passing.{facts-flatten}
+use Rattle.md_pattern.specs.declared.facts.Fact.{Fact}
+use Rattle.md_pattern.specs.Partners.{index_after}
+use Rattle.md_pattern.specs.Facts.{facts_at, facts_of, fact_at, partner_alone, tables_with, tables_after}
+use Rattle.md_pattern.proofs.Passing.{facts-flatten}
 use Rattle.md_pattern.specs.Standing.{standing_of}
 use Rattle.md_base.specs.Tree.{Forest, Empty, Node, flatten, entering, exiting}
 use Rattle.md_tree.specs.declared.mention.Referral.{Referral}

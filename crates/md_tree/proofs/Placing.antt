@@ -7,16 +7,16 @@ use Rattle.std.proofs.lemmas.List.Elements.{All-cons, All-append, All-nil}
 use Rattle.md_base.specs.declared.event.Name.{Name}
 use Rattle.md_base.specs.declared.event.Point.{Point}
 use Rattle.md_base.specs.declared.event.Event.{Event}
-use Rattle.md_infer.specs.declared.facts.Fact.{Fact}
+use Rattle.md_pattern.specs.declared.facts.Fact.{Fact}
 use Rattle.md_base.specs.Tree.{Forest, Empty, Node, flatten, entering, exiting}
 use Rattle.md_tree.specs.Rules.{place}
 use Rattle.md_tree.specs.Grammar.{Handed}
 use Rattle.md_tree.specs.Texts.{EntersAt}
 use Rattle.md_tree.specs.Entered.{IsEnteredAt}
-use Rattle.md_infer.specs.Partners.{index_after}
-use Rattle.md_infer.specs.Facts.{partner_alone, tables_with, tables_after, fact_at, facts_of, facts_at}
+use Rattle.md_pattern.specs.Partners.{index_after}
+use Rattle.md_pattern.specs.Facts.{partner_alone, tables_with, tables_after, fact_at, facts_of, facts_at}
 use Rattle.md_tree.specs.Found.{position_from, partner_event, position_there, position_at}
-use Rattle.md_infer.proofs.Passing.{length_one, length_facts, regrouped, facts-flatten}
+use Rattle.md_pattern.proofs.Passing.{length_one, length_facts, regrouped, facts-flatten}
 use Rattle.md_tree.proofs.Entering.{Row, entry_row, exit_row, rows_of, get_at, numbered_rows, numbered_get, past_row, inside_rows, children_there}
 use Rattle.md_tree.proofs.Searching.{AllAt}
 

@@ -5,19 +5,19 @@ use Rattle.md_base.specs.declared.event.Name.{Name}
 use Rattle.md_base.specs.declared.event.Name.TheVariants.{HeadingAtx, ListOrdered, ListItem, ListItemPrefix, Link, Image, Label, ReferenceString, GfmFootnoteCall, Definition, GfmFootnoteDefinition, GfmFootnoteDefinitionPrefix, BlockQuotePrefix, SpaceOrTab, Other}
 use Rattle.md_base.specs.declared.event.Point.{Point}
 use Rattle.md_base.specs.declared.event.Position.{Position}
-use Rattle.md_infer.specs.declared.seeking.Wanted.{Wanted}
-use Rattle.md_infer.specs.declared.seeking.Wanted.TheVariants as want
-use Rattle.md_infer.specs.declared.seeking.Found.{Found}
-use Rattle.md_infer.specs.declared.seeking.Found.TheVariants as so_far
-use Rattle.md_infer.specs.declared.seeking.Sight.TheVariants as looks
-use Rattle.md_infer.specs.declared.seeking.Sought.{Sought}
+use Rattle.md_pattern.specs.declared.seeking.Wanted.{Wanted}
+use Rattle.md_pattern.specs.declared.seeking.Wanted.TheVariants as want
+use Rattle.md_pattern.specs.declared.seeking.Found.{Found}
+use Rattle.md_pattern.specs.declared.seeking.Found.TheVariants as so_far
+use Rattle.md_pattern.specs.declared.seeking.Sight.TheVariants as looks
+use Rattle.md_pattern.specs.declared.seeking.Sought.{Sought}
 use Rattle.md_base.specs.Tree.{Forest, Empty, Node}
 use Rattle.md_base.specs.NameTests.{is_transparent, is_heading_mark, is_item, is_item_prefix, is_item_value, is_label, is_label_text, is_reference, is_definition_label, is_footnote_prefix, is_footnote_label}
 use Rattle.md_base.specs.Children.{or_else, first_on_spine}
 use Rattle.md_tree.specs.Rules.{place}
-use Rattle.md_infer.specs.Partners.{index_after}
-use Rattle.md_infer.specs.Seeking.{wanted_by, search_of, sight, first_where, refer_where, seen_as, seen}
-use Rattle.md_infer.specs.Facts.{sought_inside, sought_after, sought_over}
+use Rattle.md_pattern.specs.Partners.{index_after}
+use Rattle.md_pattern.specs.Seeking.{wanted_by, search_of, sight, first_where, refer_where, seen_as, seen}
+use Rattle.md_pattern.specs.Facts.{sought_inside, sought_after, sought_over}
 use Rattle.md_tree.specs.Reads.{first_place, number_in, label_in, reads, is_reader}
 
 -- which node a search stops at, and what it finds there

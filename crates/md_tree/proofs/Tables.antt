@@ -25,7 +25,7 @@ use Rattle.md_pattern.specs.Pattern.{members, class_of, takes, pattern_of, Fits}
 use Rattle.md_pattern.specs.Spine.{spine, shown, IsTail, IsGrouped, Matches}
 use Rattle.md_pattern.specs.Shape.{EachNode, IsShapedNode, IsStanding, AreShaped, inner_role, inner_before, last_symbol}
 use Rattle.md_pattern.specs.Steps.{begun_by, is_whole}
-use Rattle.md_infer.specs.Alignments.{alignment_of, alignments}
+use Rattle.md_pattern.specs.Alignments.{alignment_of, alignments}
 use Rattle.md_tree.specs.Tables.{in_each, values_of_row, values_of_head, values_of_table, IsTable}
 use Rattle.md_tree.proofs.Greedy.{and_left, and_right, and_both}
 

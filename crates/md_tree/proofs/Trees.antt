@@ -22,7 +22,7 @@ use Rattle.md_pattern.specs.Spine.{spine, shown, Matches}
 use Rattle.md_pattern.specs.Shape.{Claim, EachNode, IsShapedNode, IsStanding, inner_role, inner_before, last_symbol, role_for}
 use Rattle.md_tree.specs.Rules.{reading_of, place, target_after, target_of}
 use Rattle.md_tree.specs.Mentions.{mention_of, mentions_with}
-use Rattle.md_infer.specs.Partners.{index_after}
+use Rattle.md_pattern.specs.Partners.{index_after}
 use Rattle.md_pattern.specs.Steps.{may_hold, start_of, advance, is_complete}
 use Rattle.md_tree.specs.Machine.{Reads, Course, Runs, Exits, after_entry, entered, entered_on, beginning}
 use Rattle.md_tree.proofs.Groups.{Feeds, Feeds-split, Feeds-matches, advance_role}

@@ -3,8 +3,8 @@ use Rattle.std.specs.Prelude.{◌≡◌, map, length}
 use Rattle.md_tree.specs.declared.checked.Checked.TheInside.{Inside}
 use Rattle.md_tree.specs.Grammar.{Handed, handed, IsChecked}
 use Rattle.md_tree.specs.Numbers.{AreNumbered}
-use Rattle.md_infer.specs.Ending.{first_index}
-use Rattle.md_infer.specs.Facts.{tables_at, definitions_at}
+use Rattle.md_pattern.specs.Ending.{first_index}
+use Rattle.md_pattern.specs.Facts.{tables_at, definitions_at}
 
 -- what was handed in
 abbrev pub handed_of : Inside → Handed

@@ -3,13 +3,13 @@ use Rattle.std.specs.Prelude.{◌≡◌, ℕ, zero, suc, Option, Some, None, opt
 use Rattle.md_base.specs.declared.event.Name.{Name}
 use Rattle.md_base.specs.declared.event.Event.{Event}
 use Rattle.md_base.specs.declared.event.Position.{Position}
-use Rattle.md_infer.specs.declared.facts.Fact.{Fact}
+use Rattle.md_pattern.specs.declared.facts.Fact.{Fact}
 use Rattle.md_base.specs.Tree.{Forest}
 use Rattle.md_tree.specs.Rules.{place}
 use Rattle.md_tree.specs.Grammar.{Handed}
 use Rattle.md_tree.specs.Texts.{EntersAt}
 use Rattle.md_tree.specs.Entered.{IsEnteredAt}
-use Rattle.md_infer.specs.Facts.{fact_at}
+use Rattle.md_pattern.specs.Facts.{fact_at}
 
 -- the event at an index enters a node
 abbrev pub EntersSome : List Event → ℕ → Type 0

@@ -1,7 +1,7 @@
 -- The indices of a document's events: the other event of a node, and the definitions.
 use Rattle.std.specs.Prelude.{◌≡◌, ℕ, Option, List, slice_get}
 use Rattle.md_base.specs.Tree.{Forest, flatten}
-use Rattle.md_infer.specs.Partners.{partners_of, definition_entries}
+use Rattle.md_pattern.specs.Partners.{partners_of, definition_entries}
 use Rattle.md_tree.specs.Grammar.{Handed}
 
 -- the index of the other event of a node, in the document that the events flatten; there is none past the end

@@ -6,8 +6,8 @@ use Rattle.md_base.specs.Tree.{Forest}
 use Rattle.md_pattern.specs.Standing.{standing_of}
 use Rattle.md_pattern.specs.Spine.{spine, shown}
 use Rattle.md_base.specs.Children.{spine_names}
-use Rattle.md_infer.specs.Looseness.{is_loose, is_loose_without_items}
-use Rattle.md_infer.specs.Alignments.{alignment_of, alignments}
+use Rattle.md_pattern.specs.Looseness.{is_loose, is_loose_without_items}
+use Rattle.md_pattern.specs.Alignments.{alignment_of, alignments}
 use Rattle.md_tree.specs.Tables.{values_of_table}
 
 -- a table has one alignment for each cell value of its delimiter row, in order

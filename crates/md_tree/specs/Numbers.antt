@@ -8,10 +8,10 @@ use Rattle.md_base.specs.declared.event.Name.{Name}
 use Rattle.md_base.specs.declared.event.Name.TheVariants.{Link, Image, GfmFootnoteCall, GfmFootnoteDefinition}
 use Rattle.md_base.specs.declared.event.Event.{Event}
 use Rattle.md_base.specs.Tree.{Forest, flatten}
-use Rattle.md_infer.specs.Facts.{facts_at}
+use Rattle.md_pattern.specs.Facts.{facts_at}
 use Rattle.md_tree.specs.Grammar.{Handed}
 use Rattle.md_tree.specs.Texts.{ExitsAt}
-use Rattle.md_infer.specs.declared.facts.Fact.{Fact}
+use Rattle.md_pattern.specs.declared.facts.Fact.{Fact}
 use Rattle.md_tree.specs.declared.mention.Mention.{Mention}
 use Rattle.md_tree.specs.declared.mention.Mention.TheVariants.{Reference, Call, FootnoteDefinition}
 use Rattle.md_tree.specs.declared.mention.Mentioned.{Mentioned}

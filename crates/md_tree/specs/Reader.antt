@@ -2,8 +2,8 @@
 use Rattle.std.specs.Prelude.{◌≡◌, ℕ, List, take}
 use Rattle.md_base.specs.declared.event.Event.{Event}
 use Rattle.md_base.specs.declared.event.Kind.TheVariants.{Enter, Exit}
-use Rattle.md_infer.specs.Ending.{first_index}
-use Rattle.md_infer.specs.Facts.{passed_over, pass_beginning}
+use Rattle.md_pattern.specs.Ending.{first_index}
+use Rattle.md_pattern.specs.Facts.{passed_over, pass_beginning}
 use Rattle.md_tree.specs.declared.reader.Reader.{Reader}
 use Rattle.md_tree.specs.Machine.{Runs, beginning}
 use Rattle.md_tree.specs.Walk.{course_of, Unbroken}

@@ -3,14 +3,14 @@
 ghost use Rattle.std.specs.Prelude.{◌≡◌, ◌↔◌, ◌<◌, Some, length, map, option_copied, option_map, slice_get, IsTrue};
 ghost use Rattle.md_base.specs.Place.{text_between};
 ghost use Rattle.md_base.specs.declared.event.Event.{Event};
-ghost use Rattle.md_infer.specs.declared.facts.Fact.{Fact};
+ghost use Rattle.md_pattern.specs.declared.facts.Fact.{Fact};
 ghost use Rattle.md_tree.specs.Found.{index_if, position_at, position_there, position_ended};
 ghost use Rattle.md_tree.specs.Texts.{IsEventAt};
 ghost use Rattle.md_tree.specs.Numbers.{place_of};
 
 use crate::texts::Texts;
 use md_base::{AlignKind, Event, Kind, Name, Point, Position, is_same_name};
-use md_infer::{Fact, Facts};
+use md_pattern::{Fact, Facts};
 use std::marker::Model;
 
 /// Events, a document's bytes and a table of names that have passed a check: the events are the
@@ -50,11 +50,11 @@ impl<'a> Checked<'a> {
     ghost use Rattle.md_base.specs.Reference.{name_table};
     ghost use Rattle.md_tree.specs.Grammar.{IsChecked, handed};
     ghost use Rattle.md_base.specs.Tree.{Forest};
-    ghost use Rattle.md_infer.specs.Alignments.{alignments};
-    ghost use Rattle.md_infer.specs.Partners.{last_contributing_at};
+    ghost use Rattle.md_pattern.specs.Alignments.{alignments};
+    ghost use Rattle.md_pattern.specs.Partners.{last_contributing_at};
     ghost use Rattle.md_tree.specs.Indices.{IsPartnerAt, AreDefinitions};
-    ghost use Rattle.md_infer.specs.Facts.{tables_at, definitions_at};
-    ghost use Rattle.md_infer.specs.Ending.{first_index};
+    ghost use Rattle.md_pattern.specs.Facts.{tables_at, definitions_at};
+    ghost use Rattle.md_pattern.specs.Ending.{first_index};
     ghost use Rattle.std.specs.List.{All};
     ghost use Rattle.md_tree.specs.Entered.{IsEnteredAt, EntersNode};
     ghost use Rattle.md_tree.specs.Found.{EntersSome, IsFactAt};

@@ -2,7 +2,7 @@
 
 ghost use Rattle.std.specs.Prelude.{◌≡◌, [], true, false, length, map, IfOk, OnOk, IfErr};
 ghost use Rattle.md_base.specs.Reference.{name_table};
-ghost use Rattle.md_infer.specs.Ending.{first_index};
+ghost use Rattle.md_pattern.specs.Ending.{first_index};
 ghost use Rattle.md_tree.specs.Grammar.{handed, IsChecked};
 ghost use Rattle.md_tree.specs.Refusal.{IsOrder, IsMdx, IsOfNode, IsLost, IsOutside, IsRefusal};
 ghost use Rattle.md_tree.specs.Numbers.{AreNumbered};
@@ -10,7 +10,7 @@ ghost use Rattle.md_pattern.specs.Steps.{is_complete};
 ghost use Rattle.md_pattern.specs.Places.{state_of};
 ghost use Rattle.md_tree.specs.Machine.{Runs, beginning};
 ghost use Rattle.md_tree.specs.Walk.{course_of, Unbroken};
-ghost use Rattle.md_infer.specs.Facts.{facts_at, tables_at, definitions_at};
+ghost use Rattle.md_pattern.specs.Facts.{facts_at, tables_at, definitions_at};
 
 use crate::checked::Checked;
 use crate::input::Input;
@@ -20,7 +20,7 @@ use crate::rule::{CompileError, Rule};
 use crate::texts::Texts;
 use crate::walk::Walk;
 use md_base::Event;
-use md_infer::Facts;
+use md_pattern::Facts;
 use std::alloc::Global;
 
 /// Checks that events are the flattening of a document of the grammar over the document's bytes

@@ -5,8 +5,8 @@ ghost use Rattle.md_base.specs.declared.event.Name.TheVariants as name;
 ghost use Rattle.md_base.specs.Tree.{Forest};
 ghost use Rattle.md_tree.specs.Texts.{EntersAt};
 ghost use Rattle.md_tree.specs.Entered.{IsEnteredAt, EntersNode};
-ghost use Rattle.md_infer.specs.Looseness.{is_loose, is_loose_without_items, is_loose_item};
-ghost use Rattle.md_infer.specs.Alignments.{alignment_of, alignments};
+ghost use Rattle.md_pattern.specs.Looseness.{is_loose, is_loose_without_items, is_loose_item};
+ghost use Rattle.md_pattern.specs.Alignments.{alignment_of, alignments};
 ghost use Rattle.md_tree.specs.Tables.{values_of_table};
 
 use crate::checked::Checked;

@@ -4,7 +4,7 @@ ghost use Rattle.std.specs.Prelude.{◌≡◌, ◌<◌, ◌≤◌, ◌+◌, true
 ghost use Rattle.md_base.specs.Reference.{name_table};
 ghost use Rattle.md_base.specs.declared.event.Event.{Event};
 ghost use Rattle.md_base.specs.declared.event.Kind.TheVariants as kind;
-ghost use Rattle.md_infer.specs.Ending.{ending_after};
+ghost use Rattle.md_pattern.specs.Ending.{ending_after};
 ghost use Rattle.md_tree.specs.Grammar.{handed};
 ghost use Rattle.md_tree.specs.Refusal.{IsRefusal};
 ghost use Rattle.md_tree.specs.Reader.{IsLeaf, HasRead};
@@ -13,7 +13,7 @@ use crate::input::Input;
 use crate::rule::CompileError;
 use crate::walk::Walk;
 use md_base::{Event, Kind, Name, is_same_name};
-use md_infer::{Pass, ending_after};
+use md_pattern::{Pass, ending_after};
 use std::alloc::AllocError;
 
 /// What is known of the events that have been read.

@@ -11,7 +11,7 @@ use crate::mention::{Mention, Mentioned};
 use crate::rule::{CompileError, Rule};
 use crate::texts::Texts;
 use md_base::{Position, normalize_identifier};
-use md_infer::Fact;
+use md_pattern::Fact;
 use std::alloc::{AllocError, Global};
 use std::collections::BTreeMap;
 

@@ -2,8 +2,8 @@
 
 use super::compiled::by_safe;
 use super::{Asked, Call, no_such_call};
-use md_attributes::{Heading, Html, WithHeadingIds, page_around, with_heading_ids, with_link_rel};
 use md_html::SafeHtml;
+use md_page::{Heading, Html, WithHeadingIds, page_around, with_heading_ids, with_link_rel};
 use std::alloc::{AllocError, Global};
 
 /// What a call answers of the safe text.

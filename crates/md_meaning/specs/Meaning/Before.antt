@@ -6,7 +6,7 @@ use Rattle.md_base.specs.declared.event.Name.TheVariants.{LineEnding, BlankLineE
 use Rattle.md_base.specs.NameTests.{is_fence, is_transparent}
 use Rattle.md_base.specs.Is.{is}
 use Rattle.md_base.specs.Tree.{Forest}
-use Rattle.md_infer.specs.Alignments.{alignments}
+use Rattle.md_pattern.specs.Alignments.{alignments}
 use Rattle.md_meaning.specs.Meaning.Around.{is_tight}
 use Rattle.md_meaning.specs.Meaning.At.{Before, At}
 

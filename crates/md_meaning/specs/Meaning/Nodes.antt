@@ -5,7 +5,7 @@ use Rattle.md_base.specs.declared.event.Name.TheVariants.{HeadingSetextText, Def
 use Rattle.md_base.specs.Is.{is}
 use Rattle.md_base.specs.Tree.{Forest, Empty, Node}
 use Rattle.md_base.specs.Children.{is_empty, or_else, spine_names}
-use Rattle.md_infer.specs.Looseness.{is_loose}
+use Rattle.md_pattern.specs.Looseness.{is_loose}
 use Rattle.md_base.specs.NameTests.{is_transparent}
 use Rattle.md_meaning.specs.declared.context.Surroundings.{Surroundings}
 use Rattle.md_tree.specs.Rules.{place}

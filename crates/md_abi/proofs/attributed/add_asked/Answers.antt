@@ -1,7 +1,7 @@
 -- Without a `rel` the tokens are those of the text.
 use Rattle.std.proofs.Common.{List, IfOk, option_copied, string_bytes, sym, ap, subst}
-use Rattle.md_standard.specs.Token.{Token}
-use Rattle.md_standard.specs.Tokenizer.{IsTokenized}
+use Rattle.md_safe.specs.Token.{Token}
+use Rattle.md_safe.specs.Tokenizer.{IsTokenized}
 use Rattle.md_abi.specs.Attributes.{with_rel}
 use Rattle.md_abi.specs.Attributed.{IsListedAfter}
 use Rattle.md_abi.proofs.attributed.add_asked.Goals as goal

@@ -1,6 +1,6 @@
 -- What is written, and the lines of the headings that are left, are the whole.
 use Rattle.std.proofs.Common.{◌≡◌, ◌++◌, map, drop, string_bytes}
-use Rattle.md_attributes.specs.Headings.{listed}
+use Rattle.md_page.specs.Headings.{listed}
 use Rattle.md_abi.specs.Attributes.{listing}
 use Rattle.md_abi.proofs.attributed.with_list.Given as goal
 

@@ -2,7 +2,7 @@
 -- By itself the search doesn't go through the two answers of the check.
 use Rattle.std.proofs.Common.{ap, ◌∙◌}
 use Rattle.std.specs.Prelude.{option_copied}
-use Rattle.md_line.proofs.SettingLemmas.{read_text}
+use Rattle.md_script.proofs.SettingLemmas.{read_text}
 use Rattle.md_abi.proofs.text.read_utf8.Goals as goal
 
 pub returns : goal.returns

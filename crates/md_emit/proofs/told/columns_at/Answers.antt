@@ -1,7 +1,7 @@
 -- The alignments are those of the children of the node that is noticed.
 use Rattle.std.proofs.Common.{sym, ap, ◌∙◌}
 use Rattle.md_base.specs.declared.event.Name.TheVariants.{GfmTable}
-use Rattle.md_writer.specs.Run.{Noticed}
+use Rattle.md_shape.specs.Run.{Noticed}
 use Rattle.md_told.proofs.Nodes.{entered}
 use Rattle.md_emit.proofs.told.columns_at.Goals as goal
 

@@ -4,7 +4,7 @@ use Rattle.std.proofs.Common.{◌≡◌, ◌∷◌, [], ◌++◌, OnOk, List, �
 use Rattle.std.specs.List.{flat_map}
 use Rattle.md_meaning.specs.Meaning.Layout.{Piece, Text, Forced, laid_after, when}
 use Rattle.md_meaning.specs.Meaning.Footnotes as meaning
-use Rattle.md_writer.proofs.Laid.{laid-append}
+use Rattle.md_shape.proofs.Laid.{laid-append}
 use Rattle.md_footnotes.specs.Seen.{given_by}
 use Rattle.md_footnotes.proofs.section.push_section.Goals as goal
 

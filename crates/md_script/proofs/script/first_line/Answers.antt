@@ -1,7 +1,7 @@
 -- What stands before the first line feed is the first line; an input with no line feed is one line.
 -- By itself the search can't go from bytes to lines.
 use Rattle.std.proofs.Common.{sym}
-use Rattle.md_line.proofs.LineLemmas.{lines_cut, lines_alone}
+use Rattle.md_script.proofs.LineLemmas.{lines_cut, lines_alone}
 use Rattle.md_script.proofs.script.first_line.Goals as goal
 
 pub returns-in-Some-clause-lines : goal.returns-in-Some-clause-lines

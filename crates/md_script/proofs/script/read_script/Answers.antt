@@ -4,8 +4,8 @@ use Rattle.std.proofs.Common.{rules, ◌≡◌, ℕ, ◌+◌, ◌++◌, ◌∷�
 use Rattle.std.specs.Borrow.{Bor}
 use Rattle.std.proofs.lemmas.List.{length-append, length-map}
 use Rattle.md_base.specs.declared.event.Event.{Event}
-use Rattle.md_line.specs.Line.{event_of}
-use Rattle.md_line.specs.Setting.{texts_of, HasOptions}
+use Rattle.md_script.specs.Line.{event_of}
+use Rattle.md_script.specs.Setting.{texts_of, HasOptions}
 use Rattle.md_script.specs.Script.{Explains}
 use Rattle.md_script.specs.declared.error.RunError.TheVariants.{Line}
 use Rattle.md_script.proofs.ScriptLemmas.{Progress, takes, line_more, counted_more, plain_more, script_ends_at, line_stops, input_stops}

@@ -1,7 +1,7 @@
 -- At each turn: the lines so far can be read, and events and settings are theirs, as many as there are lines
 -- (`Progress`). Less is left each time.
 use Rattle.std.proofs.Common.{◌+◌, length}
-use Rattle.md_line.specs.Setting.{texts_of}
+use Rattle.md_script.specs.Setting.{texts_of}
 use Rattle.md_script.proofs.ScriptLemmas.{Progress}
 use Rattle.md_script.proofs.script.read_script.Given as goal
 

@@ -4,12 +4,12 @@ use Rattle.std.specs.Prelude.{slice_get}
 use Rattle.md_base.specs.declared.event.Name.TheVariants.{ListItem}
 use Rattle.md_base.specs.Tree.{Forest}
 use Rattle.md_base.specs.Children.{last_contributing}
-use Rattle.md_infer.specs.Partners.{last_contributing_at}
+use Rattle.md_pattern.specs.Partners.{last_contributing_at}
 use Rattle.md_tree.specs.Entered.{IsEnteredAt}
 use Rattle.md_tree.specs.Grammar.{Handed}
 use Rattle.md_tree.specs.Texts.{EntersAt}
 use Rattle.md_tree.proofs.Entering.{got_inside}
-use Rattle.md_writer.specs.Run.{Noticed}
+use Rattle.md_shape.specs.Run.{Noticed}
 use Rattle.md_told.proofs.Nodes.{entered}
 use Rattle.md_told.proofs.FoundLemmas.{Named, contributing-named}
 use Rattle.md_told.proofs.found.contributing_left_at.Goals as goal

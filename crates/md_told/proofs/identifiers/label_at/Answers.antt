@@ -5,7 +5,7 @@ use Rattle.md_base.specs.declared.event.Name.{Name}
 use Rattle.md_base.specs.declared.event.Name.TheVariants.{GfmFootnoteCall, Definition, GfmFootnoteDefinition}
 use Rattle.md_meaning.specs.Places.{identifier_at}
 use Rattle.md_tree.specs.Reads.{is_reader}
-use Rattle.md_writer.specs.Run.{Noticed}
+use Rattle.md_shape.specs.Run.{Noticed}
 use Rattle.md_told.specs.Told.{is_labelled}
 use Rattle.md_told.proofs.Nodes.{entered}
 use Rattle.md_told.proofs.Labelled.{labelled}

@@ -2,8 +2,8 @@
 -- shown by induction, in `Telling`.
 use Rattle.std.proofs.Common.{ap, ◌∙◌}
 use Rattle.md_base.specs.declared.event.Name.TheVariants.{ListItem}
-use Rattle.md_infer.specs.declared.facts.Fact.{Fact}
-use Rattle.md_infer.proofs.Telling.{of_item-told}
+use Rattle.md_pattern.specs.declared.facts.Fact.{Fact}
+use Rattle.md_pattern.proofs.Telling.{of_item-told}
 use Rattle.md_tree.proofs.infer.list_item_loose.Goals as goal
 
 pub returns-clause-loose : goal.returns-clause-loose

@@ -4,11 +4,11 @@ use Rattle.std.proofs.Common.{◌⊎◌, inl, inr, ℕ, List, sym, ap, ◌∙◌
 use Rattle.std.specs.Prelude.{if◌then◌else◌}
 use Rattle.md_base.specs.declared.event.Event.{Event}
 use Rattle.md_base.specs.declared.event.Name.TheVariants.{ListOrdered, ListUnordered}
-use Rattle.md_infer.specs.declared.facts.Fact.{Fact}
-use Rattle.md_infer.specs.Looseness.{is_loose, is_loose_without_items}
+use Rattle.md_pattern.specs.declared.facts.Fact.{Fact}
+use Rattle.md_pattern.specs.Looseness.{is_loose, is_loose_without_items}
 use Rattle.md_tree.specs.Texts.{EntersAt}
 use Rattle.md_tree.specs.Found.{EntersSome}
-use Rattle.md_infer.proofs.Telling.{with_items-told, without_items-told}
+use Rattle.md_pattern.proofs.Telling.{with_items-told, without_items-told}
 use Rattle.md_tree.proofs.infer.list_loose.Goals as goal
 
 -- a list of either kind

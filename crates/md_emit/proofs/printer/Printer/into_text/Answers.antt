@@ -1,8 +1,8 @@
 -- The section comes after the text.
 use Rattle.std.proofs.Common.{◌≡◌, ◌∷◌, ◌++◌, [], ℕ, List, Bool, true, false, not, Option, Some, None, refl, ap, sym, ◌∙◌}
 use Rattle.std.specs.Prelude.{codes, if◌then◌else◌, unwrap_or, ◌||◌, ◌&&◌}
-use Rattle.md_writer.specs.Steps as steps
-use Rattle.md_writer.specs.Steps.{State, Told}
+use Rattle.md_shape.specs.Steps as steps
+use Rattle.md_shape.specs.Steps.{State, Told}
 use Rattle.md_meaning.specs.Meaning.At.{Given, Footnote}
 use Rattle.md_meaning.specs.Meaning.Layout.{laid_after}
 use Rattle.md_meaning.specs.Meaning.Footnotes.{section}

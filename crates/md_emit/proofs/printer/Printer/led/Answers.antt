@@ -1,8 +1,8 @@
 -- What is looked up is what is found by the identifier.
 use Rattle.std.proofs.Common.{◌≡◌, ◌∷◌, ◌++◌, [], ℕ, List, Bool, true, false, not, Option, Some, None, refl, ap, sym, ◌∙◌}
 use Rattle.std.specs.Prelude.{codes, if◌then◌else◌, unwrap_or, ◌||◌}
-use Rattle.md_writer.specs.Steps as steps
-use Rattle.md_writer.specs.Steps.{State, Told}
+use Rattle.md_shape.specs.Steps as steps
+use Rattle.md_shape.specs.Steps.{State, Told}
 use Rattle.md_emit.proofs.printer.Printer.led.Goals as goal
 
 pub returns : goal.returns

@@ -3,8 +3,8 @@ use Rattle.std.proofs.Common.{◌≡◌, ◌∷◌, ◌++◌, [], ℕ, List, Boo
 use Rattle.std.specs.Prelude.{codes, if◌then◌else◌, unwrap_or, ◌||◌}
 use Rattle.std.specs.Prelude.{bytes_eq}
 use Rattle.md_base.specs.declared.event.Position.{Position}
-use Rattle.md_writer.specs.Steps as steps
-use Rattle.md_writer.specs.Steps.{State, Told}
+use Rattle.md_shape.specs.Steps as steps
+use Rattle.md_shape.specs.Steps.{State, Told}
 use Rattle.md_meaning.specs.Meaning.Layout.{Needed, Text, laid_after, said, on_own_line, when}
 use Rattle.md_meaning.specs.Meaning.At.{text_in}
 use Rattle.md_meaning.specs.Meaning.Blocks.{without_zeros}

@@ -1,8 +1,8 @@
 -- Outside images it is shown.
 use Rattle.std.proofs.Common.{◌≡◌, ◌∷◌, ◌++◌, [], ℕ, List, Bool, true, false, not, Option, Some, None, refl, ap, sym, ◌∙◌}
 use Rattle.std.specs.Prelude.{codes, if◌then◌else◌, unwrap_or, ◌||◌, ◌&&◌}
-use Rattle.md_writer.specs.Steps as steps
-use Rattle.md_writer.specs.Steps.{State, Told}
+use Rattle.md_shape.specs.Steps as steps
+use Rattle.md_shape.specs.Steps.{State, Told}
 use Rattle.md_meaning.specs.Meaning.Layout.{Needed, Text, laid_after, said, on_own_line, when}
 use Rattle.md_emit.proofs.Answering.{on_ok}
 use Rattle.md_emit.proofs.printer.Printer.put_call.Goals as goal

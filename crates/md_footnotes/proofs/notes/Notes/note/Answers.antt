@@ -4,7 +4,7 @@ use Rattle.std.proofs.Common.{ap, sym, ◌∙◌, string_bytes}
 use Rattle.std.specs.BTreeMap.{get_by_text}
 use Rattle.std.proofs.lemmas.Result.{on_ok_weaker}
 use Rattle.md_meaning.specs.Meaning.At.{Footnote}
-use Rattle.md_writer.specs.Steps.{noted}
+use Rattle.md_shape.specs.Steps.{noted}
 use Rattle.md_footnotes.specs.Entries.{footnotes_in}
 use Rattle.md_footnotes.proofs.Placing.{noted-present, noted-new}
 use Rattle.md_footnotes.proofs.notes.Notes.note.Goals as goal

@@ -3,12 +3,12 @@
 use Rattle.std.proofs.Common.{◌≡◌, ℕ, suc, true, false, refl, ap, ◌∙◌}
 use Rattle.md_base.specs.declared.event.Name.{Name}
 use Rattle.md_base.specs.declared.event.Name.TheVariants.{HeadingAtx, ListOrdered, Link, Image, GfmFootnoteCall, Definition, GfmFootnoteDefinition}
-use Rattle.md_infer.specs.declared.facts.Fact.{Fact}
-use Rattle.md_infer.specs.declared.seeking.Sought.{Sought}
+use Rattle.md_pattern.specs.declared.facts.Fact.{Fact}
+use Rattle.md_pattern.specs.declared.seeking.Sought.{Sought}
 use Rattle.md_tree.specs.Grammar.{Handed}
 use Rattle.md_tree.specs.Reads.{is_reader}
-use Rattle.md_infer.specs.Seeking.{search_of}
-use Rattle.md_infer.specs.Facts.{read_at_of, tables_after, contributing_over, sought_over, facts_at}
+use Rattle.md_pattern.specs.Seeking.{search_of}
+use Rattle.md_pattern.specs.Facts.{read_at_of, tables_after, contributing_over, sought_over, facts_at}
 use Rattle.md_tree.specs.Found.{position_at}
 use Rattle.md_tree.proofs.Kept.{facts_are, numbers}
 use Rattle.md_tree.proofs.Numbers.{at-with}

@@ -4,8 +4,8 @@ use Rattle.std.proofs.Common.{rules, ◌≡◌, suc, ◌<◌, add-one, sym, ap, 
 use Rattle.std.proofs.lemmas.Option.{slice_get_within}
 use Rattle.std.proofs.lemmas.Result.{err_from_is_err_and}
 use Rattle.md_base.specs.Reference.{name_table}
-use Rattle.md_infer.specs.Ending.{ending_after}
-use Rattle.md_infer.specs.Facts.{passed_entry, passed_exit}
+use Rattle.md_pattern.specs.Ending.{ending_after}
+use Rattle.md_pattern.specs.Facts.{passed_entry, passed_exit}
 use Rattle.md_tree.specs.Grammar.{handed}
 use Rattle.md_tree.specs.Walk.{point_at, course_of, Passes, Unbroken, IsStopAtLeaf}
 use Rattle.md_tree.proofs.LeafRuns.{Runs-leaf, IsRefusal-leaf, passed-leaf_more, first_index-leaf}

@@ -1,7 +1,0 @@
--- A heading of the answer, as the listing has it.
-use Rattle.std.specs.String.{string_bytes}
-use Rattle.md_attributes.specs.Added.{Listed}
-use Rattle.md_attributes.specs.declared.headings.Heading.{Heading}
-
-abbrev pub listed : Heading → Listed
-listed heading = record { level = heading.level; number = heading.number; text = string_bytes heading.text }

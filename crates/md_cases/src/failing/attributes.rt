@@ -1,0 +1,76 @@
+//! The calls that add attributes to the tags of a safe text.
+
+use super::documents::safe_of;
+use super::log::{Log, again};
+use super::rows::attributed;
+use md_html::SafeHtml;
+use md_page::{Heading, page_around, with_heading_ids, with_link_rel};
+use std::alloc::{AllocError, Global};
+use std::io;
+
+/// The document's text with a `rel`.
+const WITH_REL: &str = "<h1><a href=\"b\" rel=\"&lt;\">a</a></h1>";
+
+/// Its text with an `id`.
+const WITH_ID: &str = "<h1 id=\"&lt;1\"><a href=\"b\">a</a></h1>";
+
+/// A page around it.
+const IN_PAGE: &str =
+    "<!doctype html>\n<html><head><meta charset=\"utf-8\" /><title>&lt;</title></head><body>\
+    <h1><a href=\"b\">a</a></h1></body></html>\n";
+
+/// Makes each call over a heading with a link.
+pub fn ask_each<R: Print + AllocGlobal>(rt: &R, log: &mut Log) -> io::Result<()> {
+    let row = attributed();
+    match &safe_of(rt.alloc(), log, row) {
+        Ok(html) => ask(rt, log, html, row.name),
+        Err(_) => log.tell(rt, false, "compile_safe", row.name),
+    }
+}
+
+/// Makes each call over a safe text.
+fn ask<R: Print + AllocGlobal>(
+    rt: &R,
+    log: &mut Log,
+    html: &SafeHtml,
+    name: &str,
+) -> io::Result<()> {
+    let is_right = adds_rel(rt.alloc(), log, html);
+    log.tell(rt, is_right, "with_link_rel", name)?;
+    let is_right = adds_ids(rt.alloc(), log, html);
+    log.tell(rt, is_right, "with_heading_ids", name)?;
+    let is_right = is_in_page(rt.alloc(), log, html);
+    log.tell(rt, is_right, "page_around", name)
+}
+
+/// Whether `with_link_rel` answers what is wanted.
+fn adds_rel(alloc: Global, log: &mut Log, html: &SafeHtml) -> bool {
+    match again!(log, Err(AllocError), with_link_rel(alloc, html, "<")) {
+        Ok(made) => made.as_str() == WITH_REL,
+        Err(AllocError) => false,
+    }
+}
+
+/// Whether `with_heading_ids` answers what is wanted.
+fn adds_ids(alloc: Global, log: &mut Log, html: &SafeHtml) -> bool {
+    match again!(log, Err(AllocError), with_heading_ids(alloc, html, "<")) {
+        Ok(made) => made.html.as_str() == WITH_ID && are_listed(made.headings.as_slice()),
+        Err(AllocError) => false,
+    }
+}
+
+/// Whether these are the document's headings.
+fn are_listed(headings: &[Heading]) -> bool {
+    match headings {
+        [heading] => { heading.level == 1 && heading.number == 1 && heading.text.as_str() == "a" }
+        _ => false,
+    }
+}
+
+/// Whether `page_around` answers what is wanted.
+fn is_in_page(alloc: Global, log: &mut Log, html: &SafeHtml) -> bool {
+    match again!(log, Err(AllocError), page_around(alloc, "<", html)) {
+        Ok(page) => page.as_str() == IN_PAGE,
+        Err(AllocError) => false,
+    }
+}

@@ -1,0 +1,347 @@
+//! The calls over documents.
+
+use super::log::{Log, again};
+use super::plain;
+use super::rows::{NAMES, Row, Wanted, documents, named};
+use md_html::{
+    AlignKind, Checked, CompileError, CompileOptions, Counted, Name, SafeError, SafeHtml, check,
+    compile, compile_checked, compile_counted, compile_safe, gfm_table_align,
+};
+use md_page::page;
+use md_script::{RunError, SafeRunError, run, run_safe};
+use std::alloc::{AllocError, Global};
+use std::io;
+
+/// Makes each call over each document.
+pub fn ask_each<R: Print + AllocGlobal>(rt: &R, log: &mut Log) -> io::Result<()> {
+    for rows in documents() {
+        ask_rows(rt, log, rows)?;
+    }
+    ask(rt, log, named(), &NAMES)?;
+    let is_right = tells_unsafe_options(rt.alloc(), log);
+    log.tell(rt, is_right, "run_safe", "unsafe options")?;
+    let is_right = tells_unreadable_line(rt.alloc(), log);
+    log.tell(rt, is_right, "run_safe", "a line that can't be read")
+}
+
+/// Makes each call over each of these documents.
+fn ask_rows<R: Print + AllocGlobal>(rt: &R, log: &mut Log, rows: &[Row]) -> io::Result<()> {
+    for row in rows {
+        ask_script(rt, log, row)?;
+        ask(rt, log, row, &[])?;
+        ask_page(rt, log, row)?;
+    }
+    Ok(())
+}
+
+/// Makes the calls over a script.
+fn ask_script<R: Print + AllocGlobal>(rt: &R, log: &mut Log, row: &Row) -> io::Result<()> {
+    let is_right = runs(rt.alloc(), log, row);
+    log.tell(rt, is_right, "run", row.name)?;
+    let is_right = runs_safely(rt.alloc(), log, row);
+    log.tell(rt, is_right, "run_safe", row.name)
+}
+
+/// Makes the call that puts a safe text into a page.
+fn ask_page<R: Print + AllocGlobal>(rt: &R, log: &mut Log, row: &Row) -> io::Result<()> {
+    match &safe_of(rt.alloc(), log, row) {
+        Ok(html) => {
+            let is_right = is_in_page(rt.alloc(), log, html, &row.wanted);
+            log.tell(rt, is_right, "page", row.name)
+        }
+        Err(_) => Ok(()),
+    }
+}
+
+/// Makes the calls over events.
+fn ask<R: Print + AllocGlobal>(
+    rt: &R,
+    log: &mut Log,
+    row: &Row,
+    names: &[(&str, &str)],
+) -> io::Result<()> {
+    ask_compilers(rt, log, row, names)?;
+    ask_check(rt, log, row, names)
+}
+
+/// Makes the calls that compile events.
+fn ask_compilers<R: Print + AllocGlobal>(
+    rt: &R,
+    log: &mut Log,
+    row: &Row,
+    names: &[(&str, &str)],
+) -> io::Result<()> {
+    let is_right = compiles(rt.alloc(), log, row, names);
+    log.tell(rt, is_right, "compile", row.name)?;
+    let is_right = counts(rt.alloc(), log, row, names);
+    log.tell(rt, is_right, "compile_counted", row.name)
+}
+
+/// Makes the call that checks events, and those over what it answers.
+fn ask_check<R: Print + AllocGlobal>(
+    rt: &R,
+    log: &mut Log,
+    row: &Row,
+    names: &[(&str, &str)],
+) -> io::Result<()> {
+    match &checked_of(rt.alloc(), log, row, names) {
+        Ok(checked) => ask_checked(rt, log, row, checked),
+        Err(cause) => log.tell(rt, is_refusal(cause, &row.wanted), "check", row.name),
+    }
+}
+
+/// Makes the calls over what was checked.
+fn ask_checked<R: Print + AllocGlobal>(
+    rt: &R,
+    log: &mut Log,
+    row: &Row,
+    checked: &Checked,
+) -> io::Result<()> {
+    let is_right = compiles_checked(rt.alloc(), log, row, checked);
+    log.tell(rt, is_right, "compile_checked", row.name)?;
+    let is_right = aligns(rt.alloc(), log, checked);
+    log.tell(rt, is_right, "gfm_table_align", row.name)?;
+    plain::ask_of_checked(rt, log, row, checked)
+}
+
+/// Checks each document and compiles it as safe; then, where asked, makes the calls that read what these answered.
+pub fn check_each<R: Print + AllocGlobal>(
+    rt: &R,
+    log: &mut Log,
+    asks_methods: bool,
+) -> io::Result<()> {
+    for rows in documents() {
+        check_rows(rt, log, rows, asks_methods)?;
+    }
+    Ok(())
+}
+
+/// The same for these documents.
+fn check_rows<R: Print + AllocGlobal>(
+    rt: &R,
+    log: &mut Log,
+    rows: &[Row],
+    asks_methods: bool,
+) -> io::Result<()> {
+    for row in rows {
+        check_row(rt, log, row, asks_methods)?;
+        compile_row(rt, log, row, asks_methods)?;
+    }
+    Ok(())
+}
+
+/// Checks a document; then, where asked, makes the calls that read what was checked.
+fn check_row<R: Print + AllocGlobal>(
+    rt: &R,
+    log: &mut Log,
+    row: &Row,
+    asks_methods: bool,
+) -> io::Result<()> {
+    match &checked_of(rt.alloc(), log, row, &[]) {
+        Ok(checked) if asks_methods => plain::ask_of_checked(rt, log, row, checked),
+        _ => Ok(()),
+    }
+}
+
+/// Compiles a document as safe; then, where asked, makes the call that reads the text.
+fn compile_row<R: Print + AllocGlobal>(
+    rt: &R,
+    log: &mut Log,
+    row: &Row,
+    asks_methods: bool,
+) -> io::Result<()> {
+    match &safe_of(rt.alloc(), log, row) {
+        Ok(html) if asks_methods => {
+            log.tell(rt, is_text(html.as_str(), &row.wanted), "as_str", row.name)
+        }
+        _ => Ok(()),
+    }
+}
+
+/// The answer of `compile_safe`; where it is out of memory, that of the same call made again.
+pub fn safe_of(alloc: Global, log: &mut Log, row: &Row) -> Result<SafeHtml, SafeError> {
+    again!(
+        log,
+        Err(SafeError::Compile(CompileError::Memory)),
+        compiled_as_safe(alloc, row)
+    )
+}
+
+/// The answer of `compile_safe`.
+fn compiled_as_safe(alloc: Global, row: &Row) -> Result<SafeHtml, SafeError> {
+    let options = CompileOptions::default();
+    compile_safe(alloc, row.events, row.document.as_bytes(), &options, &[])
+}
+
+/// The answer of `check`.
+fn checked_of<'a>(
+    alloc: Global,
+    log: &mut Log,
+    row: &'a Row,
+    names: &'a [(&'a str, &'a str)],
+) -> Result<Checked<'a>, CompileError> {
+    again!(
+        log,
+        Err(CompileError::Memory),
+        check(alloc, row.events, row.document.as_bytes(), names)
+    )
+}
+
+/// Whether `run` answers what is wanted.
+fn runs(alloc: Global, log: &mut Log, row: &Row) -> bool {
+    match again!(
+        log,
+        Err(RunError::Memory),
+        run(alloc, row.script.as_bytes())
+    ) {
+        Ok(text) => is_text(text.as_str(), &row.wanted),
+        Err(RunError::Event { index, rule }) => {
+            is_refusal(&CompileError::Event { index, rule }, &row.wanted)
+        }
+        Err(_) => false,
+    }
+}
+
+/// The answer of `run_safe`; where it is out of memory, that of the same call made again.
+fn ran_safely(alloc: Global, log: &mut Log, script: &[u8]) -> Result<SafeHtml, SafeRunError> {
+    again!(
+        log,
+        Err(SafeRunError::Run(RunError::Memory)),
+        run_safe(alloc, script)
+    )
+}
+
+/// Whether `run_safe` answers what is wanted.
+fn runs_safely(alloc: Global, log: &mut Log, row: &Row) -> bool {
+    match ran_safely(alloc, log, row.script.as_bytes()) {
+        Ok(html) => is_text(html.as_str(), &row.wanted),
+        Err(SafeRunError::Run(RunError::Event { index, rule })) => {
+            is_refusal(&CompileError::Event { index, rule }, &row.wanted)
+        }
+        Err(_) => false,
+    }
+}
+
+/// Whether `run_safe` tells that a script's options aren't safe.
+fn tells_unsafe_options(alloc: Global, log: &mut Log) -> bool {
+    match ran_safely(alloc, log, b"!allow_dangerous_html\n--\n") {
+        Err(SafeRunError::Options) => {
+            is_written(alloc, log, &SafeRunError::Options, "unsafe options")
+        }
+        _ => false,
+    }
+}
+
+/// Whether `run_safe` tells that the first line can't be read.
+fn tells_unreadable_line(alloc: Global, log: &mut Log) -> bool {
+    match ran_safely(alloc, log, b"*\n--\n") {
+        Err(SafeRunError::Run(cause)) => {
+            is_written(alloc, log, &SafeRunError::Run(cause), "line 1: unreadable")
+        }
+        _ => false,
+    }
+}
+
+/// Whether an error is written so.
+fn is_written(alloc: Global, log: &mut Log, error: &SafeRunError, wanted: &str) -> bool {
+    match again!(log, Err(AllocError), format!(in alloc; "{error}")) {
+        Ok(text) => text.as_str() == wanted,
+        Err(AllocError) => false,
+    }
+}
+
+/// Whether `compile` answers what is wanted.
+fn compiles(alloc: Global, log: &mut Log, row: &Row, names: &[(&str, &str)]) -> bool {
+    match again!(log, Err(CompileError::Memory), compiled(alloc, row, names)) {
+        Ok(text) => is_text(text.as_str(), &row.wanted),
+        Err(cause) => is_refusal(&cause, &row.wanted),
+    }
+}
+
+/// The answer of `compile`.
+fn compiled(alloc: Global, row: &Row, names: &[(&str, &str)]) -> Result<String, CompileError> {
+    let options = CompileOptions::default();
+    compile(alloc, row.events, row.document.as_bytes(), &options, names)
+}
+
+/// Whether `compile_counted` answers what is wanted.
+fn counts(alloc: Global, log: &mut Log, row: &Row, names: &[(&str, &str)]) -> bool {
+    match again!(log, Err(CompileError::Memory), counted(alloc, row, names)) {
+        Ok(counted) => is_text(counted.text.as_str(), &row.wanted),
+        Err(cause) => is_refusal(&cause, &row.wanted),
+    }
+}
+
+/// The answer of `compile_counted`.
+fn counted(alloc: Global, row: &Row, names: &[(&str, &str)]) -> Result<Counted, CompileError> {
+    let options = CompileOptions::default();
+    compile_counted(alloc, row.events, row.document.as_bytes(), &options, names)
+}
+
+/// Whether `compile_checked` answers what is wanted.
+fn compiles_checked(alloc: Global, log: &mut Log, row: &Row, checked: &Checked) -> bool {
+    match again!(log, Err(AllocError), compiled_checked(alloc, checked)) {
+        Ok(text) => is_text(text.as_str(), &row.wanted),
+        Err(AllocError) => false,
+    }
+}
+
+/// The answer of `compile_checked`.
+fn compiled_checked(alloc: Global, checked: &Checked) -> Result<String, AllocError> {
+    compile_checked(alloc, checked, &CompileOptions::default())
+}
+
+/// Whether `gfm_table_align` answers one column without an alignment, where the first node is a table.
+fn aligns(alloc: Global, log: &mut Log, checked: &Checked) -> bool {
+    if !checked.enters(0, Name::GfmTable) {
+        return true;
+    }
+    match again!(log, Err(AllocError), gfm_table_align(alloc, checked, 0)) {
+        Ok(columns) => columns.as_slice() == [AlignKind::None].as_slice(),
+        Err(AllocError) => false,
+    }
+}
+
+/// What stands before the text of a page that has the title `<`.
+const BEFORE: &str =
+    "<!doctype html>\n<html><head><meta charset=\"utf-8\" /><title>&lt;</title></head><body>";
+
+/// What stands after it.
+const AFTER: &str = "</body></html>\n";
+
+/// Whether `page` puts the text that is wanted into a page.
+fn is_in_page(alloc: Global, log: &mut Log, html: &SafeHtml, wanted: &Wanted) -> bool {
+    match again!(log, Err(AllocError), page(alloc, "<", html)) {
+        Ok(page) => is_between(page.as_str(), wanted),
+        Err(AllocError) => false,
+    }
+}
+
+/// Whether the text that is wanted stands between the two.
+fn is_between(page: &str, wanted: &Wanted) -> bool {
+    let inside = page
+        .strip_prefix(BEFORE)
+        .and_then(|rest| rest.strip_suffix(AFTER));
+    match inside {
+        Some(text) => is_text(text, wanted),
+        None => false,
+    }
+}
+
+/// Whether this text is wanted.
+pub fn is_text(text: &str, wanted: &Wanted) -> bool {
+    match wanted {
+        Wanted::Text(wanted) => text == *wanted,
+        Wanted::Refusal(_, _) => false,
+    }
+}
+
+/// Whether this refusal is wanted.
+pub fn is_refusal(cause: &CompileError, wanted: &Wanted) -> bool {
+    match (cause, wanted) {
+        (CompileError::Event { index, rule }, Wanted::Refusal(at, by)) => {
+            *index == *at && *rule == *by
+        }
+        _ => false,
+    }
+}

@@ -1,0 +1,171 @@
+//! The calls that take no memory.
+
+ghost use Rattle.md_base.specs.declared.event.Name.TheVariants as name;
+ghost use Rattle.md_tree.specs.Texts.{EntersAt, ExitsAt};
+
+use super::log::Log;
+use super::rows::Row;
+use super::texts::point;
+use md_html::{
+    Checked, CompileOptions, LineEnding, Name, Position, Slice, list_item_loose, list_loose,
+};
+use md_script::{RunError, ServeError};
+use std::io;
+use std::str::FromStr;
+
+/// Makes the calls that ask for nothing that takes memory.
+pub fn ask_each<R: Print>(rt: &R, log: &Log) -> io::Result<()> {
+    let cut = "a slice that is cut within tabs";
+    log.tell(rt, endings_answer(), "as_str and from_str", "line endings")?;
+    log.tell(rt, options_answer(), "default and gfm", "options")?;
+    log.tell(rt, errors_answer(), "status", "errors")?;
+    log.tell(rt, cut_slice_answers(), "each call but serialize", cut)?;
+    log.tell(
+        rt,
+        inner_slice_answers(),
+        "from_indices and as_str",
+        "a slice",
+    )
+}
+
+/// Whether line endings have their texts.
+fn endings_answer() -> bool {
+    LineEnding::LineFeed.as_str() == "\n"
+        && LineEnding::from_str("\r\n") == Ok(LineEnding::CarriageReturnLineFeed)
+        && LineEnding::from_str("aaa").is_err()
+}
+
+/// Whether the tag filter is off by default, and on for GFM.
+fn options_answer() -> bool {
+    !CompileOptions::default().gfm_tagfilter && CompileOptions::gfm().gfm_tagfilter
+}
+
+/// Whether errors have their statuses.
+fn errors_answer() -> bool {
+    RunError::Line(1).status() == 2 && ServeError::Input.status() == 4
+}
+
+/// Whether the calls of slices answer over a chunk that is cut within tabs.
+fn cut_slice_answers() -> bool {
+    let position = Position {
+        start: point(0, 2),
+        end: point(2, 3),
+    };
+    match Slice::from_position(b"\ta\t", &position) {
+        Some(slice) => {
+            position.to_indices() == (0, 2) && slice.len() == 6 && slice.as_str() == Some("a\t")
+        }
+        None => false,
+    }
+}
+
+/// Whether the calls of slices answer between the tabs.
+fn inner_slice_answers() -> bool {
+    match Slice::from_indices(b"\ta\t", 1, 2) {
+        Some(slice) => slice.as_str() == Some("a"),
+        None => false,
+    }
+}
+
+/// Makes the calls that ask for what was checked.
+pub fn ask_of_checked<R: Print>(rt: &R, log: &Log, row: &Row, checked: &Checked) -> io::Result<()> {
+    ask_of_each(rt, log, row, checked)?;
+    ask_of_link(rt, log, row, checked)?;
+    ask_of_footnote(rt, log, row, checked)
+}
+
+/// Makes those that each document has.
+fn ask_of_each<R: Print>(rt: &R, log: &Log, row: &Row, checked: &Checked) -> io::Result<()> {
+    let (name, of_item) = (row.name, "list_item_loose and last_contributing");
+    log.tell(
+        rt,
+        is_kept(row, checked),
+        "events, visits, bytes and names",
+        name,
+    )?;
+    log.tell(rt, partners_answer(row, checked), "partner", name)?;
+    log.tell(rt, list_answers(checked), "list_loose", name)?;
+    log.tell(rt, item_answers(checked), of_item, name)
+}
+
+/// Makes those of a link by a label, where it is the second node.
+fn ask_of_link<R: Print>(rt: &R, log: &Log, row: &Row, checked: &Checked) -> io::Result<()> {
+    if checked.enters(1, Name::Link)
+        && checked.exits(5, Name::Data)
+        && checked.exits(6, Name::LabelText)
+    {
+        return log.tell(rt, link_answers(checked), "the calls of a link", row.name);
+    }
+    Ok(())
+}
+
+/// Makes the call of a footnote's call and of its definition, where they are the second node and one that ends later.
+fn ask_of_footnote<R: Print>(rt: &R, log: &Log, row: &Row, checked: &Checked) -> io::Result<()> {
+    if checked.exits(6, Name::GfmFootnoteCall) && checked.exits(23, Name::GfmFootnoteDefinition) {
+        return log.tell(rt, footnote_answers(checked), "footnote_of", row.name);
+    }
+    Ok(())
+}
+
+/// Whether both are of the first footnote.
+fn footnote_answers(checked: &Checked) -> bool
+    requires call { ExitsAt checked.now.events 6 name.GfmFootnoteCall }
+    requires definition { ExitsAt checked.now.events 23 name.GfmFootnoteDefinition }
+{
+    checked.footnote_of(6) == Some(0) && checked.footnote_of(23) == Some(0)
+}
+
+/// Whether the events and the bytes are kept, with one visit of each event.
+fn is_kept(row: &Row, checked: &Checked) -> bool {
+    checked.events().len() == row.events.len()
+        && checked.visits() == row.events.len()
+        && checked.bytes() == row.document.as_bytes()
+        && checked.names().len() < 2
+}
+
+/// Whether a list that is the first node isn't loose.
+fn list_answers(checked: &Checked) -> bool {
+    if checked.enters(0, Name::ListUnordered) {
+        return !list_loose(checked, 0, false) && !list_loose(checked, 0, true);
+    }
+    true
+}
+
+/// Whether an item that is the second node isn't loose, and has the contributing child that it has.
+fn item_answers(checked: &Checked) -> bool {
+    if checked.enters(1, Name::ListItem) {
+        return !list_item_loose(checked, 1) && checked.last_contributing(1) == Some(10);
+    }
+    true
+}
+
+/// Whether each event's partner has it as its partner.
+fn partners_answer(row: &Row, checked: &Checked) -> bool {
+    (0..row.events.len()).all(|index| match checked.partner(index) {
+        Some(other) => other != index && checked.partner(other) == Some(index),
+        None => false,
+    })
+}
+
+/// Whether the calls of a link answer, where one by a label is the second node.
+fn link_answers(checked: &Checked) -> bool
+    requires link { EntersAt checked.now.events 1 name.Link }
+    requires text { ExitsAt checked.now.events 5 name.Data }
+    requires label { ExitsAt checked.now.events 6 name.LabelText }
+{
+    checked
+        .reads(1)
+        .is_some_and(|place| place.to_indices() == (1, 2))
+        && checked.first_ending() == Some(11)
+        && checked.definitions() == [14, 26].as_slice()
+        && checked.text(5) == "a"
+        && checked.identifier(6) == "a"
+        && text_by_points(checked) == Some("a")
+}
+
+/// The text of the node that the fifth event enters and the sixth exits, by their points.
+fn text_by_points<'a>(checked: &Checked<'a>) -> Option<&'a str> {
+    let entry = checked.events().get(4)?;
+    let exit = checked.events().get(5)?;
+    checked.text_between(entry.point, exit.point)
+}

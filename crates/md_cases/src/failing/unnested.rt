@@ -1,0 +1,100 @@
+//! The calls that tell of links in links.
+
+use super::documents::{is_refusal, is_text};
+use super::log::{Log, again};
+use super::rows::{Row, documents, in_image, nested};
+use md_html::{
+    CompileError, CompileOptions, SafeError, SafeHtml, UnnestedError, compile_unnested,
+    has_nested_link,
+};
+use std::alloc::{AllocError, Global};
+use std::io;
+
+/// Makes these calls over each document, none of which has a link in a link, and over two with links and images.
+pub fn ask_each<R: Print + AllocGlobal>(rt: &R, log: &mut Log) -> io::Result<()> {
+    for rows in documents() {
+        ask_rows(rt, log, rows)?;
+    }
+    ask_row(rt, log, in_image())?;
+    let row = nested();
+    log.tell(rt, has_nested_link(row.events), "has_nested_link", row.name)?;
+    let is_right = refuses_nested(rt.alloc(), log, row);
+    log.tell(rt, is_right, "compile_unnested", row.name)?;
+    let is_right = refuses_options(rt.alloc(), log);
+    log.tell(rt, is_right, "compile_unnested", "unsafe options")
+}
+
+/// Makes them over each of these documents.
+fn ask_rows<R: Print + AllocGlobal>(rt: &R, log: &mut Log, rows: &[Row]) -> io::Result<()> {
+    for row in rows {
+        ask_row(rt, log, row)?;
+    }
+    Ok(())
+}
+
+/// Makes them over a document without a link in a link.
+fn ask_row<R: Print + AllocGlobal>(rt: &R, log: &mut Log, row: &Row) -> io::Result<()> {
+    log.tell(
+        rt,
+        !has_nested_link(row.events),
+        "has_nested_link",
+        row.name,
+    )?;
+    let is_right = compiles_unnested(rt.alloc(), log, row);
+    log.tell(rt, is_right, "compile_unnested", row.name)
+}
+
+/// Whether `compile_unnested` answers what is wanted.
+fn compiles_unnested(alloc: Global, log: &mut Log, row: &Row) -> bool {
+    match unnested_of(alloc, log, row) {
+        Ok(html) => is_text(html.as_str(), &row.wanted),
+        Err(UnnestedError::Safe(SafeError::Compile(cause))) => is_refusal(&cause, &row.wanted),
+        Err(_) => false,
+    }
+}
+
+/// Whether it refuses a document in which a link stands in a link.
+fn refuses_nested(alloc: Global, log: &mut Log, row: &Row) -> bool {
+    match unnested_of(alloc, log, row) {
+        Err(UnnestedError::Nested) => {
+            is_written(alloc, log, &UnnestedError::Nested, "a link in a link")
+        }
+        _ => false,
+    }
+}
+
+/// Whether it refuses options that aren't safe.
+fn refuses_options(alloc: Global, log: &mut Log) -> bool {
+    let mut options = CompileOptions::default();
+    options.allow_dangerous_html = true;
+    match compile_unnested(alloc, &[], b"", &options, &[]) {
+        Err(UnnestedError::Safe(SafeError::Options)) => {
+            let error = UnnestedError::Safe(SafeError::Options);
+            is_written(alloc, log, &error, "unsafe options")
+        }
+        _ => false,
+    }
+}
+
+/// Whether an error is written so.
+fn is_written(alloc: Global, log: &mut Log, error: &UnnestedError, wanted: &str) -> bool {
+    match again!(log, Err(AllocError), format!(in alloc; "{error}")) {
+        Ok(text) => text.as_str() == wanted,
+        Err(AllocError) => false,
+    }
+}
+
+/// The answer of `compile_unnested`; where it is out of memory, that of the same call made again.
+fn unnested_of(alloc: Global, log: &mut Log, row: &Row) -> Result<SafeHtml, UnnestedError> {
+    again!(
+        log,
+        Err(UnnestedError::Safe(SafeError::Compile(CompileError::Memory))),
+        compiled_unnested(alloc, row)
+    )
+}
+
+/// The answer of `compile_unnested`.
+fn compiled_unnested(alloc: Global, row: &Row) -> Result<SafeHtml, UnnestedError> {
+    let options = CompileOptions::default();
+    compile_unnested(alloc, row.events, row.document.as_bytes(), &options, &[])
+}

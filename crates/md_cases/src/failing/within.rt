@@ -1,0 +1,126 @@
+//! The calls that compile within limits.
+
+use super::documents::{is_refusal, is_text};
+use super::log::{Log, again};
+use super::rows::{Row, Wanted, documents};
+use md_html::{
+    CompileError, CompileOptions, Limits, SafeHtml, SafeWithinError, WithinError,
+    compile_safe_within, compile_within, work_of,
+};
+use std::alloc::Global;
+use std::io;
+
+/// No limit.
+const NONE: usize = usize::MAX;
+
+/// Makes these calls over each document: at its exact length and work, at one less of each, and at the least and the
+/// greatest limits.
+pub fn ask_each<R: Print + AllocGlobal>(rt: &R, log: &mut Log) -> io::Result<()> {
+    for rows in documents() {
+        ask_rows(rt, log, rows)?;
+    }
+    Ok(())
+}
+
+/// Makes them over each of these documents.
+fn ask_rows<R: Print + AllocGlobal>(rt: &R, log: &mut Log, rows: &[Row]) -> io::Result<()> {
+    for row in rows {
+        ask_row(rt, log, row)?;
+    }
+    Ok(())
+}
+
+/// Makes them over a document.
+fn ask_row<R: Print + AllocGlobal>(rt: &R, log: &mut Log, row: &Row) -> io::Result<()> {
+    let (length, work) = (length_of(&row.wanted), work_of(row.events));
+    let limits = [
+        (length, work),
+        (length.saturating_sub(1), work),
+        (length, work.saturating_sub(1)),
+        (0, NONE),
+        (NONE, NONE),
+    ];
+    for (text, work) in &limits {
+        let limits = Limits {
+            text: *text,
+            work: *work,
+        };
+        ask_limits(rt, log, row, limits)?;
+    }
+    Ok(())
+}
+
+/// Makes both calls over a document, with these limits.
+fn ask_limits<R: Print + AllocGlobal>(
+    rt: &R,
+    log: &mut Log,
+    row: &Row,
+    limits: Limits,
+) -> io::Result<()> {
+    let is_right = compiles_within(rt.alloc(), log, row, limits);
+    log.tell(rt, is_right, "compile_within", row.name)?;
+    let is_right = compiles_safe_within(rt.alloc(), log, row, limits);
+    log.tell(rt, is_right, "compile_safe_within", row.name)
+}
+
+/// Whether `compile_within` answers what is wanted.
+fn compiles_within(alloc: Global, log: &mut Log, row: &Row, limits: Limits) -> bool {
+    match again!(
+        log,
+        Err(WithinError::Compile(CompileError::Memory)),
+        compiled(alloc, row, limits)
+    ) {
+        Ok(text) => is_kept(text.as_str(), row, limits),
+        Err(error) => is_right(&error, row, limits),
+    }
+}
+
+/// Whether `compile_safe_within` answers what is wanted.
+fn compiles_safe_within(alloc: Global, log: &mut Log, row: &Row, limits: Limits) -> bool {
+    match again!(
+        log,
+        Err(SafeWithinError::Within(WithinError::Compile(CompileError::Memory))),
+        compiled_safe(alloc, row, limits)
+    ) {
+        Ok(html) => is_kept(html.as_str(), row, limits),
+        Err(SafeWithinError::Within(error)) => is_right(&error, row, limits),
+        Err(SafeWithinError::Options) => false,
+    }
+}
+
+/// Whether a text is wanted within limits.
+fn is_kept(text: &str, row: &Row, limits: Limits) -> bool {
+    is_text(text, &row.wanted) && text.len() <= limits.text && work_of(row.events) <= limits.work
+}
+
+/// Whether an error is wanted within limits.
+fn is_right(error: &WithinError, row: &Row, limits: Limits) -> bool {
+    let is_over = work_of(row.events) > limits.work;
+    match error {
+        WithinError::TooMuch => is_over,
+        WithinError::TooLong => !is_over && length_of(&row.wanted) > limits.text,
+        WithinError::Compile(cause) => !is_over && is_refusal(cause, &row.wanted),
+    }
+}
+
+/// How long the text is that is wanted, if one is.
+fn length_of(wanted: &Wanted) -> usize {
+    match wanted {
+        Wanted::Text(text) => text.len(),
+        Wanted::Refusal(_, _) => 0,
+    }
+}
+
+/// The answer of `compile_within`.
+fn compiled(alloc: Global, row: &Row, limits: Limits) -> Result<String, WithinError> {
+    let options = CompileOptions::default();
+    let bytes = row.document.as_bytes();
+    compile_within(alloc, row.events, bytes, &options, &[], limits)
+}
+
+/// The answer of `compile_safe_within`.
+fn compiled_safe(alloc: Global, row: &Row, limits: Limits) -> Result<SafeHtml, SafeWithinError> {
+    let options = CompileOptions::default();
+    let bytes = row.document.as_bytes();
+    compile_safe_within(alloc, row.events, bytes, &options, &[], limits)
+}

@@ -1,0 +1,12 @@
+-- Going on from the present state is as going over all the events; the counts have not passed the index.
+use Rattle.std.proofs.Common.{◌≤◌, ◌-◌}
+use Rattle.md_html.specs.Stepping.{Goes}
+use Rattle.md_html.proofs.within.run_within.Given as goal
+
+abbrev pub invariant-loop-index : goal.invariant-loop-index
+invariant-loop-index l =
+    (l.printer.cells ≤ l.index) × (l.printer.fences ≤ l.index)
+    × Goes l.given 0 l.index l.count l.fn.printer l.printer
+
+abbrev pub decreases-loop-index : goal.decreases-loop-index
+decreases-loop-index l = l.count - l.index

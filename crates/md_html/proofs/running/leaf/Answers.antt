@@ -1,0 +1,43 @@
+-- A node whose exit comes right after its entry has no children.
+use Rattle.std.proofs.Common.{◌≡◌, ◌<◌, ◌+◌, ℕ, suc, refl, sym, subst, arith}
+use Rattle.std.specs.Prelude.{Result, Ok, Err, IfOk}
+use Rattle.md_tree.specs.Texts.{EntersAt, ExitsAt}
+use Rattle.md_told.specs.Told.{IsNoticedAt}
+use Rattle.md_html.proofs.running.leaf.Goals as goal
+
+one-more : (n : ℕ) → n + 1 ≡ suc n
+one-more n = omega arith
+
+pub is_leaf_at-requires : goal.is_leaf_at-requires
+is_leaf_at-requires c = (c.args.event.name, (c.args.event, c.requires.there, c.in-Enter.is, refl))
+
+pub leaf-requires-clause-exits : goal.leaf-requires-clause-exits
+leaf-requires-clause-exits c =
+    let enters : EntersAt c.args.given.now.checked.now.events c.args.index c.args.event.name =
+    (c.args.event, c.requires.there, c.in-Enter.is, refl) in
+    subst (λ i. ExitsAt c.args.given.now.checked.now.events i c.args.event.name) (sym (one-more c.args.index))
+    (c.is_leaf_at.ensures.exits c.if-is_leaf_at.true c.args.event.name enters)
+
+pub leaf-requires-clause-one : goal.leaf-requires-clause-one
+leaf-requires-clause-one c = λ one there.
+    subst (λ i. IsNoticedAt c.args.given.now.checked.now i one) (sym (one-more c.args.index))
+    (c.is_leaf_at.ensures.noticed c.if-is_leaf_at.true one there)
+
+both : {A E : Type 0} (P Q R : A → Type 0) (result : Result A E) → ((a : A) → P a → Q a → R a) → IfOk result P →
+    IfOk result Q → IfOk result R
+both P Q R (Ok a) f p q = f a p q
+both P Q R (Err e) f p q = tt
+
+pub returns-then-is_leaf_at-clause-left : goal.returns-then-is_leaf_at-clause-left
+returns-then-is_leaf_at-clause-left c =
+    let name = c.args.event.name in
+    let enters : EntersAt c.args.given.now.checked.now.events c.args.index name =
+    (c.args.event, c.requires.there, c.in-Enter.is, refl) in
+    both _ _ _ c.leaf.result (λ done alone left yes. record {
+      enters = c.in-Enter.is;
+      exits = c.is_leaf_at.ensures.exits c.if-is_leaf_at.true name enters;
+      within = subst (λ i. i < c.args.to) (one-more c.args.index) c.if-index-to.true;
+      alone = alone yes;
+      noticed = c.is_leaf_at.ensures.noticed c.if-is_leaf_at.true;
+      left = left yes;
+    }) c.leaf.ensures.alone c.leaf.ensures.left

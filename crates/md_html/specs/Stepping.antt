@@ -1,0 +1,54 @@
+-- What is done at one event, as the steps over the events do it.
+use Rattle.std.specs.Prelude.{◌≡◌, ◌<◌, ◌≤◌, ℕ, suc, true, if◌then◌else◌, length}
+use Rattle.md_base.specs.declared.event.Event.{Event}
+use Rattle.md_base.specs.declared.event.Kind.TheVariants.{Enter}
+use Rattle.md_base.specs.declared.event.Name.{Name}
+use Rattle.md_meaning.specs.Meaning.At.{Given}
+use Rattle.md_base.specs.Tree.{Forest, flatten}
+use Rattle.md_shape.specs.Run.{Noticed, noticed, run, stepped, passes}
+use Rattle.md_tree.specs.Texts.{ExitsAt}
+use Rattle.md_shape.specs.Steps.{State, entered, passed, is_passed}
+use Rattle.md_told.specs.Told.{IsNoticedAt}
+use Rattle.md_emit.specs.Supplies.{Supplies, Leaves, is_alone}
+use Rattle.md_emit.specs.declared.given.Given.{Given as Supplied}
+use Rattle.md_html.specs.Windows.{window}
+use Rattle.md_html.specs.Fits.{fits}
+
+-- an event is gone over, and so many after it are passed over
+abbrev pub Steps : Supplied → ℕ → Event → ℕ → State → State → Type 0
+Steps code index event more before after =
+    (at : Given) (one : Noticed) → Supplies code at → IsNoticedAt code.checked.now index one →
+    (more ≡ passes event one.inside) × (after ≡ stepped at event one.told before)
+
+-- the same of an entry
+abbrev pub Opens : Supplied → ℕ → Name → ℕ → State → State → Type 0
+Opens code index name more before after =
+    (at : Given) (one : Noticed) → Supplies code at → IsNoticedAt code.checked.now index one →
+    (more ≡ (if is_passed name then one.inside else 0))
+    × (after ≡ (if is_passed name then passed before else entered at one.told name before))
+
+-- the node that an event enters is left by the next one, and that it was entered changes nothing
+pub record Leafs (code : Supplied) (index to : ℕ) (event : Event) (before after : State) : Type 0 where
+  pub enters : event.kind ≡ Enter
+  pub exits : ExitsAt code.checked.now.events (suc index) event.name
+  pub within : suc index < to
+  pub alone : is_alone event.name ≡ true
+  pub noticed : (one : Noticed) → IsNoticedAt code.checked.now index one →
+      IsNoticedAt code.checked.now (suc index) one
+  pub left : Leaves code index event.name before after
+
+-- up to any end that isn't before `to`, going on from one event is as going on from an earlier one; and
+-- if each captured text that ended there had begun, then so here
+pub record Goes (code : Supplied) (from next to : ℕ) (before after : State) : Type 0 where
+  pub runs : (at : Given) (document : Forest) (end : ℕ) → Supplies code at →
+      flatten document ≡ code.checked.now.events → to ≤ end →
+      run at 0 (window next end code.checked.now.events)
+      (window next end (noticed code.checked.now.bytes true document)) after
+      ≡ run at 0 (window from end code.checked.now.events)
+      (window from end (noticed code.checked.now.bytes true document)) before
+  pub fits : (at : Given) (document : Forest) (end : ℕ) → Supplies code at →
+      flatten document ≡ code.checked.now.events → to ≤ end →
+      fits 0 (length before.below) (window from end code.checked.now.events)
+      (window from end (noticed code.checked.now.bytes true document)) ≡ true →
+      fits 0 (length after.below) (window next end code.checked.now.events)
+      (window next end (noticed code.checked.now.bytes true document)) ≡ true

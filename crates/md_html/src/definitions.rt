@@ -1,0 +1,102 @@
+//! Where definitions lead, each printed only from its own events.
+
+ghost use Rattle.std.specs.Prelude.{◌≡◌, OnOk, IfOk, true, map};
+ghost use Rattle.md_base.specs.Tree.{Forest, flatten};
+ghost use Rattle.md_base.specs.declared.event.Name.TheVariants as name;
+ghost use Rattle.md_meaning.specs.Meaning.At as At;
+ghost use Rattle.md_tree.specs.Grammar.{IsChecked};
+ghost use Rattle.md_tree.specs.Texts.{EntersAt};
+ghost use Rattle.md_shape.specs.Run as steps;
+ghost use Rattle.md_shape.specs.Steps.{beginning, entered};
+ghost use Rattle.md_told.specs.Told.{IsNoticedAt};
+ghost use Rattle.md_told.specs.Definitions.{within, own_defined};
+ghost use Rattle.md_emit.specs.Supplies.{Supplies};
+
+use crate::running::run;
+use md_base::Name;
+use md_emit::{Given, Printer, Target};
+use md_told::inside_at;
+use md_tree::Checked;
+use std::alloc::AllocError;
+
+/// Where the document's definitions lead, in the order of their exits.
+///
+/// # Errors
+///
+/// Only where memory runs out.
+pub(crate) fn targets(given: &Given) -> Result<Vec<Target>, AllocError>
+    requires supplied { (at : At.Given) × Supplies given.now at }
+    ensures { IfOk result (λ targets. (at : At.Given) (document : Forest) → Supplies given.now at
+        → flatten document ≡ given.now.checked.now.events
+        → targets.items ≡ map (λ (d : At.Defined). d.target) (steps.defined at document)) }
+{
+    let mut printer = Printer::new(given.alloc);
+    let targets = gathered(&mut printer, given);
+    drop(printer);
+    targets
+}
+
+/// The same, by a printer that is used for one definition after another.
+fn gathered<'a>(printer: &mut Printer<'a>, given: &Given<'a>) -> Result<Vec<Target>, AllocError>
+    requires supplied { (at : At.Given) × Supplies given.now at }
+    ensures { IfOk result (λ targets. (at : At.Given) (document : Forest) → Supplies given.now at
+        → flatten document ≡ given.now.checked.now.events
+        → targets.items ≡ map (λ (d : At.Defined). d.target) (steps.defined at document)) }
+{
+    grammatical(given.checked);
+    let mut targets = Vec::new(given.alloc);
+    let entries = given.checked.definitions();
+    for entry in entries {
+        let target = target_at(printer, given, *entry)?;
+        targets.push(target)?;
+    }
+    Ok(targets)
+}
+
+/// Where the definition leads that is entered at an index.
+fn target_at<'a>(
+    printer: &mut Printer<'a>,
+    given: &Given<'a>,
+    index: usize,
+) -> Result<Target, AllocError>
+    requires supplied { (at : At.Given) × Supplies given.now at }
+    requires enters { EntersAt given.now.checked.now.events index name.Definition }
+    ensures { IfOk result (λ target. (at : At.Given) (document : Forest) (one : steps.Noticed) → Supplies given.now at
+        → flatten document ≡ given.now.checked.now.events → IsNoticedAt given.now.checked.now index one
+        → target ≡ (own_defined at given.now.checked.now.events
+        (steps.noticed given.now.checked.now.bytes true document) index one).target) }
+{
+    printer.restart(given.alloc);
+    run_definition(printer, given, index)?;
+    printer.target(given.alloc)
+}
+
+/// Enters the definition, and prints its own events, but for its exit.
+fn run_definition<'a>(
+    printer: &mut Printer<'a>,
+    given: &Given<'a>,
+    index: usize,
+) -> Result<(), AllocError>
+    requires supplied { (at : At.Given) × Supplies given.now at }
+    requires enters { EntersAt given.now.checked.now.events index name.Definition }
+    requires new { printer.old ≡ beginning }
+    ensures { OnOk result ((at : At.Given) (document : Forest) (one : steps.Noticed) → Supplies given.now at
+        → flatten document ≡ given.now.checked.now.events → IsNoticedAt given.now.checked.now index one
+        → printer.new ≡ steps.run at 0 (within index one.inside given.now.checked.now.events)
+        (within index one.inside (steps.noticed given.now.checked.now.bytes true document))
+        (entered at one.told name.Definition beginning)) }
+{
+    let _events = given.checked.events();
+    printer.enter(given, index, Name::Definition)?;
+    let inside = inside_at(given.checked, index);
+    run(printer, given, index + 1, index + inside)?;
+    Ok(())
+}
+
+/// Nothing is done: the document is one of the grammar.
+#[inline(always)]
+fn grammatical(checked: &Checked)
+    ensures { IsChecked checked.now }
+{
+    let _events = checked.events();
+}

@@ -1,0 +1,76 @@
+//! Events to HTML.
+
+ghost use Rattle.std.specs.Prelude.{◌≡◌, IfOk, string_bytes};
+ghost use Rattle.md_base.specs.Tree.{Forest, flatten};
+ghost use Rattle.md_meaning.specs.Meaning.{meaning};
+ghost use Rattle.md_meaning.specs.Meaning.At as At;
+ghost use Rattle.md_meaning.specs.Meaning.Layout.{laid_after};
+ghost use Rattle.md_emit.specs.Supplies.{Supplies};
+ghost use Rattle.md_html.specs.Printed.{text_of};
+
+use crate::definitions::targets;
+use crate::ending::ending_of;
+use crate::running::run;
+use md_emit::{Given, Printer};
+use md_shape::laws::steps_print_what_is_meant;
+use md_text::CompileOptions;
+use md_tree::Checked;
+use std::alloc::{AllocError, Global};
+
+/// The HTML of events that have passed a check: the meaning of the document that they are.
+///
+/// # Errors
+///
+/// `AllocError`, only where memory runs out.
+///
+/// # Examples
+///
+/// ```
+/// let checked = check(alloc, &events, bytes, names)?;
+/// let html = render(alloc, &checked, &CompileOptions::default())?;
+/// ```
+pub fn render(
+    alloc: Global,
+    checked: &Checked,
+    options: &CompileOptions,
+) -> Result<String, AllocError>
+    ensures meaning { IfOk result (λ text. (document : Forest) → flatten document ≡ checked.now.events
+        → string_bytes text ≡ meaning options.now checked.now.names checked.now.bytes document) }
+{
+    steps_print_what_is_meant();
+    let ending = ending_of(checked, options);
+    let names = checked.names();
+    let alone = Given {
+        alloc,
+        checked,
+        names,
+        options,
+        ending,
+        definitions: &[],
+    };
+    let definitions = targets(&alone)?;
+    let given = Given {
+        alloc,
+        checked,
+        names,
+        options,
+        ending,
+        definitions: definitions.as_slice(),
+    };
+    print(&given)
+}
+
+/// The text of all events and of the footnotes' section.
+fn print(given: &Given) -> Result<String, AllocError>
+    requires supplied { (at : At.Given) × Supplies given.now at }
+    ensures { IfOk result (λ text. (at : At.Given) (document : Forest) → Supplies given.now at
+        → flatten document ≡ given.now.checked.now.events → string_bytes text ≡ text_of at document) }
+{
+    let mut printer = Printer::new(given.alloc);
+    printer.reserve(given.checked.bytes().len());
+    let ran = run(&mut printer, given, 0, given.checked.events().len());
+    // The printer is used up before the run's error is answered, so that no path has its many parts to drop.
+    let text = printer.into_text(given.alloc, given.options, given.ending)?;
+    ran?;
+    Ok(text)
+}

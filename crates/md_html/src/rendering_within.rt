@@ -1,0 +1,126 @@
+//! The HTML of events, where it isn't longer than a limit.
+
+ghost use Rattle.std.specs.Prelude.{◌≡◌, ◌≤◌, ◌<◌, IfOk, IfSome, None, true, false, length, string_bytes};
+ghost use Rattle.md_base.specs.Tree.{Forest, flatten};
+ghost use Rattle.md_meaning.specs.Meaning.{meaning};
+ghost use Rattle.md_meaning.specs.Meaning.At as At;
+ghost use Rattle.md_shape.specs.Run as steps;
+ghost use Rattle.md_shape.specs.Steps.{beginning};
+ghost use Rattle.md_emit.specs.Supplies.{Supplies};
+ghost use Rattle.md_html.specs.Printed.{text_of};
+
+use crate::definitions::targets;
+use crate::ending::ending_of;
+use crate::running::run;
+use md_emit::{Given, Printer};
+use md_shape::laws::steps_print_what_is_meant;
+use md_text::CompileOptions;
+use md_tree::Checked;
+use std::alloc::{AllocError, Global};
+
+/// After so many events it is seen whether the text is too long.
+const AT_ONCE: usize = 16;
+
+/// The HTML of events that have passed a check, or none where it is longer than a limit. Printing stops as soon as no
+/// text is captured and what is printed is longer.
+///
+/// # Errors
+///
+/// `AllocError`, only where memory runs out.
+///
+/// # Examples
+///
+/// ```
+/// let checked = check(alloc, &events, bytes, names)?;
+/// match render_within(alloc, &checked, &CompileOptions::default(), 1 << 20)? {
+///     Some(html) => out.write_all(html.as_bytes()),
+///     None => out.write_all(b"too long"),
+/// }
+/// ```
+pub fn render_within(
+    alloc: Global,
+    checked: &Checked,
+    options: &CompileOptions,
+    limit: usize,
+) -> Result<Option<String>, AllocError>
+    ensures meaning { IfOk result (λ answer. IfSome answer (λ text. (document : Forest)
+        → flatten document ≡ checked.now.events
+        → string_bytes text ≡ meaning options.now checked.now.names checked.now.bytes document)) }
+    ensures within { IfOk result (λ answer. IfSome answer (λ text. length (string_bytes text) ≤ limit)) }
+    ensures too_long { IfOk result (λ answer. answer ≡ None → (document : Forest)
+        → flatten document ≡ checked.now.events
+        → limit < length (meaning options.now checked.now.names checked.now.bytes document)) }
+{
+    steps_print_what_is_meant();
+    let ending = ending_of(checked, options);
+    let names = checked.names();
+    let alone = Given {
+        alloc,
+        checked,
+        names,
+        options,
+        ending,
+        definitions: &[],
+    };
+    let definitions = targets(&alone)?;
+    let given = Given {
+        alloc,
+        checked,
+        names,
+        options,
+        ending,
+        definitions: definitions.as_slice(),
+    };
+    print_within(&given, limit)
+}
+
+/// The text of all events and of the footnotes' section, where it isn't longer than a limit.
+fn print_within(given: &Given, limit: usize) -> Result<Option<String>, AllocError>
+    requires supplied { (at : At.Given) × Supplies given.now at }
+    ensures text { IfOk result (λ answer. IfSome answer (λ text. (at : At.Given) (document : Forest)
+        → Supplies given.now at → flatten document ≡ given.now.checked.now.events
+        → string_bytes text ≡ text_of at document)) }
+    ensures within { IfOk result (λ answer. IfSome answer (λ text. length (string_bytes text) ≤ limit)) }
+    ensures too_long { IfOk result (λ answer. answer ≡ None → (at : At.Given) (document : Forest)
+        → Supplies given.now at → flatten document ≡ given.now.checked.now.events
+        → limit < length (text_of at document)) }
+{
+    let mut printer = Printer::new(given.alloc);
+    printer.reserve(given.checked.bytes().len());
+    let ran = run_within(&mut printer, given, limit);
+    // The printer is used up before the run's answer is looked at, so that no path has its many parts to drop.
+    let text = printer.into_text(given.alloc, given.options, given.ending)?;
+    let is_whole = ran?;
+    if is_whole && text.len() <= limit {
+        Ok(Some(text))
+    } else {
+        Ok(None)
+    }
+}
+
+/// Prints all events, until the text is longer than a limit for sure; answers whether all were printed.
+fn run_within<'a>(
+    printer: &mut Printer<'a>,
+    given: &Given<'a>,
+    limit: usize,
+) -> Result<bool, AllocError>
+    requires supplied { (at : At.Given) × Supplies given.now at }
+    requires new { printer.old ≡ beginning }
+    ensures whole { IfOk result (λ whole. whole ≡ true → (at : At.Given) (document : Forest)
+        → Supplies given.now at → flatten document ≡ given.now.checked.now.events
+        → printer.new ≡ steps.run at 0 (flatten document) (steps.noticed at.bytes true document) beginning) }
+    ensures too_long { IfOk result (λ whole. whole ≡ false → (at : At.Given) (document : Forest)
+        → Supplies given.now at → flatten document ≡ given.now.checked.now.events
+        → limit < length (steps.run at 0 (flatten document) (steps.noticed at.bytes true document) beginning).text) }
+{
+    let count = given.checked.events().len();
+    let mut index = 0;
+    while index < count {
+        let to = count.min(index.saturating_add(AT_ONCE));
+        index = run(printer, given, index, to)?;
+        if printer.is_longer(limit) {
+            return Ok(false);
+        }
+    }
+    Ok(true)
+}

@@ -1,0 +1,133 @@
+//! Going over the events, one after another.
+
+ghost use Rattle.std.specs.Prelude.{◌≡◌, ◌≤◌, ◌<◌, ◌^◌, OnOk, IfOk, Some, true, false, length, slice_get};
+ghost use Rattle.md_base.specs.Tree.{Forest, flatten};
+ghost use Rattle.md_base.specs.declared.event.Event.{Event as AnyEvent};
+ghost use Rattle.md_meaning.specs.Meaning.At as At;
+ghost use Rattle.md_tree.specs.Texts.{EntersAt};
+ghost use Rattle.md_shape.specs.Run as steps;
+ghost use Rattle.md_shape.specs.Steps.{is_passed};
+ghost use Rattle.md_told.specs.Told.{IsNoticedAt};
+ghost use Rattle.md_emit.specs.Supplies.{Supplies};
+ghost use Rattle.md_html.specs.Windows.{window};
+ghost use Rattle.md_html.specs.Stepping.{Steps, Opens, Leafs, Goes};
+
+use md_base::{Event, Kind, Name};
+use md_emit::{Given, Printer};
+use md_told::{inside_at, is_leaf_at};
+use std::alloc::AllocError;
+
+/// Prints the events from one index up to another, and answers the index of the next one: a definition that begins
+/// before the end is passed over whole.
+///
+/// # Errors
+///
+/// Only where memory runs out.
+pub(crate) fn run<'a>(
+    printer: &mut Printer<'a>,
+    given: &Given<'a>,
+    from: usize,
+    to: usize,
+) -> Result<usize, AllocError>
+    requires supplied { (at : At.Given) × Supplies given.now at }
+    requires cells { printer.old.cells ≤ from }
+    requires fences { printer.old.fences ≤ from }
+    requires within { to ≤ length given.now.checked.now.events }
+    ensures far { IfOk result (λ next. to ≤ next) }
+    ensures cells { IfOk result (λ next. printer.new.cells ≤ next) }
+    ensures fences { IfOk result (λ next. printer.new.fences ≤ next) }
+    ensures goes { IfOk result (λ next. Goes given.now from next to printer.old printer.new) }
+    ensures ran { OnOk result ((at : At.Given) (document : Forest) → Supplies given.now at
+        → flatten document ≡ given.now.checked.now.events
+        → printer.new ≡ steps.run at 0 (window from to given.now.checked.now.events)
+        (window from to (steps.noticed given.now.checked.now.bytes true document)) printer.old) }
+{
+    let events = given.checked.events();
+    let mut index = from;
+    while index < to {
+        let event = events[index];
+        if leaf(printer, given, index, to, event)? {
+            index += 2;
+        } else {
+            let more = step(printer, given, index, event)?;
+            index += 1 + more;
+        }
+    }
+    Ok(index)
+}
+
+/// Goes over a node without children, if it is entered here and has a frequent name; answers whether it did.
+#[inline(always)]
+fn leaf<'a>(
+    printer: &mut Printer<'a>,
+    given: &Given<'a>,
+    index: usize,
+    to: usize,
+    event: Event,
+) -> Result<bool, AllocError>
+    requires there { slice_get given.now.checked.now.events index ≡ Some event }
+    requires before { index < to }
+    ensures left { IfOk result (λ done. done ≡ true → Leafs given.now index to event printer.old printer.new) }
+    ensures same { IfOk result (λ done. done ≡ false → printer.new ≡ printer.old) }
+{
+    match event.kind {
+        Kind::Enter => {
+            if index + 1 < to && is_leaf_at(given.checked, index) {
+                printer.leaf(given, index, index + 1, event.name)
+            } else {
+                Ok(false)
+            }
+        }
+        Kind::Exit => Ok(false),
+    }
+}
+
+/// Goes one event further; answers how many after it are passed over.
+#[inline(always)]
+fn step<'a>(
+    printer: &mut Printer<'a>,
+    given: &Given<'a>,
+    index: usize,
+    event: Event,
+) -> Result<usize, AllocError>
+    requires there { slice_get given.now.checked.now.events index ≡ Some event }
+    requires cells { printer.old.cells < 2 ^ 63 }
+    requires fences { printer.old.fences < 2 ^ 63 }
+    ensures { IfOk result (λ more. Steps given.now index event more printer.old printer.new) }
+{
+    match event.kind {
+        Kind::Enter => open(printer, given, index, event.name),
+        Kind::Exit => {
+            printer.exit(given, index, event.name)?;
+            Ok(0)
+        }
+    }
+}
+
+/// Enters a node, or passes it over; answers how many events after its entry are passed over.
+#[inline(always)]
+fn open<'a>(
+    printer: &mut Printer<'a>,
+    given: &Given<'a>,
+    index: usize,
+    name: Name,
+) -> Result<usize, AllocError>
+    requires { EntersAt given.now.checked.now.events index name }
+    ensures { IfOk result (λ more. Opens given.now index name more printer.old printer.new) }
+{
+    if is_definition(name) {
+        printer.pass_definition();
+        Ok(inside_at(given.checked, index))
+    } else {
+        printer.enter(given, index, name)?;
+        Ok(0)
+    }
+}
+
+/// Whether it is a definition, which is printed ahead of all else.
+#[inline(always)]
+fn is_definition(name: Name) -> bool
+    ensures { result ≡ is_passed name }
+{
+    matches!(name, Name::Definition)
+}

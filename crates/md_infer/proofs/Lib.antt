@@ -1,8 +1,0 @@
--- That the pass from event to event finds what is defined of a tree: `Passing`, `Telling` and `FirstIndex`.
--- `Opens` and `Leaves` are for the steps of the code.
-pub mod Loosened
-pub mod Telling
-pub mod Opens
-pub mod Passing
-pub mod FirstIndex
-pub mod Leaves

@@ -1,8 +1,0 @@
--- The lemmas of a script's lines: bytes that are split, numbers, names, events and settings.
-pub mod CommonLemmas
-pub mod LineLemmas
-pub mod NameLemmas
-pub mod NumberLemmas
-pub mod PlainLemmas
-pub mod SettingLemmas
-pub mod SplitLemmas

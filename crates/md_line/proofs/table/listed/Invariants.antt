@@ -1,7 +1,0 @@
--- At each turn: the value of the text in the entries that are left is its value in the whole table.
-use Rattle.std.proofs.Common.{◌≡◌, drop}
-use Rattle.md_base.specs.Table.{entries_of, listed}
-use Rattle.md_line.proofs.table.listed.Given as goal
-
-abbrev pub invariant-loop-entry : goal.invariant-loop-entry
-invariant-loop-entry g l = listed (entries_of (drop l.entry-index l.table)) l.text ≡ listed (entries_of l.table) l.text

@@ -1,7 +1,0 @@
--- What the lines of a script say, which a reader must believe; of `PlainLine` and `CommonName` only
--- contracts that no promise cites speak.
-pub mod Line
-pub mod Number
-pub mod PlainLine
-pub mod Setting
-pub mod CommonName

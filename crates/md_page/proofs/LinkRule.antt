@@ -1,0 +1,267 @@
+-- A link that gets a `rel`: its bytes tell what its token does.
+use Rattle.std.specs.Str.{bytes_eq}
+use Rattle.std.specs.Prelude.{nat_eq, is_none}
+use Rattle.std.proofs.Common.{◌≡◌, ℕ, ◌==◌, Bool, true, false, not, ◌&&◌, ◌||◌, cond, List, [], ◌∷◌, ◌++◌, drop, refl, sym, ap, ◌∙◌, subst, append_assoc, inl, inr, Option, Some, None, codes, ne_eqb}
+use Rattle.std.specs.List.{list_all, list_any, starts_with}
+use Rattle.std.specs.Option.{option_map_or}
+use Rattle.std.specs.Cmp.Lexicographic.{bytes_decides}
+use Rattle.std.proofs.lemmas.Bool.{and_parts, and_from, not-true, or_parts, or_from, or_left, cases_Bool, cases_eq}
+use Rattle.std.proofs.lemmas.List.{append_cancel_right}
+use Rattle.md_base.proofs.Lies.{lie}
+use Rattle.md_base.specs.Identifier.{is_nonempty}
+use Rattle.md_text.specs.Bytes.{is_one_of}
+use Rattle.md_text.specs.References.{is_escaped, begins_with, read_back}
+use Rattle.md_text.specs.Html.{Attribute, written_attributes}
+use Rattle.md_text.specs.Encode.{encoded}
+use Rattle.md_text.proofs.EncodeLaws.{read_back-other, read_back-encoded, is_escaped-encoded}
+use Rattle.md_text.proofs.EncodeLemmas.{and_false}
+use Rattle.md_safe.specs.Input.{with_line_feeds, begins_with_line_feed}
+use Rattle.md_safe.specs.Token.{Token, Doctype, Character, StartTag, EndTag, EndOfFile}
+use Rattle.md_safe.specs.Tokenizer.{IsTokenized}
+use Rattle.md_safe.specs.Tokens.{seen, seen_attributes}
+use Rattle.md_safe.proofs.EscapedCases.{IsPlain, by_escaped}
+use Rattle.md_safe.proofs.Schemes.{seen-is}
+use Rattle.md_page.specs.Added.{added, gets_rel, leads_away, has_attribute, shown, with_link_rel, heading_names}
+use Rattle.md_page.specs.Pieces.{are_plain, is_name, is_name_byte, begins_with_letter, IsWritten}
+use Rattle.md_page.specs.Scan.{differs, before_angle, parts_of, value_in, value_of, is_away, want_rel, picks_link, new_rel, with_new}
+use Rattle.md_page.proofs.Parts.{parts-filled, parts-run, value_in-step, before-run}
+use Rattle.md_page.proofs.Plain.{void-name}
+use Rattle.md_page.proofs.Adding.{PicksElements, MayAdd, seen_attribute, is_addition_to}
+use Rattle.md_page.proofs.Rules.{IsRule, keeps, becomes}
+use Rattle.md_page.proofs.Scanning.{escaped-differs, name-differs, all-join, attributes-differ, closes, PicksBy}
+
+-- two tests that pass together
+pub both : (a b : Bool) → (a ≡ true → b ≡ true) → (b ≡ true → a ≡ true) → a ≡ b
+both true b f g = sym (f refl)
+both false true f g = g refl
+both false false f g = refl
+
+-- ---- an attribute by its name
+
+-- the value of the first attribute with a name
+abbrev pub found : List ℕ → List Attribute → Option (List ℕ)
+found key [] = None
+found key (a ∷ x) = cond (bytes_eq key a.name) (Some a.value) (found key x)
+
+-- a name between a space and `=`
+abbrev framed : List ℕ → List ℕ
+framed name = 32 ∷ (name ++ (61 ∷ []))
+
+tail_of : (x y : List ℕ) → 32 ∷ x ≡ 32 ∷ y → x ≡ y
+tail_of x y e = cc
+
+framed-eq : (key name : List ℕ) → bytes_eq (framed key) (framed name) ≡ bytes_eq key name
+framed-eq key name =
+    both (bytes_eq (framed key) (framed name)) (bytes_eq key name)
+    (λ h. (bytes_decides key name).1
+    (append_cancel_right key name (61 ∷ []) (tail_of _ _ ((bytes_decides (framed key) (framed name)).0 h))))
+    (λ h. (bytes_decides (framed key) (framed name)).1 (ap framed ((bytes_decides key name).0 h)))
+
+pub value_of-found : (key : List ℕ) (x : List Attribute) → are_plain x ≡ true →
+    value_of (framed key) (written_attributes x) ≡ found key x
+value_of-found key [] h = refl
+value_of-found key (a ∷ x) h =
+    let p = and_parts (is_name a.name) _ h in
+    let q = and_parts (is_escaped a.value) _ p.1 in
+    let r = and_parts _ (are_plain x) q.1 in
+    let later = written_attributes x in
+    let named = (and_parts (is_nonempty a.name) (list_all is_name_byte a.name) p.0).1 in
+    let front : list_all (differs 34) (framed a.name) ≡ true =
+    all-join (differs 34) a.name (61 ∷ []) (name-differs 34 a.name refl named) refl in
+    ap (λ y. value_in (framed key) (parts_of (32 ∷ y))) (sym (append_assoc a.name (61 ∷ []) (34
+    ∷ (a.value ++ (34 ∷ later)))))
+    ∙ ap (value_in (framed key)) (parts-run (framed a.name) (a.value ++ (34 ∷ later)) front
+    ∙ ap (λ y. framed a.name ∷ y) (parts-run a.value later (escaped-differs 34 a.value (λ rest. refl) q.0)))
+    ∙ value_in-step (framed key) (framed a.name) a.value (parts_of later) (parts-filled later)
+    ∙ ap (λ c. cond c (Some a.value) (value_in (framed key) (parts_of later))) (framed-eq key a.name)
+    ∙ ap (λ y. cond (bytes_eq key a.name) (Some a.value) y) (value_of-found key x r.1)
+
+-- there is none exactly if no attribute has the name
+pub none-found : (key : List ℕ) (x : List Attribute) →
+    is_none (found key x) ≡ not (has_attribute key (seen_attributes x))
+none-found key [] = refl
+none-found key (a ∷ x) = by (bytes_eq key a.name) (none-found key x)
+  where
+    by : (c : Bool) → is_none (found key x) ≡ not (has_attribute key (seen_attributes x)) →
+        is_none (cond c (Some a.value) (found key x)) ≡ not (c || has_attribute key (seen_attributes x))
+    by true e = refl
+    by false e = e
+
+-- ---- a value as it is written, and as it is seen
+
+-- not empty, and no `#` first
+abbrev away : List ℕ → Bool
+away value = is_nonempty value && not (starts_with nat_eq value (codes "#"))
+
+away-plain : (b : ℕ) (rest : List ℕ) → IsPlain b → away (seen (b ∷ rest)) ≡ away (b ∷ rest)
+away-plain b rest p = elim (cases_eq b 13) [
+  | inl is ↦ subst (λ b. away (seen (b ∷ rest)) ≡ away (b ∷ rest)) (sym is) (returned rest)
+  | inr ne ↦
+      ap (λ c. away (read_back (cond c (cond (begins_with_line_feed rest) (with_line_feeds rest)
+      (10 ∷ with_line_feeds rest)) (b ∷ with_line_feeds rest)))) (ne_eqb b 13 ne)
+      ∙ ap away (read_back-other b (with_line_feeds rest) (λ e. lie (sym p.no_and ∙ ap (λ c. c == 38) e)))
+]
+  where
+    returned : (rest : List ℕ) → away (seen (13 ∷ rest)) ≡ away (13 ∷ rest)
+    returned [] = refl
+    returned (c ∷ rest) = elim (cases_eq c 10) [
+      | inl is ↦ subst (λ c. away (seen (13 ∷ c ∷ rest)) ≡ away (13 ∷ c ∷ rest)) (sym is) refl
+      | inr ne ↦ ap (λ t. away (read_back (cond t (with_line_feeds (c ∷ rest)) (10 ∷ with_line_feeds (c ∷ rest)))))
+          (ne_eqb c 10 ne)
+    ]
+
+away-seen : (value : List ℕ) → is_escaped value ≡ true → away (seen value) ≡ is_away value
+away-seen value h =
+    by_escaped (λ x. away (seen x) ≡ away x) refl (λ b rest p later. away-plain b rest p)
+    (λ rest later. refl) (λ rest later. refl) (λ rest later. refl) (λ rest later. refl) value h
+
+-- no attribute leads away where none has the name
+none-away : (x : List Attribute) → list_any (λ a. bytes_eq (codes "href") a.name) x ≡ false →
+    list_any leads_away (seen_attributes x) ≡ false
+none-away [] h = refl
+none-away (a ∷ x) h =
+    let p = or_parts (bytes_eq (codes "href") a.name) (list_any (λ a. bytes_eq (codes "href") a.name) x) h in
+    or_from (bytes_eq (codes "href") a.name && away (seen a.value)) (list_any leads_away (seen_attributes x))
+    (ap (λ c. c && away (seen a.value)) p.0) (none-away x p.1)
+
+found-away : (x : List Attribute) → are_plain x ≡ true →
+    option_map_or is_away (found (codes "href") x) false ≡ list_any leads_away (seen_attributes x)
+found-away [] h = refl
+found-away (a ∷ x) h =
+    let alone = list_any (λ later. bytes_eq a.name later.name) x in
+    let p = and_parts (is_name a.name) _ h in
+    let q = and_parts (is_escaped a.value) _ p.1 in
+    let r = and_parts (not alone) (are_plain x) q.1 in
+    by (bytes_eq (codes "href") a.name) refl (away-seen a.value q.0) (not-true alone r.0) (found-away x r.1)
+  where
+    by : (c : Bool) → bytes_eq (codes "href") a.name ≡ c → away (seen a.value) ≡ is_away a.value →
+        list_any (λ later. bytes_eq a.name later.name) x ≡ false →
+        option_map_or is_away (found (codes "href") x) false ≡ list_any leads_away (seen_attributes x) →
+        option_map_or is_away (cond c (Some a.value) (found (codes "href") x)) false
+        ≡ ((c && away (seen a.value)) || list_any leads_away (seen_attributes x))
+    by true is same none on =
+        let no_later : list_any leads_away (seen_attributes x) ≡ false =
+        none-away x (subst (λ n. list_any (λ later. bytes_eq n later.name) x ≡ false)
+        (sym ((bytes_decides (codes "href") a.name).0 is)) none) in
+        sym (ap (λ t. away (seen a.value) || t) no_later ∙ or_false (away (seen a.value)) ∙ same)
+      where
+        or_false : (b : Bool) → (b || false) ≡ b
+        or_false true = refl
+        or_false false = refl
+    by false is same none on = on
+
+-- ---- the tag
+
+pub before-attributes : (x : List Attribute) (r : List ℕ) → are_plain x ≡ true →
+    before_angle (written_attributes x ++ (62 ∷ r)) ≡ Some (written_attributes x)
+before-attributes x r h = before-run (written_attributes x) r (attributes-differ 62 x closes h)
+
+wants : (x : List Attribute) → are_plain x ≡ true → want_rel (written_attributes x)
+    ≡ (list_any leads_away (seen_attributes x) && not (has_attribute (codes "rel") (seen_attributes x)))
+wants x h =
+    ap (λ v. option_map_or is_away v false && is_none (value_of (framed (codes "rel")) (written_attributes x)))
+    (value_of-found (codes "href") x h)
+    ∙ ap (λ t. t && is_none (value_of (framed (codes "rel")) (written_attributes x))) (found-away x h)
+    ∙ ap (λ v. list_any leads_away (seen_attributes x) && is_none v) (value_of-found (codes "rel") x h)
+    ∙ ap (λ t. list_any leads_away (seen_attributes x) && t) (none-found (codes "rel") x)
+
+-- an `a`
+picks-a : (x : List Attribute) (r : List ℕ) → are_plain x ≡ true →
+    picks_link (97 ∷ (written_attributes x ++ (62 ∷ r))) ≡ gets_rel (StartTag (codes "a") (seen_attributes x) false)
+picks-a [] r h = refl
+picks-a (a ∷ x) r h =
+    ap (λ v. option_map_or want_rel v false) (before-attributes (a ∷ x) r h) ∙ wants (a ∷ x) h
+
+-- any other name
+no-a : (name tail : List ℕ) → list_all is_name_byte name ≡ true → bytes_eq name (codes "a") ≡ false →
+    begins_with_letter name ≡ true → begins_with (codes "a ") (name ++ tail) ≡ false
+no-a [] tail h ne f = lie f
+no-a (b ∷ []) tail h ne f = elim (cases_eq b 97) [
+  | inl is ↦ lie (sym ne ∙ subst (λ b. bytes_eq (b ∷ []) (codes "a") ≡ true) (sym is) refl)
+  | inr other ↦ ap (λ t. t && begins_with (codes " ") tail) (ne_eqb 97 b (λ e. other (sym e)))
+]
+no-a (b ∷ c ∷ name) tail h ne f =
+    let p = and_parts (is_name_byte b) (list_all is_name_byte (c ∷ name)) h in
+    let q = and_parts (is_name_byte c) (list_all is_name_byte name) p.1 in
+    ap (λ t. (97 == b) && (t && true)) (ne_eqb 32 c (λ e. lie (ap is_name_byte e ∙ q.0))) ∙ and_false (97 == b)
+
+pub link-picks : PicksBy picks_link gets_rel
+link-picks = record {
+  elements = λ name x r named plain.
+      elim (cases_Bool (bytes_eq name (codes "a"))) [
+        | inl is ↦
+            subst (λ n. picks_link (n ++ (written_attributes x ++ (62 ∷ r)))
+            ≡ gets_rel (StartTag n (seen_attributes x) false)) (sym ((bytes_decides name (codes "a")).0 is))
+            (picks-a x r plain)
+        | inr other ↦ (let p = and_parts (begins_with_letter name) _ named in
+            let q = and_parts (list_all is_name_byte name) _ p.1 in
+            let tail = written_attributes x ++ (62 ∷ r) in
+            ap (λ t. t && option_map_or want_rel (before_angle (drop 1 (name ++ tail))) false)
+            (no-a name tail q.0 other p.0)
+            ∙ sym (ap (λ c. c && (list_any leads_away (seen_attributes x)
+            && not (has_attribute (codes "rel") (seen_attributes x)))) other))
+      ];
+  voids = λ name r h. not-true (picks_link (name ++ r)) (void-name (λ n. not (picks_link (n ++ r))) name refl h);
+  ends = λ r. refl;
+}
+
+pub link-elements : PicksElements gets_rel
+link-elements = record {
+  characters = λ b. refl;
+  ends = λ name. refl;
+  end_of_file = refl;
+  voids = λ name x h.
+      ap (λ c. c && (list_any leads_away x && not (has_attribute (codes "rel") x)))
+      (not-true (bytes_eq name (codes "a")) (void-name (λ n. not (bytes_eq n (codes "a"))) name refl h));
+}
+
+-- an attribute is among those that are seen exactly if it is among those that are written
+pub same-names : (key : List ℕ) (x : List Attribute) →
+    list_any (λ a. bytes_eq key a.name) x ≡ has_attribute key (seen_attributes x)
+same-names key [] = refl
+same-names key (a ∷ x) = ap (λ t. bytes_eq key a.name || t) (same-names key x)
+
+pub link-may : (text : List ℕ) → MayAdd gets_rel (new_rel text)
+link-may text = record {
+  named = λ n. refl;
+  escaped = λ n. is_escaped-encoded text;
+  fresh = λ n name x passes.
+      (let p = and_parts (bytes_eq name (codes "a")) _ passes in
+      let q = and_parts (list_any leads_away (seen_attributes x)) _ p.1 in
+      same-names (codes "rel") x ∙ not-true (has_attribute (codes "rel") (seen_attributes x)) q.1);
+}
+
+link-listed : (text : List ℕ) (n : ℕ) (t : Token) → gets_rel t ≡ true →
+    is_addition_to t (seen_attribute (new_rel text n)) ≡ true
+link-listed text n (Doctype name) h = refl
+link-listed text n (Character b) h = refl
+link-listed text n (StartTag name x flag) h =
+    or_left (bytes_eq name (codes "a") && true) (is_one_of heading_names name && false)
+    (and_from (bytes_eq name (codes "a")) true (and_parts (bytes_eq name (codes "a")) _ h).0 refl)
+link-listed text n (EndTag name) h = refl
+link-listed text n EndOfFile h = refl
+
+pub link-rule : (text : List ℕ) → IsRule picks_link gets_rel (new_rel text)
+link-rule text = record {
+  picks_by = link-picks;
+  elements = link-elements;
+  may_add = link-may text;
+  listed = link-listed text;
+  links = λ n. refl;
+  images = λ n. refl;
+}
+
+-- what a tokenizer sees of an escaped text
+pub seen-encoded : (text : List ℕ) → seen (encoded true text) ≡ shown text
+seen-encoded text = seen-is (encoded true text) (is_escaped-encoded text) ∙ ap with_line_feeds (read_back-encoded text)
+
+-- a text with these links, and its tokens
+pub link-written : (rel text : List ℕ) → IsWritten text → IsWritten (with_new picks_link (new_rel rel) text)
+link-written rel text w = keeps picks_link gets_rel (new_rel rel) (link-rule rel) text w
+
+pub link-tokens : (rel text : List ℕ) → IsWritten text → (x : List Token) → IsTokenized text x →
+    IsTokenized (with_new picks_link (new_rel rel) text) (with_link_rel rel x)
+link-tokens rel text w x h =
+    subst (λ v. IsTokenized (with_new picks_link (new_rel rel) text)
+    (added gets_rel (λ n. record { name = codes "rel"; value = v }) 0 x)) (seen-encoded rel)
+    (becomes picks_link gets_rel (new_rel rel) (link-rule rel) text w x h)

@@ -1,0 +1,33 @@
+-- What comes of the text by its bytes, in the words of the Standard.
+use Rattle.std.proofs.Common.{sym, ap, ◌∙◌, subst}
+use Rattle.md_safe.specs.Tokenizer.{IsTokenized}
+use Rattle.md_page.specs.Added.{with_link_rel}
+use Rattle.md_page.specs.Attributed.{IsAttributed}
+use Rattle.md_page.specs.Pieces.{IsWritten}
+use Rattle.md_page.specs.Scan.{with_new, picks_link, new_rel}
+use Rattle.md_page.proofs.Rules.{attributed}
+use Rattle.md_page.proofs.LinkRule.{link-written, link-tokens}
+use Rattle.md_page.proofs.rel.with_link_rel.Goals as goal
+
+pub new-requires : goal.new-requires
+new-requires g c =
+    let rel = c.args.rel.now in
+    let text = g.H.Html.text c.args.html.now in
+    subst IsWritten (sym (c.in_ok-text.ensures ∙ ap (with_new picks_link (new_rel rel)) c.as_str.ensures.text))
+    (link-written rel text c.as_str.ensures.written)
+
+pub returns-clause-tokens : goal.returns-clause-tokens
+returns-clause-tokens g c = λ x h.
+    (let rel = c.args.rel.now in
+    let text = g.H.Html.text c.args.html.now in
+    subst (λ t. IsTokenized t (with_link_rel rel x))
+    (sym (c.new.ensures ∙ c.in_ok-text.ensures ∙ ap (with_new picks_link (new_rel rel)) c.as_str.ensures.text))
+    (link-tokens rel text c.as_str.ensures.written x h))
+
+pub returns-clause-attributed : goal.returns-clause-attributed
+returns-clause-attributed g c =
+    let rel = c.args.rel.now in
+    let text = g.H.Html.text c.args.html.now in
+    subst IsAttributed
+    (sym (c.new.ensures ∙ c.in_ok-text.ensures ∙ ap (with_new picks_link (new_rel rel)) c.as_str.ensures.text))
+    (attributed (with_new picks_link (new_rel rel) text) (link-written rel text c.as_str.ensures.written))

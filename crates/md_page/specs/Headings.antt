@@ -1,0 +1,7 @@
+-- A heading of the answer, as the listing has it.
+use Rattle.std.specs.String.{string_bytes}
+use Rattle.md_page.specs.Added.{Listed}
+use Rattle.md_page.specs.declared.headings.Heading.{Heading}
+
+abbrev pub listed : Heading → Listed
+listed heading = record { level = heading.level; number = heading.number; text = string_bytes heading.text }

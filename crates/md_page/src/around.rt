@@ -1,0 +1,45 @@
+//! A page around a text whose tags got attributes.
+
+ghost use Rattle.std.specs.Prelude.{◌≡◌, ℕ, List, true, IfOk, string_bytes};
+ghost use Rattle.md_text.specs.Encode.{encoded};
+ghost use Rattle.md_safe.specs.PageTokens.{page_text};
+ghost use Rattle.md_safe.specs.Token.{Token};
+ghost use Rattle.md_safe.specs.Tokenizer.{IsTokenized};
+ghost use Rattle.md_page.specs.Added.{shown};
+ghost use Rattle.md_page.specs.PageAround.{page_around, IsSafePage};
+
+use crate::html::Html;
+use md_text::encode;
+use std::alloc::{AllocError, Global};
+
+/// A whole page: `title`, escaped, in its head, and `body` as it is, a safe text or one to whose tags attributes were
+/// added.
+///
+/// Whatever tokens the HTML Standard's tokenizer emits of `body`, it emits of the page exactly the doctype, the head
+/// with the title's characters, U+FFFD for each NUL and a line feed for each line ending in them, and these tokens.
+///
+/// # Errors
+///
+/// Only where memory runs out.
+///
+/// # Examples
+///
+/// ```
+/// let comment = with_link_rel(alloc, &html, "nofollow ugc")?;
+/// let page = page_around(alloc, "Comments", &comment)?;
+/// ```
+pub fn page_around<H: Html>(alloc: Global, title: &str, body: &H) -> Result<String, AllocError>
+    ensures text { IfOk result (λ text. string_bytes text
+        ≡ page_text (encoded true title.now) (H.text body.now)) }
+    ensures tokens { IfOk result (λ text. (x : List Token) → IsTokenized (H.text body.now) x
+        → IsSafePage (string_bytes text) (page_around (shown title.now) x)) }
+{
+    let escaped = encode(alloc, title, true)?;
+    let mut text = String::new(alloc);
+    text.push_str("<!doctype html>\n<html><head><meta charset=\"utf-8\" /><title>")?;
+    text.push_str(escaped.as_str())?;
+    text.push_str("</title></head><body>")?;
+    text.push_str(body.as_str())?;
+    text.push_str("</body></html>\n")?;
+    Ok(text)
+}

@@ -1,0 +1,131 @@
+-- The open nodes, of which the vector has the innermost last: what they are where that one changes.
+use Rattle.std.proofs.Common.{◌≡◌, ℕ, false, ◌+◌, ◌-◌, ◌<◌, List, [], ◌∷◌, ◌++◌, length, get_or, take, drop, Result, Ok, Err, refl, sym, ap, subst, ◌∙◌, arith}
+use Rattle.std.specs.Prelude.{set, reverse, OnOk}
+use Rattle.std.proofs.Math.Seq.{set-append_seam, take-append_seam, get_or-append_seam}
+use Rattle.std.proofs.lemmas.List.{length-set, length-append, reverse-append, reverse-reverse}
+use Rattle.md_base.specs.declared.event.Name.{Name}
+use Rattle.md_pattern.specs.declared.facts.Fact.{Fact}
+use Rattle.md_pattern.specs.declared.facts.OpenNode.{OpenNode}
+use Rattle.md_pattern.specs.Columns.{Collected, columns_exited}
+use Rattle.md_pattern.specs.Told.{nothing_told}
+use Rattle.md_base.specs.NameTests.{is_table}
+use Rattle.md_pattern.specs.Facts.{PassState, opens, next_outer, others_outer, grounded, opened, followed, fact_of, partner_alone, definitions_with, passed_entry, passed_exit}
+use Rattle.md_pattern.proofs.Leaves.{passed-leaf_by}
+
+-- an answer of a call of which three things are known
+pub on_answer : {A E : Type 0} (P Q R S : Type 0) → (P → Q → R → S) → (result : Result A E) → OnOk result P →
+    OnOk result Q → OnOk result R → OnOk result S
+on_answer P Q R S f (Ok a) p q r = f p q r
+on_answer P Q R S f (Err e) p q r = p
+
+opens-seam : (r : List OpenNode) (x d : OpenNode) → opens (reverse r ++ x ∷ []) d ≡ x ∷ r ++ d ∷ []
+opens-seam r x d =
+    ap (λ xs. xs ++ d ∷ []) (reverse-append (reverse r) (x ∷ []) ∙ ap (λ xs. x ∷ xs) (reverse-reverse r))
+
+one_less : (n : ℕ) → (n + 1) - 1 ≡ n
+one_less n = omega arith
+
+last-place : (r : List OpenNode) (x : OpenNode) → length (r ++ x ∷ []) - 1 ≡ length r
+last-place r x = ap (λ n. n - 1) (length-append r (x ∷ [])) ∙ one_less (length r)
+
+set-by : (r items : List OpenNode) (d w : OpenNode) → items ≡ reverse r → 0 < length items →
+    opens (set items (length items - 1) w) d ≡ w ∷ others_outer (opens items d)
+set-by [] items d w is some = absurd (omega (arith, subst (λ xs. 0 < length xs) is some))
+set-by (x ∷ r) items d w is some =
+    let parts = is ∙ reverse-append (x ∷ []) r in
+    rw parts (ap (λ n. opens (set (reverse r ++ x ∷ []) n w) d) (last-place (reverse r) x)
+    ∙ ap (λ xs. opens xs d) (set-append_seam (reverse r) x [] w)
+    ∙ opens-seam r w d
+    ∙ ap (λ o. w ∷ others_outer o) (sym (opens-seam r x d)))
+
+last-by : (r items : List OpenNode) (d x : OpenNode) → items ≡ reverse r → 0 < length items →
+    get_or items (length items - 1) x ≡ next_outer (opens items d)
+last-by [] items d x is some = absurd (omega (arith, subst (λ xs. 0 < length xs) is some))
+last-by (y ∷ r) items d x is some =
+    let parts = is ∙ reverse-append (y ∷ []) r in
+    rw parts (ap (λ n. get_or (reverse r ++ y ∷ []) n x) (last-place (reverse r) y)
+    ∙ get_or-append_seam (reverse r) y [] x
+    ∙ ap next_outer (sym (opens-seam r y d)))
+
+pub opens-set : (items : List OpenNode) (d w : OpenNode) → 0 < length items →
+    opens (set items (length items - 1) w) d ≡ w ∷ others_outer (opens items d)
+opens-set items d w some = set-by (reverse items) items d w (sym (reverse-reverse items)) some
+
+pub opens-last : (items : List OpenNode) (d x : OpenNode) → 0 < length items →
+    get_or items (length items - 1) x ≡ next_outer (opens items d)
+opens-last items d x some = last-by (reverse items) items d x (sym (reverse-reverse items)) some
+
+pub opens-alone : (items : List OpenNode) (d : OpenNode) → length items ≡ 0 → opens items d ≡ d ∷ []
+opens-alone [] d none = refl
+opens-alone (x ∷ items) d none = absurd (omega (arith, none))
+
+grounded-next : (r : List OpenNode) → next_outer (grounded r) ≡ next_outer r
+grounded-next [] = refl
+grounded-next (x ∷ r) = refl
+
+grounded-others : (r : List OpenNode) → others_outer (grounded r) ≡ others_outer r
+grounded-others [] = refl
+grounded-others (x ∷ r) = refl
+
+-- a fact that is put among others as a slice of their vector, and one that is pushed after them
+pub put_then_pushed : (facts : List Fact) (index len : ℕ) (fact whole last alone : Fact) (put pushed : List Fact) →
+    len ≡ length facts → fact ≡ whole → put ≡ set facts index fact → last ≡ alone →
+    pushed ≡ take len (put ++ drop (length put) facts) ++ last ∷ [] → pushed ≡ set facts index whole ++ alone ∷ []
+put_then_pushed facts index len fact whole last alone put pushed len_is fact_is put_is last_is pushed_is =
+    pushed_is
+    ∙ ap (λ n. take n (put ++ drop (length put) facts) ++ last ∷ []) (len_is ∙ sym (length-set facts index fact)
+    ∙ ap length (sym put_is))
+    ∙ ap (λ fs. fs ++ last ∷ []) (take-append_seam put (drop (length put) facts) ∙ put_is
+    ∙ ap (λ f. set facts index f) fact_is)
+    ∙ ap (λ f. set facts index whole ++ f ∷ []) last_is
+
+-- the exit of a node, by what each step gave: the node, what is left, and what it is then
+pub passed_exit-by : (name : Name) (pass : PassState) (own here after : OpenNode) (facts : List Fact)
+    (columns : Collected)
+    (definitions : List ℕ) (left stack : List OpenNode) → own ≡ pass.here → left ≡ grounded pass.outer →
+    here ≡ next_outer left → stack ≡ after ∷ others_outer left → after ≡ followed name own here →
+    facts ≡ set pass.facts own.entry (fact_of name (length pass.facts) (length pass.columns.tables) own.contributing
+    own.sought own.told) ++ partner_alone own.entry ∷ [] →
+    columns ≡ columns_exited name own.told here.collects pass.columns →
+    definitions ≡ definitions_with name own.entry pass.definitions →
+    record {
+      facts = facts;
+      columns = columns;
+      definitions = definitions;
+      here = next_outer stack;
+      outer = others_outer stack;
+    } ≡ passed_exit name pass
+passed_exit-by name pass own here after facts columns definitions left stack own_is left_is here_is stack_is after_is
+    facts_is columns_is definitions_is =
+    rw (
+      stack_is,
+      after_is,
+      facts_is,
+      columns_is,
+      definitions_is,
+      here_is,
+      left_is,
+      own_is,
+      grounded-next pass.outer,
+      grounded-others pass.outer,
+    ) refl
+
+-- a node without children, by what each step gave
+pub passed_leaf-by : (name : Name) (pass : PassState) (entry : ℕ) (here after : OpenNode) (columns : Collected)
+    (once twice : List Fact) (definitions : List ℕ) (stack : List OpenNode) → is_table name ≡ false →
+    entry ≡ length pass.facts → once ≡ pass.facts ++ partner_alone (entry + 1) ∷ [] →
+    twice ≡ once ++ partner_alone entry ∷ [] → here ≡ pass.here → stack ≡ after ∷ pass.outer →
+    columns ≡ columns_exited name nothing_told here.collects pass.columns →
+    definitions ≡ definitions_with name entry pass.definitions → after ≡ followed name (opened entry name here) here →
+    record {
+      facts = twice;
+      columns = columns;
+      definitions = definitions;
+      here = next_outer stack;
+      outer = others_outer stack;
+    } ≡ passed_exit name (passed_entry name pass)
+passed_leaf-by name pass entry here after columns once twice definitions stack plain entry_is once_is twice_is here_is
+    stack_is columns_is definitions_is after_is =
+    rw stack_is (passed-leaf_by name pass entry after columns once twice definitions plain entry_is once_is twice_is
+    (columns_is ∙ ap (λ h. columns_exited name nothing_told (OpenNode.collects h) pass.columns) here_is) definitions_is
+    (after_is ∙ ap (λ h. followed name (opened entry name h) h) here_is))

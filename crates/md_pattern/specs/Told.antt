@@ -1,0 +1,103 @@
+-- What the children of a node tell of its looseness and its alignment, from the first to the last. Only contracts of
+-- private functions speak of it.
+use Rattle.std.specs.Prelude.{Bool, true, false, ◌||◌, if◌then◌else◌}
+use Rattle.md_base.specs.declared.event.AlignKind.{AlignKind}
+use Rattle.md_base.specs.declared.event.AlignKind.TheVariants as align
+use Rattle.md_base.specs.declared.event.Name.{Name}
+use Rattle.md_base.specs.declared.event.Name.TheVariants.{BlankLineEnding, ListItem, GfmTableDelimiterMarker, SpaceOrTab, ListItemPrefix, BlockQuotePrefix, BlockQuote}
+use Rattle.md_pattern.specs.declared.told.Last.{Last}
+use Rattle.md_pattern.specs.declared.told.Last.TheVariants as final
+use Rattle.md_pattern.specs.declared.told.Told.{Told}
+use Rattle.md_pattern.specs.declared.told.Looseness.{Looseness}
+use Rattle.md_base.specs.Tree.{Forest, Empty, Node}
+
+-- what a space or tab is after the last child
+abbrev pub spaced : Last → Last
+spaced final.Prefix = final.PrefixSpace
+spaced final.Bare = final.BareSpace
+spaced _ = final.Plain
+
+-- nothing stands after a marker in the last child
+abbrev pub is_bare_last : Last → Bool
+is_bare_last final.Prefix = true
+is_bare_last final.PrefixSpace = true
+is_bare_last final.Bare = true
+is_bare_last final.BareSpace = true
+is_bare_last _ = false
+
+-- what an item is, and what a block quote is, by its own last child
+abbrev pub item_as : Last → Last
+item_as own = if is_bare_last own then final.BareItem else final.Plain
+
+abbrev pub quote_as : Last → Last
+quote_as final.QuotePrefix = final.Bare
+quote_as _ = final.Plain
+
+-- a blank line ending parts the last child from the next one
+abbrev pub parts : Last → Bool
+parts final.BareItem = false
+parts _ = true
+
+-- a blank line ending after the last child loosens the item around it
+abbrev pub loosens : Last → Bool
+loosens final.Prefix = false
+loosens final.PrefixSpace = false
+loosens _ = true
+
+-- there is no child yet
+abbrev pub is_nothing : Last → Bool
+is_nothing final.Nothing = true
+is_nothing _ = false
+
+-- the last child is a marker
+abbrev pub is_marker_last : Last → Bool
+is_marker_last final.Marker = true
+is_marker_last _ = false
+
+-- what children tell with one more, of which its own children tell something
+abbrev pub told_with : Name → Told → Told → Told
+told_with BlankLineEnding own before = record before {
+  last = final.Plain;
+  without_items = before.without_items || parts before.last;
+  of_item = before.of_item || loosens before.last;
+}
+told_with ListItem own before =
+    record before { last = item_as own.last; has_loose_item = before.has_loose_item || own.of_item }
+told_with GfmTableDelimiterMarker own before =
+    record before { last = final.Marker; begins_with_marker = before.begins_with_marker || is_nothing before.last }
+told_with SpaceOrTab own before = record before { last = spaced before.last }
+told_with ListItemPrefix own before = record before { last = final.Prefix }
+told_with BlockQuotePrefix own before = record before { last = final.QuotePrefix }
+told_with BlockQuote own before = record before { last = quote_as own.last }
+told_with _ own before = record before { last = final.Plain }
+
+-- no child
+abbrev pub nothing_told : Told
+nothing_told = record {
+  last = final.Nothing;
+  begins_with_marker = false;
+  without_items = false;
+  has_loose_item = false;
+  of_item = false;
+}
+
+-- what some nodes tell, after others
+abbrev pub told_over : Forest → Told → Told
+told_over Empty told = told
+told_over (Node name start end children rest) told =
+    told_over rest (told_with name (told_over children nothing_told) told)
+
+-- whether a node whose children tell this is loose
+abbrev pub looseness : Told → Looseness
+looseness own = record {
+  without_items = own.without_items;
+  with_items = own.without_items || own.has_loose_item;
+  of_item = own.of_item;
+}
+
+-- the alignment of a column whose value's children tell this
+abbrev pub alignment : Told → AlignKind
+alignment own =
+    if own.begins_with_marker
+    then (if is_marker_last own.last then align.Center else align.Left)
+    else (if is_marker_last own.last then align.Right else align.None)

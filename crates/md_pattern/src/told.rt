@@ -1,0 +1,184 @@
+//! What the children of a node tell of its looseness and its alignment, from the first to the last.
+
+ghost use Rattle.std.specs.Prelude.{◌≡◌};
+ghost use Rattle.md_pattern.specs.Told as spec;
+
+use md_base::{AlignKind, Name};
+
+/// Whether a node is loose, by its children.
+#[derive(Clone, Copy)]
+pub struct Looseness {
+    /// It is as a list whose items are not looked at.
+    pub without_items: bool,
+    /// It is as a list.
+    pub with_items: bool,
+    /// It is as an item.
+    pub of_item: bool,
+}
+
+/// What the last child is, and the one before it where that matters.
+#[derive(Clone, Copy)]
+pub enum Last {
+    /// There is no child.
+    Nothing,
+    /// Any other child.
+    Plain,
+    /// The prefix of an item.
+    Prefix,
+    /// A space or tab after the prefix of an item.
+    PrefixSpace,
+    /// A block quote that ends in its prefix.
+    Bare,
+    /// A space or tab after such a block quote.
+    BareSpace,
+    /// An item in which nothing stands after a marker.
+    BareItem,
+    /// The prefix of a block quote.
+    QuotePrefix,
+    /// A marker of a delimiter row.
+    Marker,
+}
+
+/// What the children so far tell.
+#[derive(Clone, Copy)]
+pub struct Told {
+    /// What the last child is.
+    pub last: Last,
+    /// The first child is a marker of a delimiter row.
+    pub begins_with_marker: bool,
+    /// They are loose as the children of a list whose items are not looked at.
+    pub without_items: bool,
+    /// One of them is a loose item.
+    pub has_loose_item: bool,
+    /// They are loose as the children of an item.
+    pub of_item: bool,
+}
+
+/// What is told where there is no child.
+pub const NOTHING_TOLD: Told = Told {
+    last: Last::Nothing,
+    begins_with_marker: false,
+    without_items: false,
+    has_loose_item: false,
+    of_item: false,
+};
+
+/// A node of which nothing is told.
+pub const NOT_LOOSE: Looseness = Looseness {
+    without_items: false,
+    with_items: false,
+    of_item: false,
+};
+
+/// What a space or tab that follows a last child counts as, when it is the last child itself.
+pub fn spaced(last: Last) -> Last
+    ensures { result ≡ spec.spaced last }
+{
+    match last {
+        Last::Prefix => Last::PrefixSpace,
+        Last::Bare => Last::BareSpace,
+        _ => Last::Plain,
+    }
+}
+
+/// Nothing stands after a marker in the last child.
+fn is_bare(last: Last) -> bool
+    ensures { result ≡ spec.is_bare_last last }
+{
+    matches!(
+        last,
+        Last::Prefix | Last::PrefixSpace | Last::Bare | Last::BareSpace
+    )
+}
+
+/// What an item is, by its own last child.
+fn item_as(own: Last) -> Last
+    ensures { result ≡ spec.item_as own }
+{
+    if is_bare(own) {
+        Last::BareItem
+    } else {
+        Last::Plain
+    }
+}
+
+/// What a block quote is, by its own last child.
+fn quote_as(own: Last) -> Last
+    ensures { result ≡ spec.quote_as own }
+{
+    match own {
+        Last::QuotePrefix => Last::Bare,
+        _ => Last::Plain,
+    }
+}
+
+/// Whether a blank line ending parts the last child from the next one.
+fn parts(last: Last) -> bool
+    ensures { result ≡ spec.parts last }
+{
+    !matches!(last, Last::BareItem)
+}
+
+/// Whether a blank line ending after the last child loosens the item around it.
+fn loosens(last: Last) -> bool
+    ensures { result ≡ spec.loosens last }
+{
+    !matches!(last, Last::Prefix | Last::PrefixSpace)
+}
+
+/// Whether there is no child yet.
+fn is_nothing(last: Last) -> bool
+    ensures { result ≡ spec.is_nothing last }
+{
+    matches!(last, Last::Nothing)
+}
+
+/// Adds a child, of which its own children tell something, to what children tell.
+#[inline(always)]
+pub fn tell(told: &mut Told, name: Name, own: Told)
+    ensures { told.new ≡ spec.told_with name own told.old }
+{
+    match name {
+        Name::BlankLineEnding => {
+            told.without_items = told.without_items || parts(told.last);
+            told.of_item = told.of_item || loosens(told.last);
+            told.last = Last::Plain;
+        }
+        Name::ListItem => {
+            told.last = item_as(own.last);
+            told.has_loose_item = told.has_loose_item || own.of_item;
+        }
+        Name::GfmTableDelimiterMarker => {
+            told.begins_with_marker = told.begins_with_marker || is_nothing(told.last);
+            told.last = Last::Marker;
+        }
+        Name::SpaceOrTab => told.last = spaced(told.last),
+        Name::ListItemPrefix => told.last = Last::Prefix,
+        Name::BlockQuotePrefix => told.last = Last::QuotePrefix,
+        Name::BlockQuote => told.last = quote_as(own.last),
+        _ => told.last = Last::Plain,
+    }
+}
+
+/// Whether a node whose children tell this is loose.
+pub fn told_looseness(own: Told) -> Looseness
+    ensures { result ≡ spec.looseness own }
+{
+    Looseness {
+        without_items: own.without_items,
+        with_items: own.without_items | own.has_loose_item,
+        of_item: own.of_item,
+    }
+}
+
+/// The alignment of a column whose value's children tell this.
+pub fn alignment(own: Told) -> AlignKind
+    ensures { result ≡ spec.alignment own }
+{
+    match (own.begins_with_marker, own.last) {
+        (true, Last::Marker) => AlignKind::Center,
+        (true, _) => AlignKind::Left,
+        (false, Last::Marker) => AlignKind::Right,
+        (false, _) => AlignKind::None,
+    }
+}

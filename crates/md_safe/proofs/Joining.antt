@@ -1,0 +1,141 @@
+-- Some steps, and then others.
+use Rattle.std.proofs.Common.{◌≡◌, ℕ, List, [], ◌++◌, refl, sym, ap, ◌∙◌, subst, append_assoc, Option, Some, None, option_map, zero, suc}
+use Rattle.md_safe.specs.Token.{Token}
+use Rattle.md_safe.specs.Tokenizer.{State, Data, Step, Goes, Stops, Stuck, step, run, after_step, IsRun}
+use Rattle.md_safe.specs.Leads.{Leads, emitted_before, and_then, steps}
+
+from_state : (a b : State) (x y : List ℕ) (s t : List Token) → Goes s a x ≡ Goes t b y → a ≡ b
+from_state a b x y s t e = cc
+
+from_rest : (a b : State) (x y : List ℕ) (s t : List Token) → Goes s a x ≡ Goes t b y → x ≡ y
+from_rest a b x y s t e = cc
+
+from_tokens : (a b : State) (x y : List ℕ) (s t : List Token) → Goes s a x ≡ Goes t b y → s ≡ t
+from_tokens a b x y s t e = cc
+
+no_stop : (out t : List Token) (b : State) (y : List ℕ) → Stops out ≡ Goes t b y → ⊥
+no_stop out t b y e = cc
+
+no_stuck : (t : List Token) (b : State) (y : List ℕ) → Stuck ≡ Goes t b y → ⊥
+no_stuck t b y e = cc
+
+-- what is left and what was emitted after a first step
+went : (out : List Token) (s : Step) (t : List Token) (mid : List ℕ) → emitted_before out s ≡ Goes t Data mid →
+    (later : List Token) × (s ≡ Goes later Data mid) × (out ++ later ≡ t)
+went out (Goes later state rest) t mid e = (
+  later,
+  subst (λ a. Goes later a rest ≡ Goes later Data mid) (sym (from_state state Data rest mid (out ++ later) t e))
+      (ap (λ x. Goes later Data x) (from_rest state Data rest mid (out ++ later) t e)),
+  from_tokens state Data rest mid (out ++ later) t e,
+)
+went out (Stops later) t mid e = absurd (no_stop (out ++ later) t Data mid e)
+went out Stuck t mid e = absurd (no_stuck t Data mid e)
+
+-- a claim of a way that goes back over each step
+abbrev GoesBack : (State → List ℕ → List Token → Type 0) → Type 0
+GoesBack P = (state next : State) (input rest : List ℕ) (out t : List Token) → step state input ≡ Goes out next rest →
+    P next rest t → P state input (out ++ t)
+
+-- of the steps after one, for `back`
+abbrev Backs : (State → List ℕ → List Token → Type 0) → List ℕ → List Token → ℕ → Type 0
+Backs P mid u n = (state : State) (input : List ℕ) (t : List Token) → steps n state input ≡ Goes t Data mid →
+    P state input (t ++ u)
+
+back-step : (P : State → List ℕ → List Token → Type 0) → GoesBack P → (mid : List ℕ) (u : List Token) (n : ℕ) →
+    Backs P mid u n → (state : State) (input : List ℕ) (t : List Token) (s : Step) → step state input ≡ s →
+    and_then (steps n) s ≡ Goes t Data mid → P state input (t ++ u)
+back-step P g mid u n go state input t (Goes out next rest) is e =
+    let w = went out (steps n next rest) t mid e in
+    subst (λ x. P state input (x ++ u)) w.2
+    (subst (λ x. P state input x) (sym (append_assoc out w.0 u))
+    (g state next input rest out (w.0 ++ u) is (go next rest w.0 w.1)))
+back-step P g mid u n go state input t (Stops out) is e = absurd (no_stop out t Data mid e)
+back-step P g mid u n go state input t Stuck is e = absurd (no_stuck t Data mid e)
+
+back : (P : State → List ℕ → List Token → Type 0) → GoesBack P → (mid : List ℕ) (u : List Token) → P Data mid u →
+    (n : ℕ) → Backs P mid u n
+back P g mid u h zero state input t e =
+    subst (λ x. P state input (x ++ u)) (from_tokens state Data input mid [] t e)
+    (subst (λ a. P a input u) (sym (from_state state Data input mid [] t e))
+    (subst (λ x. P Data x u) (sym (from_rest state Data input mid [] t e)) h))
+back P g mid u h (suc n) state input t e =
+    back-step P g mid u n (back P g mid u h n) state input t (step state input) refl e
+
+leads-back : (left : List ℕ) → GoesBack (λ state input t. Leads state input t left)
+leads-back left state next input rest out t e h = record {
+  count = suc h.count;
+  goes = ap (and_then (steps h.count)) e ∙ ap (emitted_before out) h.goes;
+}
+
+run-back : GoesBack IsRun
+run-back state next input rest out t e h = record {
+  steps = suc h.steps;
+  emits = ap (after_step (run h.steps)) e ∙ ap (option_map (λ later. out ++ later)) h.emits;
+}
+
+-- some steps, and then others
+pub leads-on : (state : State) (input mid left : List ℕ) (t u : List Token) → Leads state input t mid →
+    Leads Data mid u left → Leads state input (t ++ u) left
+leads-on state input mid left t u h k =
+    back (λ state input t. Leads state input t left) (leads-back left) mid u k h.count state input t h.goes
+
+-- some steps, and then a run
+pub runs-on : (state : State) (input mid : List ℕ) (t u : List Token) → Leads state input t mid →
+    IsRun Data mid u → IsRun state input (t ++ u)
+runs-on state input mid t u h k = back IsRun run-back mid u k h.count state input t h.goes
+
+-- ---- a run begins with the steps that there are
+
+map_none : (out x : List Token) → option_map (λ later. out ++ later) None ≡ Some x → ⊥
+map_none out x e = cc
+
+map_some : (out : List Token) (o : Option (List Token)) (x : List Token) →
+    option_map (λ later. out ++ later) o ≡ Some x → (y : List Token) × (o ≡ Some y) × (x ≡ out ++ y)
+map_some out None x e = absurd (map_none out x e)
+map_some out (Some y) x e = (y, refl, part (out ++ y) x e)
+  where
+    part : (y x : List Token) → Some y ≡ Some x → x ≡ y
+    part y x e = cc
+
+-- the rest of a run
+abbrev Rest : List ℕ → List Token → List Token → Type 0
+Rest mid t all = (u : List Token) × IsRun Data mid u × (all ≡ t ++ u)
+
+runs_nothing : (state : State) (input : List ℕ) (all : List Token) → run zero state input ≡ Some all → ⊥
+runs_nothing state input all e = cc
+
+-- of the steps after one, for `run-rest`
+abbrev Rests : List ℕ → ℕ → Type 0
+Rests mid n = (k : ℕ) (state : State) (input : List ℕ) (t all : List Token) → steps n state input ≡ Goes t Data mid →
+    run k state input ≡ Some all → Rest mid t all
+
+rest-step : (mid : List ℕ) (n : ℕ) → Rests mid n → (k : ℕ) (t all : List Token) (s : Step) →
+    and_then (steps n) s ≡ Goes t Data mid → after_step (run k) s ≡ Some all → Rest mid t all
+rest-step mid n go k t all (Goes out next rest) e f =
+    let w = went out (steps n next rest) t mid e in
+    let m = map_some out (run k next rest) all f in
+    let r = go k next rest w.0 m.0 w.1 m.1 in (
+      r.0,
+      r.1,
+      m.2 ∙ ap (λ x. out ++ x) r.2 ∙ sym (append_assoc out w.0 r.0) ∙ ap (λ x. x ++ r.0) w.2,
+    )
+rest-step mid n go k t all (Stops out) e f = absurd (no_stop out t Data mid e)
+rest-step mid n go k t all Stuck e f = absurd (no_stuck t Data mid e)
+
+run-rest : (mid : List ℕ) (n : ℕ) → Rests mid n
+run-rest mid zero k state input t all e f = (
+  all,
+  record {
+    steps = k;
+    emits = subst (λ a. run k a mid ≡ Some all) (from_state state Data input mid [] t e)
+        (subst (λ x. run k state x ≡ Some all) (from_rest state Data input mid [] t e) f);
+  },
+  ap (λ x. x ++ all) (from_tokens state Data input mid [] t e),
+)
+run-rest mid (suc n) zero state input t all e f = absurd (runs_nothing state input all f)
+run-rest mid (suc n) (suc k) state input t all e f =
+    rest-step mid n (run-rest mid n) k t all (step state input) e f
+
+pub run-on : (state : State) (input mid : List ℕ) (t all : List Token) → Leads state input t mid →
+    IsRun state input all → Rest mid t all
+run-on state input mid t all h k = run-rest mid h.count k.steps state input t all h.goes k.emits

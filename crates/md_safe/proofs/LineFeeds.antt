@@ -1,0 +1,58 @@
+-- What line feeds for line ends leave as it is.
+use Rattle.std.proofs.Common.{◌≡◌, ℕ, ◌==◌, Bool, true, false, not, cond, List, [], ◌∷◌, ◌++◌, refl, ap, ap₂, ◌∙◌}
+use Rattle.std.specs.List.{list_all}
+use Rattle.std.proofs.lemmas.Bool.{and_parts, and_from, cond_both, not-true}
+use Rattle.md_text.specs.References.{is_escaped, is_escaped_byte}
+use Rattle.md_safe.specs.Input.{begins_with_line_feed, with_line_feeds}
+use Rattle.md_safe.proofs.EscapedCases.{plain-escaped, by_escaped}
+
+-- no CR
+abbrev pub no_return : ℕ → Bool
+no_return b = not (b == 13)
+
+-- one byte before what follows it
+abbrev one : ℕ → Bool → List ℕ → List ℕ
+one b feed later = cond (b == 13) (cond feed later (10 ∷ later)) (b ∷ later)
+
+begins-append : (x r : List ℕ) → begins_with_line_feed r ≡ false →
+    begins_with_line_feed (x ++ r) ≡ begins_with_line_feed x
+begins-append [] r h = h
+begins-append (b ∷ x) r h = refl
+
+-- a text, and what follows it and doesn't begin with LF
+pub line_feeds-append : (x r : List ℕ) → begins_with_line_feed r ≡ false →
+    with_line_feeds (x ++ r) ≡ with_line_feeds x ++ with_line_feeds r
+line_feeds-append [] r h = refl
+line_feeds-append (b ∷ x) r h =
+    ap₂ (one b) (begins-append x r h) (line_feeds-append x r h)
+    ∙ by (b == 13) (begins_with_line_feed x) (with_line_feeds x) (with_line_feeds r)
+  where
+    by : (return feed : Bool) (x r : List ℕ) →
+        cond return (cond feed (x ++ r) (10 ∷ (x ++ r))) (b ∷ (x ++ r))
+        ≡ cond return (cond feed x (10 ∷ x)) (b ∷ x) ++ r
+    by true true x r = refl
+    by true false x r = refl
+    by false feed x r = refl
+
+-- a name has no CR
+pub line_feeds-name : (name r : List ℕ) → list_all no_return name ≡ true →
+    with_line_feeds (name ++ r) ≡ name ++ with_line_feeds r
+line_feeds-name [] r h = refl
+line_feeds-name (b ∷ name) r h =
+    let p = and_parts (no_return b) (list_all no_return name) h in
+    ap (λ c. cond c (cond (begins_with_line_feed (name ++ r)) (with_line_feeds (name ++ r))
+    (10 ∷ with_line_feeds (name ++ r))) (b ∷ with_line_feeds (name ++ r))) (not-true (b == 13) p.0)
+    ∙ ap (λ x. b ∷ x) (line_feeds-name name r p.1)
+
+-- an escaped text stays escaped
+pub line_feeds-escaped : (x : List ℕ) → is_escaped x ≡ true → is_escaped (with_line_feeds x) ≡ true
+line_feeds-escaped x h =
+    by_escaped (λ x. is_escaped (with_line_feeds x) ≡ true) refl
+    (λ b rest plain later.
+    cond_both (b == 13) (cond (begins_with_line_feed rest) (with_line_feeds rest) (10 ∷ with_line_feeds rest))
+    (b ∷ with_line_feeds rest) (λ v. is_escaped v ≡ true)
+    (λ _. cond_both (begins_with_line_feed rest) (with_line_feeds rest) (10 ∷ with_line_feeds rest)
+    (λ v. is_escaped v ≡ true) (λ _. later) (λ _. later))
+    (λ _. and_from (is_escaped_byte b (with_line_feeds rest)) (is_escaped (with_line_feeds rest))
+    (plain-escaped b (with_line_feeds rest) plain) later))
+    (λ rest later. later) (λ rest later. later) (λ rest later. later) (λ rest later. later) x h

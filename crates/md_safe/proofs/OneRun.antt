@@ -1,0 +1,35 @@
+-- However many steps are allowed, the tokens are the same.
+use Rattle.std.proofs.Common.{◌≡◌, ℕ, List, ◌++◌, refl, sym, ap, ◌∙◌, Option, Some, None, option_map, zero, suc}
+use Rattle.md_safe.specs.Token.{Token}
+use Rattle.md_safe.specs.Tokenizer.{State, Step, Goes, Stops, Stuck, step, run, after_step, IsRun}
+
+map_none : (out x : List Token) → option_map (λ later. out ++ later) None ≡ Some x → ⊥
+map_none out x e = cc
+
+map_some : (out : List Token) (o : Option (List Token)) (x : List Token) →
+    option_map (λ later. out ++ later) o ≡ Some x → (y : List Token) × (o ≡ Some y) × (x ≡ out ++ y)
+map_some out None x e = absurd (map_none out x e)
+map_some out (Some y) x e = (y, refl, part (out ++ y) x e)
+  where
+    part : (y x : List Token) → Some y ≡ Some x → x ≡ y
+    part y x e = cc
+
+same_after : (n m : ℕ) →
+    ((state : State) (input : List ℕ) (x y : List Token) → run n state input ≡ Some x →
+    run m state input ≡ Some y → x ≡ y) →
+    (s : Step) (x y : List Token) → after_step (run n) s ≡ Some x → after_step (run m) s ≡ Some y → x ≡ y
+same_after n m go (Goes out state rest) x y e f =
+    let p = map_some out (run n state rest) x e in
+    let q = map_some out (run m state rest) y f in
+    p.2 ∙ ap (λ later. out ++ later) (go state rest p.0 q.0 p.1 q.1) ∙ sym q.2
+same_after n m go (Stops out) x y e f = cc
+same_after n m go Stuck x y e f = cc
+
+same_run : (n m : ℕ) (state : State) (input : List ℕ) (x y : List Token) → run n state input ≡ Some x →
+    run m state input ≡ Some y → x ≡ y
+same_run zero m state input x y e f = cc
+same_run (suc n) zero state input x y e f = cc
+same_run (suc n) (suc m) state input x y e f = same_after n m (same_run n m) (step state input) x y e f
+
+pub one_run : (state : State) (input : List ℕ) (x y : List Token) → IsRun state input x → IsRun state input y → x ≡ y
+one_run state input x y h k = same_run h.steps k.steps state input x y h.emits k.emits

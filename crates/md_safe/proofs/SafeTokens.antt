@@ -1,0 +1,70 @@
+-- A safe attribute is one of a safe token.
+use Rattle.std.specs.Str.{bytes_eq}
+use Rattle.std.proofs.Common.{◌≡◌, ℕ, Bool, true, false, not, cond, List, [], ◌∷◌, refl, codes}
+use Rattle.std.specs.List.{list_all, list_any}
+use Rattle.std.proofs.lemmas.Bool.{and_parts, and_from}
+use Rattle.md_text.specs.References.{is_escaped}
+use Rattle.md_text.specs.Html.{Attribute, HasOneReadingWith}
+use Rattle.md_text.specs.Safe.{is_safe_link, is_safe_image, is_safe_value}
+use Rattle.md_text.specs.Url.{link_protocols, image_protocols}
+use Rattle.md_safe.specs.Token.{Token}
+use Rattle.md_safe.specs.Tokenizer.{IsTokenized}
+use Rattle.md_safe.specs.Tokens.{seen, seen_attributes}
+use Rattle.md_safe.specs.Scheme.{has_permitted_scheme}
+use Rattle.md_safe.specs.SafeTokens.{is_permitted, attributes_pass, has_safe_links, has_safe_images}
+use Rattle.md_safe.proofs.GoodNames.{is_good_attribute_name, are_good, element-good, void-good}
+use Rattle.md_safe.proofs.Schemes.{permitted-link, permitted-image}
+use Rattle.md_safe.proofs.TokenTests.{PassesTags, all-tokenized}
+
+-- the test of the grammar and that of tokens, of attributes with one name
+abbrev is_safe : List ℕ → List (List ℕ) → Attribute → Bool
+is_safe name schemes a = cond (bytes_eq a.name name) (is_safe_value schemes a.value) true
+
+abbrev Permits : List (List ℕ) → Type 0
+Permits schemes = (value : List ℕ) → is_escaped value ≡ true → is_safe_value schemes value ≡ true →
+    has_permitted_scheme schemes (seen value) ≡ true
+
+attribute-permitted : (named before after : Bool) → (before ≡ true → after ≡ true) → cond named before true ≡ true →
+    cond named after true ≡ true
+attribute-permitted true before after f h = f h
+attribute-permitted false before after f h = refl
+
+attributes-permitted : (name : List ℕ) (schemes : List (List ℕ)) → Permits schemes → (x : List Attribute) →
+    are_good x ≡ true → list_all (is_safe name schemes) x ≡ true →
+    list_all (is_permitted name schemes) (seen_attributes x) ≡ true
+attributes-permitted name schemes f [] g h = refl
+attributes-permitted name schemes f (a ∷ x) g h =
+    let p = and_parts (is_good_attribute_name a.name) _ g in
+    let q = and_parts (is_escaped a.value) _ p.1 in
+    let s = and_parts (not (list_any (λ later. bytes_eq a.name later.name) x)) (are_good x) q.1 in
+    let k = and_parts (is_safe name schemes a) (list_all (is_safe name schemes) x) h in
+    and_from (cond (bytes_eq a.name name) (has_permitted_scheme schemes (seen a.value)) true) _
+    (attribute-permitted (bytes_eq a.name name) (is_safe_value schemes a.value)
+    (has_permitted_scheme schemes (seen a.value)) (f a.value q.0) k.0)
+    (attributes-permitted name schemes f x s.1 k.1)
+
+-- such a test passes all tags of the tables
+passes : (name : List ℕ) (schemes : List (List ℕ)) → Permits schemes →
+    PassesTags (attributes_pass (is_permitted name schemes)) (is_safe name schemes)
+passes name schemes f = record {
+  characters = λ b. refl;
+  end_of_file = refl;
+  ends = λ tag attributes g. refl;
+  starts = λ tag attributes g k.
+      attributes-permitted name schemes f attributes (element-good tag attributes g).1 k;
+  voids = λ tag attributes g k. attributes-permitted name schemes f attributes (void-good tag attributes g).1 k;
+}
+
+pub links-pass : PassesTags has_safe_links is_safe_link
+links-pass = passes (codes "href") link_protocols permitted-link
+
+pub images-pass : PassesTags has_safe_images is_safe_image
+images-pass = passes (codes "src") image_protocols permitted-image
+
+pub safe-links : (text : List ℕ) (x : List Token) → HasOneReadingWith is_safe_link text → IsTokenized text x →
+    list_all has_safe_links x ≡ true
+safe-links text x one h = all-tokenized has_safe_links is_safe_link links-pass text x one h
+
+pub safe-images : (text : List ℕ) (x : List Token) → HasOneReadingWith is_safe_image text → IsTokenized text x →
+    list_all has_safe_images x ≡ true
+safe-images text x one h = all-tokenized has_safe_images is_safe_image images-pass text x one h

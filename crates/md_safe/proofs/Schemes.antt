@@ -1,0 +1,334 @@
+-- A value without a protocol has no scheme, and one with a permitted protocol has that scheme: whatever is left out or
+-- changed on the way to the scheme belongs to none.
+use Rattle.std.specs.Str.{bytes_eq}
+use Rattle.std.proofs.Common.{◌≡◌, ℕ, ◌==◌, Bool, true, false, not, ◌&&◌, ◌||◌, cond, List, [], ◌∷◌, ◌++◌, refl, sym, ap, ap₂, ◌∙◌, subst, inl, inr, Option, Some, None, option_map, append-nil, append_assoc, ne_eqb, eqb-true, leb, ltb, arith}
+use Rattle.std.specs.List.{list_all}
+use Rattle.std.specs.Option.{option_map_or}
+use Rattle.std.specs.Cmp.Lexicographic.{bytes_decides}
+use Rattle.std.proofs.lemmas.Bool.{and_parts, and_from, and_left, or_cases, or_from, or_left, cond_both, cases_Bool, not-true, eqb-false, leb-true, ltb-true, lt-leb}
+use Rattle.md_base.proofs.Lies.{lie}
+use Rattle.md_base.specs.Identifier.{is_nonempty}
+use Rattle.md_text.specs.Bytes.{is_between, is_letter, lower, lowered, is_one_of}
+use Rattle.md_text.specs.References.{is_escaped, read_back}
+use Rattle.md_text.specs.Url.{protocol_of, link_protocols, image_protocols}
+use Rattle.md_text.specs.Safe.{is_safe_value}
+use Rattle.md_text.proofs.EncodeLaws.{read_back-other}
+use Rattle.md_safe.specs.Input.{with_line_feeds, begins_with_line_feed}
+use Rattle.md_safe.specs.Tokens.{seen}
+use Rattle.md_safe.specs.Scheme.{is_control_or_space, without_leading, without_trailing, is_tab_or_newline, without_newlines, is_scheme_byte, in_scheme, in_scheme_start, scheme_of, has_permitted_scheme}
+use Rattle.md_safe.proofs.EscapedCases.{IsPlain, by_escaped}
+use Rattle.md_safe.proofs.LineFeeds.{no_return, line_feeds-name}
+use Rattle.md_safe.proofs.Steps.{past, here}
+
+-- ---- line feeds and references
+
+-- both orders give the same
+abbrev ReadsAlike : List ℕ → Type 0
+ReadsAlike x = (read_back (with_line_feeds x) ≡ with_line_feeds (read_back x))
+    × (begins_with_line_feed (read_back x) ≡ begins_with_line_feed x)
+
+abbrev one : ℕ → Bool → List ℕ → List ℕ
+one b feed later = cond (b == 13) (cond feed later (10 ∷ later)) (b ∷ later)
+
+one-read : (b : ℕ) (feed : Bool) (later : List ℕ) → IsPlain b →
+    read_back (one b feed later) ≡ one b feed (read_back later)
+one-read b feed later p = elim (cases_Bool (b == 13)) [
+  | inl is ↦ ap read_back (here _ is refl) ∙ by feed later ∙ sym (here _ is refl)
+  | inr not ↦ ap read_back (past _ not refl) ∙ read_back-other b later (eqb-false b 38 p.no_and) ∙ sym (past _ not refl)
+]
+  where
+    by : (feed : Bool) (later : List ℕ) → read_back (cond feed later (10 ∷ later)) ≡ cond feed (read_back later) (10
+        ∷ read_back later)
+    by true later = refl
+    by false later = refl
+
+plain-alike : (b : ℕ) (rest : List ℕ) → IsPlain b → ReadsAlike rest → ReadsAlike (b ∷ rest)
+plain-alike b rest p h =
+    let reads = read_back-other b rest (eqb-false b 38 p.no_and) in (
+      one-read b (begins_with_line_feed rest) (with_line_feeds rest) p
+          ∙ ap₂ (one b) (sym h.1) h.0 ∙ ap with_line_feeds (sym reads),
+      ap begins_with_line_feed reads,
+    )
+
+pub seen-is : (x : List ℕ) → is_escaped x ≡ true → seen x ≡ with_line_feeds (read_back x)
+seen-is x e =
+    (by_escaped ReadsAlike (refl, refl) plain-alike
+    (λ rest h. (ap (λ y. 38 ∷ y) h.0, refl)) (λ rest h. (ap (λ y. 34 ∷ y) h.0, refl))
+    (λ rest h. (ap (λ y. 60 ∷ y) h.0, refl)) (λ rest h. (ap (λ y. 62 ∷ y) h.0, refl)) x e).0
+
+-- ---- no protocol
+
+abbrev ends_protocol : ℕ → Bool
+ends_protocol b = (b == 63) || (b == 35) || (b == 47)
+
+abbrev goes_on : ℕ → Bool
+goes_on b = not (b == 58) && not (ends_protocol b)
+
+protocol_of-goes_on : (b : ℕ) (rest : List ℕ) → goes_on b ≡ true →
+    protocol_of (b ∷ rest) ≡ option_map (λ before. b ∷ before) (protocol_of rest)
+protocol_of-goes_on b rest e =
+    let parts = and_parts (not (b == 58)) (not (ends_protocol b)) e in
+    past _ (not-true (b == 58) parts.0) (past _ (not-true (ends_protocol b) parts.1) refl)
+
+protocol_of-colon : (b : ℕ) (rest : List ℕ) → (b == 58) ≡ true → protocol_of (b ∷ rest) ≡ Some []
+protocol_of-colon b rest e = here _ e refl
+
+protocol_of-end : (b : ℕ) (rest : List ℕ) → (b == 58) ≡ false → ends_protocol b ≡ true → protocol_of (b ∷ rest) ≡ None
+protocol_of-end b rest e f = past _ e (here _ f refl)
+
+some_none : (q : List ℕ) → Some q ≡ None → ⊥
+some_none q e = cc
+
+none_some : (q : List ℕ) → None ≡ Some q → ⊥
+none_some q e = cc
+
+map_none : (b : ℕ) (o : Option (List ℕ)) → option_map (λ before. b ∷ before) o ≡ None → o ≡ None
+map_none b None e = refl
+map_none b (Some q) e = cc
+
+map_some : (b : ℕ) (o : Option (List ℕ)) (q : List ℕ) → option_map (λ before. b ∷ before) o ≡ Some q →
+    (p : List ℕ) × (o ≡ Some p) × (q ≡ b ∷ p)
+map_some b None q e = absurd (none_some q e)
+map_some b (Some p) q e = (p, refl, sym (some_part (b ∷ p) q e))
+  where
+    some_part : (x y : List ℕ) → Some x ≡ Some y → x ≡ y
+    some_part x y e = cc
+
+-- where there is none, what follows a byte that goes on has none
+none-drop : (b : ℕ) (rest : List ℕ) → goes_on b ≡ true → protocol_of (b ∷ rest) ≡ None → protocol_of rest ≡ None
+none-drop b rest g h = map_none b (protocol_of rest) (sym (protocol_of-goes_on b rest g) ∙ h)
+
+-- and another text may follow that has none
+none-keep : (b : ℕ) (x y : List ℕ) → (protocol_of x ≡ None → protocol_of y ≡ None) → protocol_of (b ∷ x) ≡ None →
+    protocol_of (b ∷ y) ≡ None
+none-keep b x y f h = elim (cases_Bool (b == 58)) [
+  | inl colon ↦ absurd (some_none [] (sym (protocol_of-colon b x colon) ∙ h))
+  | inr on ↦ elim (cases_Bool (ends_protocol b)) [
+    | inl ends ↦ protocol_of-end b y on ends
+    | inr goes ↦ (let g : goes_on b ≡ true = ap₂ (λ s t. not s && not t) on goes in
+        protocol_of-goes_on b y g ∙ ap (option_map (λ before. b ∷ before)) (f (none-drop b x g h)))
+  ]
+]
+
+passes_not : (t : ℕ → Bool) (b n : ℕ) → t n ≡ false → t b ≡ true → (b == n) ≡ false
+passes_not t b n no_n yes_b = ne_eqb b n (λ e. lie (sym no_n ∙ ap t (sym e) ∙ yes_b))
+
+goes_on-by : (t : ℕ → Bool) → t 58 ≡ false → t 63 ≡ false → t 35 ≡ false → t 47 ≡ false → (b : ℕ) → t b ≡ true →
+    goes_on b ≡ true
+goes_on-by t e58 e63 e35 e47 b h =
+    ap₂ (λ s t. not s && not t) (passes_not t b 58 e58 h)
+    (or_from ((b == 63) || (b == 35)) (b == 47)
+    (or_from (b == 63) (b == 35) (passes_not t b 63 e63 h) (passes_not t b 35 e35 h)) (passes_not t b 47 e47 h))
+
+abbrev HasNone : List ℕ → Type 0
+HasNone x = protocol_of x ≡ None
+
+line_feeds-none : (x : List ℕ) → HasNone x → HasNone (with_line_feeds x)
+line_feeds-none [] h = refl
+line_feeds-none (b ∷ rest) h =
+    let later = with_line_feeds rest in
+    let feed = begins_with_line_feed rest in
+    let on = λ (e : (b == 13) ≡ true).
+    line_feeds-none rest (none-drop b rest (goes_on-by (λ b. b == 13) refl refl refl refl b e) h) in
+    cond_both (b == 13) (cond feed later (10 ∷ later)) (b ∷ later) HasNone
+    (λ e. cond_both feed later (10 ∷ later) HasNone (λ _. on e)
+    (λ _. ap (option_map (λ before. 10 ∷ before)) (on e)))
+    (λ _. none-keep b rest later (line_feeds-none rest) h)
+
+leading-none : (x : List ℕ) → HasNone x → HasNone (without_leading x)
+leading-none [] h = refl
+leading-none (b ∷ rest) h =
+    cond_both (is_control_or_space b) (without_leading rest) (b ∷ rest) HasNone
+    (λ e. leading-none rest (none-drop b rest (goes_on-by is_control_or_space refl refl refl refl b e) h)) (λ _. h)
+
+trailing-none : (x : List ℕ) → HasNone x → HasNone (without_trailing x)
+trailing-none [] h = refl
+trailing-none (b ∷ rest) h =
+    cond_both (list_all is_control_or_space (b ∷ rest)) [] (b ∷ without_trailing rest) HasNone (λ _. refl)
+    (λ _. none-keep b rest (without_trailing rest) (trailing-none rest) h)
+
+newlines-none : (x : List ℕ) → HasNone x → HasNone (without_newlines x)
+newlines-none [] h = refl
+newlines-none (b ∷ rest) h =
+    cond_both (is_tab_or_newline b) (without_newlines rest) (b ∷ without_newlines rest) HasNone
+    (λ e. newlines-none rest (none-drop b rest (goes_on-by is_tab_or_newline refl refl refl refl b e) h))
+    (λ _. none-keep b rest (without_newlines rest) (newlines-none rest) h)
+
+not_colon : (b : ℕ) (rest : List ℕ) → HasNone (b ∷ rest) → (b == 58) ≡ false
+not_colon b rest h = elim (cases_Bool (b == 58)) [
+  | inl colon ↦ absurd (some_none [] (sym (protocol_of-colon b rest colon) ∙ h))
+  | inr on ↦ on
+]
+
+in_scheme-none : (buffer x : List ℕ) → HasNone x → in_scheme buffer x ≡ None
+in_scheme-none buffer [] h = refl
+in_scheme-none buffer (b ∷ rest) h =
+    cond_both (is_scheme_byte b) (in_scheme (buffer ++ (lower b ∷ [])) rest) (cond (b == 58) (Some buffer) None)
+    (λ v. v ≡ None)
+    (λ e. in_scheme-none (buffer ++ (lower b ∷ [])) rest
+    (none-drop b rest (goes_on-by is_scheme_byte refl refl refl refl b e) h))
+    (λ _. past _ (not_colon b rest h) refl)
+
+in_scheme_start-none : (x : List ℕ) → HasNone x → in_scheme_start x ≡ None
+in_scheme_start-none [] h = refl
+in_scheme_start-none (b ∷ rest) h =
+    cond_both (is_letter b) (in_scheme (lower b ∷ []) rest) None (λ v. v ≡ None)
+    (λ e. in_scheme-none (lower b ∷ []) rest (none-drop b rest (goes_on-by is_letter refl refl refl refl b e) h))
+    (λ _. refl)
+
+scheme_of-none : (x : List ℕ) → HasNone x → scheme_of (with_line_feeds x) ≡ None
+scheme_of-none x h =
+    let lines = with_line_feeds x in
+    in_scheme_start-none (without_newlines (without_trailing (without_leading lines)))
+    (newlines-none (without_trailing (without_leading lines))
+    (trailing-none (without_leading lines) (leading-none lines (line_feeds-none x h))))
+
+-- ---- a protocol of letters
+
+protocol-split : (x q : List ℕ) → protocol_of x ≡ Some q → (r : List ℕ) × (x ≡ q ++ (58 ∷ r))
+protocol-split [] q e = absurd (none_some q e)
+protocol-split (b ∷ rest) q e = elim (cases_Bool (b == 58)) [
+  | inl colon ↦ (rest, first (eqb-true b 58 colon) (sym (protocol_of-colon b rest colon) ∙ e))
+  | inr on ↦ elim (cases_Bool (ends_protocol b)) [
+    | inl ends ↦ absurd (none_some q (sym (protocol_of-end b rest on ends) ∙ e))
+    | inr goes ↦ (let g : goes_on b ≡ true = ap₂ (λ s t. not s && not t) on goes in
+        let p = map_some b (protocol_of rest) q (sym (protocol_of-goes_on b rest g) ∙ e) in
+        let later = protocol-split rest p.0 p.1 in
+        (later.0, ap (λ y. b ∷ y) later.1 ∙ ap (λ q. q ++ (58 ∷ later.0)) (sym p.2)))
+  ]
+]
+  where
+    empty : (q : List ℕ) → Some [] ≡ Some q → [] ≡ q
+    empty q e = cc
+
+    first : b ≡ 58 → Some [] ≡ Some q → b ∷ rest ≡ q ++ (58 ∷ rest)
+    first is e = ap (λ b. b ∷ rest) is ∙ ap (λ q. q ++ (58 ∷ rest)) (empty q e)
+
+abbrev pub is_word : List ℕ → Bool
+is_word name = is_nonempty name && list_all is_letter name
+
+listed-word : (listed : List (List ℕ)) (name : List ℕ) → list_all is_word listed ≡ true →
+    is_one_of listed name ≡ true → is_word name ≡ true
+listed-word [] name g e = cc
+listed-word (t ∷ ts) name g e =
+    let parts = and_parts (is_word t) (list_all is_word ts) g in
+    elim (or_cases (bytes_eq name t) (is_one_of ts name) e) [
+      | inl same ↦ subst (λ x. is_word x ≡ true) (sym ((bytes_decides name t).0 same)) parts.0
+      | inr later ↦ listed-word ts name parts.1 later
+    ]
+
+lower-letter : (b : ℕ) → is_letter (lower b) ≡ true → is_letter b ≡ true
+lower-letter b h = elim (cases_Bool (is_between 65 90 b)) [
+  | inl upper ↦ or_left (is_between 65 90 b) (is_between 97 122 b) upper
+  | inr not ↦ subst (λ c. is_letter c ≡ true) (past _ not refl) h
+]
+
+lowered-letters : (q : List ℕ) → list_all is_letter (lowered q) ≡ true → list_all is_letter q ≡ true
+lowered-letters [] h = refl
+lowered-letters (b ∷ q) h =
+    let p = and_parts (is_letter (lower b)) (list_all is_letter (lowered q)) h in
+    and_from (is_letter b) (list_all is_letter q) (lower-letter b p.0) (lowered-letters q p.1)
+
+letters-no_return : (q : List ℕ) → list_all is_letter q ≡ true → list_all no_return q ≡ true
+letters-no_return [] h = refl
+letters-no_return (b ∷ q) h =
+    let p = and_parts (is_letter b) (list_all is_letter q) h in
+    and_from (no_return b) (list_all no_return q) (ap not (passes_not is_letter b 13 refl p.0))
+    (letters-no_return q p.1)
+
+letter-control : (b : ℕ) → is_letter b ≡ true → is_control_or_space b ≡ false
+letter-control b h = elim (or_cases (is_between 65 90 b) (is_between 97 122 b) h) [
+  | inl upper ↦ below 65 b refl (and_parts (leb 65 b) (leb b 90) upper).0
+  | inr small ↦ below 97 b refl (and_parts (leb 97 b) (leb b 122) small).0
+]
+  where
+    below : (n b : ℕ) → ltb 32 n ≡ true → leb n b ≡ true → leb b 32 ≡ false
+    below n b e h =
+        let less = ltb-true 32 n e in
+        let at_most = leb-true n b h in
+        lt-leb b 32 (omega arith)
+
+letter-newline : (b : ℕ) → is_letter b ≡ true → is_tab_or_newline b ≡ false
+letter-newline b h =
+    or_from ((b == 9) || (b == 10)) (b == 13) (or_from (b == 9) (b == 10) (passes_not is_letter b 9 refl h)
+    (passes_not is_letter b 10 refl h)) (passes_not is_letter b 13 refl h)
+
+letter-scheme : (b : ℕ) → is_letter b ≡ true → is_scheme_byte b ≡ true
+letter-scheme b h =
+    or_left (is_letter b || is_between 48 57 b || (b == 43) || (b == 45)) (b == 46)
+    (or_left (is_letter b || is_between 48 57 b || (b == 43)) (b == 45)
+    (or_left (is_letter b || is_between 48 57 b) (b == 43) (or_left (is_letter b) (is_between 48 57 b) h)))
+
+leading-word : (q y : List ℕ) → is_word q ≡ true → without_leading (q ++ y) ≡ q ++ y
+leading-word [] y h = lie h
+leading-word (b ∷ q) y h = past _ (letter-control b (and_parts (is_letter b) (list_all is_letter q) h).0) refl
+
+trailing-word : (q r : List ℕ) → list_all is_letter q ≡ true →
+    without_trailing (q ++ (58 ∷ r)) ≡ q ++ (58 ∷ without_trailing r)
+trailing-word [] r h = refl
+trailing-word (b ∷ q) r h =
+    let p = and_parts (is_letter b) (list_all is_letter q) h in
+    past _ (and_left (is_control_or_space b) (list_all is_control_or_space (q ++ (58 ∷ r))) (letter-control b p.0))
+    (ap (λ y. b ∷ y) (trailing-word q r p.1))
+
+newlines-word : (q r : List ℕ) → list_all is_letter q ≡ true →
+    without_newlines (q ++ (58 ∷ r)) ≡ q ++ (58 ∷ without_newlines r)
+newlines-word [] r h = refl
+newlines-word (b ∷ q) r h =
+    let p = and_parts (is_letter b) (list_all is_letter q) h in
+    past _ (letter-newline b p.0) (ap (λ y. b ∷ y) (newlines-word q r p.1))
+
+in_scheme-word : (buffer q r : List ℕ) → list_all is_letter q ≡ true →
+    in_scheme buffer (q ++ (58 ∷ r)) ≡ Some (buffer ++ lowered q)
+in_scheme-word buffer [] r h = ap (λ b. Some b) (sym (append-nil buffer))
+in_scheme-word buffer (b ∷ q) r h =
+    let p = and_parts (is_letter b) (list_all is_letter q) h in
+    here _ (letter-scheme b p.0)
+    (in_scheme-word (buffer ++ (lower b ∷ [])) q r p.1
+    ∙ ap (λ b. Some b) (append_assoc buffer (lower b ∷ []) (lowered q)))
+
+in_scheme_start-word : (q r : List ℕ) → is_word q ≡ true → in_scheme_start (q ++ (58 ∷ r)) ≡ Some (lowered q)
+in_scheme_start-word [] r h = lie h
+in_scheme_start-word (b ∷ q) r h =
+    let p = and_parts (is_letter b) (list_all is_letter q) h in
+    here _ p.0 (in_scheme-word (lower b ∷ []) q r p.1)
+
+scheme_of-word : (q r : List ℕ) → is_word q ≡ true → scheme_of (with_line_feeds (q ++ (58 ∷ r))) ≡ Some (lowered q)
+scheme_of-word q r h =
+    let letters = (and_parts (is_nonempty q) (list_all is_letter q) h).1 in
+    let lines = with_line_feeds r in
+    ap scheme_of (line_feeds-name q (58 ∷ r) (letters-no_return q letters))
+    ∙ ap (λ y. in_scheme_start (without_newlines (without_trailing y))) (leading-word q (58 ∷ lines) h)
+    ∙ ap (λ y. in_scheme_start (without_newlines y)) (trailing-word q lines letters)
+    ∙ ap in_scheme_start (newlines-word q (without_trailing lines) letters)
+    ∙ in_scheme_start-word q (without_newlines (without_trailing lines)) h
+
+lowered-word : (q : List ℕ) → is_word (lowered q) ≡ true → is_word q ≡ true
+lowered-word [] h = h
+lowered-word (b ∷ q) h = lowered-letters (b ∷ q) h
+
+-- ---- both
+
+permitted_by : (schemes : List (List ℕ)) (x : List ℕ) (o : Option (List ℕ)) → list_all is_word schemes ≡ true →
+    protocol_of x ≡ o → option_map_or (λ q. is_one_of schemes (lowered q)) o true ≡ true →
+    has_permitted_scheme schemes (with_line_feeds x) ≡ true
+permitted_by schemes x None g e h = ap (λ o. option_map_or (is_one_of schemes) o true) (scheme_of-none x e)
+permitted_by schemes x (Some q) g e h =
+    let parts = protocol-split x q e in
+    ap (λ x. option_map_or (is_one_of schemes) (scheme_of (with_line_feeds x)) true) parts.1
+    ∙ ap (λ o. option_map_or (is_one_of schemes) o true)
+    (scheme_of-word q parts.0 (lowered-word q (listed-word schemes (lowered q) g h))) ∙ h
+
+permitted : (schemes : List (List ℕ)) → list_all is_word schemes ≡ true → (value : List ℕ) → is_escaped value ≡ true →
+    is_safe_value schemes value ≡ true → has_permitted_scheme schemes (seen value) ≡ true
+permitted schemes g value e h =
+    ap (has_permitted_scheme schemes) (seen-is value e)
+    ∙ permitted_by schemes (read_back value) (protocol_of (read_back value)) g refl h
+
+pub permitted-link : (value : List ℕ) → is_escaped value ≡ true → is_safe_value link_protocols value ≡ true →
+    has_permitted_scheme link_protocols (seen value) ≡ true
+permitted-link = permitted link_protocols refl
+
+pub permitted-image : (value : List ℕ) → is_escaped value ≡ true → is_safe_value image_protocols value ≡ true →
+    has_permitted_scheme image_protocols (seen value) ≡ true
+permitted-image = permitted image_protocols refl

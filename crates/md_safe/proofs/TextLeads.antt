@@ -1,0 +1,115 @@
+-- One step after another: a way to the data state from a state on, by one from the state that its first step leads to.
+use Rattle.std.proofs.Common.{◌≡◌, ℕ, ◌==◌, false, cond, List, [], ◌∷◌, ◌++◌, map, refl, sym, ap, ◌∙◌, subst, suc, append-nil, append_assoc, true}
+use Rattle.std.proofs.lemmas.Bool.{eqb-false}
+use Rattle.md_text.specs.References.{is_escaped, read_back}
+use Rattle.md_text.proofs.EncodeLaws.{read_back-other}
+use Rattle.md_safe.specs.Token.{Token, Character, TokenAttribute}
+use Rattle.md_safe.specs.Tag.{Tag, with_value}
+use Rattle.md_safe.specs.Tokenizer.{State, Data, AttributeValueDoubleQuoted, Goes, step}
+use Rattle.md_safe.proofs.EscapedCases.{IsPlain, by_escaped}
+use Rattle.md_safe.proofs.Steps.{past, tag_with, attribute, AtValue}
+use Rattle.md_safe.specs.Leads.{Leads, emitted_before, and_then, steps}
+
+-- with what is left first
+abbrev pub To : List ℕ → State → List ℕ → List Token → Type 0
+To left state input tokens = Leads state input tokens left
+
+pub arrived : (left : List ℕ) → To left Data left []
+arrived left = record { count = 0; goes = refl }
+
+-- a step that emits nothing
+pub quiet : {left : List ℕ} {state next : State} {input rest : List ℕ} {t : List Token} →
+    step state input ≡ Goes [] next rest → To left next rest t → To left state input t
+quiet e h = record {
+  count = suc h.count;
+  goes = ap (and_then (steps h.count)) e ∙ ap (emitted_before []) h.goes;
+}
+
+-- a step that emits one token
+pub loud : {left : List ℕ} {state next : State} {input rest : List ℕ} {t : List Token} (x : Token) →
+    step state input ≡ Goes (x ∷ []) next rest → To left next rest t → To left state input (x ∷ t)
+loud x e h = record {
+  count = suc h.count;
+  goes = ap (and_then (steps h.count)) e ∙ ap (emitted_before (x ∷ [])) h.goes;
+}
+
+-- the same way, of what is equal
+pub along : {left : List ℕ} (state : State) (x y : List ℕ) (s t : List Token) → x ≡ y → s ≡ t →
+    To left state x s → To left state y t
+along {left = left} state x y s t e f h =
+    subst (λ u. To left state y u) f (subst (λ u. To left state u s) e h)
+
+plain-ne : (b : ℕ) → IsPlain b → b ≡ 38 → ⊥
+plain-ne b p = eqb-false b 38 p.no_and
+
+-- ---- a text
+
+abbrev TextLeads : List ℕ → List ℕ → Type 0
+TextLeads left x = (r : List ℕ) (t : List Token) → To left Data r t →
+    To left Data (x ++ r) (map Character (read_back x) ++ t)
+
+plain_step : (b : ℕ) (rest : List ℕ) → (b == 38) ≡ false → (b == 60) ≡ false →
+    step Data (b ∷ rest) ≡ Goes (Character b ∷ []) Data rest
+plain_step b rest e38 e60 = simp (e38, e60)
+
+plain-leads : (left : List ℕ) (b : ℕ) (rest : List ℕ) → IsPlain b → TextLeads left rest → TextLeads left (b ∷ rest)
+plain-leads left b rest p later r t h =
+    along Data (b ∷ (rest ++ r)) (b ∷ (rest ++ r)) (Character b ∷ (map Character (read_back rest) ++ t))
+    (map Character (read_back (b ∷ rest)) ++ t) refl
+    (ap (λ x. map Character x ++ t) (sym (read_back-other b rest (plain-ne b p))))
+    (loud (Character b) (plain_step b (rest ++ r) p.no_and p.no_less) (later r t h))
+
+pub text-leads : (left x : List ℕ) → is_escaped x ≡ true → TextLeads left x
+text-leads left x e =
+    by_escaped (TextLeads left) (λ r t h. h) (plain-leads left)
+    (λ rest later r t h. quiet refl (quiet refl (loud (Character 38) refl (later r t h))))
+    (λ rest later r t h. quiet refl (quiet refl (loud (Character 34) refl (later r t h))))
+    (λ rest later r t h. quiet refl (quiet refl (loud (Character 60) refl (later r t h))))
+    (λ rest later r t h. quiet refl (quiet refl (loud (Character 62) refl (later r t h))))
+    x e
+
+-- ---- a value
+
+abbrev ValueLeads : List ℕ → List ℕ → Type 0
+ValueLeads left x = (tag : List ℕ) (earlier : List TokenAttribute) (name value : List ℕ) (r : List ℕ) (t : List Token) →
+    To left (AtValue tag earlier name (value ++ read_back x)) r t → To left (AtValue tag earlier name value) (x ++ r) t
+
+value_step : (tag : Tag) (b : ℕ) (rest : List ℕ) → (b == 34) ≡ false → (b == 38) ≡ false → (b == 0) ≡ false →
+    step (AttributeValueDoubleQuoted tag) (b ∷ rest)
+    ≡ Goes [] (AttributeValueDoubleQuoted (with_value tag (b ∷ []))) rest
+value_step tag b rest e34 e38 e0 =
+    past _ e34 (past _ e38 (ap (λ c.
+    Goes [] (AttributeValueDoubleQuoted (with_value tag (cond c (239 ∷ 191 ∷ 189 ∷ []) (b ∷ [])))) rest) e0))
+
+-- the value with one more byte
+more_value : (left : List ℕ) (tag : List ℕ) (earlier : List TokenAttribute) (name value : List ℕ) (b : ℕ) (x r : List ℕ)
+    (t : List Token) → To left (AtValue tag earlier name (value ++ (b ∷ x))) r t →
+    To left (AtValue tag earlier name ((value ++ (b ∷ [])) ++ x)) r t
+more_value left tag earlier name value b x r t h =
+    subst (λ v. To left (AtValue tag earlier name v) r t) (sym (append_assoc value (b ∷ []) x)) h
+
+value-plain : (left : List ℕ) (b : ℕ) (rest : List ℕ) → IsPlain b → ValueLeads left rest → ValueLeads left (b ∷ rest)
+value-plain left b rest p later tag earlier name value r t h =
+    quiet (value_step (tag_with false tag (attribute name value ∷ earlier)) b (rest ++ r) p.no_quote p.no_and p.no_nul)
+    (later tag earlier name (value ++ (b ∷ [])) r t
+    (more_value left tag earlier name value b (read_back rest) r t
+    (subst (λ v. To left (AtValue tag earlier name (value ++ v)) r t) (read_back-other b rest (plain-ne b p)) h)))
+
+pub value-leads : (left x : List ℕ) → is_escaped x ≡ true → ValueLeads left x
+value-leads left x e =
+    by_escaped (ValueLeads left)
+    (λ tag earlier name value r t h. subst (λ v. To left (AtValue tag earlier name v) r t) (append-nil value) h)
+    (value-plain left)
+    (λ rest later tag earlier name value r t h.
+    quiet refl (quiet refl (quiet refl (later tag earlier name (value ++ (38 ∷ [])) r t
+    (more_value left tag earlier name value 38 (read_back rest) r t h)))))
+    (λ rest later tag earlier name value r t h.
+    quiet refl (quiet refl (quiet refl (later tag earlier name (value ++ (34 ∷ [])) r t
+    (more_value left tag earlier name value 34 (read_back rest) r t h)))))
+    (λ rest later tag earlier name value r t h.
+    quiet refl (quiet refl (quiet refl (later tag earlier name (value ++ (60 ∷ [])) r t
+    (more_value left tag earlier name value 60 (read_back rest) r t h)))))
+    (λ rest later tag earlier name value r t h.
+    quiet refl (quiet refl (quiet refl (later tag earlier name (value ++ (62 ∷ [])) r t
+    (more_value left tag earlier name value 62 (read_back rest) r t h)))))
+    x e

@@ -1,0 +1,66 @@
+-- A text that is contained without a link in a link is built as it is read.
+use Rattle.std.proofs.Common.{◌≡◌, ℕ, true, false, List, [], ◌∷◌, ◌++◌, codes, refl, ap, ◌∙◌, subst}
+use Rattle.std.specs.Prelude.{Some, None}
+use Rattle.md_text.specs.Html.{Forest, is_forest, any_attribute}
+use Rattle.md_text.proofs.HtmlReading.{all-any}
+use Rattle.md_base.proofs.Lies.{lie}
+use Rattle.md_safe.specs.Token.{EndOfFile}
+use Rattle.md_safe.specs.Tokenizer.{IsTokenized}
+use Rattle.md_safe.specs.Tokens.{tokens}
+use Rattle.md_safe.proofs.Tokenized.{read-tokenized}
+use Rattle.md_safe.specs.Contents.{Flow, is_contained, IsUnnested}
+use Rattle.md_safe.specs.Node.{Open, Entry, Marker, Formatting, Mode}
+use Rattle.md_safe.specs.Formatting.{last_active}
+use Rattle.md_safe.specs.Built.{put, at, IsPlace, Builds, IsBuiltAsRead, AreOpen, has_none_active}
+use Rattle.md_safe.proofs.Flow.{flow-done, kept-none}
+
+none-open : (node : Open) (others : List Open) (active : List Entry) → has_none_active active ≡ true →
+    AreOpen (node ∷ others) active
+none-open node others [] h = tt
+none-open node others (Marker ∷ active) h = tt
+none-open node others (Formatting identity name attributes ∷ active) h = lie h
+
+none-linked : (active : List Entry) → has_none_active active ≡ true → last_active (codes "a") active ≡ None
+none-linked [] h = refl
+none-linked (Marker ∷ active) h = refl
+none-linked (Formatting identity name attributes ∷ active) h = lie h
+
+pub reading-built : (forest : Forest) → is_forest forest ≡ true → is_contained false Flow forest ≡ true →
+    (mode : Mode) (node : Open) (others : List Open) (active : List Entry) (created : ℕ) →
+    IsPlace mode node others active created → Builds mode node others active created forest
+reading-built forest h c mode node others active created place =
+    let d = flow-done forest Flow refl h c mode node others active created (record {
+      here = record {
+        body = place.body;
+        opened = none-open node others active place.none_active;
+        made = place.made;
+        no_link = λ free. none-linked active place.none_active;
+      };
+      no_p = place.no_paragraph;
+      plain = place.no_heading;
+      resets = place.leads_back;
+      no_item = λ items. lie items;
+    }) in (
+      d.more,
+      d.runs ∙ ap (λ left. Some (at mode (record node { children = put node.children forest } ∷ others) left d.more))
+          (kept-none active d.left place.none_active d.keeps),
+    )
+
+pub text-built : (text : List ℕ) → IsUnnested text → IsBuiltAsRead text
+text-built text h =
+    let read = read-tokenized any_attribute text (record {
+      forest = h.forest;
+      reading = h.reading;
+      passes = all-any h.forest;
+      only = h.only;
+    }) in
+    record {
+      forest = h.forest;
+      reading = h.reading;
+      only = h.only;
+      tokenized = subst (λ forest. IsTokenized text (tokens forest ++ (EndOfFile ∷ [])))
+          (h.only read.forest read.reading)
+          read.tokenized;
+      builds = λ mode node others active created place.
+          reading-built h.forest h.reading.in_grammar h.contained mode node others active created place;
+    }

@@ -1,0 +1,119 @@
+-- Options given by some of the lines, and bytes read as a text.
+use Rattle.std.proofs.Common.{◌≡◌, ℕ, Bool, true, false, not, cond, eqb, ◌||◌, List, [], ◌∷◌, Option, Some, None, Result, Ok, Err, IsUtf8, refl, sym, ap, ◌∙◌, inl, inr}
+use Rattle.std.specs.Prelude.{option_copied, option_and_then, unwrap_or, find, filter, is_some, is_ok, MatchResult, codes}
+use Rattle.std.specs.Borrow.{Bor}
+use Rattle.std.specs.List.{list_any, before_first}
+use Rattle.std.specs.Result.{result_ok}
+use Rattle.std.specs.Str.{is_utf8}
+use Rattle.std.proofs.lemmas.Bool.{cases_Bool, and_parts, eqb-true}
+use Rattle.std.proofs.lemmas.Str.{IsUtf8-from_is_utf8, is_utf8-from_IsUtf8}
+use Rattle.md_base.specs.Place.{text_when}
+use Rattle.md_base.specs.declared.event.Event.{Event}
+use Rattle.md_text.specs.declared.options.CompileOptions.{CompileOptions}
+use Rattle.md_text.specs.declared.line_ending.LineEnding.TheVariants.{LineFeed}
+use Rattle.md_script.specs.Line.{event_of}
+use Rattle.md_script.specs.Setting.{is_setting, is_equals, option_name, is_name, is_given, text_given, value_of, is_new, ending_named, ending_name, HasOptions}
+
+-- ---- bytes as a text
+
+abbrev chosen : List ℕ → Bool → Option (List ℕ)
+chosen bytes test = cond test (Some bytes) None
+
+pub read_text : {E : Type 0} (bytes : List ℕ) (Fault : E → Type 0) (r : Result (Bor (List ℕ)) E) →
+    MatchResult r (λ s. (s.now ≡ bytes) × IsUtf8 bytes) (λ e. (¬ IsUtf8 bytes) × Fault e) →
+    option_copied (result_ok r) ≡ text_when true bytes
+read_text bytes Fault (Ok s) h = ap Some h.0 ∙ sym (ap (chosen bytes) (is_utf8-from_IsUtf8 bytes h.1))
+read_text bytes Fault (Err e) h =
+    elim (cases_Bool (is_utf8 bytes)) [
+      | inl good ↦ absurd (h.0 (IsUtf8-from_is_utf8 bytes good))
+      | inr bad ↦ sym (ap (chosen bytes) bad)
+    ]
+
+pub reads_as_text : {E : Type 0} (bytes : List ℕ) (Fault : E → Type 0) (r : Result (Bor (List ℕ)) E) →
+    MatchResult r (λ s. (s.now ≡ bytes) × IsUtf8 bytes) (λ e. (¬ IsUtf8 bytes) × Fault e) → is_ok r ≡ is_utf8 bytes
+reads_as_text bytes Fault (Ok s) h = sym (is_utf8-from_IsUtf8 bytes h.1)
+reads_as_text bytes Fault (Err e) h =
+    elim (cases_Bool (is_utf8 bytes)) [
+      | inl good ↦ absurd (h.0 (IsUtf8-from_is_utf8 bytes good))
+      | inr bad ↦ sym bad
+    ]
+
+-- ---- lines that begin with `!`, of which alone an option can come
+
+abbrev pub is_marked : List ℕ → Bool
+is_marked line = is_some (option_name line)
+
+pub setting_is_marked : (line : List ℕ) → is_setting line ≡ true → is_marked line ≡ true
+setting_is_marked [] h = cc
+setting_is_marked (sign ∷ rest) h =
+    ap (λ t. is_some (cond t (Some (before_first is_equals rest)) None)) (and_parts (eqb sign 33) _ h).0
+
+marked_says_nothing : (sign : ℕ) (rest : List ℕ) (event : Event) → sign ≡ 33 → Some event ≡ event_of (sign ∷ rest) → ⊥
+marked_says_nothing sign rest event mark e = let no : Some event ≡ event_of (33 ∷ rest) = e
+    ∙ ap (λ s. event_of (s ∷ rest)) mark in cc
+
+pub event_is_unmarked : (line : List ℕ) (event : Event) → Some event ≡ event_of line → is_marked line ≡ false
+event_is_unmarked [] event e = cc
+event_is_unmarked (sign ∷ rest) event e =
+    elim (cases_Bool (eqb sign 33)) [
+      | inl mark ↦ absurd (marked_says_nothing sign rest event (eqb-true sign 33 mark) e)
+      | inr other ↦ ap (λ t. is_some (cond t (Some (before_first is_equals rest)) None)) other
+    ]
+
+module _ {A : Type 0} (p q : A → Bool) (outside : (x : A) → q x ≡ false → p x ≡ false) where
+  any-filter_step : (here : Bool) (line : A) (lines : List A) → q line ≡ here →
+      list_any p (filter q lines) ≡ list_any p lines → list_any p (cond here (line ∷ filter q lines) (filter q lines))
+      ≡ (p line || list_any p lines)
+  any-filter_step true line lines h ih = ap (λ t. p line || t) ih
+  any-filter_step false line lines h ih = ih ∙ sym (ap (λ t. t || list_any p lines) (outside line h))
+
+  pub any-filter : (lines : List A) → list_any p (filter q lines) ≡ list_any p lines
+  any-filter [] = refl
+  any-filter (line ∷ lines) = any-filter_step (q line) line lines refl (any-filter lines)
+
+  find-filter_step : (here : Bool) (line : A) (lines : List A) → q line ≡ here →
+      find p (filter q lines) ≡ find p lines → find p (cond here (line ∷ filter q lines) (filter q lines))
+      ≡ cond (p line) (Some line) (find p lines)
+  find-filter_step true line lines h ih = ap (λ t. cond (p line) (Some line) t) ih
+  find-filter_step false line lines h ih = ih ∙ sym (ap (λ t. cond t (Some line) (find p lines)) (outside line h))
+
+  pub find-filter : (lines : List A) → find p (filter q lines) ≡ find p lines
+  find-filter [] = refl
+  find-filter (line ∷ lines) = find-filter_step (q line) line lines refl (find-filter lines)
+
+names_nothing : (name : List ℕ) (option : Option (List ℕ)) → is_some option ≡ false → is_name name option ≡ false
+names_nothing name None h = refl
+names_nothing name (Some other) h = cc
+
+given_by_marked : (lines : List (List ℕ)) (name : List ℕ) → is_given (filter is_marked lines) name ≡ is_given lines name
+given_by_marked lines name = any-filter (λ line. is_name name (option_name line)) is_marked
+    (λ line h. names_nothing name (option_name line) h) lines
+
+text_by_marked : (lines : List (List ℕ)) (name : List ℕ) →
+    text_given (filter is_marked lines) name ≡ text_given lines name
+text_by_marked lines name = ap (option_and_then value_of)
+    (find-filter (λ line. is_name name (option_name line)) is_marked
+    (λ line h. names_nothing name (option_name line) h) lines)
+
+pub new_by_marked : (lines : List (List ℕ)) (option : Option (List ℕ)) →
+    is_new (filter is_marked lines) option ≡ is_new lines option
+new_by_marked lines None = refl
+new_by_marked lines (Some name) = ap not (given_by_marked lines name)
+
+pub options_by_marked : (lines : List (List ℕ)) (options : CompileOptions) →
+    HasOptions (filter is_marked lines) options → HasOptions lines options
+options_by_marked lines options h = record {
+  any_img_src = h.any_img_src ∙ given_by_marked lines (codes "allow_any_img_src");
+  dangerous_html = h.dangerous_html ∙ given_by_marked lines (codes "allow_dangerous_html");
+  dangerous_protocol = h.dangerous_protocol ∙ given_by_marked lines (codes "allow_dangerous_protocol");
+  checkable = h.checkable ∙ given_by_marked lines (codes "gfm_task_list_item_checkable");
+  tagfilter = h.tagfilter ∙ given_by_marked lines (codes "gfm_tagfilter");
+  number_ids = h.number_ids ∙ given_by_marked lines (codes "gfm_footnote_number_ids");
+  ending = h.ending ∙ ap (λ text. unwrap_or (option_and_then ending_named text) LineFeed)
+      (text_by_marked lines ending_name);
+  back_label = h.back_label ∙ text_by_marked lines (codes "gfm_footnote_back_label");
+  clobber_prefix = h.clobber_prefix ∙ text_by_marked lines (codes "gfm_footnote_clobber_prefix");
+  label = h.label ∙ text_by_marked lines (codes "gfm_footnote_label");
+  label_attributes = h.label_attributes ∙ text_by_marked lines (codes "gfm_footnote_label_attributes");
+  label_tag_name = h.label_tag_name ∙ text_by_marked lines (codes "gfm_footnote_label_tag_name");
+}

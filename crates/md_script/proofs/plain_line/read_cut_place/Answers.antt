@@ -1,0 +1,9 @@
+-- The two numbers, up to the dot and up to the line feed, are the place's.
+-- By itself the search can't put the place together from them.
+use Rattle.md_script.proofs.PlainLemmas.{place_cut}
+use Rattle.md_script.proofs.plain_line.read_cut_place.Goals as goal
+
+pub returns : goal.returns
+returns c =
+    place_cut c.args.bytes.now c.in_ok-index.columns.now c.in_ok-vs.following.now c.in_ok-index.index c.in_ok-vs.vs
+    c.in_ok-index.ensures c.in_ok-vs.ensures

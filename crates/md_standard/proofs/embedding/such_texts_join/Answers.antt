@@ -1,6 +1,0 @@
--- Some steps, and then others.
-use Rattle.md_standard.proofs.Between.{join}
-use Rattle.md_standard.proofs.embedding.such_texts_join.Goals as goal
-
-pub returns : goal.returns
-returns c = join

@@ -1,6 +1,0 @@
--- By the tables.
-use Rattle.md_standard.proofs.Running.{all_still}
-use Rattle.md_standard.proofs.laws.nothing_runs.Goals as goal
-
-pub returns : goal.returns
-returns c = all_still

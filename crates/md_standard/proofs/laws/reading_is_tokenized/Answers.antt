@@ -1,6 +1,0 @@
--- By its forest.
-use Rattle.md_standard.proofs.Tokenized.{read-tokenized}
-use Rattle.md_standard.proofs.laws.reading_is_tokenized.Goals as goal
-
-pub returns : goal.returns
-returns c = read-tokenized

@@ -1,9 +1,0 @@
--- By its one reading.
-use Rattle.md_standard.proofs.Tokenized.{link-tokens, image-tokens}
-use Rattle.md_standard.proofs.laws.safe_text_has_safe_tokens.Goals as goal
-
-pub returns-clause-links : goal.returns-clause-links
-returns-clause-links c = link-tokens
-
-pub returns-clause-images : goal.returns-clause-images
-returns-clause-images c = image-tokens

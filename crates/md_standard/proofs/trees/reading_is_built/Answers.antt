@@ -1,6 +1,0 @@
--- By one induction over the reading.
-use Rattle.md_standard.proofs.WholeTrees.{reading-built}
-use Rattle.md_standard.proofs.trees.reading_is_built.Goals as goal
-
-pub returns : goal.returns
-returns c = reading-built

@@ -1,6 +1,0 @@
--- The same of a text.
-use Rattle.md_standard.proofs.WholeTrees.{text-built}
-use Rattle.md_standard.proofs.trees.text_is_built.Goals as goal
-
-pub returns : goal.returns
-returns c = text-built
