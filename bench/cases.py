@@ -47,7 +47,8 @@ def files(cases):
 
 def digest(cases):
     """How many cases there are, and what tells them from others."""
-    return f"{hashlib.sha256(b''.join(files(cases))).hexdigest()[:16]} {len(cases)}"
+    texts = (part for case in cases for part in (case.title.encode(), case.script, case.answer))
+    return f"{hashlib.sha256(b'%%%%'.join(texts)).hexdigest()[:16]} {len(cases)}"
 
 
 def parts(source):
