@@ -5,7 +5,7 @@
 use super::shapes::Part::{Each, Once, Others};
 use super::shapes::Step::{Enter, Exit, Text};
 use super::shapes::{Shape, compiles_as_script};
-use md_html::Name;
+use md_html::{CompileError, Name};
 
 /// The greatest depth.
 const DEPTH: usize = 100_000;

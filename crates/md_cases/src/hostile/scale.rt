@@ -3,7 +3,7 @@
 use super::shapes::Part::{self, Each, Once, Others, Shuffled};
 use super::shapes::Step::{Enter, Exit, Next, Number, Place, Text};
 use super::shapes::{Shape, compiles};
-use md_html::Name;
+use md_html::{CompileError, Name};
 
 /// How many levels or items each shape has.
 const SIZE: usize = 100_000;

@@ -5,7 +5,7 @@
 use super::{Given, compiled_as_script, is_text, script_names};
 use Part::{Each, Once, Others, Shuffled};
 use Step::{Enter, Exit, Next, Number, Place, Text};
-use md_html::{CompileOptions, Event, Kind, Name, compile};
+use md_html::{CompileError, CompileOptions, Event, Kind, Name, compile};
 use std::alloc::{AllocError, Global};
 use std::fmt::Write;
 

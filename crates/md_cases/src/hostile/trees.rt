@@ -4,7 +4,7 @@ use super::growing::{Tree, grow};
 use super::html::is_html;
 use super::random::Random;
 use super::{Given, compiled, compiled_as_script, expect, other_names, script_names};
-use md_html::{CompileOptions, LineEnding};
+use md_html::{CompileError, CompileOptions, LineEnding};
 use std::alloc::{AllocError, Global};
 
 /// How many trees grow for each test.
