@@ -3,8 +3,8 @@
 
     bench/api.py
 
-Of md_base, md_text, md_tree, md_html, md_script, md_page and md_page: the names at the root and the methods of the types among
-them are those of the crate's table, and of the last table, and no others. md_html hands on exactly the names of the
+Of md_base, md_text, md_tree, md_html, md_script and md_page: the names at the root and the methods
+of the types among them are those of the crate's table, and of the last table, and no others. md_html hands on exactly the names of the
 tables of md_base, md_text and md_tree. The C headers have each name of their table, and declare no function but these
 and those that their own functions call. Each other crate's README says that it is internal. The status is 1 where
 something differs, and it says what.
@@ -15,7 +15,7 @@ import re
 import sys
 
 ROOT = pathlib.Path(__file__).resolve().parents[1]
-CRATES = ["md_base", "md_text", "md_tree", "md_html", "md_script", "md_page", "md_page"]
+CRATES = ["md_base", "md_text", "md_tree", "md_html", "md_script", "md_page"]
 BELOW_HTML = ["md_base", "md_text", "md_tree"]
 # Crates whose own table has what they hand on of a crate below.
 HANDED_ON = {"md_script": "md_html"}

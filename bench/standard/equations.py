@@ -78,10 +78,16 @@ def of_urls(count, random):
 def copied(folder, equations):
     """A copy of md_safe and what is below it, with the equations."""
     (folder / "crates").mkdir()
-    for crate in "md_base", "md_text", "md_safe":
-        shutil.copytree(ROOT / "crates" / crate, folder / "crates" / crate, ignore=shutil.ignore_patterns("out"))
     lines = (ROOT / "crates.txt").read_text().splitlines(keepends=True)
-    kept = [line for line in lines if line.split(":")[0] in ("md_base", "md_text", "md_safe")]
+    needed = {"md_safe"}
+    for line in reversed(lines):
+        if line.split(":")[0] in needed:
+            needed |= set(line.split(":")[1].split())
+    ignored = shutil.ignore_patterns("out", "must-fail")
+    for crate in needed:
+        if (ROOT / "crates" / crate).exists():
+            shutil.copytree(ROOT / "crates" / crate, folder / "crates" / crate, ignore=ignored)
+    kept = [line for line in lines if line.split(":")[0] in needed]
     (folder / "crates.txt").write_text("".join(kept))
     shutil.copy(ROOT / "HANDLES", folder / "HANDLES")
     proofs = folder / "crates" / "md_safe" / "proofs"
