@@ -9,8 +9,8 @@ use Rattle.md_shape.specs.Steps.{State, beginning}
 use Rattle.md_emit.specs.Supplies.{Supplies}
 use Rattle.md_html.specs.Printed.{text_of}
 use Rattle.md_html.proofs.Long.{longer-text}
-use Rattle.md_html.proofs.within.print_within.Goals as goal
-use Rattle.md_html.proofs.within.print_within.Goals.{else-is_whole-via-then-is_whole+else-len-limit, else-is_whole-via-else-is_whole}
+use Rattle.md_html.proofs.rendering_within.print_within.Goals as goal
+use Rattle.md_html.proofs.rendering_within.print_within.Goals.{else-is_whole-via-then-is_whole+else-len-limit, else-is_whole-via-else-is_whole}
 
 pub returns-then-len-limit-clause-text : goal.returns-then-len-limit-clause-text
 returns-then-len-limit-clause-text c = λ at document supplies flat.

@@ -10,7 +10,7 @@ use Rattle.md_told.proofs.FoundLemmas.{grammatical-there}
 use Rattle.md_html.specs.Printed.{text_of}
 use Rattle.md_html.proofs.Answered.{on_answer}
 use Rattle.md_html.proofs.Supplying.{alone-supplied, all-supplied}
-use Rattle.md_html.proofs.within.render_within.Goals as goal
+use Rattle.md_html.proofs.rendering_within.render_within.Goals as goal
 
 pub targets-requires : goal.targets-requires
 targets-requires c =

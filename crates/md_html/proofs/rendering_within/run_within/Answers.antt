@@ -2,7 +2,7 @@
 use Rattle.std.proofs.Common.{rules, ◌≡◌, ◌≤◌, length, ap, arith}
 use Rattle.md_html.specs.Stepping.{Goes}
 use Rattle.md_html.proofs.Long.{goes-on, whole-run, longer-run}
-use Rattle.md_html.proofs.within.run_within.Goals as goal
+use Rattle.md_html.proofs.rendering_within.run_within.Goals as goal
 
 pub returns-then-is_longer-clause-too_long : goal.returns-then-is_longer-clause-too_long
 returns-then-is_longer-clause-too_long c = λ no at document supplies flat.

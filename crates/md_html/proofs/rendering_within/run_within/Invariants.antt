@@ -1,7 +1,7 @@
 -- Going on from the present state is as going over all the events; the counts have not passed the index.
 use Rattle.std.proofs.Common.{◌≤◌, ◌-◌}
 use Rattle.md_html.specs.Stepping.{Goes}
-use Rattle.md_html.proofs.within.run_within.Given as goal
+use Rattle.md_html.proofs.rendering_within.run_within.Given as goal
 
 abbrev pub invariant-loop-index : goal.invariant-loop-index
 invariant-loop-index l =

@@ -5,7 +5,7 @@ use Rattle.md_text.specs.Encode.{encoded}
 use Rattle.md_page.specs.Added.{shown}
 use Rattle.md_page.specs.PageAround.{page_around, IsSafePage}
 use Rattle.md_page.proofs.Paging.{page-emitted}
-use Rattle.md_page.proofs.page.page_around.Goals as goal
+use Rattle.md_page.proofs.around.page_around.Goals as goal
 
 abbrev before_title : List ℕ
 before_title = codes "<!doctype html>\n<html><head><meta charset=\"utf-8\" /><title>"

@@ -1,6 +1,6 @@
 -- Node after node.
 use Rattle.md_safe.proofs.ForestRuns.{whole}
-use Rattle.md_safe.proofs.laws.forest_is_tokenized.Goals as goal
+use Rattle.md_safe.proofs.tokens.forest_is_tokenized.Goals as goal
 
 pub returns : goal.returns
 returns c = whole

@@ -1,6 +1,6 @@
 -- By the tables.
 use Rattle.md_safe.proofs.Running.{all_still}
-use Rattle.md_safe.proofs.laws.nothing_runs.Goals as goal
+use Rattle.md_safe.proofs.tokens.nothing_runs.Goals as goal
 
 pub returns : goal.returns
 returns c = all_still

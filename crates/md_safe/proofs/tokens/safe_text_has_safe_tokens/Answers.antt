@@ -1,6 +1,6 @@
 -- By its one reading.
 use Rattle.md_safe.proofs.Tokenized.{link-tokens, image-tokens}
-use Rattle.md_safe.proofs.laws.safe_text_has_safe_tokens.Goals as goal
+use Rattle.md_safe.proofs.tokens.safe_text_has_safe_tokens.Goals as goal
 
 pub returns-clause-links : goal.returns-clause-links
 returns-clause-links c = link-tokens
