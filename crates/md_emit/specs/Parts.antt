@@ -1,11 +1,13 @@
 -- Which names a function of the code takes, and what of their texts is written in two ways.
-use Rattle.std.specs.Prelude.{ℕ, Bool, true, false, not, ◌&&◌, ◌||◌, ◌==◌, nat_lt, if◌then◌else◌, List, [], ◌∷◌, length, slice_index, codes}
+use Rattle.std.specs.Prelude.{ℕ, Bool, true, false, not, ◌&&◌, ◌||◌, ◌==◌, nat_lt, if◌then◌else◌, List, [], ◌∷◌, ◌++◌, length, slice_index, codes}
 use Rattle.std.specs.Option.{option_map_or}
+use Rattle.md_base.specs.declared.event.AlignKind.{AlignKind}
 use Rattle.md_base.specs.declared.event.Name.{Name}
 use Rattle.md_base.specs.declared.event.Name.TheVariants.{AutolinkEmail, AutolinkProtocol, BlankLineEnding, BlockQuote, BlockQuotePrefix, CharacterEscapeValue, CharacterReferenceValue, CodeFenced, CodeFencedFence, CodeFencedFenceInfo, CodeFlowChunk, CodeIndented, CodeText, CodeTextData, Data, Definition, DefinitionDestinationString, DefinitionTitleString, Emphasis, Frontmatter, GfmAutolinkLiteralEmail, GfmAutolinkLiteralMailto, GfmAutolinkLiteralProtocol, GfmAutolinkLiteralWww, GfmAutolinkLiteralXmpp, GfmFootnoteCall, GfmFootnoteDefinition, GfmFootnoteDefinitionLabelString, GfmStrikethrough, GfmTable, GfmTableBody, GfmTableCell, GfmTableDelimiterCellValue, GfmTableDelimiterMarker, GfmTableHead, GfmTableRow, GfmTaskListItemCheck, GfmTaskListItemValueChecked, HardBreakEscape, HardBreakTrailing, HeadingAtx, HeadingAtxText, HeadingSetextText, HeadingSetextUnderlineSequence, HtmlFlow, HtmlFlowData, HtmlText, HtmlTextData, Image, Label, LabelText, LineEnding, Link, ListItem, ListItemPrefix, ListOrdered, ListUnordered, MathFlow, MathFlowChunk, MathFlowFence, MathText, MathTextData, Other, Paragraph, Resource, ResourceDestinationString, ResourceTitleString, SpaceOrTab, Strong, ThematicBreak}
 use Rattle.md_base.specs.NameTests.{is_definition}
 use Rattle.md_meaning.specs.Meaning.Layout.{Piece, said}
 use Rattle.md_meaning.specs.Meaning.Spans.{is_at}
+use Rattle.md_meaning.specs.Meaning.Tables.{align_attribute}
 use Rattle.md_shape.specs.Steps.{State}
 
 -- the names of which most nodes are, where they are entered
@@ -171,3 +173,11 @@ line_closing state text = if state.around.in_code then said (codes " ")
 -- a dash stands there
 abbrev pub is_dash_at : List ℕ → ℕ → Bool
 is_dash_at bytes index = is_at 45 bytes index
+
+-- the start tag of a cell
+abbrev pub cell_start : Bool → AlignKind → List ℕ
+cell_start in_head kind = (if in_head then codes "<th" else codes "<td") ++ (align_attribute kind ++ codes ">")
+
+-- a cell that holds nothing
+abbrev pub empty_cell : Bool → AlignKind → List ℕ
+empty_cell in_head kind = cell_start in_head kind ++ (if in_head then codes "</th>" else codes "</td>")

@@ -10,7 +10,6 @@ ghost use Rattle.md_meaning.specs.Meaning.At as At;
 ghost use Rattle.md_shape.specs.Run.{Noticed};
 ghost use Rattle.md_meaning.specs.Meaning.Layout.{Needed, Forced, Text, laid_after, said, on_own_line, when};
 ghost use Rattle.md_meaning.specs.Meaning.Blocks.{heading_tag, without_zeros};
-ghost use Rattle.md_meaning.specs.Meaning.Tables.{align_attribute};
 ghost use Rattle.md_tree.specs.Texts.{EntersAt};
 ghost use Rattle.md_shape.specs.Steps as steps;
 ghost use Rattle.md_emit.specs.Supplies.{Enters, Supplies};
@@ -288,14 +287,13 @@ impl<'a> Printer<'a> {
     }
 
     /// The tag of a cell of a column.
-    pub(crate) fn open_column(&mut self, ending: &str, kind: AlignKind) -> Result<(), AllocError>
+    fn open_column(&mut self, ending: &str, kind: AlignKind) -> Result<(), AllocError>
         ensures { OnOk result (self.new ≡ record self.old {
           text = laid_after ending.now self.old.text (steps.cell_opening self.old.around.in_head kind);
         }) }
     {
-        self.line(ending, if self.around.in_head { "<th" } else { "<td" })?;
-        self.put(align_attribute(kind))?;
-        self.put(">")
+        let tag = cell_start(self.around.in_head, kind);
+        self.line(ending, tag)
     }
 
     /// Goes on in a list.
@@ -531,15 +529,19 @@ fn digit(rank: usize) -> Option<&'static str>
     }
 }
 
-/// How the cells of a column are aligned.
-fn align_attribute(kind: AlignKind) -> &'static str
-    ensures { result.now ≡ align_attribute kind }
+/// The start tag of a cell of a column, by how that is aligned.
+fn cell_start(in_head: bool, kind: AlignKind) -> &'static str
+    ensures { result.now ≡ parts.cell_start in_head kind }
 {
-    match kind {
-        AlignKind::Left => " align=\"left\"",
-        AlignKind::Right => " align=\"right\"",
-        AlignKind::Center => " align=\"center\"",
-        AlignKind::None => "",
+    match (kind, in_head) {
+        (AlignKind::None, false) => "<td>",
+        (AlignKind::None, true) => "<th>",
+        (AlignKind::Left, false) => "<td align=\"left\">",
+        (AlignKind::Left, true) => "<th align=\"left\">",
+        (AlignKind::Right, false) => "<td align=\"right\">",
+        (AlignKind::Right, true) => "<th align=\"right\">",
+        (AlignKind::Center, false) => "<td align=\"center\">",
+        (AlignKind::Center, true) => "<th align=\"center\">",
     }
 }
 

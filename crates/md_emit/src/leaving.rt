@@ -486,8 +486,8 @@ impl<'a> Printer<'a> {
           text = laid_after ending.now self.old.text (cell_of self.old.around.in_head [] kind);
         }) }
     {
-        self.open_column(ending, kind)?;
-        self.put(cell_end(self.around.in_head))
+        let cell = empty_cell(self.around.in_head, kind);
+        self.line(ending, cell)
     }
 
     /// Leaves a blank line ending: at the document's end a line ending is needed.
@@ -720,6 +720,22 @@ fn ends_in_line(is_tight: bool, last: Option<Name>) -> bool
         Some(Name::ListItemPrefix) => true,
         Some(Name::Paragraph) => is_tight,
         _ => false,
+    }
+}
+
+/// An empty cell of a column, by how that is aligned.
+fn empty_cell(in_head: bool, kind: AlignKind) -> &'static str
+    ensures { result.now ≡ parts.empty_cell in_head kind }
+{
+    match (kind, in_head) {
+        (AlignKind::None, false) => "<td></td>",
+        (AlignKind::None, true) => "<th></th>",
+        (AlignKind::Left, false) => "<td align=\"left\"></td>",
+        (AlignKind::Left, true) => "<th align=\"left\"></th>",
+        (AlignKind::Right, false) => "<td align=\"right\"></td>",
+        (AlignKind::Right, true) => "<th align=\"right\"></th>",
+        (AlignKind::Center, false) => "<td align=\"center\"></td>",
+        (AlignKind::Center, true) => "<th align=\"center\"></th>",
     }
 }
 
