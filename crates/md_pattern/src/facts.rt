@@ -183,6 +183,30 @@ fn partner_alone(partner: usize) -> Fact
     }
 }
 
+/// Adds what is known of an event. Mostly there is room, and no call is made.
+#[inline(always)]
+fn push_fact(facts: &mut Vec<Fact>, fact: Fact) -> Result<(), AllocError>
+    ensures { OnOk result (facts.new.items ≡ facts.old.items ++ fact ∷ []) }
+{
+    if facts.len() == facts.capacity() {
+        facts.reserve(1)?;
+    }
+    facts.push_reserved(fact);
+    Ok(())
+}
+
+/// Adds an open node, likewise.
+#[inline(always)]
+fn push_open(open_nodes: &mut Vec<OpenNode>, node: OpenNode) -> Result<(), AllocError>
+    ensures { OnOk result (open_nodes.new.items ≡ open_nodes.old.items ++ node ∷ []) }
+{
+    if open_nodes.len() == open_nodes.capacity() {
+        open_nodes.reserve(1)?;
+    }
+    open_nodes.push_reserved(node);
+    Ok(())
+}
+
 /// Adds what is known of an entry and of its own exit, which comes right after; answers the index of the entry.
 #[inline(always)]
 fn push_leaf(facts: &mut Vec<Fact>) -> Result<usize, AllocError>
@@ -287,6 +311,7 @@ impl Pass {
     /// # Errors
     ///
     /// `AllocError`, only where memory runs out.
+    #[inline(always)]
     pub fn find(&mut self, alloc: Global, event: &Event) -> Result<(), AllocError>
         ensures { OnOk result (self.new ≡ spec.passed event.now.kind event.now.name self.old) }
     {
@@ -319,11 +344,10 @@ impl Pass {
         ensures { OnOk result (self.new ≡ spec.passed_entry name self.old) }
     {
         let entry = self.facts.len();
-        self.facts.push(partner_alone(0))?;
+        push_fact(&mut self.facts, partner_alone(0))?;
         self.ended.columns.enter(name)?;
         let inside = opened(entry, name, innermost(&self.open_nodes, &self.document));
-        self.open_nodes.push(inside)?;
-        Ok(())
+        push_open(&mut self.open_nodes, inside)
     }
 
     /// The exit of a node.
@@ -346,7 +370,7 @@ impl Pass {
         let own = leave_innermost(&mut self.open_nodes, &mut self.document);
         let fact = fact_of(name, self.facts.len(), self.ended.columns.count(), &own);
         put(&mut self.facts, own.entry, fact);
-        self.facts.push(partner_alone(own.entry))?;
+        push_fact(&mut self.facts, partner_alone(own.entry))?;
         match self.open_nodes.last_mut() {
             Some(here) => follow(alloc, here, &mut self.ended, name, &own),
             None => follow(alloc, &mut self.document, &mut self.ended, name, &own),

@@ -8,12 +8,12 @@ ghost use Rattle.md_pattern.specs.Places.{state_of};
 ghost use Rattle.md_tree.specs.Mentions.{mention_of};
 ghost use Rattle.md_tree.specs.Walk.{point_at, place_at, target_seen};
 ghost use Rattle.md_base.specs.declared.event.Event.{Event};
-ghost use Rattle.md_tree.specs.declared.mention.Referral.TheVariants.{Label};
+ghost use Rattle.md_tree.specs.declared.mention.Referral.TheVariants.{Label, Missing};
 ghost use Rattle.md_tree.specs.declared.rule.Rule.TheVariants as rule;
 
 use crate::input::{Input, place_at, point_at, text_of};
 use crate::mention::Mention;
-use crate::open_nodes::Aim;
+use crate::open_nodes::{Aim, Open};
 use crate::rule::Rule;
 use md_base::{Point, Position, Slice, decode_character_reference};
 use md_pattern::{Place, Reading, Role, Symbol};
@@ -225,8 +225,8 @@ pub struct Spot {
     pub exit: usize,
 }
 
-/// Reads a node whose own target is this one: answers the rule that it breaks, if it breaks one, and goes on with the
-/// target of the spine around it.
+/// Reads a node without children, on a spine that has been read as far as this place: answers the
+/// rule that it breaks, if it breaks one, and goes on with the target of that spine.
 ///
 /// # Errors
 ///
@@ -234,28 +234,130 @@ pub struct Spot {
 #[inline(always)]
 pub fn read_node(
     input: Input,
-    spot: Spot,
+    around: Place,
+    before: Option<Symbol>,
+    reading: Reading,
+    entry: usize,
+    exit: usize,
+    target: &mut Aim,
+) -> Result<Option<Rule>, AllocError>
+    ensures broken { IfOk result
+        (λ broken. broken ≡ broken_rule input.entry.bytes.now (name_table input.entry.names.now)
+        reading (state_of around None).role before (point_at input.entry.events.now entry)
+        (point_at input.entry.events.now exit) Missing) }
+    ensures target { (events : List Event)
+        → target_seen events target.new ≡ target_at reading (target_seen events target.old)
+        Missing (place_at events entry exit) }
+{
+    // Most nodes are read in one of these ways; the others are read by a call.
+    match reading {
+        Reading::Free => Ok(None),
+        Reading::Text => Ok(broken_text(text_of(input, entry, exit))),
+        Reading::LineEnding => Ok(broken_ending(text_of(input, entry, exit))),
+        _ => read_rest(input, around, before, reading, entry, exit, target),
+    }
+}
+
+/// The same by a call. What it is handed is put together here, so that it isn't written to memory
+/// for other nodes.
+///
+/// # Errors
+///
+/// `AllocError`, only where memory runs out.
+#[inline(always)]
+fn read_rest(
+    input: Input,
+    around: Place,
+    before: Option<Symbol>,
+    reading: Reading,
+    entry: usize,
+    exit: usize,
+    target: &mut Aim,
+) -> Result<Option<Rule>, AllocError>
+    ensures broken { IfOk result
+        (λ broken. broken ≡ broken_rule input.entry.bytes.now (name_table input.entry.names.now)
+        reading (state_of around None).role before (point_at input.entry.events.now entry)
+        (point_at input.entry.events.now exit) Missing) }
+    ensures target { (events : List Event)
+        → target_seen events target.new ≡ target_at reading (target_seen events target.old)
+        Missing (place_at events entry exit) }
+{
+    let spot = Spot {
+        around,
+        before,
+        reading,
+        entry,
+        exit,
+    };
+    read_other(input, spot, Aim::Missing, target)
+}
+
+/// Reads a node that was open and ends at an index, likewise; `inner` is its own target.
+///
+/// # Errors
+///
+/// `AllocError`, only where memory runs out.
+#[inline(always)]
+pub fn read_ended(
+    input: Input,
+    open_node: &Open,
+    exit: usize,
     inner: Aim,
     target: &mut Aim,
 ) -> Result<Option<Rule>, AllocError>
     ensures broken { IfOk result
         (λ broken. broken ≡ broken_rule input.entry.bytes.now (name_table input.entry.names.now)
-        spot.reading (state_of spot.around None).role spot.before (point_at input.entry.events.now spot.entry)
-        (point_at input.entry.events.now spot.exit) (target_seen input.entry.events.now inner)) }
+        open_node.entry.now.outer.reading (state_of open_node.entry.now.outer.place None).role
+        open_node.entry.now.outer.before (point_at input.entry.events.now open_node.entry.now.entry)
+        (point_at input.entry.events.now exit) (target_seen input.entry.events.now inner)) }
     ensures target { (events : List Event)
-        → target_seen events target.new ≡ target_at spot.reading (target_seen events target.old)
-        (target_seen events inner) (place_at events spot.entry spot.exit) }
+        → target_seen events target.new ≡ target_at open_node.entry.now.outer.reading
+        (target_seen events target.old) (target_seen events inner)
+        (place_at events open_node.entry.now.entry exit) }
 {
-    // Most nodes are read in one of these ways; the others are read by a call.
-    match spot.reading {
-        Reading::Free => Ok(None),
-        Reading::Text => Ok(broken_text(text_of(input, spot.entry, spot.exit))),
-        Reading::LineEnding => Ok(broken_ending(text_of(input, spot.entry, spot.exit))),
-        _ => read_other(input, spot, inner, target),
+    // Nodes with children are mostly read in one of these ways.
+    match open_node.outer.reading {
+        Reading::Holder => {
+            *target = inner;
+            Ok(None)
+        }
+        Reading::Identifier => {
+            *target = Aim::Label(open_node.entry, exit);
+            Ok(broken_identifier(input, open_node.entry, exit))
+        }
+        Reading::Resource => {
+            *target = Aim::Resource;
+            Ok(None)
+        }
+        Reading::Media => Ok(broken_target(inner)),
+        Reading::Free | Reading::Call | Reading::Definition | Reading::FootnoteDefinition => {
+            Ok(None)
+        }
+        _ => read_other(input, spot_of(open_node, exit), inner, target),
     }
 }
 
-/// The same of any node.
+/// Where a node stands that ends at an index, and what is read of it.
+#[inline(always)]
+fn spot_of(open_node: &Open, exit: usize) -> Spot
+    ensures { result ≡ record {
+      around = open_node.now.outer.place;
+      before = open_node.now.outer.before;
+      reading = open_node.now.outer.reading;
+      entry = open_node.now.entry;
+      exit = exit;
+    } }
+{
+    Spot {
+        around: open_node.outer.place,
+        before: open_node.outer.before,
+        reading: open_node.outer.reading,
+        entry: open_node.entry,
+        exit,
+    }
+}
+
+/// Reads any node.
 ///
 /// # Errors
 ///

@@ -1,6 +1,7 @@
 //! The walk over the events, which enters and exits nodes and refuses an event that breaks a rule.
 
-ghost use Rattle.std.specs.Prelude.{◌≡◌, true, false, Err, OnOk, IfOk, reverse};
+ghost use Rattle.std.specs.Prelude.{◌≡◌, ◌∷◌, ◌++◌, [], true, false, Err};
+ghost use Rattle.std.specs.Prelude.{OnOk, IfOk, reverse};
 ghost use Rattle.md_pattern.specs.declared.kinds.Reading.TheVariants.{Free};
 ghost use Rattle.md_tree.specs.declared.open_nodes.Aim.TheVariants.{Missing};
 ghost use Rattle.md_tree.specs.declared.rule.CompileError.TheVariants as error;
@@ -8,7 +9,7 @@ ghost use Rattle.md_tree.specs.Mentions.{mention_of, mentions_with};
 ghost use Rattle.md_tree.specs.Walk.{target_seen, target_of, targets_around, misplaced};
 
 use crate::input::{Input, place_at};
-use crate::judge::{Spot, mention_of, read_node};
+use crate::judge::{mention_of, read_ended, read_node};
 use crate::mention::{Mention, Mentioned};
 use crate::open_nodes::{Aim, Open, Outer};
 use crate::rule::{CompileError, Rule};
@@ -69,6 +70,7 @@ impl Walk {
     /// a rule: `Rule::Mdx` where the event enters a node of MDX, `Rule::Order` where no other node
     /// may be entered there or none of this name may end, and any other rule where the node that
     /// ends breaks it.
+    #[inline(always)]
     pub fn step(&mut self, input: Input, index: usize, event: &Event) -> Result<(), CompileError>
         requires { event.now.point ≡ point_at input.events.now index }
         ensures ok { OnOk result
@@ -85,6 +87,7 @@ impl Walk {
     }
 
     /// Enters a node.
+    #[inline(always)]
     fn enter(&mut self, input: Input, index: usize, name: Name) -> Result<(), CompileError>
         ensures ok { OnOk result
             (Enters name (point_at input.entry.events.now index) (course_of input.entry.events.now index self.old)
@@ -99,7 +102,7 @@ impl Walk {
         match standing_of(name) {
             Standing::Mdx => refuse(index, Rule::Mdx),
             Standing::Through => {
-                self.open_nodes.push(Open {
+                let node = Open {
                     entry: index,
                     name,
                     outer: Outer {
@@ -110,7 +113,8 @@ impl Walk {
                     },
                     stands: false,
                     aimed: false,
-                })?;
+                };
+                push_open(&mut self.open_nodes, node)?;
                 Ok(())
             }
             Standing::Space => {
@@ -155,13 +159,14 @@ impl Walk {
         ensures memory { IfErr result (λ error. error ≡ Memory) }
     {
         let aimed = put_aside(&mut self.target, &mut self.targets)?;
-        self.open_nodes.push(Open {
+        let node = Open {
             entry: index,
             name,
             outer,
             stands: true,
             aimed,
-        })?;
+        };
+        push_open(&mut self.open_nodes, node)?;
         self.place = Place::start(role);
         self.before = None;
         Ok(())
@@ -200,14 +205,17 @@ impl Walk {
                 if !self.place.can_hold_empty(self.before, usual) {
                     return refuse(index + 1, Rule::Order);
                 }
-                let spot = Spot {
-                    around: place,
-                    before: self.before,
+                let before = self.before;
+                let (entry, exit) = (index, index + 1);
+                if let Some(rule) = read_node(
+                    input,
+                    place,
+                    before,
                     reading,
-                    entry: index,
-                    exit: index + 1,
-                };
-                if let Some(rule) = read_node(input, spot, Aim::Missing, &mut self.target)? {
+                    entry,
+                    exit,
+                    &mut self.target,
+                )? {
                     return refuse(index + 1, rule);
                 }
                 self.place = place;
@@ -218,6 +226,7 @@ impl Walk {
     }
 
     /// Leaves the innermost open node.
+    #[inline(always)]
     fn exit(&mut self, input: Input, index: usize, name: Name) -> Result<(), CompileError>
         ensures ok { OnOk result
             (Exits (Unbroken input.entry.bytes.now (name_table input.entry.names.now))
@@ -288,29 +297,35 @@ impl Walk {
             (place_at input.entry.events.now open_node.entry.now.entry index)
             (course_of input.entry.events.now index self.old)) }
     {
-        let Outer {
-            place,
-            last,
-            before,
-            reading,
-        } = open_node.outer;
-        let spot = Spot {
-            around: place,
-            before,
-            reading,
-            entry: open_node.entry,
-            exit: index,
-        };
         let inner = self.target;
         self.target = take_back(open_node.aimed, &mut self.targets);
-        if let Some(rule) = read_node(input, spot, inner, &mut self.target)? {
+        if let Some(rule) = read_ended(input, open_node, index, inner, &mut self.target)? {
             return refuse(index, rule);
         }
-        keep(&mut self.mentions, input.events, index, reading, inner)?;
-        self.place = place;
-        self.before = last;
+        let outer = &open_node.outer;
+        keep(
+            &mut self.mentions,
+            input.events,
+            index,
+            outer.reading,
+            inner,
+        )?;
+        self.place = outer.place;
+        self.before = outer.last;
         Ok(())
     }
+}
+
+/// Adds an open node. Mostly there is room, and no call is made.
+#[inline(always)]
+fn push_open(open_nodes: &mut Vec<Open>, node: Open) -> Result<(), AllocError>
+    ensures { OnOk result (open_nodes.new.items ≡ open_nodes.old.items ++ node ∷ []) }
+{
+    if open_nodes.len() == open_nodes.capacity() {
+        open_nodes.reserve(1)?;
+    }
+    open_nodes.push_reserved(node);
+    Ok(())
 }
 
 /// Whether nothing is read of a node, and neither it nor the spine around it has a target.
