@@ -28,7 +28,8 @@ COMMON = CRATES / "md_script" / "src" / "common_name.rt"
 BEGIN, END = (rf"^ *// bench/names\.py: {word}$" for word in ("begin", "end"))
 BLOCK = re.compile(rf"({BEGIN}\n)(.*?)({END})", re.M | re.S)
 HEAD = re.compile(r"(?:/// .*\n)*")
-IMPORTS = "use Rattle.md_base.specs.declared.event.Name.TheVariants.{"
+VARIANTS = "use Rattle.md_base.specs.declared.event.Name.TheVariants as name_variants\n"
+IMPORT = "use name_variants.{"
 COLUMNS, LANES = 100, 16
 # A pair of a spelling and a name stands in one line where it has no more letters.
 PAIR = 60
@@ -160,7 +161,11 @@ def array(head, items):
 
 def with_imports(source, texts):
     """Definitions that import these variants."""
-    return replaced(source, rf"(?m)^{re.escape(IMPORTS)}(.*)}}$", ", ".join(texts))
+    room = COLUMNS - len(IMPORT + "}")
+    lines = textwrap.wrap(", ".join(texts), room + len(","), break_long_words=False)
+    lines = "".join(f"{IMPORT}{line.rstrip(',')}}}\n" for line in lines)
+    pattern = rf"(?<={re.escape(VARIANTS)})(?:{re.escape(IMPORT)}.*}}\n)+"
+    return replaced(source, pattern, lines)
 
 
 def with_list(source, defined, items):

@@ -127,8 +127,9 @@ def place_tables():
     listed = "\n".join(wrapped([f"{start}," for start in starts], "    ", 99))
     source = replaced(source, r"static STARTS: \[u8; \d+\] = \[\n.*?\n\];",
                       f"static STARTS: [u8; {len(roles)}] = [\n{listed}\n];")
-    source = replaced(source, r'static ENDS: \[u8; \d+\] =\n    \*b"[^"]*";',
-                      f'static ENDS: [u8; {len(every)}] =\n    *b"{ends}";')
+    listed = "\\\n    ".join(ends[at:at + 64] for at in range(0, len(ends), 64))
+    source = replaced(source, r'static ENDS: \[u8; \d+\] = \*b"[^"]*";',
+                      f'static ENDS: [u8; {len(every)}] = *b"\\\n    {listed}";')
     source = replaced(source, r"static ROLES: \[Role; \d+\] = \[\n.*?\n\];",
                       f"static ROLES: [Role; {len(every)}] = [\n" + "".join(f"    Role::{role},\n" for role, _ in every) + "];")
     source = replaced(source, r"static ROWS: \[\[u8; \d+\]; \d+\] = \[\n.*?\n\];",
@@ -150,7 +151,7 @@ def place_tables():
 
 
 def list_of(words):
-    return "\n".join(wrapped([word + " ∷" for word in words] + ["[]"], "    ", 118))
+    return "\n".join(wrapped([word + " ∷" for word in words] + ["[]"], "    ", 100))
 
 
 def replaced(source, pattern, new):

@@ -1,7 +1,28 @@
 -- The names of events, as scripts write them; `bench/names.py` makes the list.
 use Rattle.std.specs.Prelude.{ℕ, List, [], ◌∷◌, codes}
 use Rattle.md_base.specs.declared.event.Name.{Name}
-use Rattle.md_base.specs.declared.event.Name.TheVariants.{AutolinkEmail, AutolinkProtocol, GfmAutolinkLiteralEmail, GfmAutolinkLiteralMailto, GfmAutolinkLiteralProtocol, GfmAutolinkLiteralWww, GfmAutolinkLiteralXmpp, LineEnding, BlankLineEnding, BlockQuote, BlockQuotePrefix, ListOrdered, ListUnordered, ListItem, ListItemPrefix, ListItemValue, ListItemMarker, GfmFootnoteDefinition, GfmFootnoteDefinitionPrefix, GfmFootnoteDefinitionLabelString, Data, CharacterEscapeValue, CharacterReferenceMarker, CharacterReferenceMarkerNumeric, CharacterReferenceMarkerHexadecimal, CharacterReferenceValue, CodeIndented, CodeFenced, CodeFencedFence, CodeFencedFenceInfo, CodeFencedFenceMeta, CodeFlowChunk, MathFlow, MathFlowFence, MathFlowFenceMeta, MathFlowChunk, CodeText, CodeTextData, MathText, MathTextData, HtmlFlow, HtmlFlowData, HtmlText, HtmlTextData, Definition, DefinitionLabelString, DefinitionDestinationString, DefinitionTitleString, Link, Image, Label, LabelText, Resource, ResourceDestinationString, ResourceTitleString, ReferenceString, GfmFootnoteCall, HeadingAtx, HeadingAtxSequence, HeadingAtxText, HeadingSetextText, HeadingSetextUnderlineSequence, GfmTable, GfmTableHead, GfmTableBody, GfmTableRow, GfmTableCell, GfmTableDelimiterRow, GfmTableDelimiterCellValue, GfmTableDelimiterMarker, Emphasis, Strong, GfmStrikethrough, GfmTaskListItemCheck, GfmTaskListItemValueChecked, HardBreakEscape, HardBreakTrailing, Paragraph, ThematicBreak, Frontmatter, SpaceOrTab, MdxEsm, MdxFlowExpression, MdxTextExpression, MdxJsxFlowTag, MdxJsxTextTag}
+use Rattle.md_base.specs.declared.event.Name.TheVariants as name_variants
+use name_variants.{AutolinkEmail, AutolinkProtocol, GfmAutolinkLiteralEmail}
+use name_variants.{GfmAutolinkLiteralMailto, GfmAutolinkLiteralProtocol, GfmAutolinkLiteralWww}
+use name_variants.{GfmAutolinkLiteralXmpp, LineEnding, BlankLineEnding, BlockQuote}
+use name_variants.{BlockQuotePrefix, ListOrdered, ListUnordered, ListItem, ListItemPrefix}
+use name_variants.{ListItemValue, ListItemMarker, GfmFootnoteDefinition}
+use name_variants.{GfmFootnoteDefinitionPrefix, GfmFootnoteDefinitionLabelString, Data}
+use name_variants.{CharacterEscapeValue, CharacterReferenceMarker, CharacterReferenceMarkerNumeric}
+use name_variants.{CharacterReferenceMarkerHexadecimal, CharacterReferenceValue, CodeIndented}
+use name_variants.{CodeFenced, CodeFencedFence, CodeFencedFenceInfo, CodeFencedFenceMeta}
+use name_variants.{CodeFlowChunk, MathFlow, MathFlowFence, MathFlowFenceMeta, MathFlowChunk}
+use name_variants.{CodeText, CodeTextData, MathText, MathTextData, HtmlFlow, HtmlFlowData, HtmlText}
+use name_variants.{HtmlTextData, Definition, DefinitionLabelString, DefinitionDestinationString}
+use name_variants.{DefinitionTitleString, Link, Image, Label, LabelText, Resource}
+use name_variants.{ResourceDestinationString, ResourceTitleString, ReferenceString, GfmFootnoteCall}
+use name_variants.{HeadingAtx, HeadingAtxSequence, HeadingAtxText, HeadingSetextText}
+use name_variants.{HeadingSetextUnderlineSequence, GfmTable, GfmTableHead, GfmTableBody}
+use name_variants.{GfmTableRow, GfmTableCell, GfmTableDelimiterRow, GfmTableDelimiterCellValue}
+use name_variants.{GfmTableDelimiterMarker, Emphasis, Strong, GfmStrikethrough}
+use name_variants.{GfmTaskListItemCheck, GfmTaskListItemValueChecked, HardBreakEscape}
+use name_variants.{HardBreakTrailing, Paragraph, ThematicBreak, Frontmatter, SpaceOrTab, MdxEsm}
+use name_variants.{MdxFlowExpression, MdxTextExpression, MdxJsxFlowTag, MdxJsxTextTag}
 
 -- each name but `Other`, under its spelling
 abbrev pub event_names : List (List ℕ × Name)

@@ -38,65 +38,78 @@ at role position stage = record { role = role; position = position; stage = stag
 -- the places to which spines come, in the order of their rows
 unfoldable pub places : List At
 places =
-    at role.Flow 0 Whole ∷ at role.Flow 0 Marker ∷ at role.Flow 0 Numeric ∷ at role.Flow 0 Hexadecimal ∷
-    at role.Flow 0 Setext ∷ at role.FootnoteDefinition 0 Whole ∷ at role.FootnoteDefinition 1 Whole ∷
-    at role.FootnoteDefinition 1 Marker ∷ at role.FootnoteDefinition 1 Numeric ∷
-    at role.FootnoteDefinition 1 Hexadecimal ∷ at role.FootnoteDefinition 1 Setext ∷ at role.FootnotePrefix 0 Whole ∷
+    at role.Flow 0 Whole ∷ at role.Flow 0 Marker ∷ at role.Flow 0 Numeric ∷
+    at role.Flow 0 Hexadecimal ∷ at role.Flow 0 Setext ∷ at role.FootnoteDefinition 0 Whole ∷
+    at role.FootnoteDefinition 1 Whole ∷ at role.FootnoteDefinition 1 Marker ∷
+    at role.FootnoteDefinition 1 Numeric ∷ at role.FootnoteDefinition 1 Hexadecimal ∷
+    at role.FootnoteDefinition 1 Setext ∷ at role.FootnotePrefix 0 Whole ∷
     at role.FootnotePrefix 1 Whole ∷ at role.OrderedList 0 Whole ∷ at role.OrderedList 1 Whole ∷
-    at role.UnorderedList 0 Whole ∷ at role.UnorderedList 1 Whole ∷ at role.FirstOrderedItem 0 Whole ∷
-    at role.FirstOrderedItem 1 Whole ∷ at role.FirstOrderedItem 1 Marker ∷ at role.FirstOrderedItem 1 Numeric ∷
-    at role.FirstOrderedItem 1 Hexadecimal ∷ at role.FirstOrderedItem 1 Setext ∷ at role.OrderedItem 0 Whole ∷
-    at role.OrderedItem 1 Whole ∷ at role.OrderedItem 1 Marker ∷ at role.OrderedItem 1 Numeric ∷
-    at role.OrderedItem 1 Hexadecimal ∷ at role.OrderedItem 1 Setext ∷ at role.Item 0 Whole ∷ at role.Item 1 Whole ∷
-    at role.Item 1 Marker ∷ at role.Item 1 Numeric ∷ at role.Item 1 Hexadecimal ∷ at role.Item 1 Setext ∷
-    at role.FirstOrderedPrefix 0 Whole ∷ at role.FirstOrderedPrefix 1 Whole ∷ at role.FirstOrderedPrefix 2 Whole ∷
+    at role.UnorderedList 0 Whole ∷ at role.UnorderedList 1 Whole ∷
+    at role.FirstOrderedItem 0 Whole ∷ at role.FirstOrderedItem 1 Whole ∷
+    at role.FirstOrderedItem 1 Marker ∷ at role.FirstOrderedItem 1 Numeric ∷
+    at role.FirstOrderedItem 1 Hexadecimal ∷ at role.FirstOrderedItem 1 Setext ∷
+    at role.OrderedItem 0 Whole ∷ at role.OrderedItem 1 Whole ∷ at role.OrderedItem 1 Marker ∷
+    at role.OrderedItem 1 Numeric ∷ at role.OrderedItem 1 Hexadecimal ∷
+    at role.OrderedItem 1 Setext ∷ at role.Item 0 Whole ∷ at role.Item 1 Whole ∷
+    at role.Item 1 Marker ∷ at role.Item 1 Numeric ∷ at role.Item 1 Hexadecimal ∷
+    at role.Item 1 Setext ∷ at role.FirstOrderedPrefix 0 Whole ∷
+    at role.FirstOrderedPrefix 1 Whole ∷ at role.FirstOrderedPrefix 2 Whole ∷
     at role.OrderedPrefix 0 Whole ∷ at role.OrderedPrefix 1 Whole ∷ at role.OrderedPrefix 2 Whole ∷
-    at role.Prefix 0 Whole ∷ at role.Prefix 1 Whole ∷ at role.Phrasing 0 Whole ∷ at role.Phrasing 0 Marker ∷
-    at role.Phrasing 0 Numeric ∷ at role.Phrasing 0 Hexadecimal ∷ at role.Heading 0 Whole ∷ at role.Heading 1 Whole ∷
-    at role.CodeIndented 0 Whole ∷ at role.CodeFenced 0 Whole ∷ at role.CodeFenced 1 Whole ∷
-    at role.CodeFenced 3 Whole ∷ at role.FirstCodeFence 0 Whole ∷ at role.FirstCodeFence 1 Whole ∷
-    at role.FirstCodeFence 2 Whole ∷ at role.CodeFence 0 Whole ∷ at role.Math 0 Whole ∷ at role.Math 1 Whole ∷
-    at role.Math 3 Whole ∷ at role.FirstMathFence 0 Whole ∷ at role.FirstMathFence 1 Whole ∷
-    at role.MathFence 0 Whole ∷ at role.CodeText 0 Whole ∷ at role.MathText 0 Whole ∷ at role.HtmlFlow 0 Whole ∷
-    at role.HtmlText 0 Whole ∷ at role.Media 0 Whole ∷ at role.Media 1 Whole ∷ at role.Media 2 Whole ∷
-    at role.FootnoteCall 0 Whole ∷ at role.FootnoteCall 1 Whole ∷ at role.Label 0 Whole ∷ at role.Label 2 Whole ∷
-    at role.Label 0 Marker ∷ at role.Label 0 Numeric ∷ at role.Label 0 Hexadecimal ∷ at role.Label 2 Marker ∷
-    at role.Label 2 Numeric ∷ at role.Label 2 Hexadecimal ∷ at role.CallLabel 0 Whole ∷ at role.CallLabel 2 Whole ∷
+    at role.Prefix 0 Whole ∷ at role.Prefix 1 Whole ∷ at role.Phrasing 0 Whole ∷
+    at role.Phrasing 0 Marker ∷ at role.Phrasing 0 Numeric ∷ at role.Phrasing 0 Hexadecimal ∷
+    at role.Heading 0 Whole ∷ at role.Heading 1 Whole ∷ at role.CodeIndented 0 Whole ∷
+    at role.CodeFenced 0 Whole ∷ at role.CodeFenced 1 Whole ∷ at role.CodeFenced 3 Whole ∷
+    at role.FirstCodeFence 0 Whole ∷ at role.FirstCodeFence 1 Whole ∷
+    at role.FirstCodeFence 2 Whole ∷ at role.CodeFence 0 Whole ∷ at role.Math 0 Whole ∷
+    at role.Math 1 Whole ∷ at role.Math 3 Whole ∷ at role.FirstMathFence 0 Whole ∷
+    at role.FirstMathFence 1 Whole ∷ at role.MathFence 0 Whole ∷ at role.CodeText 0 Whole ∷
+    at role.MathText 0 Whole ∷ at role.HtmlFlow 0 Whole ∷ at role.HtmlText 0 Whole ∷
+    at role.Media 0 Whole ∷ at role.Media 1 Whole ∷ at role.Media 2 Whole ∷
+    at role.FootnoteCall 0 Whole ∷ at role.FootnoteCall 1 Whole ∷ at role.Label 0 Whole ∷
+    at role.Label 2 Whole ∷ at role.Label 0 Marker ∷ at role.Label 0 Numeric ∷
+    at role.Label 0 Hexadecimal ∷ at role.Label 2 Marker ∷ at role.Label 2 Numeric ∷
+    at role.Label 2 Hexadecimal ∷ at role.CallLabel 0 Whole ∷ at role.CallLabel 2 Whole ∷
     at role.CallLabel 0 Marker ∷ at role.CallLabel 0 Numeric ∷ at role.CallLabel 0 Hexadecimal ∷
     at role.CallLabel 2 Marker ∷ at role.CallLabel 2 Numeric ∷ at role.CallLabel 2 Hexadecimal ∷
-    at role.Resource 0 Whole ∷ at role.Resource 2 Whole ∷ at role.Resource 4 Whole ∷ at role.Definition 0 Whole ∷
-    at role.Definition 1 Whole ∷ at role.Definition 3 Whole ∷ at role.Definition 5 Whole ∷ at role.String 0 Whole ∷
-    at role.String 0 Marker ∷ at role.String 0 Numeric ∷ at role.String 0 Hexadecimal ∷ at role.Table 0 Whole ∷
-    at role.Table 1 Whole ∷ at role.Table 3 Whole ∷ at role.TableHead 0 Whole ∷ at role.TableHead 1 Whole ∷
-    at role.TableHead 3 Whole ∷ at role.TableBody 0 Whole ∷ at role.TableRow 0 Whole ∷
-    at role.TableDelimiterRow 0 Whole ∷ at role.TableDelimiterValue 0 Whole ∷ at role.TaskCheck 0 Whole ∷
-    at role.TaskCheck 1 Whole ∷ at role.Frontmatter 0 Whole ∷ at role.Empty 0 Whole ∷ at role.Childless 0 Whole ∷ []
+    at role.Resource 0 Whole ∷ at role.Resource 2 Whole ∷ at role.Resource 4 Whole ∷
+    at role.Definition 0 Whole ∷ at role.Definition 1 Whole ∷ at role.Definition 3 Whole ∷
+    at role.Definition 5 Whole ∷ at role.String 0 Whole ∷ at role.String 0 Marker ∷
+    at role.String 0 Numeric ∷ at role.String 0 Hexadecimal ∷ at role.Table 0 Whole ∷
+    at role.Table 1 Whole ∷ at role.Table 3 Whole ∷ at role.TableHead 0 Whole ∷
+    at role.TableHead 1 Whole ∷ at role.TableHead 3 Whole ∷ at role.TableBody 0 Whole ∷
+    at role.TableRow 0 Whole ∷ at role.TableDelimiterRow 0 Whole ∷
+    at role.TableDelimiterValue 0 Whole ∷ at role.TaskCheck 0 Whole ∷ at role.TaskCheck 1 Whole ∷
+    at role.Frontmatter 0 Whole ∷ at role.Empty 0 Whole ∷ at role.Childless 0 Whole ∷ []
 
 -- the symbols, in the order in which they are declared
 unfoldable pub symbols : List Symbol
 symbols =
-    symbol.Text ∷ symbol.LineEnding ∷ symbol.BlankLineEnding ∷ symbol.ReferenceMarker ∷ symbol.ReferenceNumeric ∷
-    symbol.ReferenceHexadecimal ∷ symbol.ReferenceValue ∷ symbol.Span ∷ symbol.Block ∷ symbol.SetextText ∷
-    symbol.SetextUnderline ∷ symbol.FootnotePrefix ∷ symbol.FootnoteLabel ∷ symbol.ListItem ∷ symbol.ListItemPrefix ∷
-    symbol.ListItemValue ∷ symbol.ListItemMarker ∷ symbol.HeadingSequence ∷ symbol.HeadingText ∷
-    symbol.CodeFlowChunk ∷ symbol.CodeFence ∷ symbol.CodeInfo ∷ symbol.CodeMeta ∷ symbol.MathFlowChunk ∷
-    symbol.MathFence ∷ symbol.MathMeta ∷ symbol.CodeTextData ∷ symbol.MathTextData ∷ symbol.HtmlFlowData ∷
-    symbol.HtmlTextData ∷ symbol.Label ∷ symbol.LabelText ∷ symbol.Resource ∷ symbol.ReferenceString ∷
-    symbol.ResourceDestination ∷ symbol.ResourceTitle ∷ symbol.DefinitionLabel ∷ symbol.DefinitionDestination ∷
-    symbol.DefinitionTitle ∷ symbol.TableHead ∷ symbol.TableBody ∷ symbol.TableRow ∷ symbol.TableCell ∷
-    symbol.TableDelimiterRow ∷ symbol.TableDelimiterValue ∷ symbol.TableDelimiterMarker ∷ symbol.TaskChecked ∷ []
+    symbol.Text ∷ symbol.LineEnding ∷ symbol.BlankLineEnding ∷ symbol.ReferenceMarker ∷
+    symbol.ReferenceNumeric ∷ symbol.ReferenceHexadecimal ∷ symbol.ReferenceValue ∷ symbol.Span ∷
+    symbol.Block ∷ symbol.SetextText ∷ symbol.SetextUnderline ∷ symbol.FootnotePrefix ∷
+    symbol.FootnoteLabel ∷ symbol.ListItem ∷ symbol.ListItemPrefix ∷ symbol.ListItemValue ∷
+    symbol.ListItemMarker ∷ symbol.HeadingSequence ∷ symbol.HeadingText ∷ symbol.CodeFlowChunk ∷
+    symbol.CodeFence ∷ symbol.CodeInfo ∷ symbol.CodeMeta ∷ symbol.MathFlowChunk ∷ symbol.MathFence ∷
+    symbol.MathMeta ∷ symbol.CodeTextData ∷ symbol.MathTextData ∷ symbol.HtmlFlowData ∷
+    symbol.HtmlTextData ∷ symbol.Label ∷ symbol.LabelText ∷ symbol.Resource ∷
+    symbol.ReferenceString ∷ symbol.ResourceDestination ∷ symbol.ResourceTitle ∷
+    symbol.DefinitionLabel ∷ symbol.DefinitionDestination ∷ symbol.DefinitionTitle ∷
+    symbol.TableHead ∷ symbol.TableBody ∷ symbol.TableRow ∷ symbol.TableCell ∷
+    symbol.TableDelimiterRow ∷ symbol.TableDelimiterValue ∷ symbol.TableDelimiterMarker ∷
+    symbol.TaskChecked ∷ []
 
 -- the roles, in the order in which they are declared
 unfoldable pub all_roles : List Role
 all_roles =
-    role.Flow ∷ role.FootnoteDefinition ∷ role.FootnotePrefix ∷ role.OrderedList ∷ role.UnorderedList ∷
-    role.FirstOrderedItem ∷ role.OrderedItem ∷ role.Item ∷ role.FirstOrderedPrefix ∷ role.OrderedPrefix ∷
-    role.Prefix ∷ role.Phrasing ∷ role.Heading ∷ role.CodeIndented ∷ role.CodeFenced ∷ role.FirstCodeFence ∷
-    role.CodeFence ∷ role.Math ∷ role.FirstMathFence ∷ role.MathFence ∷ role.CodeText ∷ role.MathText ∷
-    role.HtmlFlow ∷ role.HtmlText ∷ role.Media ∷ role.FootnoteCall ∷ role.Label ∷ role.CallLabel ∷ role.Resource ∷
+    role.Flow ∷ role.FootnoteDefinition ∷ role.FootnotePrefix ∷ role.OrderedList ∷
+    role.UnorderedList ∷ role.FirstOrderedItem ∷ role.OrderedItem ∷ role.Item ∷
+    role.FirstOrderedPrefix ∷ role.OrderedPrefix ∷ role.Prefix ∷ role.Phrasing ∷ role.Heading ∷
+    role.CodeIndented ∷ role.CodeFenced ∷ role.FirstCodeFence ∷ role.CodeFence ∷ role.Math ∷
+    role.FirstMathFence ∷ role.MathFence ∷ role.CodeText ∷ role.MathText ∷ role.HtmlFlow ∷
+    role.HtmlText ∷ role.Media ∷ role.FootnoteCall ∷ role.Label ∷ role.CallLabel ∷ role.Resource ∷
     role.Definition ∷ role.String ∷ role.Table ∷ role.TableHead ∷ role.TableBody ∷ role.TableRow ∷
-    role.TableDelimiterRow ∷ role.TableDelimiterValue ∷ role.TaskCheck ∷ role.Frontmatter ∷ role.Empty ∷
-    role.Childless ∷ []
+    role.TableDelimiterRow ∷ role.TableDelimiterValue ∷ role.TaskCheck ∷ role.Frontmatter ∷
+    role.Empty ∷ role.Childless ∷ []
 
 -- the place of a row
 abbrev pub place_at : ℕ → At

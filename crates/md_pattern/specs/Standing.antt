@@ -1,13 +1,35 @@
 -- Which name is what in the grammar: the one table of names.
 use Rattle.md_base.specs.declared.event.Name.{Name}
-use Rattle.md_base.specs.declared.event.Name.TheVariants.{AutolinkEmail, AutolinkProtocol, GfmAutolinkLiteralEmail, GfmAutolinkLiteralMailto, GfmAutolinkLiteralProtocol, GfmAutolinkLiteralWww, GfmAutolinkLiteralXmpp, LineEnding, BlankLineEnding, BlockQuote, BlockQuotePrefix, ListOrdered, ListUnordered, ListItem, ListItemPrefix, ListItemValue, ListItemMarker, GfmFootnoteDefinition, GfmFootnoteDefinitionPrefix, GfmFootnoteDefinitionLabelString, Data, CharacterEscapeValue, CharacterReferenceMarker, CharacterReferenceMarkerNumeric, CharacterReferenceMarkerHexadecimal, CharacterReferenceValue, CodeIndented, CodeFenced, CodeFencedFence, CodeFencedFenceInfo, CodeFencedFenceMeta, CodeFlowChunk, MathFlow, MathFlowFence, MathFlowFenceMeta, MathFlowChunk, CodeText, CodeTextData, MathText, MathTextData, HtmlFlow, HtmlFlowData, HtmlText, HtmlTextData, Definition, DefinitionLabelString, DefinitionDestinationString, DefinitionTitleString, Link, Image, Label, LabelText, Resource, ResourceDestinationString, ResourceTitleString, ReferenceString, GfmFootnoteCall, HeadingAtx, HeadingAtxSequence, HeadingAtxText, HeadingSetextText, HeadingSetextUnderlineSequence, GfmTable, GfmTableHead, GfmTableBody, GfmTableRow, GfmTableCell, GfmTableDelimiterRow, GfmTableDelimiterCellValue, GfmTableDelimiterMarker, Emphasis, Strong, GfmStrikethrough, GfmTaskListItemCheck, GfmTaskListItemValueChecked, HardBreakEscape, HardBreakTrailing, Paragraph, ThematicBreak, Frontmatter, SpaceOrTab, Other, MdxEsm, MdxFlowExpression, MdxTextExpression, MdxJsxFlowTag, MdxJsxTextTag}
+use Rattle.md_base.specs.declared.event.Name.TheVariants as name_variants
+use name_variants.{AutolinkEmail, AutolinkProtocol, GfmAutolinkLiteralEmail}
+use name_variants.{GfmAutolinkLiteralMailto, GfmAutolinkLiteralProtocol, GfmAutolinkLiteralWww}
+use name_variants.{GfmAutolinkLiteralXmpp, LineEnding, BlankLineEnding, BlockQuote}
+use name_variants.{BlockQuotePrefix, ListOrdered, ListUnordered, ListItem, ListItemPrefix}
+use name_variants.{ListItemValue, ListItemMarker, GfmFootnoteDefinition}
+use name_variants.{GfmFootnoteDefinitionPrefix, GfmFootnoteDefinitionLabelString, Data}
+use name_variants.{CharacterEscapeValue, CharacterReferenceMarker, CharacterReferenceMarkerNumeric}
+use name_variants.{CharacterReferenceMarkerHexadecimal, CharacterReferenceValue, CodeIndented}
+use name_variants.{CodeFenced, CodeFencedFence, CodeFencedFenceInfo, CodeFencedFenceMeta}
+use name_variants.{CodeFlowChunk, MathFlow, MathFlowFence, MathFlowFenceMeta, MathFlowChunk}
+use name_variants.{CodeText, CodeTextData, MathText, MathTextData, HtmlFlow, HtmlFlowData, HtmlText}
+use name_variants.{HtmlTextData, Definition, DefinitionLabelString, DefinitionDestinationString}
+use name_variants.{DefinitionTitleString, Link, Image, Label, LabelText, Resource}
+use name_variants.{ResourceDestinationString, ResourceTitleString, ReferenceString, GfmFootnoteCall}
+use name_variants.{HeadingAtx, HeadingAtxSequence, HeadingAtxText, HeadingSetextText}
+use name_variants.{HeadingSetextUnderlineSequence, GfmTable, GfmTableHead, GfmTableBody}
+use name_variants.{GfmTableRow, GfmTableCell, GfmTableDelimiterRow, GfmTableDelimiterCellValue}
+use name_variants.{GfmTableDelimiterMarker, Emphasis, Strong, GfmStrikethrough}
+use name_variants.{GfmTaskListItemCheck, GfmTaskListItemValueChecked, HardBreakEscape}
+use name_variants.{HardBreakTrailing, Paragraph, ThematicBreak, Frontmatter, SpaceOrTab, Other}
+use name_variants.{MdxEsm, MdxFlowExpression, MdxTextExpression, MdxJsxFlowTag, MdxJsxTextTag}
 use Rattle.md_pattern.specs.declared.kinds.Symbol.TheVariants as symbol
 use Rattle.md_pattern.specs.declared.kinds.Role.TheVariants as role
 use Rattle.md_pattern.specs.declared.kinds.Reading.TheVariants as reading
 use Rattle.md_pattern.specs.declared.kinds.Standing.{Standing}
 use Rattle.md_pattern.specs.declared.kinds.Standing.TheVariants.{Through, Space, Solid, Mdx}
 
--- how a node of this name stands: what patterns see of it, the usual role of its spine, what is read of it
+-- how a node of this name stands: what patterns see of it, the usual role of its spine,
+-- what is read of it
 abbrev pub standing_of : Name → Standing
 standing_of AutolinkEmail = Solid symbol.Span role.Empty reading.Text
 standing_of AutolinkProtocol = Solid symbol.Span role.Empty reading.Text
@@ -26,14 +48,18 @@ standing_of ListItem = Solid symbol.ListItem role.Item reading.Free
 standing_of ListItemPrefix = Solid symbol.ListItemPrefix role.Prefix reading.Free
 standing_of ListItemValue = Solid symbol.ListItemValue role.Empty reading.Number
 standing_of ListItemMarker = Solid symbol.ListItemMarker role.Empty reading.Free
-standing_of GfmFootnoteDefinition = Solid symbol.Block role.FootnoteDefinition reading.FootnoteDefinition
-standing_of GfmFootnoteDefinitionPrefix = Solid symbol.FootnotePrefix role.FootnotePrefix reading.Holder
-standing_of GfmFootnoteDefinitionLabelString = Solid symbol.FootnoteLabel role.String reading.Identifier
+standing_of GfmFootnoteDefinition =
+    Solid symbol.Block role.FootnoteDefinition reading.FootnoteDefinition
+standing_of GfmFootnoteDefinitionPrefix =
+    Solid symbol.FootnotePrefix role.FootnotePrefix reading.Holder
+standing_of GfmFootnoteDefinitionLabelString =
+    Solid symbol.FootnoteLabel role.String reading.Identifier
 standing_of Data = Solid symbol.Text role.Empty reading.Text
 standing_of CharacterEscapeValue = Solid symbol.Text role.Empty reading.Text
 standing_of CharacterReferenceMarker = Solid symbol.ReferenceMarker role.Empty reading.Free
 standing_of CharacterReferenceMarkerNumeric = Solid symbol.ReferenceNumeric role.Empty reading.Free
-standing_of CharacterReferenceMarkerHexadecimal = Solid symbol.ReferenceHexadecimal role.Empty reading.Free
+standing_of CharacterReferenceMarkerHexadecimal =
+    Solid symbol.ReferenceHexadecimal role.Empty reading.Free
 standing_of CharacterReferenceValue = Solid symbol.ReferenceValue role.Empty reading.Value
 standing_of CodeIndented = Solid symbol.Block role.CodeIndented reading.Free
 standing_of CodeFenced = Solid symbol.Block role.CodeFenced reading.Free
@@ -55,7 +81,8 @@ standing_of HtmlText = Solid symbol.Span role.HtmlText reading.Free
 standing_of HtmlTextData = Solid symbol.HtmlTextData role.Empty reading.Text
 standing_of Definition = Solid symbol.Block role.Definition reading.Definition
 standing_of DefinitionLabelString = Solid symbol.DefinitionLabel role.String reading.Identifier
-standing_of DefinitionDestinationString = Solid symbol.DefinitionDestination role.String reading.Free
+standing_of DefinitionDestinationString =
+    Solid symbol.DefinitionDestination role.String reading.Free
 standing_of DefinitionTitleString = Solid symbol.DefinitionTitle role.String reading.Free
 standing_of Link = Solid symbol.Span role.Media reading.Media
 standing_of Image = Solid symbol.Span role.Media reading.Media
@@ -70,14 +97,17 @@ standing_of HeadingAtx = Solid symbol.Block role.Heading reading.Free
 standing_of HeadingAtxSequence = Solid symbol.HeadingSequence role.Empty reading.Mark
 standing_of HeadingAtxText = Solid symbol.HeadingText role.Phrasing reading.Free
 standing_of HeadingSetextText = Solid symbol.SetextText role.Phrasing reading.Free
-standing_of HeadingSetextUnderlineSequence = Solid symbol.SetextUnderline role.Empty reading.Underline
+standing_of HeadingSetextUnderlineSequence =
+    Solid symbol.SetextUnderline role.Empty reading.Underline
 standing_of GfmTable = Solid symbol.Block role.Table reading.Free
 standing_of GfmTableHead = Solid symbol.TableHead role.TableHead reading.Free
 standing_of GfmTableBody = Solid symbol.TableBody role.TableBody reading.Free
 standing_of GfmTableRow = Solid symbol.TableRow role.TableRow reading.Free
 standing_of GfmTableCell = Solid symbol.TableCell role.Phrasing reading.Free
-standing_of GfmTableDelimiterRow = Solid symbol.TableDelimiterRow role.TableDelimiterRow reading.Free
-standing_of GfmTableDelimiterCellValue = Solid symbol.TableDelimiterValue role.TableDelimiterValue reading.Free
+standing_of GfmTableDelimiterRow =
+    Solid symbol.TableDelimiterRow role.TableDelimiterRow reading.Free
+standing_of GfmTableDelimiterCellValue =
+    Solid symbol.TableDelimiterValue role.TableDelimiterValue reading.Free
 standing_of GfmTableDelimiterMarker = Solid symbol.TableDelimiterMarker role.Empty reading.Free
 standing_of Emphasis = Solid symbol.Span role.Phrasing reading.Free
 standing_of Strong = Solid symbol.Span role.Phrasing reading.Free

@@ -151,8 +151,9 @@ static STARTS: [u8; 41] = [
 ];
 
 /// At each row's number `e` where the spine may end there.
-static ENDS: [u8; 114] =
-    *b"e-----e-----e-e-e-e-----e-----e------e--e-ee----ee-eeeeee-eeeeeeeee-ee-eee-------e------eee-eeee----ee--eeeeeeeeee";
+static ENDS: [u8; 114] = *b"\
+    e-----e-----e-e-e-e-----e-----e------e--e-ee----ee-eeeeee-eeeeee\
+    eee-ee-eee-------e------eee-eeee----ee--eeeeeeeeee";
 
 #[inline(always)]
 fn ends() -> &'static [u8]
