@@ -42,8 +42,9 @@ def variants(source, enum):
 
 def patterns(source):
     """What each role's pattern is made of: items, each with the symbols that it takes."""
+    text = re.sub(r"\n    ", " ", source)
     members = {name: words.split() for name, words in re.findall(
-        r"^members (\w+) = ((?:\w+ ∷ )+)\[\]$", source.replace(" ∷", " ∷"), re.M)}
+        r"^members (\w+) = ((?:\w+ ∷ )+)\[\]$", text, re.M)}
     classes = {name: [word for word in words if word != "∷"] for name, words in members.items()}
 
     def taken(word):
@@ -55,7 +56,6 @@ def patterns(source):
         return parts[1:]
 
     made = {}
-    text = re.sub(r"\n    ", " ", source)
     for role, items in re.findall(r"^pattern_of role\.(\w+) = (.*)$", text, re.M):
         made[role] = [(kind, taken(word)) for kind, word in re.findall(r"(Once|Maybe|Many) (\([^)]*\)|\w+)", items)]
     return made
