@@ -15,7 +15,8 @@ enum {
     BIVDRAZO_MARKDOWN_NOT_UTF8 = 34,
     /* The options have a version that the library doesn't know. */
     BIVDRAZO_MARKDOWN_NO_VERSION = 35,
-    /* The parser failed, or the library answered what isn't known: a fault that should be reported. */
+    /* The parser failed, or the library answered what isn't known: a fault that should be
+     * reported. */
     BIVDRAZO_MARKDOWN_FAILED = 36,
 };
 

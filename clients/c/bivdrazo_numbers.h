@@ -16,15 +16,15 @@ enum {
     BIVDRAZO_OK = 0,
     /* The buffer is too short: `length` is what the text needs. */
     BIVDRAZO_TOO_SHORT = 1,
-    /* The events are refused, at the event `index` (the number of events where something is open at the end), by
-     * `rule`. */
+    /* The events are refused, at the event `index` (the number of events where something is open
+     * at the end), by `rule`. */
     BIVDRAZO_REFUSED = 2,
     /* The event at `index` stands for none: its kind or its name has no such number. */
     BIVDRAZO_NO_EVENT = 3,
     /* The character reference at `index` stands for none: its name or its text isn't UTF-8. */
     BIVDRAZO_NO_NAME = 4,
-    /* The options stand for none: the one with the number `index` is no flag 0 or 1, no line ending, or a text
-     * that is set and isn't UTF-8. */
+    /* The options stand for none: the one with the number `index` is no flag 0 or 1, no line
+     * ending, or a text that is set and isn't UTF-8. */
     BIVDRAZO_NO_OPTION = 5,
     /* Scripts only: the line with the number `index`, from 1, can't be read. */
     BIVDRAZO_NO_LINE = 6,
@@ -32,7 +32,8 @@ enum {
     BIVDRAZO_MEMORY = 7,
     /* Attributes are asked for, and the options aren't safe. */
     BIVDRAZO_UNSAFE = 8,
-    /* The attributes stand for none: the one with the number `index` is neither set nor unset, or isn't UTF-8. */
+    /* The attributes stand for none: the one with the number `index` is neither set nor unset,
+     * or isn't UTF-8. */
     BIVDRAZO_NO_ATTRIBUTE = 9,
     /* The text has more bytes than it may have. */
     BIVDRAZO_TOO_LONG = 10,
@@ -120,7 +121,8 @@ enum {
 
 /* What an event enters or exits. */
 enum {
-    /* Links that are written out as such: `<a@b.c>`, `<https://a.b>`, and the literal ones of GFM. */
+    /* Links that are written out as such: `<a@b.c>`, `<https://a.b>`, and the literal ones of
+     * GFM. */
     /* An address between angle brackets, without these: a link to it. */
     BIVDRAZO_NAME_AUTOLINK_EMAIL = 1,
     /* A URL between angle brackets, without these: a link to it. */
@@ -135,8 +137,8 @@ enum {
     BIVDRAZO_NAME_GFM_AUTOLINK_LITERAL_WWW = 6,
     /* A bare `xmpp:` with its address: a link. */
     BIVDRAZO_NAME_GFM_AUTOLINK_LITERAL_XMPP = 7,
-    /* Line endings: a LineEnding is printed where the rules say so, a BlankLineEnding makes lists loose and ends
-     * the text with a line ending. */
+    /* Line endings: a LineEnding is printed where the rules say so, a BlankLineEnding makes
+     * lists loose and ends the text with a line ending. */
     /* A line ending, over LF, CR or CR LF. */
     BIVDRAZO_NAME_LINE_ENDING = 8,
     /* The line ending of a blank line, likewise. */

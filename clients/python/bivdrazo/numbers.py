@@ -49,15 +49,15 @@ class Status(enum.IntEnum):
     OK = 0
     # The buffer is too short: `length` is what the text needs.
     TOO_SHORT = 1
-    # The events are refused, at the event `index` (the number of events where something is open at the end), by
-    # `rule`.
+    # The events are refused, at the event `index` (the number of events where something is open at
+    # the end), by `rule`.
     REFUSED = 2
     # The event at `index` stands for none: its kind or its name has no such number.
     NO_EVENT = 3
     # The character reference at `index` stands for none: its name or its text isn't UTF-8.
     NO_NAME = 4
-    # The options stand for none: the one with the number `index` is no flag 0 or 1, no line ending, or a text that is
-    # set and isn't UTF-8.
+    # The options stand for none: the one with the number `index` is no flag 0 or 1, no line ending,
+    # or a text that is set and isn't UTF-8.
     NO_OPTION = 5
     # Scripts only: the line with the number `index`, from 1, can't be read.
     NO_LINE = 6
@@ -65,7 +65,8 @@ class Status(enum.IntEnum):
     MEMORY = 7
     # Attributes are asked for, and the options aren't safe.
     UNSAFE = 8
-    # The attributes stand for none: the one with the number `index` is neither set nor unset, or isn't UTF-8.
+    # The attributes stand for none: the one with the number `index` is neither set nor unset, or
+    # isn't UTF-8.
     NO_ATTRIBUTE = 9
     # The text has more bytes than it may have.
     TOO_LONG = 10
@@ -136,8 +137,8 @@ class Name(enum.IntEnum):
     GFM_AUTOLINK_LITERAL_WWW = 6
     # A bare `xmpp:` with its address: a link.
     GFM_AUTOLINK_LITERAL_XMPP = 7
-    # Line endings: a LineEnding is printed where the rules say so, a BlankLineEnding makes lists loose and ends the
-    # text with a line ending.
+    # Line endings: a LineEnding is printed where the rules say so, a BlankLineEnding makes lists
+    # loose and ends the text with a line ending.
     # A line ending, over LF, CR or CR LF.
     LINE_ENDING = 8
     # The line ending of a blank line, likewise.
