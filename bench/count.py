@@ -69,6 +69,13 @@ def greatest(counts, least, shown=SHOWN):
     return f"{len(passing)}, first {', '.join(f'{path} {passing[path]}' for path in first)}"
 
 
+def kind(path, line):
+    """What a line is counted as: by the end of its file's name, and rows of tables apart."""
+    if path.endswith(".md"):
+        return "rows of tables in pages" if line.startswith("|") else "pages"
+    return path[path.rfind("."):] if path.endswith((".rt", ".antt")) else "other code"
+
+
 def say(what, count, wanted=None):
     print(f"{what}: {count}" + (f" (wanted: {wanted})" if wanted else ""))
 
@@ -83,10 +90,9 @@ def main():
 
     lines = {path: source.splitlines() for path, source in texts.items()}
     wide = {path: sum(len(line) > COLUMNS for line in some) for path, some in lines.items()}
-    kinds = collections.Counter()
-    for path, count in wide.items():
-        kinds[path[path.rfind("."):] if path.endswith((".rt", ".antt")) else "other"] += count
-    counted = ", ".join(f"{kind} {count}" for kind, count in sorted(kinds.items()))
+    kinds = collections.Counter(kind(path, line) for path, some in lines.items()
+                                for line in some if len(line) > COLUMNS)
+    counted = ", ".join(f"{word} {count}" for word, count in sorted(kinds.items()))
     say(f"lines over {COLUMNS} columns", counted)
     say("files that have such lines", greatest(wide, 0))
     lengths = {path: len(some) for path, some in lines.items()}
@@ -94,7 +100,8 @@ def main():
 
     counts = {f"{path} {found.group(2)}": parameters(source, found.end())
               for path, source in code.items() for found in FUNCTION.finditer(source)}
-    say(f"functions with more than {PARAMETERS} parameters", greatest(counts, PARAMETERS, len(counts)))
+    say(f"functions with more than {PARAMETERS} parameters",
+        greatest(counts, PARAMETERS, len(counts)))
     tests = [source for path, source in code.items() if TESTS.match(path)]
     others = [source for path, source in code.items() if not TESTS.match(path)]
     say("names of several free functions", shared(others))
