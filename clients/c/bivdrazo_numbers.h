@@ -339,7 +339,8 @@ static inline const char *bivdrazo_rule_text(uint32_t rule) {
     }
 }
 
-/* A name as an event script spells it. NULL for Other, after which its own number stands, and for none's. */
+/* A name as an event script spells it. NULL for Other, after which its own number stands, and
+ * for none's. */
 static inline const char *bivdrazo_name_text(uint16_t name) {
     switch (name) {
     case BIVDRAZO_NAME_AUTOLINK_EMAIL:

@@ -1,4 +1,7 @@
-"""The numbers of the C interface. Written by clients/numbers/generate from numbers.txt. Don't edit it."""
+"""The numbers of the C interface.
+
+Written by clients/numbers/generate from numbers.txt. Don't edit it.
+"""
 
 import enum
 
