@@ -1,0 +1,10 @@
+-- By computation.
+use Rattle.std.proofs.Common.{refl}
+use Rattle.std.specs.Str.{is_utf8, chars}
+use lib.Utf8.{encode}
+use Rattle.caseless.proofs.Computing.{caseless}
+use Rattle.md_meaning.proofs.laws.lists.meaning_of_tight_list.Goals as goal
+
+pub returns : goal.returns
+unfolding is_utf8 chars encode caseless
+returns c = refl
