@@ -1,8 +1,0 @@
--- The search that proves it, and no other: a wrong body is refused by it in a second, where all that is tried without
--- an answer takes ten.
-use Rattle.std.proofs.Common.{arith}
-use Rattle.std.proofs.lemmas.Grind.{common_steps}
-use Rattle.md_text.proofs.url.begins_triple.Goals as goal
-
-pub returns-in-37 : goal.returns-in-37
-returns-in-37 c = grind (arith, common_steps)

@@ -1,0 +1,42 @@
+-- Triples are ASCII.
+use Rattle.std.proofs.Common.{◌<◌, ℕ, [], ◌∷◌, lit<}
+use Rattle.std.proofs.lemmas.List.Elements.{All-from_recursion}
+use Rattle.md_text.proofs.url.writing.push_four.Goals as goal
+
+abbrev IsAsciiByte : ℕ → Type 0
+IsAsciiByte b = b < 128
+
+pub push_ascii-requires : goal.push_ascii-requires
+push_ascii-requires c = All-from_recursion IsAsciiByte
+    (37 ∷ c.hex_digit.result ∷ c.hex_digit-2.result ∷ 37 ∷ c.hex_digit-3.result ∷ c.hex_digit-4.result
+    ∷ 37 ∷ c.hex_digit-5.result ∷ c.hex_digit-6.result ∷ 37 ∷ c.hex_digit-7.result ∷ c.hex_digit-8.result ∷ []) (
+      lit< tt,
+      (
+        c.hex_digit.ensures.ascii,
+        (
+          c.hex_digit-2.ensures.ascii,
+          (
+            lit< tt,
+            (
+              c.hex_digit-3.ensures.ascii,
+              (
+                c.hex_digit-4.ensures.ascii,
+                (
+                  lit< tt,
+                  (
+                    c.hex_digit-5.ensures.ascii,
+                    (
+                      c.hex_digit-6.ensures.ascii,
+                      (
+                        lit< tt,
+                        (c.hex_digit-7.ensures.ascii, (c.hex_digit-8.ensures.ascii, tt)),
+                      ),
+                    ),
+                  ),
+                ),
+              ),
+            ),
+          ),
+        ),
+      ),
+    )
