@@ -4,10 +4,11 @@
     bench/tables.py            compares; the status is 1 where a table isn't what this makes
     bench/tables.py --write    writes them
 
-The rows of `md_pattern/src/places.rt`, and the list of places in its `specs/Places.antt`, are made of the patterns in
-`specs/Pattern.antt`, in the order of the roles and symbols in `src/kinds.rt`. They are proved to be right as they stand:
-this says how they are made. Numbers of rows that proofs name (`PlaceLemmas.antt`) are changed by hand.
-What is made of the names of events: `bench/names.py`.
+The rows of `md_pattern/src/places/table.rt`, and the list of places in its `specs/Places.antt`, are
+made of the patterns in `specs/Pattern.antt`, in the order of the roles and symbols in
+`src/kinds.rt`. They are proved to be right as they stand: this says how they are made. Numbers of
+rows that proofs name (`PlaceLemmas.antt`) are changed by hand. What is made of the names of events:
+`bench/names.py`.
 """
 import argparse
 import os
@@ -105,7 +106,7 @@ def wrapped(words, indent, limit):
 
 
 def place_tables():
-    """The new texts of `places.rt` and `Places.antt`."""
+    """The new texts of `places.rt`, `table.rt` and `Places.antt`."""
     kinds = read(PATTERN, "src", "kinds.rt")
     symbols, roles = variants(kinds, "Symbol"), variants(kinds, "Role")
     made = patterns(read(PATTERN, "specs", "Pattern.antt"))
@@ -123,7 +124,7 @@ def place_tables():
             after = moved(items, place, symbol)
             row += "." if after is None else chr(ord("m") + numbers[role, after] - number)
         rows.append(row)
-    source = read(PATTERN, "src", "places.rt")
+    source = read(PATTERN, "src", "places", "table.rt")
     listed = "\n".join(wrapped([f"{start}," for start in starts], "    ", 99))
     source = replaced(source, r"static STARTS: \[u8; \d+\] = \[\n.*?\n\];",
                       f"static STARTS: [u8; {len(roles)}] = [\n{listed}\n];")
@@ -135,19 +136,28 @@ def place_tables():
     source = replaced(source, r"static ROWS: \[\[u8; \d+\]; \d+\] = \[\n.*?\n\];",
                       f"static ROWS: [[u8; {len(symbols)}]; {len(every)}] = [\n"
                       + "".join(f'    *b"{row}",\n' for row in rows) + "];")
-    for before, number in (("self\\.number < ", len(every) - 1), ("row < ", len(every)),
-                           ("fn starts\\(\\) -> &'static \\[u8; ", len(roles)),
-                           ("fn rows\\(\\) -> &'static \\[\\[u8; ", len(symbols)),
-                           ("fn column\\(.{0,150}?result < ", len(symbols)),
-                           ("fn number_of_role\\(.{0,150}?result < ", len(roles))):
-        words = re.search(before, source, re.S)
-        source = source[:words.end()] + re.sub(r"^\d+", str(number), source[words.end():])
+    source = numbered(source, ("fn starts\\(\\) -> &'static \\[u8; ", len(roles)),
+                      ("fn rows\\(\\) -> &'static \\[\\[u8; ", len(symbols)))
+    place = numbered(read(PATTERN, "src", "places.rt"),
+                     ("self\\.number < ", len(every) - 1), ("row < ", len(every)),
+                     ("fn column\\(.{0,150}?result < ", len(symbols)),
+                     ("fn number_of_role\\(.{0,150}?result < ", len(roles)))
     spec = read(PATTERN, "specs", "Places.antt")
     spec = replaced(spec, r"(?<=\nplaces =\n).*?(?=\n\n)",
                     list_of([f"at role.{role} {place[0]} {place[1]}" for role, place in every]))
     spec = replaced(spec, r"(?<=\nsymbols =\n).*?(?=\n\n)", list_of([f"symbol.{symbol}" for symbol in symbols]))
     spec = replaced(spec, r"(?<=\nall_roles =\n).*?(?=\n\n)", list_of([f"role.{role}" for role in roles]))
-    return [(os.path.join(PATTERN, "src", "places.rt"), source), (os.path.join(PATTERN, "specs", "Places.antt"), spec)]
+    return [(os.path.join(PATTERN, "src", "places", "table.rt"), source),
+            (os.path.join(PATTERN, "src", "places.rt"), place),
+            (os.path.join(PATTERN, "specs", "Places.antt"), spec)]
+
+
+def numbered(source, *places):
+    """A source with these numbers, each behind what its pattern finds first."""
+    for before, number in places:
+        words = re.search(before, source, re.S)
+        source = source[:words.end()] + re.sub(r"^\d+", str(number), source[words.end():])
+    return source
 
 
 def list_of(words):

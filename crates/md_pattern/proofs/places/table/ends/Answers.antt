@@ -1,7 +1,7 @@
 -- The table, entry by entry.
 use Rattle.std.proofs.Common.{refl}
 use Rattle.md_pattern.specs.Places.{places}
-use Rattle.md_pattern.proofs.places.roles.Goals as goal
+use Rattle.md_pattern.proofs.places.table.ends.Goals as goal
 
 pub returns : goal.returns
 unfolding places

@@ -1,7 +1,7 @@
 -- The table, entry by entry.
 use Rattle.std.proofs.Common.{refl}
 use Rattle.md_pattern.specs.Places.{places, all_roles}
-use Rattle.md_pattern.proofs.places.starts.Goals as goal
+use Rattle.md_pattern.proofs.places.table.starts.Goals as goal
 
 pub returns : goal.returns
 unfolding places all_roles

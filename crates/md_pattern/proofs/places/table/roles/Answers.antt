@@ -1,7 +1,7 @@
 -- The table, entry by entry.
 use Rattle.std.proofs.Common.{refl}
 use Rattle.md_pattern.specs.Places.{places}
-use Rattle.md_pattern.proofs.places.ends.Goals as goal
+use Rattle.md_pattern.proofs.places.table.roles.Goals as goal
 
 pub returns : goal.returns
 unfolding places
