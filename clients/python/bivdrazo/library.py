@@ -6,7 +6,7 @@ import ctypes
 import os
 import pathlib
 
-from .numbers import VERSION
+from .numbers import OPTIONS, VERSION
 
 
 class CAnswer(ctypes.Structure):
@@ -50,21 +50,11 @@ class CReference(ctypes.Structure):
 
 
 class COptions(ctypes.Structure):
-    """The options."""
+    """The options: the numbers, and then the texts."""
 
     _fields_ = [
-        ("allow_any_img_src", ctypes.c_uint8),
-        ("allow_dangerous_html", ctypes.c_uint8),
-        ("allow_dangerous_protocol", ctypes.c_uint8),
-        ("gfm_task_list_item_checkable", ctypes.c_uint8),
-        ("gfm_tagfilter", ctypes.c_uint8),
-        ("default_line_ending", ctypes.c_uint8),
-        ("gfm_footnote_number_ids", ctypes.c_uint8),
-        ("gfm_footnote_back_label", CText),
-        ("gfm_footnote_clobber_prefix", CText),
-        ("gfm_footnote_label", CText),
-        ("gfm_footnote_label_attributes", CText),
-        ("gfm_footnote_label_tag_name", CText),
+        *((name, ctypes.c_uint8) for name, kind in OPTIONS if kind != "text"),
+        *((name, CText) for name, kind in OPTIONS if kind == "text"),
     ]
 
 

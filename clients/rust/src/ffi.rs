@@ -6,6 +6,7 @@ use crate::numbers::{
     STATUS_NO_ATTRIBUTE, STATUS_NO_EVENT, STATUS_NO_LINE, STATUS_NO_NAME, STATUS_NO_OPTION,
     STATUS_OK, STATUS_REFUSED, STATUS_TOO_LONG, STATUS_TOO_MUCH, STATUS_TOO_SHORT, STATUS_UNSAFE,
 };
+use crate::options::{c_options, COptions};
 use crate::{Attributes, Error, Event, Heading, Kind, Limits, LineEnding, Options, Rendered};
 use std::mem::size_of;
 use std::str;
@@ -28,7 +29,7 @@ struct CEvent {
 }
 
 #[repr(C)]
-struct CText {
+pub(crate) struct CText {
     bytes: *const u8,
     length: usize,
     is_set: u8,
@@ -40,22 +41,6 @@ struct CReference {
     name_length: usize,
     text: *const u8,
     text_length: usize,
-}
-
-#[repr(C)]
-struct COptions {
-    allow_any_img_src: u8,
-    allow_dangerous_html: u8,
-    allow_dangerous_protocol: u8,
-    gfm_task_list_item_checkable: u8,
-    gfm_tagfilter: u8,
-    default_line_ending: u8,
-    gfm_footnote_number_ids: u8,
-    gfm_footnote_back_label: CText,
-    gfm_footnote_clobber_prefix: CText,
-    gfm_footnote_label: CText,
-    gfm_footnote_label_attributes: CText,
-    gfm_footnote_label_tag_name: CText,
 }
 
 #[repr(C)]
@@ -457,7 +442,7 @@ fn c_reference(&(name, text): &(&str, &str)) -> CReference {
     }
 }
 
-fn c_text(text: &Option<String>) -> CText {
+pub(crate) fn c_text(text: &Option<String>) -> CText {
     let value = text.as_deref().unwrap_or("");
     CText {
         bytes: value.as_ptr(),
@@ -466,24 +451,10 @@ fn c_text(text: &Option<String>) -> CText {
     }
 }
 
-/// The options as C has them; they refer to the texts of `options`.
-fn c_options(options: &Options) -> COptions {
-    COptions {
-        allow_any_img_src: u8::from(options.allow_any_img_src),
-        allow_dangerous_html: u8::from(options.allow_dangerous_html),
-        allow_dangerous_protocol: u8::from(options.allow_dangerous_protocol),
-        gfm_task_list_item_checkable: u8::from(options.gfm_task_list_item_checkable),
-        gfm_tagfilter: u8::from(options.gfm_tagfilter),
-        default_line_ending: match options.default_line_ending {
-            LineEnding::LineFeed => LINE_ENDING_LINE_FEED,
-            LineEnding::CarriageReturn => LINE_ENDING_CARRIAGE_RETURN,
-            LineEnding::CarriageReturnLineFeed => LINE_ENDING_CARRIAGE_RETURN_LINE_FEED,
-        },
-        gfm_footnote_number_ids: u8::from(options.gfm_footnote_number_ids),
-        gfm_footnote_back_label: c_text(&options.gfm_footnote_back_label),
-        gfm_footnote_clobber_prefix: c_text(&options.gfm_footnote_clobber_prefix),
-        gfm_footnote_label: c_text(&options.gfm_footnote_label),
-        gfm_footnote_label_attributes: c_text(&options.gfm_footnote_label_attributes),
-        gfm_footnote_label_tag_name: c_text(&options.gfm_footnote_label_tag_name),
+pub(crate) fn c_line_ending(ending: LineEnding) -> u8 {
+    match ending {
+        LineEnding::LineFeed => LINE_ENDING_LINE_FEED,
+        LineEnding::CarriageReturn => LINE_ENDING_CARRIAGE_RETURN,
+        LineEnding::CarriageReturnLineFeed => LINE_ENDING_CARRIAGE_RETURN_LINE_FEED,
     }
 }

@@ -39,6 +39,7 @@ mod ffi;
 #[cfg(feature = "markdown")]
 mod markdown;
 mod numbers;
+mod options;
 mod references;
 
 #[cfg(feature = "markdown")]

@@ -288,22 +288,7 @@ fn statuses() {
 #[test]
 fn texts_of_errors() {
     let refused = |rule| Error::Refused { index: 3, rule };
-    let options = [
-        "allow_any_img_src",
-        "allow_dangerous_html",
-        "allow_dangerous_protocol",
-        "gfm_task_list_item_checkable",
-        "gfm_tagfilter",
-        "default_line_ending",
-        "gfm_footnote_back_label",
-        "gfm_footnote_clobber_prefix",
-        "gfm_footnote_label",
-        "gfm_footnote_label_attributes",
-        "gfm_footnote_label_tag_name",
-        "gfm_footnote_number_ids",
-        "unknown",
-    ];
-    for (number, name) in options.iter().enumerate() {
+    for (number, name) in [(1, "allow_dangerous_html"), (12, "unknown")] {
         let wanted = format!("option {name}: no such value");
         assert_eq!(Error::Option(number).to_string(), wanted);
     }
