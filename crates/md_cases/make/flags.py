@@ -1,16 +1,14 @@
 """The cases of the groups `flags::..`: each name under all choices of five options that are off or on.
 
 To add a name, write a row in the list of its group: what the case shows, a comment or nothing, and the parts of the
-document. To add an option that is off or on, add it to OPTIONS, which are in the order of the cases, and to those of
-`meaning`, and say there what it does. `bench/cases.py` makes the cases.
+document. To add an option that is off or on, add it to FLAG_OPTIONS of `meaning`, which are in the order of the cases,
+and say there what it does. `bench/cases.py` makes the cases.
 """
 import itertools
 
-from meaning import meaning
+from meaning import FLAG_OPTIONS, meaning
 from trees import Case, data, ending, image, link, node, paragraph, placed, script
 
-OPTIONS = ["allow_any_img_src", "allow_dangerous_html", "allow_dangerous_protocol", "gfm_task_list_item_checkable",
-           "gfm_tagfilter"]
 EVERY_AUTOLINK = ["AutolinkEmail", "AutolinkProtocol", "GfmAutolinkLiteralEmail", "GfmAutolinkLiteralMailto",
                   "GfmAutolinkLiteralProtocol", "GfmAutolinkLiteralWww", "GfmAutolinkLiteralXmpp"]
 MARKUP = '<xmp>&"'
@@ -181,5 +179,5 @@ def sections():
     return {f"flags::{group}": [
         case for shown, comment, parts in rows()
         for case in cases_of(f"flags::{group}", shown, comment, placed(*parts),
-                             [{option: True for option in chosen} for chosen in choices(OPTIONS)])]
+                             [{option: True for option in chosen} for chosen in choices(FLAG_OPTIONS)])]
             for group, rows in groups.items()}

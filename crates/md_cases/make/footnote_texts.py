@@ -1,14 +1,16 @@
 """The cases of the group `footnote_texts`: each choice of the options that are texts, under few flags.
 
 Each document is there under each choice of the texts, with no flag, each flag alone and all flags. To add an option
-that is a text, give it a value in TEXTS, which are in the order of the cases, add it to OPTIONS of `meaning`, and say
-there what it does. To add a document, write a row in `documents`. `bench/cases.py` makes the cases.
+that is a text, add it to TEXT_OPTIONS of `meaning`, which are in the order of the cases, with a value at its place in
+VALUES here, and say there what it does. To add a document, write a row in `documents`. `bench/cases.py` makes the
+cases.
 """
-from flags import OPTIONS, cases_of, choices
+from flags import cases_of, choices
+from meaning import FLAG_OPTIONS, TEXT_OPTIONS
 from trees import call, data, footnote, image, paragraph, placed
 
-TEXTS = {"gfm_footnote_clobber_prefix": '<&"', "gfm_footnote_label_tag_name": "<b",
-         "gfm_footnote_label_attributes": 'x="&<>"', "gfm_footnote_label": '<i>&"', "gfm_footnote_back_label": '"<&'}
+VALUES = ['<&"', "<b", 'x="&<>"', '<i>&"', '"<&']
+TEXTS = dict(zip(TEXT_OPTIONS, VALUES, strict=True))
 
 
 def documents():
@@ -29,7 +31,7 @@ def documents():
 def all_options():
     """The options of the cases of a document, in their order."""
     for texts in choices(TEXTS):
-        for flags in [[], *[[flag] for flag in OPTIONS], OPTIONS]:
+        for flags in [[], *[[flag] for flag in FLAG_OPTIONS], FLAG_OPTIONS]:
             yield {flag: True for flag in flags} | {text: TEXTS[text] for text in texts}
 
 

@@ -26,10 +26,12 @@ SILENT = ("ReferenceString", "GfmTableDelimiterRow", "Resource", "Definition")
 TRANSPARENT = ("SpaceOrTab", "Other1")
 CONTENTS = ("Label", "LabelText", "HtmlText", "GfmTableCell", *TRANSPARENT)
 ENDINGS = {"lf": "\n", "cr": "\r", "crlf": "\r\n"}
-OPTIONS = ("allow_any_img_src", "allow_dangerous_html", "allow_dangerous_protocol", "default_line_ending",
-           "gfm_footnote_back_label", "gfm_footnote_clobber_prefix", "gfm_footnote_label",
-           "gfm_footnote_label_attributes", "gfm_footnote_label_tag_name", "gfm_footnote_number_ids", "gfm_tagfilter",
-           "gfm_task_list_item_checkable")
+# The options: those that are off or on and of which `flags` makes each choice, those that are texts, and the others.
+FLAG_OPTIONS = ("allow_any_img_src", "allow_dangerous_html", "allow_dangerous_protocol", "gfm_task_list_item_checkable",
+                "gfm_tagfilter")
+TEXT_OPTIONS = ("gfm_footnote_clobber_prefix", "gfm_footnote_label_tag_name", "gfm_footnote_label_attributes",
+                "gfm_footnote_label", "gfm_footnote_back_label")
+OPTIONS = (*FLAG_OPTIONS, *TEXT_OPTIONS, "default_line_ending", "gfm_footnote_number_ids")
 
 
 class Around(NamedTuple):
