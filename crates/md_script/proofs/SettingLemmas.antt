@@ -103,17 +103,17 @@ new_by_marked lines (Some name) = ap not (given_by_marked lines name)
 pub options_by_marked : (lines : List (List ℕ)) (options : CompileOptions) →
     HasOptions (filter is_marked lines) options → HasOptions lines options
 options_by_marked lines options h = record {
-  any_img_src = h.any_img_src ∙ given_by_marked lines (codes "allow_any_img_src");
-  dangerous_html = h.dangerous_html ∙ given_by_marked lines (codes "allow_dangerous_html");
-  dangerous_protocol = h.dangerous_protocol ∙ given_by_marked lines (codes "allow_dangerous_protocol");
-  checkable = h.checkable ∙ given_by_marked lines (codes "gfm_task_list_item_checkable");
-  tagfilter = h.tagfilter ∙ given_by_marked lines (codes "gfm_tagfilter");
-  number_ids = h.number_ids ∙ given_by_marked lines (codes "gfm_footnote_number_ids");
+  any_img_src = h.any_img_src ∙ given_by_marked lines _;
+  dangerous_html = h.dangerous_html ∙ given_by_marked lines _;
+  dangerous_protocol = h.dangerous_protocol ∙ given_by_marked lines _;
+  checkable = h.checkable ∙ given_by_marked lines _;
+  tagfilter = h.tagfilter ∙ given_by_marked lines _;
+  number_ids = h.number_ids ∙ given_by_marked lines _;
   ending = h.ending ∙ ap (λ text. unwrap_or (option_and_then ending_named text) LineFeed)
       (text_by_marked lines ending_name);
-  back_label = h.back_label ∙ text_by_marked lines (codes "gfm_footnote_back_label");
-  clobber_prefix = h.clobber_prefix ∙ text_by_marked lines (codes "gfm_footnote_clobber_prefix");
-  label = h.label ∙ text_by_marked lines (codes "gfm_footnote_label");
-  label_attributes = h.label_attributes ∙ text_by_marked lines (codes "gfm_footnote_label_attributes");
-  label_tag_name = h.label_tag_name ∙ text_by_marked lines (codes "gfm_footnote_label_tag_name");
+  back_label = h.back_label ∙ text_by_marked lines _;
+  clobber_prefix = h.clobber_prefix ∙ text_by_marked lines _;
+  label = h.label ∙ text_by_marked lines _;
+  label_attributes = h.label_attributes ∙ text_by_marked lines _;
+  label_tag_name = h.label_tag_name ∙ text_by_marked lines _;
 }
