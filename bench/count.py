@@ -4,8 +4,10 @@
     bench/count.py [CLONE]
 
 It judges nothing. It reads the texts that git keeps but data: the cases that were written by hand,
-and tables of references. How often words stand is counted without must-fail edits and the
-benchmark too.
+and tables of references. How often words stand is counted without must-fail edits, the benchmark,
+the list clients/numbers/numbers.txt, and the files that bench/names.py or clients/numbers/generate
+writes whole of that list, as their heads say: nobody touches these. A file of which a script
+writes a part is counted.
 """
 import collections
 import pathlib
@@ -18,6 +20,8 @@ ROOT = pathlib.Path([*sys.argv[1:], pathlib.Path(__file__).parents[1]][0]).resol
 CASES = re.compile(r"crates/md_cases/(cases|make|stdin|stdout)")
 DATA = re.compile(r"crates/md_cases/(cases|stdin|stdout)|.*(\.png|\.lock|\.json|references\.\w+)$")
 NOT_NAMING = re.compile(r"bench/|crates/md_bench/|.*/must-fail/")
+LIST = "clients/numbers/numbers.txt"
+WRITTEN = re.compile(r"(.*\n)?.*Written by (bench/names\.py|clients/numbers/generate) from")
 TESTS = re.compile(r"crates/md_(bench|cases|failure_cases|hostile_cases)/|.*/tests\.rt$")
 WORDS = r"(?m)^( *)(?:pub(?:\(\w+\))? )?(?:const )?(?:unsafe )?(?:extern \"C\" )?"
 FUNCTION = re.compile(WORDS + r"fn (\w+)(?:<(?:[^<>]|->|<[^<>]*>)*>)?\(")
@@ -108,7 +112,8 @@ def main():
     say("such names in tests", shared(tests))
     say("functions called main", sum("\nfn main(" in source for source in code.values()))
 
-    naming = [source for path, source in texts.items() if not NOT_NAMING.match(path)]
+    naming = [source for path, source in texts.items()
+              if path != LIST and not NOT_NAMING.match(path) and not WRITTEN.match(source)]
     options = re.findall(r"(?m)^    pub (\w+):", texts["crates/md_text/src/options.rt"])
     names = texts["crates/md_base/src/event.rt"].split("pub enum Name {")[1].split("\n}")[0]
     say("files that name an option", named_in(naming, options), "25 at most")
