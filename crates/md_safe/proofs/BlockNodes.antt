@@ -1,12 +1,12 @@
 -- The nodes of blocks print texts with readings, whatever is claimed of texts besides: a case for each name.
-use Rattle.std.proofs.Common.{◌≡◌, ℕ, ◌≤◌, Bool, true, false, ◌||◌, cond, List, [], ◌∷◌, ◌++◌, refl, sym, ◌∙◌, subst, inl, inr, arith, drop, append_assoc, codes}
+use Rattle.std.proofs.Common.{◌≡◌, ℕ, ◌≤◌, Bool, true, false, not, ◌&&◌, ◌||◌, cond, List, [], ◌∷◌, ◌++◌, refl, sym, ◌∙◌, subst, inl, inr, arith, drop, append_assoc, codes}
 use Rattle.std.specs.Prelude.{slice_get, count_by, unwrap_or}
 use Rattle.md_base.specs.Place.{serialized_between}
 use Rattle.std.specs.List.{list_any, flat_map}
-use Rattle.std.proofs.lemmas.Bool.{or_cases}
+use Rattle.std.proofs.lemmas.Bool.{and_parts, not-true, or_cases}
 use Rattle.md_base.proofs.Lies.{lie}
 use Rattle.md_base.specs.declared.event.Name.{Name}
-use Rattle.md_base.specs.declared.event.Name.TheVariants.{LineEnding, BlankLineEnding, BlockQuote, ListOrdered, ListUnordered, ListItem, ListItemPrefix, ListItemValue, ListItemMarker, GfmFootnoteDefinition, GfmFootnoteDefinitionPrefix, Definition, CodeIndented, CodeFenced, CodeFencedFenceMeta, CodeFlowChunk, MathFlow, MathFlowFenceMeta, MathFlowChunk, HtmlFlow, HtmlFlowData, HeadingAtx, HeadingAtxSequence, HeadingAtxText, HeadingSetextText, HeadingSetextUnderlineSequence, GfmTable, GfmTableHead, GfmTableBody, GfmTableRow, GfmTableCell, GfmTableDelimiterRow, GfmTableDelimiterCellValue, GfmTableDelimiterMarker, Paragraph, ThematicBreak, Frontmatter, MdxEsm, MdxFlowExpression, MdxTextExpression, MdxJsxFlowTag, MdxJsxTextTag}
+use Rattle.md_base.specs.declared.event.Name.TheVariants.{LineEnding, BlankLineEnding, BlockQuote, ListOrdered, ListUnordered, ListItem, ListItemPrefix, ListItemValue, ListItemMarker, GfmFootnoteDefinition, GfmFootnoteDefinitionPrefix, Definition, CodeIndented, CodeFenced, CodeFencedFenceMeta, CodeFlowChunk, MathFlow, MathFlowFenceMeta, MathFlowChunk, HtmlFlow, HtmlFlowData, HeadingAtx, HeadingAtxSequence, HeadingAtxText, HeadingSetextText, HeadingSetextUnderlineSequence, GfmTable, GfmTableHead, GfmTableBody, GfmTableRow, GfmTableCell, GfmTableDelimiterRow, GfmTableDelimiterCellValue, GfmTableDelimiterMarker, Paragraph, ThematicBreak, Frontmatter, MdxEsm, MdxFlowExpression, MdxTextExpression, MdxJsxFlowTag, MdxJsxTextTag, Link}
 use Rattle.md_base.specs.declared.event.AlignKind.{AlignKind}
 use Rattle.md_text.specs.Encode.{encoded}
 use Rattle.md_text.proofs.EncodeLaws.{is_escaped-encoded}
@@ -15,16 +15,19 @@ use Rattle.md_text.proofs.HtmlJoin.{nothing, text}
 use Rattle.md_base.specs.Is.{is as named}
 use Rattle.md_base.specs.Children.{spine_names}
 use Rattle.md_base.specs.NameTests.{is_transparent, is_call, is_chunk}
-use Rattle.md_meaning.specs.Meaning.At.{At}
-use Rattle.md_meaning.specs.Meaning.Around.{is_tight}
+use Rattle.md_infer.specs.Looseness.{is_loose}
+use Rattle.md_meaning.specs.declared.context.Surroundings.{Surroundings}
+use Rattle.md_meaning.specs.Meaning.At.{At, Given}
+use Rattle.md_meaning.specs.Meaning.Around.{inside, is_tight}
 use Rattle.md_meaning.specs.Meaning.Layout.{Piece, Text, Needed, Forced, layout, said, on_own_line, when}
 use Rattle.md_meaning.specs.Meaning.Means.{prints}
 use Rattle.md_meaning.specs.Meaning.Spans.{escaped, html, is_at}
 use Rattle.md_meaning.specs.Meaning.Blocks.{list_start, ends_in_line, atx_rank, underline_rank, chunk, code_end, is_unclosed, runs_out}
 use Rattle.md_meaning.specs.Meaning.Tables.{cell_of}
 use Rattle.md_shape.specs.Underlined.{is_underline}
-use Rattle.md_shape.specs.Built.{Blocks, is_part, is_source, is_string, is_span, is_in_media, is_autolink}
+use Rattle.md_shape.specs.Built.{Content, Blocks, content_of, is_part, is_source, is_string, is_span, is_in_media, is_autolink}
 use Rattle.md_safe.proofs.Texts.{Escaped}
+use Rattle.md_safe.proofs.Contents.{Holds, is_blocks}
 use Rattle.md_safe.proofs.Laid.{adds-append, adds-weaker, adds-text, adds-nothing, adds-needed, adds-forced}
 use Rattle.md_safe.proofs.Tags.{Bracket, IsFramed, void-read, adds-flat, adds-pair, adds-framed, adds-nil, adds-before, adds-after, adds-escaped, framed-text, framed-needed, framed-forced}
 use Rattle.md_safe.proofs.Media.{adds-cell_in, adds-empty_cells}
@@ -221,17 +224,23 @@ flow-node s t HtmlFlowData e is fit head inner a =
     prints-plain s (escaped t (html s.given t)) (html-escaped s t e)
 flow-node s t _ e is fit head inner a = lie is
 
+-- these print nothing
+pub hidden-prints : (given : Given) (t : At) (name : Name) → is_hidden name ≡ true →
+    (inner : List Piece) → prints given t name inner ≡ []
+hidden-prints given t HeadingSetextText is inner = refl
+hidden-prints given t CodeFencedFenceMeta is inner = refl
+hidden-prints given t MathFlowFenceMeta is inner = refl
+hidden-prints given t Frontmatter is inner = refl
+hidden-prints given t Definition is inner = refl
+hidden-prints given t GfmFootnoteDefinition is inner = refl
+hidden-prints given t GfmFootnoteDefinitionPrefix is inner = refl
+hidden-prints given t GfmTableDelimiterRow is inner = refl
+hidden-prints given t _ is inner = lie is
+
 hidden-node : (s : Setting) (t : At) (name : Name) → is_hidden name ≡ true → (inner : List Piece) →
     Prints s (Reads s) (prints s.given t name inner)
-hidden-node s t HeadingSetextText is inner = prints-none s
-hidden-node s t CodeFencedFenceMeta is inner = prints-none s
-hidden-node s t MathFlowFenceMeta is inner = prints-none s
-hidden-node s t Frontmatter is inner = prints-none s
-hidden-node s t Definition is inner = prints-none s
-hidden-node s t GfmFootnoteDefinition is inner = prints-none s
-hidden-node s t GfmFootnoteDefinitionPrefix is inner = prints-none s
-hidden-node s t GfmTableDelimiterRow is inner = prints-none s
-hidden-node s t _ is inner = lie is
+hidden-node s t name is inner =
+    subst (Prints s (Reads s)) (sym (hidden-prints s.given t name is inner)) (prints-none s)
 
 -- a row
 row-node : (s : Setting) (in_head : Bool) (kinds : List AlignKind) (inner : List Piece) → Prints s (Reads s) inner
@@ -263,21 +272,53 @@ table-node s t GfmTableCell is inner a =
     (text-holds s (Reads s) inner a)
 table-node s t _ is inner a = lie is
 
+-- these print their children
+pub silent-prints : (given : Given) (t : At) (name : Name) → is_silent name ≡ true →
+    (inner : List Piece) → prints given t name inner ≡ inner
+silent-prints given t ListItemPrefix is inner = refl
+silent-prints given t ListItemValue is inner = refl
+silent-prints given t ListItemMarker is inner = refl
+silent-prints given t HeadingAtxSequence is inner = refl
+silent-prints given t HeadingAtxText is inner = refl
+silent-prints given t GfmTableDelimiterCellValue is inner = refl
+silent-prints given t GfmTableDelimiterMarker is inner = refl
+silent-prints given t MdxEsm is inner = refl
+silent-prints given t MdxFlowExpression is inner = refl
+silent-prints given t MdxTextExpression is inner = refl
+silent-prints given t MdxJsxFlowTag is inner = refl
+silent-prints given t MdxJsxTextTag is inner = refl
+silent-prints given t _ is inner = lie is
+
+-- a name that isn't silent, or in which blocks stand, and that is no link
+abbrev is_silent_block : Name → Bool
+is_silent_block name =
+    not (is_silent name) || (is_blocks (content_of name Blocks) && not (named Link name))
+
+silent-blocks : (name : Name) → is_silent_block name ≡ true
+silent-blocks Link = refl
+silent-blocks _ = refl
+
+pub silent-block : (name : Name) → is_silent name ≡ true →
+    (is_blocks (content_of name Blocks) ≡ true) × (named Link name ≡ false)
+silent-block name is =
+    let parts = and_parts (is_blocks (content_of name Blocks)) (not (named Link name))
+    (subst (λ s. not s || (is_blocks (content_of name Blocks) && not (named Link name)) ≡ true) is
+    (silent-blocks name)) in (parts.0, not-true (named Link name) parts.1)
+
 silent-node : (s : Setting) (t : At) (name : Name) → is_silent name ≡ true → (inner : List Piece) →
     Inside s t Blocks name inner → Prints s (Reads s) (prints s.given t name inner)
-silent-node s t ListItemPrefix is inner a = a
-silent-node s t ListItemValue is inner a = a
-silent-node s t ListItemMarker is inner a = a
-silent-node s t HeadingAtxSequence is inner a = a
-silent-node s t HeadingAtxText is inner a = a
-silent-node s t GfmTableDelimiterCellValue is inner a = a
-silent-node s t GfmTableDelimiterMarker is inner a = a
-silent-node s t MdxEsm is inner a = a
-silent-node s t MdxFlowExpression is inner a = a
-silent-node s t MdxTextExpression is inner a = a
-silent-node s t MdxJsxFlowTag is inner a = a
-silent-node s t MdxJsxTextTag is inner a = a
-silent-node s t _ is inner a = lie is
+silent-node s t name is inner a =
+    subst (Prints s (Reads s)) (sym (silent-prints s.given t name is inner))
+    (by (content_of name Blocks) (silent-block name is).0 a)
+  where
+    around : Surroundings
+    around = inside s.given.options (is_loose t.children) name t.around
+
+    by : (content : Content) → is_blocks content ≡ true →
+        Prints s (Holds s.p around.is_escaping around.in_image content) inner →
+        Prints s (Reads s) inner
+    by Blocks is a = a
+    by _ is a = lie is
 
 -- each name is of one of the tables
 covered : (name : Name) → (is_transparent name || ((is_part name || is_source name)

@@ -40,7 +40,7 @@ default-white LineFeed = (refl, refl)
 -- the line ending that is used is white space
 ending-white : (options : CompileOptions) (bytes : List ℕ) (place : Option Position) → IsEnding bytes place →
     IsWhite (ending_at options bytes place)
-ending-white options bytes None h = default-white options.default_line_ending
+ending-white options bytes None h = default-white _
 ending-white options bytes (Some place) h = line_ends-white (text_in bytes place) h
 
 -- a document that is built and placed as the grammar says

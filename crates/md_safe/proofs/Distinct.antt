@@ -1,6 +1,6 @@
 -- No two ids by number are equal: the heading's, those of footnotes and those of their calls. So each is counted once.
 use Rattle.std.proofs.Common.{◌≡◌, ◌⊎◌, ℕ, ◌+◌, ◌≤◌, ◌<◌, ◌^◌, ◌==◌, ◌/◌, ◌%◌, zero, suc, Bool, true, false, not, ◌&&◌, ◌||◌, cond, List, [], ◌∷◌, ◌++◌, length, refl, sym, ap, ◌∙◌, subst, inl, inr, arith, append_assoc, append-nil, codes, bytes_eq}
-use Rattle.std.specs.Prelude.{Option, Some, None, option_map, string_bytes, filter, map}
+use Rattle.std.specs.Prelude.{Option, Some, None, filter, map}
 use Rattle.std.specs.Option.{option_map_or}
 use Rattle.std.specs.List.{list_all}
 use Rattle.std.specs.Fmt.{decimal, digits, digits_onto, digit_glyph}
@@ -16,10 +16,11 @@ use Rattle.md_text.proofs.HtmlSplit.{split}
 use Rattle.md_text.proofs.HtmlIds.{occurs}
 use Rattle.md_text.specs.declared.options.CompileOptions.{CompileOptions}
 use Rattle.md_text.specs.Url.{sanitized}
-use Rattle.md_meaning.specs.Meaning.Footnotes.{distinct, place_among, count_of, option_or, id_of, call_id}
+use Rattle.md_meaning.specs.Meaning.Footnotes.{distinct, place_among, count_of, id_of, call_id}
 use Rattle.md_shape.specs.Built.{is_digit}
 use Rattle.md_meaning.proofs.Identifiers.{is_in, Apart, same, itself, is_in-distinct, distinct-apart}
 use Rattle.md_safe.specs.Apart.{prefix_of}
+use Rattle.md_safe.proofs.Media.{prefix_given, id_prefix}
 use Rattle.md_safe.proofs.Texts.{digit-plain}
 use Rattle.md_text.proofs.ProtocolLemmas.{no_and}
 
@@ -103,9 +104,9 @@ no_and-append x y h g = list_all-append no_and x y ∙ and_from (list_all no_and
 abbrev back_prefix : CompileOptions → List ℕ
 back_prefix options = prefix_of options
 
-prefix-back : (options : CompileOptions) (x : List ℕ) → read_back (option_or (option_map string_bytes options.gfm_footnote_clobber_prefix) (codes "user-content-") ++ x)
-    ≡ back_prefix options ++ read_back x
-prefix-back options x = by (option_map string_bytes options.gfm_footnote_clobber_prefix)
+prefix-back : (options : CompileOptions) (x : List ℕ) →
+    read_back (id_prefix options ++ x) ≡ back_prefix options ++ read_back x
+prefix-back options x = by (prefix_given options)
   where
     by : (given : Option (List ℕ)) → read_back (option_map_or (encoded true) given (codes "user-content-") ++ x)
         ≡ option_map_or (encoded false) given (codes "user-content-") ++ read_back x
@@ -124,8 +125,7 @@ call_tail number occurrence = codes "fnref-" ++ (decimal number ++ (45 ∷ decim
 note-back : (options : CompileOptions) → options.gfm_footnote_number_ids ≡ true → (identifier : List ℕ) (number : ℕ) →
     read_back (id_of options (codes "fn-") identifier number) ≡ back_prefix options ++ note_tail number
 note-back options on identifier number =
-    let prefix : List ℕ = option_or (option_map string_bytes options.gfm_footnote_clobber_prefix)
-    (codes "user-content-") in
+    let prefix : List ℕ = id_prefix options in
     ap (λ b. read_back (prefix ++ (codes "fn-" ++ cond b (decimal number) (sanitized identifier)))) on
     ∙ prefix-back options (note_tail number)
     ∙ ap (λ x. back_prefix options ++ x) (plain-back (note_tail number) (digits-no_and (decimal number)
@@ -135,8 +135,7 @@ call-back : (options : CompileOptions) → options.gfm_footnote_number_ids ≡ t
     (number occurrence : ℕ) → read_back (call_id options identifier number occurrence)
     ≡ back_prefix options ++ call_tail number occurrence
 call-back options on identifier number occurrence =
-    let prefix : List ℕ = option_or (option_map string_bytes options.gfm_footnote_clobber_prefix)
-    (codes "user-content-") in
+    let prefix : List ℕ = id_prefix options in
     ap (λ b. read_back ((prefix ++ (codes "fnref-" ++ cond b (decimal number) (sanitized identifier)))
     ++ cond (not b && occurrence == 1) [] (45 ∷ decimal occurrence))) on
     ∙ ap read_back (append_assoc prefix (codes "fnref-" ++ decimal number) (45 ∷ decimal occurrence))

@@ -140,14 +140,19 @@ pub label-escaped : (options : CompileOptions) →
     Escaped (option_or (option_map string_bytes options.gfm_footnote_label) (codes "Footnotes"))
 label-escaped options = option-escaped (option_map string_bytes options.gfm_footnote_label) (codes "Footnotes") refl
 
+-- what ids are asked to begin with, and what they begin with
+abbrev pub prefix_given : CompileOptions → Option (List ℕ)
+prefix_given options = option_map string_bytes options.gfm_footnote_clobber_prefix
+
+abbrev pub id_prefix : CompileOptions → List ℕ
+id_prefix options = option_or (prefix_given options) (codes "user-content-")
+
 pub id-escaped : (options : CompileOptions) (kind identifier : List ℕ) (number : ℕ) → Escaped kind →
     Escaped (id_of options kind identifier number)
 id-escaped options kind identifier number h =
     let own : List ℕ = cond options.gfm_footnote_number_ids (decimal number) (sanitized identifier) in
-    let prefix : List ℕ = option_or (option_map string_bytes options.gfm_footnote_clobber_prefix)
-    (codes "user-content-") in
-    escaped-append prefix (kind ++ own)
-    (option-escaped (option_map string_bytes options.gfm_footnote_clobber_prefix) (codes "user-content-") refl)
+    escaped-append (id_prefix options) (kind ++ own)
+    (option-escaped (prefix_given options) (codes "user-content-") refl)
     (escaped-append kind own h (cond_both options.gfm_footnote_number_ids (decimal number) (sanitized identifier) Escaped
     (λ _. decimal-escaped number) (λ _. sanitized-escaped identifier)))
 

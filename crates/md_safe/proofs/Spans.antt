@@ -6,7 +6,7 @@ use Rattle.std.proofs.lemmas.Bool.{cond_both, or_cases, or_parts}
 use Rattle.md_base.proofs.Lies.{lie}
 use Rattle.md_base.specs.Is.{is as named}
 use Rattle.md_base.specs.declared.event.Name.{Name}
-use Rattle.md_base.specs.declared.event.Name.TheVariants.{BlockQuote, ListOrdered, ListUnordered, ListItem, CodeIndented, GfmTable, GfmTableHead, GfmTableBody, GfmTableRow, LineEnding, BlankLineEnding, Data, CharacterEscapeValue, CharacterReferenceMarker, CharacterReferenceMarkerNumeric, CharacterReferenceMarkerHexadecimal, CharacterReferenceValue, CodeTextData, MathTextData, HtmlText, HtmlTextData, HtmlFlowData, Emphasis, Strong, GfmStrikethrough, CodeText, MathText, Link, Image, HardBreakEscape, HardBreakTrailing, GfmTaskListItemCheck, GfmFootnoteCall, Label, LabelText, Resource, ReferenceString, AutolinkEmail, AutolinkProtocol, GfmAutolinkLiteralEmail, GfmAutolinkLiteralMailto, GfmAutolinkLiteralProtocol, GfmAutolinkLiteralWww, GfmAutolinkLiteralXmpp, ListItemPrefix, ListItemValue, ListItemMarker, HeadingAtxSequence, HeadingAtxText, HeadingSetextText, CodeFencedFenceMeta, MathFlowFenceMeta, CodeFlowChunk, MathFlowChunk, Frontmatter, Definition, GfmFootnoteDefinition, GfmFootnoteDefinitionPrefix, GfmTableDelimiterRow, GfmTableDelimiterCellValue, GfmTableDelimiterMarker, MdxEsm, MdxFlowExpression, MdxTextExpression, MdxJsxFlowTag, MdxJsxTextTag}
+use Rattle.md_base.specs.declared.event.Name.TheVariants.{BlockQuote, ListOrdered, ListUnordered, ListItem, CodeIndented, GfmTable, GfmTableHead, GfmTableBody, GfmTableRow, LineEnding, BlankLineEnding, Data, CharacterEscapeValue, CharacterReferenceMarker, CharacterReferenceMarkerNumeric, CharacterReferenceMarkerHexadecimal, CharacterReferenceValue, CodeTextData, MathTextData, HtmlText, HtmlTextData, HtmlFlowData, Emphasis, Strong, GfmStrikethrough, CodeText, MathText, Link, Image, HardBreakEscape, HardBreakTrailing, GfmTaskListItemCheck, GfmFootnoteCall, Label, LabelText, Resource, ReferenceString, AutolinkEmail, AutolinkProtocol, GfmAutolinkLiteralEmail, GfmAutolinkLiteralMailto, GfmAutolinkLiteralProtocol, GfmAutolinkLiteralWww, GfmAutolinkLiteralXmpp, CodeFlowChunk, MathFlowChunk, GfmFootnoteDefinition}
 use Rattle.md_text.specs.Encode.{encoded}
 use Rattle.md_text.specs.Bytes.{is_one_of}
 use Rattle.md_text.specs.Html.{Attribute, is_tag, elements, void_tags}
@@ -30,7 +30,7 @@ use Rattle.md_safe.proofs.Contents.{is_blocks}
 use Rattle.md_safe.proofs.Spot.{Inside, IsFitAt, IsGoodTarget, encoded-escaped, target-title}
 use Rattle.md_safe.proofs.StringNodes.{line_ending-escaped}
 use Rattle.md_safe.proofs.SpanNodes.{html-escaped}
-use Rattle.md_safe.proofs.BlockNodes.{is_hidden, is_silent, chunk-escaped, when-needed}
+use Rattle.md_safe.proofs.BlockNodes.{is_hidden, is_silent, hidden-prints, silent-prints, silent-block, chunk-escaped, when-needed}
 use Rattle.md_safe.proofs.CountedForest.{Document, read_in}
 use Rattle.md_safe.specs.Contents.{Content, Phrasing, Linked, Characters, voids_in}
 use Rattle.md_safe.specs.Links.{prints_link}
@@ -483,32 +483,16 @@ leaf-node nested d content t _ is inner k a = lie is
 hidden-node : (nested : Bool) (d : Document) (content : Content) (t : At) (name : Name) → is_hidden name ≡ true →
     (inner : List Piece) →
     Prints nested d content (prints d.given t name inner)
-hidden-node nested d content t HeadingSetextText is inner = lays-nothing nested d.given.ending content
-hidden-node nested d content t CodeFencedFenceMeta is inner = lays-nothing nested d.given.ending content
-hidden-node nested d content t MathFlowFenceMeta is inner = lays-nothing nested d.given.ending content
-hidden-node nested d content t Frontmatter is inner = lays-nothing nested d.given.ending content
-hidden-node nested d content t Definition is inner = lays-nothing nested d.given.ending content
-hidden-node nested d content t GfmFootnoteDefinition is inner = lays-nothing nested d.given.ending content
-hidden-node nested d content t GfmFootnoteDefinitionPrefix is inner = lays-nothing nested d.given.ending content
-hidden-node nested d content t GfmTableDelimiterRow is inner = lays-nothing nested d.given.ending content
-hidden-node nested d content t _ is inner = lie is
+hidden-node nested d content t name is inner =
+    subst (Prints nested d content) (sym (hidden-prints d.given t name is inner))
+    (lays-nothing nested d.given.ending content)
 
 silent-node : (nested : Bool) (d : Document) (content : Content) (t : At) (name : Name) → is_silent name ≡ true →
     (inner : List Piece) →
     Here nested d t content name inner → Prints nested d content (prints d.given t name inner)
-silent-node nested d content t ListItemPrefix is inner a = a.own refl refl
-silent-node nested d content t ListItemValue is inner a = a.own refl refl
-silent-node nested d content t ListItemMarker is inner a = a.own refl refl
-silent-node nested d content t HeadingAtxSequence is inner a = a.own refl refl
-silent-node nested d content t HeadingAtxText is inner a = a.own refl refl
-silent-node nested d content t GfmTableDelimiterCellValue is inner a = a.own refl refl
-silent-node nested d content t GfmTableDelimiterMarker is inner a = a.own refl refl
-silent-node nested d content t MdxEsm is inner a = a.own refl refl
-silent-node nested d content t MdxFlowExpression is inner a = a.own refl refl
-silent-node nested d content t MdxTextExpression is inner a = a.own refl refl
-silent-node nested d content t MdxJsxFlowTag is inner a = a.own refl refl
-silent-node nested d content t MdxJsxTextTag is inner a = a.own refl refl
-silent-node nested d content t _ is inner a = lie is
+silent-node nested d content t name is inner a =
+    subst (Prints nested d content) (sym (silent-prints d.given t name is inner))
+    (a.own (silent-block name is).0 (silent-block name is).1)
 
 -- what prints phrasing content
 abbrev pub is_inline : Name → Bool

@@ -57,7 +57,7 @@ use Rattle.md_safe.proofs.Section.{section-prints}
 use Rattle.md_safe.proofs.CountedForest.{Document}
 use Rattle.md_safe.specs.Apart.{prefix_of, are_apart, ShareNoId}
 use Rattle.md_safe.proofs.CountedSection.{document-counts, document-counted}
-use Rattle.md_safe.proofs.Distinct.{IsNote, IsCall, note_ids, ids_after, label_id, document-known}
+use Rattle.md_safe.proofs.Distinct.{IsNote, IsCall, document-known}
 use Rattle.md_safe.proofs.Prefixes.{same-prefix, note-once, call-once, any-occurs}
 
 -- a place, where there is one, has the text of line endings
@@ -94,7 +94,7 @@ default-escaped LineFeed = refl
 
 ending-escaped : (options : CompileOptions) (bytes : List ℕ) (place : Option Position) → IsEnding bytes place →
     Escaped (ending_at options bytes place)
-ending-escaped options bytes None h = default-escaped options.default_line_ending
+ending-escaped options bytes None h = default-escaped _
 ending-escaped options bytes (Some place) h = line_ends-escaped (text_in bytes place) h
 
 -- blocks stand after blocks

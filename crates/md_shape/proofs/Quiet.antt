@@ -1,14 +1,15 @@
 -- Where nothing is printed, called or noted, and where no line ending is slurped anew.
-use Rattle.std.proofs.Common.{◌≡◌, Bool, true, false, ◌&&◌, List, [], ◌∷◌, ◌++◌, refl, ap, sym, subst, ◌∙◌}
+use Rattle.std.proofs.Common.{◌≡◌, Bool, true, false, not, ◌&&◌, ◌||◌, cond, List, [], ◌∷◌, ◌++◌, refl, ap, sym, subst, ◌∙◌}
 use Rattle.std.specs.Prelude.{if◌then◌else◌}
+use Rattle.std.proofs.lemmas.Bool.{and_parts, not-true}
 use Rattle.md_base.specs.declared.event.Name.{Name}
-use Rattle.md_base.specs.declared.event.Name.TheVariants.{AutolinkEmail, AutolinkProtocol, GfmAutolinkLiteralEmail, GfmAutolinkLiteralMailto, GfmAutolinkLiteralProtocol, GfmAutolinkLiteralWww, GfmAutolinkLiteralXmpp, LineEnding, BlankLineEnding, SpaceOrTab, BlockQuotePrefix, Other, Definition, GfmFootnoteCall, GfmFootnoteDefinition, Data, CharacterEscapeValue, CharacterReferenceValue, CodeTextData, MathTextData, HeadingSetextUnderlineSequence, CodeFlowChunk, MathFlowChunk, HtmlFlowData, HtmlTextData, HardBreakEscape, HardBreakTrailing, ThematicBreak, GfmTaskListItemValueChecked}
+use Rattle.md_base.specs.declared.event.Name.TheVariants.{LineEnding, SpaceOrTab, BlockQuotePrefix, Other, Definition, GfmFootnoteCall, GfmFootnoteDefinition}
 use Rattle.md_base.specs.declared.event.Point.{Point}
 use Rattle.md_base.proofs.Lies.{lie}
 use Rattle.md_base.specs.Is.{is}
 use Rattle.md_base.specs.Tree.{Forest, Empty, Node}
 use Rattle.md_base.specs.Children.{is_empty}
-use Rattle.md_base.specs.NameTests.{is_call, is_footnote_definition}
+use Rattle.md_base.specs.NameTests.{is_transparent, is_call, is_footnote_definition}
 use Rattle.md_pattern.specs.Looseness.{is_loose}
 use Rattle.md_text.specs.declared.options.CompileOptions.{CompileOptions}
 use Rattle.md_meaning.specs.declared.context.Surroundings.{Surroundings}
@@ -17,7 +18,7 @@ use Rattle.md_meaning.specs.Meaning.Layout.{when}
 use Rattle.md_meaning.specs.Meaning.At.{Given, Before, identifier_of}
 use Rattle.md_meaning.specs.Meaning.Before.{before_children, lets_slurp}
 use Rattle.md_meaning.specs.Meaning.Nodes.{outcome}
-use Rattle.md_shape.specs.Content.{Content, Nothing, Fits, content_inside, content_past, content_after_node}
+use Rattle.md_shape.specs.Content.{Content, Nothing, Childless, Fits, content_of, content_inside, content_past, content_after_node}
 use Rattle.md_shape.specs.Claim.{at_node, inner_of, next_before}
 use Rattle.md_shape.proofs.Sides.{is_quiet}
 use Rattle.md_shape.proofs.Standing.{allowed-facts, is_callless, node-same, stays, childless}
@@ -53,52 +54,38 @@ abbrev Says : Given → Surroundings → Before → Content → Name → Forest 
 Says given around before c name children = Fits (content_inside c name) children → is_quiet name ≡ true →
     (inner_of given around before name children).pieces ≡ []
 
-quietly : (given : Given) (around : Surroundings) (before : Before) (name : Name) (children : Forest) →
-    Fits Nothing children → (inner_of given around before name children).pieces ≡ []
-quietly given around before name children fits =
-    silent given (inside given.options (is_loose children) name around) (before_children name children before) children
-    fits
+-- nothing that prints stands there
+abbrev is_bare : Content → Bool
+is_bare content = elim content [ Nothing ↦ true | Childless ↦ true | _ ↦ false ]
+
+-- a name that isn't quiet, or one in which nothing that prints stands
+abbrev is_bare_inside : Name → Bool
+is_bare_inside name =
+    not (is_quiet name) || (is_bare (content_of name) && not (is_transparent name))
+
+bare-inside : (name : Name) → is_bare_inside name ≡ true
+bare-inside LineEnding = refl
+bare-inside _ = refl
+
+bare-silent : (given : Given) (around : Surroundings) (before : Before) (content : Content)
+    (forest : Forest) → is_bare content ≡ true → Fits content forest →
+    (outcome given around before forest).pieces ≡ []
+bare-silent given around before Nothing forest bare fits = silent given around before forest fits
+bare-silent given around before Childless forest bare fits =
+    ap (λ f. (outcome given around before f).pieces) (childless forest fits)
+bare-silent given around before _ forest bare fits = lie bare
 
 pub quiet : (given : Given) (around : Surroundings) (before : Before) (c : Content) (name : Name) (children : Forest) →
     Says given around before c name children
-quiet given around before c LineEnding children fits h =
-    ap (λ f. (inner_of given around before LineEnding f).pieces) (childless children fits)
-quiet given around before c BlankLineEnding children fits h =
-    ap (λ f. (inner_of given around before BlankLineEnding f).pieces) (childless children fits)
-quiet given around before c Data children fits h = quietly given around before Data children fits
-quiet given around before c CharacterEscapeValue children fits h =
-    quietly given around before CharacterEscapeValue children fits
-quiet given around before c CharacterReferenceValue children fits h =
-    quietly given around before CharacterReferenceValue children fits
-quiet given around before c CodeTextData children fits h = quietly given around before CodeTextData children fits
-quiet given around before c MathTextData children fits h = quietly given around before MathTextData children fits
-quiet given around before c HeadingSetextUnderlineSequence children fits h =
-    quietly given around before HeadingSetextUnderlineSequence children fits
-quiet given around before c CodeFlowChunk children fits h = quietly given around before CodeFlowChunk children fits
-quiet given around before c MathFlowChunk children fits h = quietly given around before MathFlowChunk children fits
-quiet given around before c HtmlFlowData children fits h = quietly given around before HtmlFlowData children fits
-quiet given around before c HtmlTextData children fits h = quietly given around before HtmlTextData children fits
-quiet given around before c HardBreakEscape children fits h =
-    quietly given around before HardBreakEscape children fits
-quiet given around before c HardBreakTrailing children fits h =
-    quietly given around before HardBreakTrailing children fits
-quiet given around before c ThematicBreak children fits h = quietly given around before ThematicBreak children fits
-quiet given around before c GfmTaskListItemValueChecked children fits h =
-    quietly given around before GfmTaskListItemValueChecked children fits
-quiet given around before c AutolinkEmail children fits h = quietly given around before AutolinkEmail children fits
-quiet given around before c AutolinkProtocol children fits h =
-    quietly given around before AutolinkProtocol children fits
-quiet given around before c GfmAutolinkLiteralEmail children fits h =
-    quietly given around before GfmAutolinkLiteralEmail children fits
-quiet given around before c GfmAutolinkLiteralWww children fits h =
-    quietly given around before GfmAutolinkLiteralWww children fits
-quiet given around before c GfmAutolinkLiteralMailto children fits h =
-    quietly given around before GfmAutolinkLiteralMailto children fits
-quiet given around before c GfmAutolinkLiteralProtocol children fits h =
-    quietly given around before GfmAutolinkLiteralProtocol children fits
-quiet given around before c GfmAutolinkLiteralXmpp children fits h =
-    quietly given around before GfmAutolinkLiteralXmpp children fits
-quiet given around before c _ children fits h = lie h
+quiet given around before c name children fits h =
+    let parts = and_parts (is_bare (content_of name)) (not (is_transparent name))
+    (subst (λ q. not q || (is_bare (content_of name) && not (is_transparent name)) ≡ true) h
+    (bare-inside name)) in
+    let own : content_inside c name ≡ content_of name =
+    ap (λ t. cond t c (content_of name)) (not-true (is_transparent name) parts.1) in
+    bare-silent given (inside given.options (is_loose children) name around)
+    (before_children name children before) (content_of name) children parts.0
+    (subst (λ content. Fits content children) own fits)
 
 -- ---- no call and no footnote
 
