@@ -25,7 +25,7 @@ pub(crate) fn is_collapsed(text: &[u8]) -> bool
     if length == 0 {
         return true;
     }
-    if is_blank(text[0]) || is_blank(text[length - 1]) {
+    if is_space_or_control(text[0]) || is_space_or_control(text[length - 1]) {
         return false;
     }
     has_single_spaces(text)
@@ -33,7 +33,7 @@ pub(crate) fn is_collapsed(text: &[u8]) -> bool
 
 /// Whether a byte is a space or a control character.
 #[inline(always)]
-fn is_blank(byte: u8) -> bool
+fn is_space_or_control(byte: u8) -> bool
     ensures { result ≡ nat_le byte 32 }
 {
     byte <= b' '

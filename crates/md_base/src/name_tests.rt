@@ -17,6 +17,7 @@ pub fn is_transparent(name: Name) -> bool
 }
 
 /// A definition of a link, not of a footnote.
+#[inline(always)]
 pub fn is_link_definition(name: Name) -> bool
     ensures { result ≡ tests.is_link_definition name }
 {

@@ -6,7 +6,7 @@ ghost use Rattle.md_meaning.specs.Meaning.Footnotes as meaning;
 ghost use Rattle.md_footnotes.specs.Entries.{again, count_in};
 
 use crate::called::Called;
-use crate::places::{Places, place_of, put_last};
+use crate::places::{Places, place_under, put_last};
 use std::alloc::{AllocError, Global};
 use std::collections::BTreeMap;
 use std::marker::Model;
@@ -76,7 +76,7 @@ impl Calls {
         ensures { OnOk result (self.new ≡ self.old ++ string_bytes identifier ∷ []) }
     {
         self.order.reserve(1)?;
-        match place_of(&self.places, identifier.as_str()) {
+        match place_under(&self.places, identifier.as_str()) {
             Some(place) => {
                 count_again(&mut self.counts, place);
                 self.order.push_reserved(place);
@@ -96,7 +96,7 @@ impl Calls {
         ensures { result ≡ place_among (distinct (self.now ++ identifier.now ∷ [])) identifier.now }
     {
         let len = self.counts.len();
-        match place_of(&self.places, identifier) {
+        match place_under(&self.places, identifier) {
             Some(place) => place + 1,
             None => len + 1,
         }
@@ -107,7 +107,7 @@ impl Calls {
         ensures count { result ≡ meaning.count_of self.now identifier.now }
         ensures fits { result + 1 < 2 ^ 64 }
     {
-        match place_of(&self.places, identifier) {
+        match place_under(&self.places, identifier) {
             Some(place) => count_at(self.counts.as_slice(), place),
             None => 0,
         }

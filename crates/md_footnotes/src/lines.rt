@@ -13,7 +13,7 @@ pub(crate) fn is_break(byte: u8) -> bool
 }
 
 /// Whether a text is empty or ends in CR or LF.
-fn begins_line(text: &[u8]) -> bool
+fn bytes_begin_line(text: &[u8]) -> bool
     ensures { result ≡ layout.begins_line text.now }
 {
     match text.last() {
@@ -31,7 +31,7 @@ pub(crate) fn need(out: &mut String, ending: &str) -> Result<(), AllocError>
     ensures { OnOk result
         (string_bytes out.new ≡ layout.laid_after ending.now (string_bytes out.old) (layout.Needed ∷ [])) }
 {
-    if begins_line(out.as_bytes()) {
+    if bytes_begin_line(out.as_bytes()) {
         Ok(())
     } else {
         out.push_str(ending)

@@ -5,7 +5,7 @@ ghost use Rattle.std.specs.Option.{option_map_or};
 ghost use Rattle.md_shape.specs.Steps.{noted};
 ghost use Rattle.md_footnotes.specs.Words as words;
 
-use crate::places::{Places, place_of, put_last};
+use crate::places::{Places, place_under, put_last};
 use std::alloc::{AllocError, Global};
 use std::collections::BTreeMap;
 use std::marker::Model;
@@ -30,7 +30,7 @@ impl Model for Notes {
 }
 
 /// The text at a place.
-fn text_at(texts: &[(String, String)], place: usize) -> &str
+fn noted_text(texts: &[(String, String)], place: usize) -> &str
     ensures { result.now ≡ option_map_or (λ e. string_bytes e.1) (slice_get texts.now place) [] }
 {
     match texts.get(place) {
@@ -59,7 +59,7 @@ impl Notes {
         ensures { OnOk result
             (self.new ≡ noted self.old (record { identifier = string_bytes identifier; text = string_bytes text })) }
     {
-        match place_of(&self.places, identifier.as_str()) {
+        match place_under(&self.places, identifier.as_str()) {
             Some(_) => Ok(()),
             None => put_last(&mut self.texts, &mut self.places, identifier, text),
         }
@@ -69,8 +69,8 @@ impl Notes {
     pub(crate) fn text_of(&self, identifier: &str) -> &str
         ensures { result.now ≡ words.text_of self.now identifier.now }
     {
-        match place_of(&self.places, identifier) {
-            Some(place) => text_at(self.texts.as_slice(), place),
+        match place_under(&self.places, identifier) {
+            Some(place) => noted_text(self.texts.as_slice(), place),
             None => "",
         }
     }

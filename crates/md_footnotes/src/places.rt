@@ -11,7 +11,7 @@ use std::collections::BTreeMap;
 pub(crate) type Places = BTreeMap<String, usize>;
 
 /// The place of an identifier, if it has one.
-pub(crate) fn place_of(places: &Places, identifier: &str) -> Option<usize>
+pub(crate) fn place_under(places: &Places, identifier: &str) -> Option<usize>
     ensures { result ≡ get_by_text places.now identifier.now }
 {
     places.get(identifier).copied()

@@ -6,6 +6,7 @@ ghost use Rattle.md_html.specs.Work.{is_definition, before_definition, longest_d
 ghost use Rattle.md_html.specs.Work.{entries, is_media, is_resource, is_row, columns_after, cells, work};
 ghost use Rattle.md_html.specs.Counting.{capped, is_read_standing};
 
+use md_base::name_tests::is_link_definition;
 use md_base::{Event, Kind, Name};
 use md_pattern::{Reading, Standing, standing_of};
 
@@ -172,7 +173,7 @@ fn longest_after(longest: u128, event: &Event, following: &[Event]) -> u128
         then read_length (before_definition following.now) else 0)) }
 {
     match event.kind {
-        Kind::Enter if is_definition(event.name) => longest.max(definition_length(following)),
+        Kind::Enter if is_link_definition(event.name) => longest.max(definition_length(following)),
         _ => longest,
     }
 }
@@ -184,7 +185,7 @@ fn definition_length(events: &[Event]) -> u128
     let mut progress = Progress::new();
     let mut rest = events;
     while let Some((event, following)) = rest.split_first() {
-        if is_definition(event.name) {
+        if is_link_definition(event.name) {
             return progress.length;
         }
         progress = progress.after(event);
@@ -237,13 +238,6 @@ fn columns_after(columns: usize, event: &Event) -> usize
         (Kind::Enter, Name::GfmTableDelimiterCellValue) => columns + 1,
         _ => columns,
     }
-}
-
-#[inline(always)]
-fn is_definition(name: Name) -> bool
-    ensures { result ≡ is_definition name }
-{
-    matches!(name, Name::Definition)
 }
 
 /// Whether a node of a name is read: its text, or as what identifies another.

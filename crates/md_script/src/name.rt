@@ -14,7 +14,7 @@ pub(crate) fn read_name(text: &[u8]) -> Option<Name>
     ensures { result ≡ name_of text.now }
 {
     match text.strip_prefix(b"Other") {
-        Some(digits) => read_other_name(digits),
+        Some(digits) => numbered_name(digits),
         None => listed_at_length(names_by_length(), text),
     }
 }
@@ -29,7 +29,7 @@ fn listed_at_length(tables: &[&[(&str, Name)]], text: &[u8]) -> Option<Name>
 }
 
 /// `Other` with the number that these digits write.
-fn read_other_name(digits: &[u8]) -> Option<Name>
+fn numbered_name(digits: &[u8]) -> Option<Name>
     ensures { result ≡ other_name (codes "Other" ++ digits.now) }
 {
     let number = read_number(digits, 5)?;

@@ -48,12 +48,12 @@ pub(crate) fn read_script(alloc: Global, input: &[u8]) -> Result<Script<'_>, Run
     let mut rest = input;
     'lines: loop {
         if let Some((event, following)) = read_common_line(rest) {
-            keep(&mut events, event, following)?;
+            keep_event(&mut events, event, following)?;
             rest = following;
             continue;
         }
         if let Some((event, following)) = read_plain_line(rest) {
-            keep(&mut events, event, following)?;
+            keep_event(&mut events, event, following)?;
             rest = following;
             continue;
         }
@@ -80,7 +80,7 @@ pub(crate) fn read_script(alloc: Global, input: &[u8]) -> Result<Script<'_>, Run
 }
 
 /// Adds an event to those before it, where this follows its line.
-fn keep(events: &mut Vec<Event>, event: Event, following: &[u8]) -> Result<(), AllocError>
+fn keep_event(events: &mut Vec<Event>, event: Event, following: &[u8]) -> Result<(), AllocError>
     ensures { OnOk result (events.new.items ≡ events.old.items ++ event ∷ []) }
 {
     if events.len() == events.capacity() {

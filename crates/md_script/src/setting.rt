@@ -60,11 +60,11 @@ fn is_assignment(name: &[u8], value: &[u8]) -> bool
     if name == ENDING_NAME {
         read_line_ending(value).is_some()
     } else {
-        is_among(&TEXT_NAMES, name) && is_text(value)
+        is_among(&TEXT_NAMES, name) && is_utf8(value)
     }
 }
 
-fn is_text(bytes: &[u8]) -> bool
+fn is_utf8(bytes: &[u8]) -> bool
     ensures { result ≡ is_utf8 bytes.now }
 {
     std::str::from_utf8(bytes).is_ok()
@@ -146,14 +146,14 @@ fn value_given<'a>(lines: &[&'a [u8]], name: &[u8]) -> Option<&'a str>
 {
     for line in lines {
         if sets(line, name) {
-            return value_of(line);
+            return value_after_equals(line);
         }
     }
     None
 }
 
 /// What stands after the first `=`, where it is a text.
-fn value_of(line: &[u8]) -> Option<&str>
+fn value_after_equals(line: &[u8]) -> Option<&str>
     ensures { option_copied result ≡ spec.value_of line.now }
 {
     std::str::from_utf8(after_equals(line)).ok()

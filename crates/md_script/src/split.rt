@@ -15,11 +15,11 @@ pub fn split_at_first(bytes: &[u8], separator: u8) -> Option<(&[u8], &[u8])>
     ensures len { IfSome result
         (λ parts. length parts.0.now + length parts.1.now + 1 ≡ length bytes.now) }
 {
-    let index = find_byte(bytes, separator)?;
+    let index = first_place_of(bytes, separator)?;
     Some((&bytes[..index], &bytes[index + 1..]))
 }
 
-fn find_byte(bytes: &[u8], wanted: u8) -> Option<usize>
+fn first_place_of(bytes: &[u8], wanted: u8) -> Option<usize>
     ensures { result ≡ position (λ byte. byte == wanted) bytes.now }
 {
     bytes.iter().position(|byte| *byte == wanted)

@@ -6,6 +6,7 @@ use Rattle.md_base.proofs.collapsed.is_collapsed.Goals as goal
 pub returns : goal.returns
 returns c single =
     let text = c.args.text.now in
-    collapsed-single text (unblank (get_or text 0 0) c.if-is_blank.ensures)
+    collapsed-single text (unblank (get_or text 0 0) c.if-is_space_or_control.ensures)
     (λ k last. subst (λ i. 33 ≤ get_or text i 0) {x = length text - 1} {y = k} (omega (arith, last))
-    (unblank (get_or text (length text - 1) 0) c.if-is_blank-2.ensures)) (c.has_single_spaces.ensures single)
+    (unblank (get_or text (length text - 1) 0) c.if-is_space_or_control-2.ensures))
+    (c.has_single_spaces.ensures single)

@@ -5,11 +5,11 @@ use Rattle.md_html.specs.Work.{before_definition, read_from, read_length}
 use Rattle.md_html.proofs.Counting.{all-added, none-before}
 use Rattle.md_html.proofs.work.definition_length.Goals as goal
 
-pub returns-then-is_definition : goal.returns-then-is_definition
-returns-then-is_definition c =
+pub returns-then-is_link_definition : goal.returns-then-is_link_definition
+returns-then-is_link_definition c =
     let at = c.loop-event in
     let none = none-before c.in-Some.event.now c.in-Some.following.now at.rest.now c.in-Some.ensures.cases.0
-    (sym c.is_definition.ensures ∙ c.if-is_definition.true) in
+    (sym c.is_link_definition.ensures ∙ c.if-is_link_definition.true) in
     all-added at.progress.length (read_from at.progress.index at.progress.depth (before_definition at.rest.now))
     (read_length (before_definition c.args.events.now)) at.invariant.fits
     (ap (λ events. read_from at.progress.index at.progress.depth events) none) at.invariant.read

@@ -5,7 +5,7 @@ use Rattle.md_script.proofs.NameLemmas.{at_length, name_of_other, name_of_listed
 use Rattle.md_script.proofs.name.read_name.Goals as goal
 
 pub returns-in-Some : goal.returns-in-Some
-returns-in-Some c = c.read_other_name.ensures ∙ name_of_other c.args.text.now c.in-Some.digits.now
+returns-in-Some c = c.numbered_name.ensures ∙ name_of_other c.args.text.now c.in-Some.digits.now
     c.in-Some.ensures.cases.0 c.in-Some.ensures.cases.1
 
 pub returns-in-None : goal.returns-in-None

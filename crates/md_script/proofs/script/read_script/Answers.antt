@@ -55,7 +55,7 @@ lines-preserved-in-Some c =
     let settings : List (List ℕ) = texts_of c.lines.settings.items in
     let more = plain_more c.lines.invariant c.in-Some.event c.in-Some.following.now c.in-Some.ensures in
     subst (λ es. Progress c.args.input.now (length es + length settings) es settings c.in-Some.following.now)
-    (sym c.in_ok-keep.ensures)
+    (sym c.in_ok-keep_event.ensures)
     (subst (λ n. Progress c.args.input.now n (events ++ c.in-Some.event ∷ []) settings c.in-Some.following.now)
     (omega (arith, length-append events (c.in-Some.event ∷ []))) more)
 
@@ -66,7 +66,7 @@ lines-preserved-in-Some-read_plain_line c =
     let settings : List (List ℕ) = texts_of c.lines.settings.items in
     let more = plain_more c.lines.invariant read.event read.following.now read.ensures in
     subst (λ es. Progress c.args.input.now (length es + length settings) es settings read.following.now)
-    (sym c.in_ok-keep-2.ensures)
+    (sym c.in_ok-keep_event-2.ensures)
     (subst (λ n. Progress c.args.input.now n (events ++ read.event ∷ []) settings read.following.now)
     (omega (arith, length-append events (read.event ∷ []))) more)
 

@@ -14,7 +14,7 @@ count_again-requires-clause-within c =
     let q : List ℕ = string_bytes c.args.identifier in
     place-below c.self.inside.counts.items q c.in-Some.place
     (sym (c.self.invariant.0 q) ∙ ap (λ text. get_by_text c.self.inside.places text) (sym c.as_str.ensures.value)
-    ∙ sym c.place_of.ensures ∙ c.in-Some.is)
+    ∙ sym c.place_under.ensures ∙ c.in-Some.is)
 
 pub count_again-requires-clause-fits : goal.count_again-requires-clause-fits
 count_again-requires-clause-fits c =
@@ -24,7 +24,7 @@ count_again-requires-clause-fits c =
     let calls : List (List ℕ) = calls_in entries order.items in
     let counted = count-kept entries calls q c.in-Some.place
     (sym (c.self.invariant.0 q) ∙ ap (λ text. get_by_text c.self.inside.places text) (sym c.as_str.ensures.value)
-    ∙ sym c.place_of.ensures ∙ c.in-Some.is) c.self.invariant.1 in
+    ∙ sym c.place_under.ensures ∙ c.in-Some.is) c.self.invariant.1 in
     let below = count-below calls q in
     let as_long = length-map order.items (λ place. identifier_in entries place) in
     omega (arith, counted, below, as_long, order.ok.0, order.ok.1, order.small)
@@ -41,7 +41,7 @@ after_new c =
     (c.push_reserved-in-None.ensures.items ∙ ap (λ ps. ps ++ c.len-place.result ∷ []) c.reserve.ensures.items
     ∙ ap (λ n. order ++ n ∷ []) (c.len-place.ensures ∙ c.self.inside.counts.ok.0))
     (sym (c.self.invariant.0 q) ∙ ap (λ text. get_by_text c.self.inside.places text) (sym c.as_str.ensures.value)
-    ∙ sym c.place_of.ensures ∙ c.in-None.is) c.self.invariant.1 c.self.invariant.2
+    ∙ sym c.place_under.ensures ∙ c.in-None.is) c.self.invariant.1 c.self.invariant.2
 
 pub invariant_of-self-in-Some-1 : goal.invariant_of-self-in-Some-1
 invariant_of-self-in-Some-1 c =
@@ -51,7 +51,7 @@ invariant_of-self-in-Some-1 c =
     c.push_reserved.new.self.items q place c.count_again.ensures
     (c.push_reserved.ensures.items ∙ ap (λ ps. ps ++ place ∷ []) c.reserve.ensures.items)
     (sym (c.self.invariant.0 q) ∙ ap (λ text. get_by_text c.self.inside.places text) (sym c.as_str.ensures.value)
-    ∙ sym c.place_of.ensures ∙ c.in-Some.is) c.self.invariant.1 c.self.invariant.2 in (
+    ∙ sym c.place_under.ensures ∙ c.in-Some.is) c.self.invariant.1 c.self.invariant.2 in (
       λ q. c.self.invariant.0 q
           ∙ sym (ap (λ es. place_in es q) c.count_again.ensures
           ∙ places-again c.self.inside.counts.items c.in-Some.place q),
@@ -75,7 +75,7 @@ returns-in-Some c =
     c.push_reserved.new.self.items q place c.count_again.ensures
     (c.push_reserved.ensures.items ∙ ap (λ ps. ps ++ place ∷ []) c.reserve.ensures.items)
     (sym (c.self.invariant.0 q) ∙ ap (λ text. get_by_text c.self.inside.places text) (sym c.as_str.ensures.value)
-    ∙ sym c.place_of.ensures ∙ c.in-Some.is) c.self.invariant.1 c.self.invariant.2 in
+    ∙ sym c.place_under.ensures ∙ c.in-Some.is) c.self.invariant.1 c.self.invariant.2 in
     keeps.0 ∙ ap (λ cs. cs ++ q ∷ []) c.self.view_is
 
 pub returns-in_ok-put_last-in-None : goal.returns-in_ok-put_last-in-None

@@ -18,7 +18,7 @@ counted c =
     let q : List ℕ = c.args.identifier.now in
     c.count_at.ensures ∙ ap (λ es. count_in es c.in-Some.place) c.as_slice.ensures.value
     ∙ count-kept entries calls q c.in-Some.place
-    (sym (c.self.invariant.0 q) ∙ sym c.place_of.ensures ∙ c.in-Some.is) c.self.invariant.1
+    (sym (c.self.invariant.0 q) ∙ sym c.place_under.ensures ∙ c.in-Some.is) c.self.invariant.1
 
 pub returns-in-Some-clause-count : goal.returns-in-Some-clause-count
 returns-in-Some-clause-count c =
@@ -38,7 +38,7 @@ returns-in-None-clause-count c =
     let calls : List (List ℕ) = calls_in entries c.self.inside.order.items in
     let q : List ℕ = c.args.identifier.now in
     ap (λ o. option_map_or (λ place. count_in entries place) o 0)
-    (sym (sym (c.self.invariant.0 q) ∙ sym c.place_of.ensures ∙ c.in-None.is))
+    (sym (sym (c.self.invariant.0 q) ∙ sym c.place_under.ensures ∙ c.in-None.is))
     ∙ count-at entries q
     ∙ ap (λ cs. count_among cs q) c.self.invariant.1
     ∙ count-same calls q

@@ -11,7 +11,7 @@ use Rattle.md_footnotes.proofs.calls.Calls.number.Goals as goal
 pub overflow_add-result : goal.overflow_add-result
 overflow_add-result c =
     let below = place-below c.self.inside.counts.items c.args.identifier.now c.in-Some.place
-    (sym (c.self.invariant.0 c.args.identifier.now) ∙ sym c.place_of.ensures ∙ c.in-Some.is) in
+    (sym (c.self.invariant.0 c.args.identifier.now) ∙ sym c.place_under.ensures ∙ c.in-Some.is) in
     let length_is = c.len-len.ensures ∙ c.self.inside.counts.ok.0 in
     let fits = c.len-len.type_inv in
     omega (arith, below, length_is, fits)
@@ -22,7 +22,7 @@ returns-in-Some c =
     let calls : List (List ℕ) = calls_in entries c.self.inside.order.items in
     let q : List ℕ = c.args.identifier.now in
     ap (λ o. option_map_or (λ place. place + 1) o (length entries + 1))
-    (sym (sym (c.self.invariant.0 q) ∙ sym c.place_of.ensures ∙ c.in-Some.is))
+    (sym (sym (c.self.invariant.0 q) ∙ sym c.place_under.ensures ∙ c.in-Some.is))
     ∙ number-at entries q
     ∙ ap (λ cs. number_among cs q) c.self.invariant.1
     ∙ number-same calls q
@@ -35,7 +35,7 @@ returns-in-None c =
     let q : List ℕ = c.args.identifier.now in
     ap (λ n. n + 1) (c.len-len.ensures ∙ c.self.inside.counts.ok.0)
     ∙ ap (λ o. option_map_or (λ place. place + 1) o (length entries + 1))
-    (sym (sym (c.self.invariant.0 q) ∙ sym c.place_of.ensures ∙ c.in-None.is))
+    (sym (sym (c.self.invariant.0 q) ∙ sym c.place_under.ensures ∙ c.in-None.is))
     ∙ number-at entries q
     ∙ ap (λ cs. number_among cs q) c.self.invariant.1
     ∙ number-same calls q

@@ -16,7 +16,7 @@ returns-in-Some c =
     sym c.self.view_is
     ∙ noted-present c.self.inside.texts.items q (string_bytes c.args.text) c.in-Some.field-0
     (sym (c.self.invariant q) ∙ ap (λ text. get_by_text c.self.inside.places text) (sym c.as_str.ensures.value)
-    ∙ sym c.place_of.ensures ∙ c.in-Some.is)
+    ∙ sym c.place_under.ensures ∙ c.in-Some.is)
     ∙ ap (λ fs. noted fs told) c.self.view_is
 
 pub returns-in-None : goal.returns-in-None
@@ -27,6 +27,6 @@ returns-in-None c =
     (λ put. ap (λ es. footnotes_in es) put
     ∙ noted-new c.self.inside.texts.items c.args.identifier c.args.text
     (sym (c.self.invariant q) ∙ ap (λ text. get_by_text c.self.inside.places text) (sym c.as_str.ensures.value)
-    ∙ sym c.place_of.ensures ∙ c.in-None.is)
+    ∙ sym c.place_under.ensures ∙ c.in-None.is)
     ∙ ap (λ fs. noted fs told) c.self.view_is)
     c.put_last.ensures.entries

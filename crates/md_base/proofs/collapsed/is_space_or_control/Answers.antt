@@ -1,7 +1,7 @@
 -- The search that proves it, and no other: a wrong body is refused by it in a second, where all that is tried without
 -- an answer takes ten.
 use Rattle.std.proofs.Common.{rules}
-use Rattle.md_base.proofs.collapsed.is_blank.Goals as goal
+use Rattle.md_base.proofs.collapsed.is_space_or_control.Goals as goal
 
 pub returns : goal.returns
 returns c = search rules
