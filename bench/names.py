@@ -5,12 +5,11 @@
     bench/names.py --write    writes them
 
 The list is the group `name` in `clients/numbers/numbers.txt`. A new name is a line there, in the
-part where it belongs, with the next number. In the crates' code this makes what stands between the
-marks `bench/names.py: begin` and `bench/names.py: end`, but for doc comments at the head of such a
-block; in their definitions it makes the imports and the lists of all names. It also makes how many
-names there are, where a test or a page says so, and has `clients/numbers/generate` write the
-clients' tables. What a name means, prints and is in the grammar is by hand (docs/PROVING.md,
-"A new name of events").
+part where it belongs, with the next number. This makes the files that hold nothing but lists of
+names, whole (`WHOLE`), the variants of the enum, between the marks `bench/names.py: begin` and
+`bench/names.py: end`, the imports of all names, and how many names there are, where a test or a
+page says so, and has `clients/numbers/generate` write the clients' tables. What a name means,
+prints and is in the grammar is by hand (docs/PROVING.md, "A new name of events").
 """
 import argparse
 import itertools
@@ -24,29 +23,19 @@ from typing import NamedTuple
 ROOT = pathlib.Path(__file__).resolve().parents[1]
 CRATES = ROOT / "crates"
 NUMBERS = ROOT / "clients" / "numbers"
-COMMON = CRATES / "md_script" / "src" / "common_name.rt"
+NOTICE = "Written by bench/names.py from clients/numbers/numbers.txt. Don't edit it."
+SPELLED = CRATES / "md_base" / "specs" / "EventNames.antt"
+TABLES = CRATES / "md_base" / "src" / "name_tables.rt"
+ROWS = CRATES / "md_script" / "src" / "name_rows.rt"
+VARIANTS = CRATES / "md_base" / "src" / "event.rt"
+STANDING = CRATES / "md_pattern" / "specs" / "Standing.antt"
 BEGIN, END = (rf"^ *// bench/names\.py: {word}$" for word in ("begin", "end"))
-BLOCK = re.compile(rf"({BEGIN}\n)(.*?)({END})", re.M | re.S)
-HEAD = re.compile(r"(?:/// .*\n)*")
-VARIANTS = "use Rattle.md_base.specs.declared.event.Name.TheVariants as name_variants\n"
-IMPORT = "use name_variants.{"
+IMPORTS = "use Rattle.md_base.specs.declared.event.Name.TheVariants.{"
 COLUMNS, LANES = 100, 16
 # A pair of a spelling and a name stands in one line where it has no more letters.
 PAIR = 60
 # How many tables `names_by_length` has; its contract and its answer file have that number too.
 LENGTHS = 36
-# In which table of `md_cases` the names stand from this one on.
-TABLES = {
-    "AutolinkEmail": "MEDIA",
-    "LineEnding": "BLOCKS",
-    "Data": "TEXTS",
-    "CodeIndented": "CODE",
-    "Definition": "MEDIA",
-    "HeadingAtx": "BLOCKS",
-    "GfmTable": "TEXTS",
-    "Paragraph": "BLOCKS",
-    "MdxEsm": "CODE",
-}
 # Where a number tells how many names there are, and by how much it is greater.
 COUNTS = [
     ("crates/md_ffi/README.md", r"Names: 1 to (\d+) in the order", 0),
@@ -94,8 +83,6 @@ def faults_of(names):
         yield "the numbers of the names aren't 1, 2, 3 and so on"
     if len(set(texts)) < len(texts):
         yield "a name stands twice"
-    if absent := set(TABLES) - set(texts):
-        yield f"names at which a table of md_cases begins: {' '.join(sorted(absent))}"
     for text in texts:
         if not re.fullmatch(r"(?!Other)[A-Z][A-Za-z]*", text):
             yield f"{text} isn't in letters, or begins with `Other`"
@@ -146,17 +133,51 @@ def table(names):
     return ["    &[", *pairs(names, " " * 8), "    ],"]
 
 
-def tables_by_length(names):
-    """The tables of the names as scripts write them."""
-    lines = [f"static EVENT_NAMES: [&[(&str, Name)]; {LENGTHS}] = ["]
-    for length in range(LENGTHS):
-        lines += table([name for name in names if len(name.text) == length])
-    return [*lines, "];"]
-
-
 def array(head, items):
     """An array in Rust, an item a line."""
     return [head + " = [", *(f"    {item}," for item in items), "];"]
+
+
+def text_of(lines):
+    return "\n".join(lines) + "\n"
+
+
+def name_tables(names):
+    """The tables of `md_base`: the names by their lengths, and by their numbers."""
+    numbered = (f"Name::{text}" for text in by_number(names))
+    tables = (table([name for name in names if len(name.text) == length])
+              for length in range(LENGTHS))
+    return text_of([
+        "//! Tables of all names of events but `Other`.",
+        f"// {NOTICE}",
+        "",
+        "use crate::event::Name;",
+        "",
+        "/// The names under their spellings, each table at the length of its names.",
+        f"pub(crate) static BY_LENGTH: [&[(&str, Name)]; {LENGTHS}] = [",
+        *itertools.chain(*tables),
+        "];",
+        "",
+        "/// The names by their numbers, from 1; a number never changes.",
+        *array(f"pub(crate) static BY_NUMBER: [Name; {len(names)}]", numbered),
+    ])
+
+
+def spelled_names(names):
+    """The definition of the names under their spellings."""
+    return text_of([
+        "-- The names of events, as scripts write them.",
+        f"-- {NOTICE}",
+        "use Rattle.std.specs.Prelude.{ℕ, List, [], ◌∷◌, codes}",
+        "use Rattle.md_base.specs.declared.event.Name.{Name}",
+        f"{IMPORTS}{', '.join(name.text for name in names)}}}",
+        "",
+        "-- each name but `Other`, under its spelling, in the order of their numbers, from 1",
+        "abbrev pub event_names : List (List ℕ × Name)",
+        "event_names =",
+        *(f'    (codes "{text}", {text}) ∷' for text in by_number(names)),
+        "    []",
+    ])
 
 
 def with_imports(source, texts):
@@ -166,12 +187,6 @@ def with_imports(source, texts):
     lines = "".join(f"{IMPORT}{line.rstrip(',')}}}\n" for line in lines)
     pattern = rf"(?<={re.escape(VARIANTS)})(?:{re.escape(IMPORT)}.*}}\n)+"
     return replaced(source, pattern, lines)
-
-
-def with_list(source, defined, items):
-    """Definitions in which a word is defined as this list."""
-    lines = "".join(f"    {item} ∷\n" for item in items)
-    return replaced(source, rf"(?ms)(?<=^{defined} =\n).*?(?=^    \[\]$)", lines)
 
 
 def replaced(source, pattern, new):
@@ -189,16 +204,6 @@ def by_number(names):
     return [name.text for name in sorted(names)]
 
 
-def case_tables(names):
-    """The tables of `md_cases`, each of the names that `TABLES` sends there."""
-    sent, at = {}, ""
-    for name in names:
-        at = TABLES.get(name.text, at)
-        sent.setdefault(at, []).append(name)
-    for at in ("BLOCKS", "CODE", "MEDIA", "TEXTS"):
-        yield [f"static {at}: [(&str, Name); {len(sent[at])}] = [", *pairs(sent[at], "    "), "];"]
-
-
 def short(names):
     """The spellings that one load recognizes, the shortest first."""
     return sorted((name.text for name in names if len(name.text) < LANES), key=len)
@@ -211,8 +216,9 @@ def sums(texts, factors):
     return [sum(at * ord(letter) for at, letter in zip(times, three)) % 256 for three in letters]
 
 
-def factors_for(texts, standing):
-    """The factors that stand, if they part these spellings, else the first ones that do."""
+def factors_for(texts):
+    """The factors that part these spellings: those that stand, if they do, else the first ones."""
+    standing = tuple(map(int, re.findall(r"(?:MIDDLE|LAST): usize = (\d+);", read(ROWS))))
     ways = itertools.chain([standing], itertools.product(range(1, 256), repeat=2))
     return next(way for way in ways if len(set(sums(texts, way))) == len(texts))
 
@@ -222,62 +228,58 @@ def slots(texts, factors):
     found = ["~"] * 256
     for place, at in enumerate(sums(texts, factors)):
         found[at] = chr(ord("(") + place).replace("\\", "\\\\")
-    return ["static SLOTS: [u8; 256] = *b\"\\",
+    return ["pub(crate) static SLOTS: [u8; 256] = *b\"\\",
             *("    " + "".join(found[at:at + 64]) + "\\" for at in (0, 64, 128)),
             "    " + "".join(found[192:]) + "\";"]
 
 
-def common_names(names):
-    """The slots and the rows of the reader, and its factors set into its function."""
+def name_rows(names):
+    """The rows of the reader, and what leads to a name's row."""
     texts = short(names)
-    source = read(COMMON)
-    patterns = [rf"(\d+) \* usize::from\({letter}\)" for letter in ("middle", "last")]
-    standing = tuple(int(re.search(pattern, source)[1]) for pattern in patterns)
-    factors = factors_for(texts, standing)
-    for pattern, factor in zip(patterns, factors):
-        source = replaced(source, pattern, str(factor))
+    middle, last = factors_for(texts)
     rows = (f'(*b"{text:{LANES}}", Name::{text})' for text in texts)
-    rows = array(f"static ROWS: [Row; {len(texts)}]", rows)
-    return with_blocks(COMMON, source, [slots(texts, factors), rows])
+    return text_of([
+        "//! Rows of the names of under sixteen bytes, and which row may be a text's.",
+        f"// {NOTICE}",
+        "",
+        "use md_base::Name;",
+        "",
+        "/// A name of under sixteen bytes: its text with spaces after it, and the name.",
+        f"pub(crate) type Row = ([u8; {LANES}], Name);",
+        "",
+        "/// How often a text's middle byte counts in its sum; its first one counts once.",
+        f"pub(crate) const MIDDLE: usize = {middle};",
+        "",
+        "/// How often its last byte counts.",
+        f"pub(crate) const LAST: usize = {last};",
+        "",
+        "/// At each sum the place of its row, counted from `(`; `~` where there is none.",
+        *slots(texts, (middle, last)),
+        "",
+        *array(f"pub(crate) static ROWS: [Row; {len(texts)}]", rows),
+    ])
 
 
-def with_blocks(path, source, blocks):
-    """A source with these blocks between its marks, each with the comments at its head."""
-    found = BLOCK.findall(source)
-    if len(found) != len(blocks):
-        sys.exit(f"bench/names.py: {path} has {len(found)} blocks, and not {len(blocks)}")
-    left = ("\n".join(lines) + "\n" for lines in blocks)
-    return BLOCK.sub(lambda at: at[1] + HEAD.match(at[2])[0] + next(left) + at[3], source)
+def with_variants(source, names):
+    """The source of the enum with these variants between the marks."""
+    lines = text_of(variants(names))
+    return replaced(source, rf"(?ms){BEGIN}\n(.*?)(?={END})", lines)
 
 
-def code_texts(names):
-    """The new texts of the crates' code."""
-    numbered = (f"Name::{text}" for text in by_number(names))
-    made = {COMMON: common_names(names)}
-    for place, blocks in {
-        "md_base/src/event.rt": [variants(names)],
-        "md_base/src/event_names.rt": [tables_by_length(names)],
-        "md_abi/src/names.rt": [array(f"static NAMES: [Name; {len(names)}]", numbered)],
-        "md_cases/src/reading.rt": list(case_tables(names)),
-    }.items():
-        made[CRATES / place] = with_blocks(CRATES / place, read(CRATES / place), blocks)
-    return made
-
-
-def definition_texts(names):
-    """The new texts of the crates' definitions."""
-    texts, numbered = [name.text for name in names], by_number(names)
+def made_of(names):
+    """The new texts of the crates' files."""
+    texts = [name.text for name in names]
     mdx = texts.index("MdxEsm")
-    spelled = (f'(codes "{text}", {text})' for text in texts)
-    made = {}
-    for place, imported, defined, items in [
-        ("md_base/specs/EventNames.antt", texts, "event_names", spelled),
-        ("md_abi/specs/Names.antt", ["Other", *texts], "numbered_names", numbered),
-        ("md_pattern/specs/Standing.antt", [*texts[:mdx], "Other", *texts[mdx:]], None, []),
-    ]:
-        source = with_imports(read(CRATES / place), imported)
-        made[CRATES / place] = with_list(source, defined, items) if defined else source
-    return made
+    standing = [*texts[:mdx], "Other", *texts[mdx:]]
+    return {
+        **{path: make(names) for path, make in WHOLE.items()},
+        VARIANTS: with_variants(read(VARIANTS), names),
+        STANDING: with_imports(read(STANDING), standing),
+    }
+
+
+# The files that this makes whole, each with what makes it.
+WHOLE = {SPELLED: spelled_names, TABLES: name_tables, ROWS: name_rows}
 
 
 def count_texts(names):
@@ -303,7 +305,7 @@ def main():
     names = listed()
     if faults := list(faults_of(names)):
         sys.exit("\n".join(f"clients/numbers/numbers.txt: {fault}" for fault in faults))
-    made = {**code_texts(names), **definition_texts(names), **count_texts(names)}
+    made = {**made_of(names), **count_texts(names)}
     different = [path for path, text in made.items() if read(path) != text]
     for path in different:
         said = "is written anew" if write else "is not as bench/names.py makes it"

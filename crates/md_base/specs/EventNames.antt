@@ -1,4 +1,5 @@
--- The names of events, as scripts write them; `bench/names.py` makes the list.
+-- The names of events, as scripts write them.
+-- Written by bench/names.py from clients/numbers/numbers.txt. Don't edit it.
 use Rattle.std.specs.Prelude.{ℕ, List, [], ◌∷◌, codes}
 use Rattle.md_base.specs.declared.event.Name.{Name}
 use Rattle.md_base.specs.declared.event.Name.TheVariants as name_variants
@@ -24,7 +25,7 @@ use name_variants.{GfmTaskListItemCheck, GfmTaskListItemValueChecked, HardBreakE
 use name_variants.{HardBreakTrailing, Paragraph, ThematicBreak, Frontmatter, SpaceOrTab, MdxEsm}
 use name_variants.{MdxFlowExpression, MdxTextExpression, MdxJsxFlowTag, MdxJsxTextTag}
 
--- each name but `Other`, under its spelling
+-- each name but `Other`, under its spelling, in the order of their numbers, from 1
 abbrev pub event_names : List (List ℕ × Name)
 event_names =
     (codes "AutolinkEmail", AutolinkEmail) ∷

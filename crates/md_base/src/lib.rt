@@ -9,6 +9,7 @@ mod identifier;
 pub mod laws;
 mod lists;
 mod name;
+mod name_tables;
 pub mod name_tests;
 mod position;
 mod reference;
@@ -16,7 +17,7 @@ mod slice;
 mod text;
 
 pub use event::{AlignKind, Event, Kind, Name, Point, Position};
-pub use event_names::names_by_length;
+pub use event_names::{names_by_length, names_by_number};
 pub use identifier::normalize_identifier;
 pub use lists::{GFM_HTML_TAGFILTER_NAMES, SAFE_PROTOCOL_HREF, SAFE_PROTOCOL_SRC};
 pub use name::is_same_name;

@@ -6,6 +6,7 @@ ghost use Rattle.md_script.specs.CommonName.{IsFirstSpace, IsSpaceAt, AreRows};
 
 use crate::digits::digits_before;
 use crate::name::read_name;
+use crate::name_rows::{LAST, MIDDLE, ROWS, Row, SLOTS};
 use md_base::Name;
 use std::simd::prelude::*;
 
@@ -14,9 +15,6 @@ const LANES: usize = 16;
 
 /// How many bytes are looked at for the end of a name; no name has as many.
 const LONGEST: usize = 48;
-
-/// A name of under sixteen bytes: its text with spaces after it, and the name.
-type Row = ([u8; 16], Name);
 
 /// The name that bytes begin with, and what follows the space after it. Nothing also where it is one that a slower way
 /// reads.
@@ -34,7 +32,7 @@ pub(crate) fn read_common_name(bytes: &[u8]) -> Option<(Name, &[u8])>
     if LANES <= size {
         return read_long_name(bytes);
     }
-    let place = place_of(bytes[0], bytes[size / 2], bytes[size - 1]);
+    let place = place_of_row(bytes[0], bytes[size / 2], bytes[size - 1]);
     match read_listed_name(bytes, size, place) {
         Some(read) => Some(read),
         None => read_other_name(bytes),
@@ -59,7 +57,7 @@ fn read_listed_name(bytes: &[u8], size: usize, place: usize) -> Option<(Name, &[
     requires space { IsFirstSpace bytes.now size }
     ensures { IfSome result (λ read. BeginsWithName bytes.now read.0 read.1.now) }
 {
-    let (text, name) = rows().get(place)?;
+    let (text, name) = listed_rows().get(place)?;
     if size < same_bytes(bytes, text) {
         Some((*name, &bytes[size + 1..]))
     } else {
@@ -126,79 +124,14 @@ fn space_after_block(bytes: &[u8]) -> Option<usize>
 /// The place of the row for a name with these bytes as its first, its middle and its last one: no two of these names
 /// have the same. It is a guess, as other texts may have them too.
 #[inline(always)]
-fn place_of(first: u8, middle: u8, last: u8) -> usize {
-    let sum = usize::from(first) + 33 * usize::from(middle) + 8 * usize::from(last);
+fn place_of_row(first: u8, middle: u8, last: u8) -> usize {
+    let sum = usize::from(first) + MIDDLE * usize::from(middle) + LAST * usize::from(last);
     usize::from(SLOTS[sum % 256].wrapping_sub(b'('))
 }
 
-// bench/names.py: begin
-/// At each such sum the place of its row, as a character counted from `(`; `~` where there is none.
-static SLOTS: [u8; 256] = *b"\
-    ~~~~~~2~~~~/~~~~~~~~~~~~~S~~~.?~~~~~~~~~~~~~~~W~~~~~~P=~~~~~~<~~\
-    (~~~~~~B~U~~~X+~~~~G~~~~~R~~~~6~~~~~~~~~;~~~~~~~~~~~~~~~~L~~~~~~\
-    ~~~~~~~~~~~Q~~~4~~>I~~~~~~-~~~~E~@~~~~~~V~~~~~~~~~9~~~~0~~~K3~~~\
-    ~1~CN~~~F~~~~D~J~~)~~Y~87~,:~~~~~~~A~~~~~TM~~~~~5Z*~O~~~~~~H~~~~";
-// bench/names.py: end
-
 #[inline(always)]
-fn rows() -> &'static [Row]
+fn listed_rows() -> &'static [Row]
     ensures { AreRows result.now }
 {
     &ROWS
 }
-
-// bench/names.py: begin
-static ROWS: [Row; 51] = [
-    (*b"Data            ", Name::Data),
-    (*b"Link            ", Name::Link),
-    (*b"Image           ", Name::Image),
-    (*b"Label           ", Name::Label),
-    (*b"Strong          ", Name::Strong),
-    (*b"MdxEsm          ", Name::MdxEsm),
-    (*b"ListItem        ", Name::ListItem),
-    (*b"MathFlow        ", Name::MathFlow),
-    (*b"CodeText        ", Name::CodeText),
-    (*b"MathText        ", Name::MathText),
-    (*b"HtmlFlow        ", Name::HtmlFlow),
-    (*b"HtmlText        ", Name::HtmlText),
-    (*b"Resource        ", Name::Resource),
-    (*b"GfmTable        ", Name::GfmTable),
-    (*b"Emphasis        ", Name::Emphasis),
-    (*b"LabelText       ", Name::LabelText),
-    (*b"Paragraph       ", Name::Paragraph),
-    (*b"LineEnding      ", Name::LineEnding),
-    (*b"BlockQuote      ", Name::BlockQuote),
-    (*b"CodeFenced      ", Name::CodeFenced),
-    (*b"Definition      ", Name::Definition),
-    (*b"HeadingAtx      ", Name::HeadingAtx),
-    (*b"SpaceOrTab      ", Name::SpaceOrTab),
-    (*b"ListOrdered     ", Name::ListOrdered),
-    (*b"GfmTableRow     ", Name::GfmTableRow),
-    (*b"Frontmatter     ", Name::Frontmatter),
-    (*b"CodeIndented    ", Name::CodeIndented),
-    (*b"CodeTextData    ", Name::CodeTextData),
-    (*b"MathTextData    ", Name::MathTextData),
-    (*b"HtmlFlowData    ", Name::HtmlFlowData),
-    (*b"HtmlTextData    ", Name::HtmlTextData),
-    (*b"GfmTableHead    ", Name::GfmTableHead),
-    (*b"GfmTableBody    ", Name::GfmTableBody),
-    (*b"GfmTableCell    ", Name::GfmTableCell),
-    (*b"AutolinkEmail   ", Name::AutolinkEmail),
-    (*b"ListUnordered   ", Name::ListUnordered),
-    (*b"ListItemValue   ", Name::ListItemValue),
-    (*b"CodeFlowChunk   ", Name::CodeFlowChunk),
-    (*b"MathFlowFence   ", Name::MathFlowFence),
-    (*b"MathFlowChunk   ", Name::MathFlowChunk),
-    (*b"ThematicBreak   ", Name::ThematicBreak),
-    (*b"MdxJsxFlowTag   ", Name::MdxJsxFlowTag),
-    (*b"MdxJsxTextTag   ", Name::MdxJsxTextTag),
-    (*b"ListItemPrefix  ", Name::ListItemPrefix),
-    (*b"ListItemMarker  ", Name::ListItemMarker),
-    (*b"HeadingAtxText  ", Name::HeadingAtxText),
-    (*b"BlankLineEnding ", Name::BlankLineEnding),
-    (*b"CodeFencedFence ", Name::CodeFencedFence),
-    (*b"ReferenceString ", Name::ReferenceString),
-    (*b"GfmFootnoteCall ", Name::GfmFootnoteCall),
-    (*b"HardBreakEscape ", Name::HardBreakEscape),
-];
-// bench/names.py: end

@@ -7,6 +7,7 @@ mod digits;
 mod error;
 mod line;
 mod name;
+mod name_rows;
 mod number;
 mod plain_line;
 mod running;

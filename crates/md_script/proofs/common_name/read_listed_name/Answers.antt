@@ -8,9 +8,10 @@ use Rattle.md_script.proofs.common_name.read_listed_name.Goals as goal
 
 pub returns-then-size-same_bytes : goal.returns-then-size-same_bytes
 returns-then-size-same_bytes c =
-    let rows = c.rows.result.now in
+    let rows = c.listed_rows.result.now in
     let row = c.in_ok-text.field-0.now in
     let found = c.in_ok-text.ensures.lookup in
-    row_read rows c.args.place row c.args.bytes.now c.args.size c.same_bytes.result c.rows.ensures
+    row_read rows c.args.place row c.args.bytes.now c.args.size c.same_bytes.result
+    c.listed_rows.ensures
     (slice_get-get_or rows c.args.place row (ltb-true _ _ (sym found.0)) ∙ ap Some (sym found.1)) c.requires.room
     c.requires.few c.requires.space c.same_bytes.ensures c.if-size-same_bytes.true
