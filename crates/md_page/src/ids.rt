@@ -96,7 +96,7 @@ pub(crate) fn with_ids(alloc: Global, text: &str, prefix: &str) -> Result<String
     while let Some(end) = next_end(Rule::Heading, rest.as_bytes()) {
         out.push_str(&rest[..end])?;
         number += 1;
-        push_id(alloc, &mut out, start.as_str(), number)?;
+        push_heading_id(alloc, &mut out, start.as_str(), number)?;
         rest = &rest[end..];
     }
     out.push_str(rest)?;
@@ -113,7 +113,12 @@ fn id_start(alloc: Global, prefix: &str) -> Result<String, AllocError>
 }
 
 /// Adds an `id` that begins so and ends with this number.
-fn push_id(alloc: Global, out: &mut String, start: &str, number: usize) -> Result<(), AllocError>
+fn push_heading_id(
+    alloc: Global,
+    out: &mut String,
+    start: &str,
+    number: usize,
+) -> Result<(), AllocError>
     ensures { OnOk result (string_bytes out.new
         ≡ string_bytes out.old ++ (start.now ++ (decimal number ++ (34 ∷ [])))) }
 {

@@ -16,7 +16,7 @@ loop-end-preserved c =
     let add = λ (k : ℕ). written_attributes (new_id prefix k ∷ []) in
     let scan = rw c.as_bytes.ensures.value at c.in-Some.ensures.scan add n in
     let place = rw c.as_bytes.ensures.value at c.in-Some.ensures.place in
-    let out : List ℕ = string_bytes c.push_id.new.out in
+    let out : List ℕ = string_bytes c.push_heading_id.new.out in
     let later : List ℕ = c.range_from-rest.result.now in
     let next : suc n ≡ n + 1 = omega arith in (
       omega (arith, c.loop-end.invariant.0, ap length c.range_from-rest.ensures.value, length-drop end rest, place.0, place.1),
@@ -24,7 +24,8 @@ loop-end-preserved c =
           next
           (turned picks_heading add n rest end (string_bytes c.loop-end.out) (string_bytes c.push_str.new.self) out
           c.range.result.now _ later _ c.in_ok-push_str.ensures.bytes (c.range.ensures.value ∙ from_start rest end)
-          c.in_ok-push_id.ensures (id-written prefix c.as_str.result.now n (c.as_str.ensures.value ∙ c.in_ok-start.ensures))
+          c.in_ok-push_heading_id.ensures (id-written prefix c.as_str.result.now n
+          (c.as_str.ensures.value ∙ c.in_ok-start.ensures))
           c.range_from-rest.ensures.value scan c.loop-end.invariant.1),
       c.range_from-rest.utf8,
     )
