@@ -30,7 +30,8 @@ ROWS = CRATES / "md_script" / "src" / "name_rows.rt"
 VARIANTS = CRATES / "md_base" / "src" / "event.rt"
 STANDING = CRATES / "md_pattern" / "specs" / "Standing.antt"
 BEGIN, END = (rf"^ *// bench/names\.py: {word}$" for word in ("begin", "end"))
-IMPORTS = "use Rattle.md_base.specs.declared.event.Name.TheVariants.{"
+ALIAS = "use Rattle.md_base.specs.declared.event.Name.TheVariants as name_variants\n"
+IMPORT = "use name_variants.{"
 COLUMNS, LANES = 100, 16
 # A pair of a spelling and a name stands in one line where it has no more letters.
 PAIR = 60
@@ -170,8 +171,7 @@ def spelled_names(names):
         f"-- {NOTICE}",
         "use Rattle.std.specs.Prelude.{ℕ, List, [], ◌∷◌, codes}",
         "use Rattle.md_base.specs.declared.event.Name.{Name}",
-        f"{IMPORTS}{', '.join(name.text for name in names)}}}",
-        "",
+        ALIAS + imports([name.text for name in names]),
         "-- each name but `Other`, under its spelling, in the order of their numbers, from 1",
         "abbrev pub event_names : List (List ℕ × Name)",
         "event_names =",
@@ -180,13 +180,17 @@ def spelled_names(names):
     ])
 
 
-def with_imports(source, texts):
-    """Definitions that import these variants."""
+def imports(texts):
+    """Lines that import these variants."""
     room = COLUMNS - len(IMPORT + "}")
     lines = textwrap.wrap(", ".join(texts), room + len(","), break_long_words=False)
-    lines = "".join(f"{IMPORT}{line.rstrip(',')}}}\n" for line in lines)
-    pattern = rf"(?<={re.escape(VARIANTS)})(?:{re.escape(IMPORT)}.*}}\n)+"
-    return replaced(source, pattern, lines)
+    return "".join(f"{IMPORT}{line.rstrip(',')}}}\n" for line in lines)
+
+
+def with_imports(source, texts):
+    """Definitions that import these variants."""
+    pattern = rf"(?<={re.escape(ALIAS)})(?:{re.escape(IMPORT)}.*}}\n)+"
+    return replaced(source, pattern, imports(texts))
 
 
 def replaced(source, pattern, new):

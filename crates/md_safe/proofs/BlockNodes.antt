@@ -15,7 +15,7 @@ use Rattle.md_text.proofs.HtmlJoin.{nothing, text}
 use Rattle.md_base.specs.Is.{is as named}
 use Rattle.md_base.specs.Children.{spine_names}
 use Rattle.md_base.specs.NameTests.{is_transparent, is_call, is_chunk}
-use Rattle.md_infer.specs.Looseness.{is_loose}
+use Rattle.md_pattern.specs.Looseness.{is_loose}
 use Rattle.md_meaning.specs.declared.context.Surroundings.{Surroundings}
 use Rattle.md_meaning.specs.Meaning.At.{At, Given}
 use Rattle.md_meaning.specs.Meaning.Around.{inside, is_tight}
