@@ -13,9 +13,10 @@ ghost use Rattle.md_abi.specs.Attributed.{IsAttributedText, IsListedAfter};
 ghost use Rattle.md_abi.specs.Refusals.{ExplainsRefusal, IsRefusalFor};
 
 use crate::attributes::{CAttributes, read_attribute};
-use crate::event::{CEvent, read_events};
-use crate::option::{COptions, read_options};
-use crate::reference::{CReference, read_references};
+use crate::event::read_c_events;
+use crate::given::CDocument;
+use crate::option::read_options;
+use crate::reference::read_references;
 use crate::refusal::Refusal;
 use md_page::{Heading, Html, with_heading_ids, with_link_rel};
 use md_base::Event;
@@ -39,22 +40,27 @@ pub struct Attributed {
 /// Tells what stands for none, that the options aren't safe, the refusal of the compiler, or that it is out of memory.
 pub fn compile_attributed(
     alloc: Global,
-    events: &[CEvent],
-    bytes: &[u8],
-    options: &COptions,
-    names: &[CReference],
+    given: CDocument,
     attributes: &CAttributes,
 ) -> Result<Attributed, Refusal>
     ensures ok { IfOk result (λ made.
-        IsAttributedText events.now bytes.now options.now names.now attributes.now made.start (string_bytes made.whole)) }
-    ensures err { IfErr result (ExplainsRefusal events.now bytes.now options.now names.now attributes.now) }
+        IsAttributedText given.entry.events.now given.entry.bytes.now given.entry.options.now
+        given.entry.names.now attributes.now made.start (string_bytes made.whole)) }
+    ensures err { IfErr result (ExplainsRefusal given.entry.events.now given.entry.bytes.now
+        given.entry.options.now given.entry.names.now attributes.now) }
 {
-    let events = read_events(alloc, events)?;
-    let names = read_references(alloc, names)?;
-    let options = read_options(alloc, options)?;
+    let events = read_c_events(alloc, given.events)?;
+    let names = read_references(alloc, given.names)?;
+    let options = read_options(alloc, given.options)?;
     let rel = read_attribute(&attributes.rel, 0)?;
     let prefix = read_attribute(&attributes.heading_ids, 1)?;
-    let html = compile_read_safely(alloc, events.as_slice(), bytes, &options, names.as_slice())?;
+    let html = compile_read_safely(
+        alloc,
+        events.as_slice(),
+        given.bytes,
+        &options,
+        names.as_slice(),
+    )?;
     let made = add_asked(alloc, &html, rel, prefix)?;
     Ok(made)
 }
@@ -114,14 +120,14 @@ fn with_list(alloc: Global, text: &str, headings: &[Heading]) -> Result<Attribut
 {
     let mut whole = String::from_str(alloc, text)?;
     for heading in headings {
-        push_heading(alloc, &mut whole, heading)?;
+        push_heading_line(alloc, &mut whole, heading)?;
     }
     let start = text.len();
     Ok(Attributed { whole, start })
 }
 
 /// Adds a heading to the list.
-fn push_heading(alloc: Global, whole: &mut String, heading: &Heading) -> Result<(), AllocError>
+fn push_heading_line(alloc: Global, whole: &mut String, heading: &Heading) -> Result<(), AllocError>
     ensures { OnOk result (string_bytes whole.new ≡ string_bytes whole.old ++ heading_line (listed heading.now)) }
 {
     whole.push_str("\0")?;

@@ -6,7 +6,7 @@ ghost use Rattle.md_abi.specs.Standing.{StandFor};
 ghost use Rattle.md_abi.specs.Failures.{IsEventFault};
 
 use crate::failure::Failure;
-use crate::names::read_name;
+use crate::names::name_under;
 use md_base::{Event, Kind, Point};
 use std::alloc::{AllocError, Global};
 
@@ -31,14 +31,14 @@ pub struct CEvent {
 /// # Errors
 ///
 /// Tells the index of the first event that stands for none, or that it is out of memory.
-pub(crate) fn read_events(alloc: Global, events: &[CEvent]) -> Result<Vec<Event>, Failure>
+pub(crate) fn read_c_events(alloc: Global, events: &[CEvent]) -> Result<Vec<Event>, Failure>
     ensures ok { IfOk result (λ read. StandFor event_of events.now read.items) }
     ensures err { IfErr result (IsEventFault events.now) }
 {
     let mut read = Vec::new(alloc);
     for event in events {
-        match read_event(event) {
-            Some(event) => keep(&mut read, event)?,
+        match read_c_event(event) {
+            Some(event) => add_event(&mut read, event)?,
             None => return Err(Failure::Event(read.as_slice().len())),
         }
     }
@@ -46,7 +46,7 @@ pub(crate) fn read_events(alloc: Global, events: &[CEvent]) -> Result<Vec<Event>
 }
 
 /// Adds an event to those before it.
-fn keep(events: &mut Vec<Event>, event: Event) -> Result<(), AllocError>
+fn add_event(events: &mut Vec<Event>, event: Event) -> Result<(), AllocError>
     ensures { OnOk result (events.new.items ≡ events.old.items ++ event ∷ []) }
 {
     events.push(event)?;
@@ -54,11 +54,11 @@ fn keep(events: &mut Vec<Event>, event: Event) -> Result<(), AllocError>
 }
 
 /// The event that one stands for.
-fn read_event(event: &CEvent) -> Option<Event>
+fn read_c_event(event: &CEvent) -> Option<Event>
     ensures { result ≡ event_of event.now }
 {
-    let kind = read_kind(event.kind)?;
-    let name = read_name(event.name, event.other)?;
+    let kind = kind_under(event.kind)?;
+    let name = name_under(event.name, event.other)?;
     let point = Point {
         line: 1,
         column: 1,
@@ -69,7 +69,7 @@ fn read_event(event: &CEvent) -> Option<Event>
 }
 
 /// The kind under a number.
-fn read_kind(number: u8) -> Option<Kind>
+fn kind_under(number: u8) -> Option<Kind>
     ensures { result ≡ kind_of number }
 {
     match number {

@@ -6,7 +6,7 @@ ghost use Rattle.md_abi.specs.Rendered.{IsRendered};
 ghost use Rattle.md_abi.specs.Failures.{Explains, IsRefusalOf};
 ghost use Rattle.md_abi.specs.Compiled.{IsCompiled};
 
-use crate::event::{CEvent, read_events};
+use crate::event::{CEvent, read_c_events};
 use crate::failure::Failure;
 use crate::option::{COptions, read_options};
 use crate::reference::{CReference, read_references};
@@ -15,25 +15,40 @@ use md_html::compile;
 use md_text::CompileOptions;
 use std::alloc::Global;
 
+/// A document as C hands it in.
+#[derive(Clone, Copy)]
+pub struct CDocument<'a> {
+    /// Its events.
+    pub events: &'a [CEvent],
+    /// Its bytes.
+    pub bytes: &'a [u8],
+    /// How it is compiled.
+    pub options: &'a COptions<'a>,
+    /// The character references by name that it may have.
+    pub names: &'a [CReference<'a>],
+}
+
 /// The HTML of what is handed in.
 ///
 /// # Errors
 ///
 /// Tells what stands for none, the refusal of the compiler, or that it is out of memory.
-pub fn compile_given(
-    alloc: Global,
-    events: &[CEvent],
-    bytes: &[u8],
-    options: &COptions,
-    names: &[CReference],
-) -> Result<String, Failure>
-    ensures ok { IfOk result (λ text. IsRendered events.now bytes.now options.now names.now (string_bytes text)) }
-    ensures err { IfErr result (Explains events.now bytes.now options.now names.now) }
+pub fn compile_given(alloc: Global, given: CDocument) -> Result<String, Failure>
+    ensures ok { IfOk result (λ text. IsRendered given.entry.events.now given.entry.bytes.now
+        given.entry.options.now given.entry.names.now (string_bytes text)) }
+    ensures err { IfErr result (Explains given.entry.events.now given.entry.bytes.now
+        given.entry.options.now given.entry.names.now) }
 {
-    let events = read_events(alloc, events)?;
-    let names = read_references(alloc, names)?;
-    let options = read_options(alloc, options)?;
-    compile_read(alloc, events.as_slice(), bytes, &options, names.as_slice())
+    let events = read_c_events(alloc, given.events)?;
+    let names = read_references(alloc, given.names)?;
+    let options = read_options(alloc, given.options)?;
+    compile_read(
+        alloc,
+        events.as_slice(),
+        given.bytes,
+        &options,
+        names.as_slice(),
+    )
 }
 
 /// The HTML of what was read.

@@ -21,7 +21,7 @@ pub use attributed::{Attributed, compile_attributed};
 pub use attributes::CAttributes;
 pub use event::CEvent;
 pub use failure::Failure;
-pub use given::compile_given;
+pub use given::{CDocument, compile_given};
 pub use option::{COptions, CText};
 pub use reference::CReference;
 pub use refusal::Refusal;

@@ -34,7 +34,7 @@ pub(crate) fn read_references<'a>(
     let mut read = Vec::new(alloc);
     for reference in references {
         match read_reference(reference) {
-            Some(pair) => keep(&mut read, pair)?,
+            Some(pair) => add_pair(&mut read, pair)?,
             None => return Err(Failure::Name(read.as_slice().len())),
         }
     }
@@ -42,7 +42,10 @@ pub(crate) fn read_references<'a>(
 }
 
 /// Adds a name and its text to those before it.
-fn keep<'a>(pairs: &mut Vec<(&'a str, &'a str)>, pair: (&'a str, &'a str)) -> Result<(), AllocError>
+fn add_pair<'a>(
+    pairs: &mut Vec<(&'a str, &'a str)>,
+    pair: (&'a str, &'a str),
+) -> Result<(), AllocError>
     ensures { OnOk result (pairs.new.items ≡ pairs.old.items ++ pair.entry ∷ []) }
 {
     pairs.push(pair)?;

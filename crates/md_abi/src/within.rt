@@ -5,10 +5,11 @@ ghost use Rattle.md_tree.specs.Grammar.{handed};
 ghost use Rattle.md_abi.specs.Within.{IsRenderedWithin, IsBounded};
 ghost use Rattle.md_abi.specs.WithinFailures.{IsCompiledWithin, IsFailureWithin, ExplainsWithin};
 
-use crate::event::{CEvent, read_events};
+use crate::event::read_c_events;
 use crate::failure::Failure;
-use crate::option::{COptions, read_options};
-use crate::reference::{CReference, read_references};
+use crate::given::CDocument;
+use crate::option::read_options;
+use crate::reference::read_references;
 use md_base::Event;
 use md_html::{Limits, WithinError, compile_within};
 use md_text::CompileOptions;
@@ -69,48 +70,51 @@ impl From<WithinError> for WithinFailure {
 /// the compiler, or that it is out of memory.
 pub fn compile_given_within(
     alloc: Global,
-    events: &[CEvent],
-    bytes: &[u8],
-    options: &COptions,
-    names: &[CReference],
+    given: CDocument,
     limits: &CLimits,
 ) -> Result<String, WithinFailure>
-    ensures ok { IfOk result (λ text. IsRenderedWithin
-        events.now bytes.now options.now names.now limits.now (string_bytes text)) }
-    ensures bounded { OnOk result (IsBounded events.now limits.now) }
-    ensures err { IfErr result
-        (ExplainsWithin events.now bytes.now options.now names.now limits.now) }
+    ensures ok { IfOk result (λ text. IsRenderedWithin given.entry.events.now given.entry.bytes.now
+        given.entry.options.now given.entry.names.now limits.now (string_bytes text)) }
+    ensures bounded { OnOk result (IsBounded given.entry.events.now limits.now) }
+    ensures err { IfErr result (ExplainsWithin given.entry.events.now given.entry.bytes.now
+        given.entry.options.now given.entry.names.now limits.now) }
 {
-    let events = read_events(alloc, events)?;
-    let names = read_references(alloc, names)?;
-    let options = read_options(alloc, options)?;
+    let events = read_c_events(alloc, given.events)?;
+    let names = read_references(alloc, given.names)?;
+    let options = read_options(alloc, given.options)?;
     let limits = Limits {
         text: limits.text,
         work: limits.work,
     };
-    compile_read_within(
-        alloc,
-        events.as_slice(),
-        bytes,
-        &options,
-        names.as_slice(),
-        limits,
-    )
+    let read = ReadDocument {
+        events: events.as_slice(),
+        bytes: given.bytes,
+        names: names.as_slice(),
+    };
+    compile_read_within(alloc, read, &options, limits)
+}
+
+/// What was read of a document.
+#[derive(Clone, Copy)]
+struct ReadDocument<'a> {
+    events: &'a [Event],
+    bytes: &'a [u8],
+    names: &'a [(&'a str, &'a str)],
 }
 
 /// The HTML of what was read, where it is within limits.
 fn compile_read_within(
     alloc: Global,
-    events: &[Event],
-    bytes: &[u8],
+    read: ReadDocument,
     options: &CompileOptions,
-    names: &[(&str, &str)],
     limits: Limits,
 ) -> Result<String, WithinFailure>
     ensures ok { IfOk result (λ text. IsCompiledWithin
-        (handed events.now bytes.now names.now) options.now limits (string_bytes text)) }
-    ensures err { IfErr result
-        (IsFailureWithin (handed events.now bytes.now names.now) options.now limits) }
+        (handed read.entry.events.now read.entry.bytes.now read.entry.names.now)
+        options.now limits (string_bytes text)) }
+    ensures err { IfErr result (IsFailureWithin
+        (handed read.entry.events.now read.entry.bytes.now read.entry.names.now)
+        options.now limits) }
 {
-    Ok(compile_within(alloc, events, bytes, options, names, limits)?)
+    Ok(compile_within(alloc, read.events, read.bytes, options, read.names, limits)?)
 }

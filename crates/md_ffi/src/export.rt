@@ -18,7 +18,7 @@ ghost use Rattle.md_abi.specs.Answers.{IsOfCompile, IsOfAttributed, IsOfRun};
 ghost use Rattle.md_abi.specs.Answers.{IsOfWithin, TellsOfEvents};
 
 use md_abi::{
-    Answer, CAttributes, CEvent, CLimits, COptions, CReference, Failure, answer_to,
+    Answer, CAttributes, CDocument, CEvent, CLimits, COptions, CReference, Failure, answer_to,
     answer_to_refusal, answer_to_within, compile_attributed, compile_given, compile_given_within,
     hand_over, hand_over_listed,
 };
@@ -67,7 +67,13 @@ pub extern "C" fn bivdrazo_compile(
     ensures no_option { result.status ≡ no_option → StandsForNone options.now result.index }
     ensures fields { IsOfCompile result }
 {
-    match compile_given(alloc, events, bytes, options, names) {
+    let given = CDocument {
+        events,
+        bytes,
+        options,
+        names,
+    };
+    match compile_given(alloc, given) {
         Ok(text) => hand_over(text.as_str(), buffer),
         Err(failure) => answer_to(&failure),
     }
@@ -120,7 +126,13 @@ pub extern "C" fn bivdrazo_compile_attributed(
     ensures no_attribute { result.status ≡ no_attribute → StandsForNoAttribute attributes.now result.index }
     ensures fields { IsOfAttributed result }
 {
-    match compile_attributed(alloc, events, bytes, options, names, attributes) {
+    let given = CDocument {
+        events,
+        bytes,
+        options,
+        names,
+    };
+    match compile_attributed(alloc, given, attributes) {
         Ok(made) => hand_over_listed(made.whole.as_str(), made.start, buffer),
         Err(refusal) => answer_to_refusal(&refusal),
     }
@@ -170,7 +182,13 @@ pub extern "C" fn bivdrazo_compile_within(
     ensures bounded { TellsOfEvents result.status → IsBounded events.now limits.now }
     ensures fields { IsOfWithin result }
 {
-    match compile_given_within(alloc, events, bytes, options, names, limits) {
+    let given = CDocument {
+        events,
+        bytes,
+        options,
+        names,
+    };
+    match compile_given_within(alloc, given, limits) {
         Ok(text) => hand_over(text.as_str(), buffer),
         Err(failure) => answer_to_within(&failure),
     }

@@ -13,7 +13,7 @@ loop-reference-preserved c =
     let pair = c.in-Some.pair in
     one_more reference_of c.args.references.now c.loop-reference.reference-index (name_table read)
     c.loop-reference.invariant _ (pair_of pair) _ c.loop-reference-test.true c.in-Some.ensures
-    (ap name_table c.in_ok-keep-in-Some.ensures ∙ map-append pair_of read (pair ∷ []))
+    (ap name_table c.in_ok-add_pair-in-Some.ensures ∙ map-append pair_of read (pair ∷ []))
 
 pub returns-in-None-clause-err : goal.returns-in-None-clause-err
 returns-in-None-clause-err c =

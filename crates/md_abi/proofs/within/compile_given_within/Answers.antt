@@ -8,30 +8,30 @@ use Rattle.md_abi.proofs.within.compile_given_within.Goals as goal
 
 pub returns-clause-ok : goal.returns-clause-ok
 returns-clause-ok c =
-    let a = c.args in
-    let read = read_as a.events.now a.options.now a.names.now c.as_slice.result.now _
+    let given = c.args.given in
+    let read = read_as given.events.now given.options.now given.names.now c.as_slice.result.now _
     c.in_ok-options.options c.as_slice-2.result.now _
     c.as_slice.ensures.value c.as_slice-2.ensures.value c.in_ok-events.ensures.ok
     c.in_ok-options.ensures.ok c.in_ok-names.ensures.ok in
-    text_within _ a.bytes.now _ _ _ _ _ a.limits.now _ read string_bytes
+    text_within _ given.bytes.now _ _ _ _ _ c.args.limits.now _ read string_bytes
     c.compile_read_within.result refl c.compile_read_within.ensures.ok
 
 pub returns-clause-bounded : goal.returns-clause-bounded
 returns-clause-bounded c =
-    let a = c.args in
-    let read = read_as a.events.now a.options.now a.names.now c.as_slice.result.now _
+    let given = c.args.given in
+    let read = read_as given.events.now given.options.now given.names.now c.as_slice.result.now _
     c.in_ok-options.options c.as_slice-2.result.now _
     c.as_slice.ensures.value c.as_slice-2.ensures.value c.in_ok-events.ensures.ok
     c.in_ok-options.ensures.ok c.in_ok-names.ensures.ok in
-    bounded_within _ a.bytes.now _ _ _ _ _ a.limits.now _ read string_bytes
+    bounded_within _ given.bytes.now _ _ _ _ _ c.args.limits.now _ read string_bytes
     c.compile_read_within.result refl c.compile_read_within.ensures.ok
 
 pub returns-clause-err : goal.returns-clause-err
 returns-clause-err c =
-    let a = c.args in
-    let read = read_as a.events.now a.options.now a.names.now c.as_slice.result.now _
+    let given = c.args.given in
+    let read = read_as given.events.now given.options.now given.names.now c.as_slice.result.now _
     c.in_ok-options.options c.as_slice-2.result.now _
     c.as_slice.ensures.value c.as_slice-2.ensures.value c.in_ok-events.ensures.ok
     c.in_ok-options.ensures.ok c.in_ok-names.ensures.ok in
-    failure_given _ a.bytes.now _ _ _ _ _ a.limits.now _ read c.compile_read_within.result refl refl
-    c.compile_read_within.ensures.err
+    failure_given _ given.bytes.now _ _ _ _ _ c.args.limits.now _ read c.compile_read_within.result
+    refl refl c.compile_read_within.ensures.err

@@ -8,7 +8,7 @@ pub returns-in_err-compile_within-clause-err : goal.returns-in_err-compile_withi
 returns-in_err-compile_within-clause-err c =
     let why = c.in_err-compile_within.ensures in
     let error = c.in_err-compile_within.field-0.0 in
-    let given = handed c.args.events.now c.args.bytes.now c.args.names.now in
+    let given = handed c.args.read.events.now c.args.read.bytes.now c.args.read.names.now in
     told_within given c.args.options.now c.args.limits error c.from_residual.result
     c.from_residual.ensures.1 why.too_much why.too_long why.long_grammatical
     (refusal_within given error why.order why.mdx why.of_node why.lost why.outside)

@@ -3,12 +3,12 @@
 use Rattle.std.proofs.Common.{length, ap}
 use Rattle.md_abi.specs.Events.{event_of}
 use Rattle.md_abi.proofs.StandingLemmas.{one_more, first_without, all_read}
-use Rattle.md_abi.proofs.event.read_events.Goals as goal
+use Rattle.md_abi.proofs.event.read_c_events.Goals as goal
 
 pub loop-event-preserved : goal.loop-event-preserved
 loop-event-preserved c =
     one_more event_of c.args.events.now c.loop-event.event-index c.loop-event.read.items c.loop-event.invariant _
-    c.in-Some.event _ c.loop-event-test.true c.in-Some.ensures c.in_ok-keep-in-Some.ensures
+    c.in-Some.event _ c.loop-event-test.true c.in-Some.ensures c.in_ok-add_event-in-Some.ensures
 
 pub returns-in-None-clause-err : goal.returns-in-None-clause-err
 returns-in-None-clause-err c =
