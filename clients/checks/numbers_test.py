@@ -1,10 +1,11 @@
 #!/usr/bin/env python3
-"""Compares the clients' list of numbers with the tables in the sources of the crates md_ffi and md_abi.
+"""Compares the clients' list of numbers with the tables in the crates md_base, md_abi and md_ffi.
 
-    numbers_test.py CRATE..
+    numbers_test.py CRATES
 
-Reads the crates' tables as text: the names' array, the constants of statuses, and the matches of rules, kinds, line
-endings and options. Ends with status 1 where one isn't the list's.
+Reads the crates' tables as text, in the folder of the crates: the names' array, the constants of
+statuses, and the matches of rules, kinds, line endings and options. Ends with status 1 where one
+isn't the list's.
 """
 
 import pathlib
@@ -25,17 +26,19 @@ def camel(name):
     return "".join(word.capitalize() for word in name.split("_"))
 
 
-def names(source):
-    """The names of the crate's array, numbered from 1, and the number of the others."""
-    table = re.search(r"static NAMES: \[Name; \d+\] = \[(.*?)\];", source, re.DOTALL)
-    other = re.search(r"const OTHER: u16 = (\d+);", source)
+def names(tables, numbers):
+    """The names of the crates' array, numbered from 1, and the number of the others."""
+    table = re.search(r"static BY_NUMBER: \[Name; \d+\] = \[(.*?)\];", tables, re.DOTALL)
+    other = re.search(r"const OTHER: u16 = (\d+);", numbers)
     found = re.findall(r"Name::(\w+)", table[1]) if table else []
     return [(name, at) for at, name in enumerate(found, 1)] + ([("Other", int(other[1]))] if other else [])
 
 
 def tables(crates):
     """The crates' pairs of a name and a number, by the list's groups."""
-    source = {path.stem: path.read_text() for crate in crates for path in (crate / "src").glob("*.rt")}
+    source = {path.stem: path.read_text()
+              for crate in ("md_abi", "md_ffi") for path in (crates / crate / "src").glob("*.rt")}
+    name_tables = (crates / "md_base" / "src" / "name_tables.rt").read_text()
     statuses = re.findall(r"^const (\w+): u32 = (\d+);", source["answer"], re.MULTILINE)
     rules = re.findall(r"Rule::(\w+) => (\d+),", source["answer"])
     kinds = re.findall(r"(\d+) => Some\(Kind::(\w+)\)", source["event"])
@@ -51,13 +54,13 @@ def tables(crates):
         "line_ending": [(name, int(number)) for number, name in endings],
         "option": [(name, int(number)) for name, number in options],
         "attribute": [(name, int(number)) for name, number in attributes],
-        "name": names(source["names"]),
+        "name": names(name_tables, source["names"]),
     }
 
 
 def main(arguments):
     """Compares each group; the status to end with."""
-    found = tables([pathlib.Path(argument) for argument in arguments])
+    found = tables(pathlib.Path(arguments[0]))
     wrong = [group for group, pairs in found.items() if pairs != listed(group) or not pairs]
     for group in wrong:
         print(f"numbers: {group}: the crate has {found[group]}, the list {listed(group)}")
