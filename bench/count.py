@@ -21,12 +21,15 @@ CASES = re.compile(r"crates/md_cases/(cases|make|stdin|stdout)")
 DATA = re.compile(r"crates/md_cases/(cases|stdin|stdout)|.*(\.png|\.lock|\.json|references\.\w+)$")
 NOT_NAMING = re.compile(r"bench/|crates/md_bench/|.*/must-fail/")
 LIST = "clients/numbers/numbers.txt"
-WRITTEN = re.compile(r"(.*\n)?.*Written by (bench/names\.py|clients/numbers/generate) from")
+SCRIPTS = r"(bench/names\.py|clients/numbers/generate)"
+WRITTEN = re.compile(rf"Written by {SCRIPTS}\s+from\s+\S*numbers\.txt")
 TESTS = re.compile(r"crates/md_(bench|cases|failure_cases|hostile_cases)/|.*/tests\.rt$")
 WORDS = r"(?m)^( *)(?:pub(?:\(\w+\))? )?(?:const )?(?:unsafe )?(?:extern \"C\" )?"
 FUNCTION = re.compile(WORDS + r"fn (\w+)(?:<(?:[^<>]|->|<[^<>]*>)*>)?\(")
 BODY = re.compile(r"(?m)^(\{|[^ \n].* \{)$|\}$")
 COLUMNS, LINES, PARAMETERS, SHOWN = 100, 300, 5, 5
+# In how many letters at its beginning a file says that a script writes it.
+HEAD = 300
 
 
 def kept():
@@ -113,7 +116,7 @@ def main():
     say("functions called main", sum("\nfn main(" in source for source in code.values()))
 
     naming = [source for path, source in texts.items()
-              if path != LIST and not NOT_NAMING.match(path) and not WRITTEN.match(source)]
+              if path != LIST and not NOT_NAMING.match(path) and not WRITTEN.search(source[:HEAD])]
     options = re.findall(r"(?m)^    pub (\w+):", texts["crates/md_text/src/options.rt"])
     names = texts["crates/md_base/src/event.rt"].split("pub enum Name {")[1].split("\n}")[0]
     say("files that name an option", named_in(naming, options), "25 at most")
