@@ -20,7 +20,7 @@ const QUARTER_BLOCK: usize = 4;
 pub(crate) fn as_text(bytes: &[u8]) -> Option<&str>
     ensures { option_copied result ≡ text_when true bytes.now }
 {
-    if is_text(bytes) {
+    if are_utf8(bytes) {
         Some(unsafe { std::str::from_utf8_unchecked(bytes) })
     } else {
         None
@@ -29,7 +29,7 @@ pub(crate) fn as_text(bytes: &[u8]) -> Option<&str>
 
 /// Whether the bytes are UTF-8. Most are ASCII; what isn't is read as far as its first fault.
 #[inline(never)]
-fn is_text(bytes: &[u8]) -> bool
+fn are_utf8(bytes: &[u8]) -> bool
     ensures { IsTrue result ↔ IsUtf8 bytes.now }
 {
     if is_ascii(bytes) {

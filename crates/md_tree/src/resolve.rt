@@ -117,7 +117,7 @@ fn footnotes(
 }
 
 /// The number of the identifier at a label's place, if it has one.
-fn number_at(
+fn number_of_label(
     alloc: Global,
     bytes: &Texts,
     label: Position,
@@ -146,11 +146,11 @@ fn lead(
 {
     match mention {
         Mention::Reference(label) => {
-            let number = number_at(alloc, bytes, label, definitions)?;
+            let number = number_of_label(alloc, bytes, label, definitions)?;
             Ok(number.ok_or(Rule::Definition))
         }
         Mention::Call(label) => {
-            let number = number_at(alloc, bytes, label, footnotes)?;
+            let number = number_of_label(alloc, bytes, label, footnotes)?;
             Ok(number.ok_or(Rule::Footnote))
         }
         _ => Ok(Ok(0)),

@@ -25,7 +25,7 @@ pub(super) fn kept_length(bytes: &[u8]) -> usize
     ensures ends { begins_kept (drop result bytes.now) ≡ false }
 {
     match bytes {
-        [first, after @ ..] if is_plain(*first) => {
+        [first, after @ ..] if is_plain_byte(*first) => {
             let few = 1 + first_plain(after);
             if few == FEW {
                 kept_from(bytes, run_length(Plain, bytes))
@@ -67,7 +67,7 @@ fn kept_step(bytes: &[u8]) -> usize
         return 3;
     }
     match bytes {
-        [first, after @ ..] if is_plain(*first) => {
+        [first, after @ ..] if is_plain_byte(*first) => {
             let few = 1 + first_plain(after);
             if few == FEW {
                 run_length(Plain, bytes)
@@ -85,9 +85,9 @@ fn first_plain(bytes: &[u8]) -> usize
     ensures { result ≡ min 3 (prefix_len is_plain bytes.now) }
 {
     match bytes {
-        [a, b, c, ..] if is_plain(*a) && is_plain(*b) && is_plain(*c) => 3,
-        [a, b, ..] if is_plain(*a) && is_plain(*b) => 2,
-        [a, ..] if is_plain(*a) => 1,
+        [a, b, c, ..] if is_plain_byte(*a) && is_plain_byte(*b) && is_plain_byte(*c) => 3,
+        [a, b, ..] if is_plain_byte(*a) && is_plain_byte(*b) => 2,
+        [a, ..] if is_plain_byte(*a) => 1,
         _ => 0,
     }
 }
@@ -115,7 +115,7 @@ impl ByteTest for Plain {
 
     #[inline(always)]
     fn is_passed(self, byte: u8) -> bool {
-        is_plain(byte)
+        is_plain_byte(byte)
     }
 }
 
@@ -138,7 +138,7 @@ impl<const N: usize> LaneTest<N> for Plain {
 
 /// Whether a byte is written as it is, whatever follows it.
 #[inline(always)]
-fn is_plain(byte: u8) -> bool
+fn is_plain_byte(byte: u8) -> bool
     ensures { result ≡ is_plain byte }
 {
     PLAIN_BYTES[usize::from(byte)] != b'`'

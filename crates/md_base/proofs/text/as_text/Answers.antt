@@ -8,16 +8,17 @@ use Rattle.md_base.proofs.text.as_text.Goals as goal
 abbrev chosen : List ℕ → Bool → Option (List ℕ)
 chosen bytes test = cond test (Some bytes) None
 
-pub returns-then-is_text : goal.returns-then-is_text
-returns-then-is_text c =
+pub returns-then-are_utf8 : goal.returns-then-are_utf8
+returns-then-are_utf8 c =
     let bytes = c.args.bytes.now in
     ap Some c.from_utf8_unchecked.ensures
-    ∙ sym (ap (chosen bytes) (is_utf8-from_IsUtf8 bytes (c.is_text.ensures.0 c.if-is_text.true)))
+    ∙ sym (ap (chosen bytes) (is_utf8-from_IsUtf8 bytes (c.are_utf8.ensures.0 c.if-are_utf8.true)))
 
-pub returns-else-is_text : goal.returns-else-is_text
-returns-else-is_text c =
+pub returns-else-are_utf8 : goal.returns-else-are_utf8
+returns-else-are_utf8 c =
     let bytes = c.args.bytes.now in
     elim (cases_Bool (is_utf8 bytes)) [
-      | inl holds ↦ absurd (both_ways _ c.if-is_text.false (c.is_text.ensures.1 (IsUtf8-from_is_utf8 bytes holds)))
+      | inl holds ↦ absurd (both_ways _ c.if-are_utf8.false
+          (c.are_utf8.ensures.1 (IsUtf8-from_is_utf8 bytes holds)))
       | inr fails ↦ sym (ap (chosen bytes) fails)
     ]

@@ -20,7 +20,8 @@ kept_from-requires-then-begins_triple c =
     let bytes : List ℕ = c.args.bytes.now in
     let few = 1 + c.first_plain-few.result in
     let is = few-is bytes _ c.first_plain-few.result c.in-len1-up.len_at_least
-    (sym c.is_plain.ensures ∙ c.if-is_plain.true) c.first_plain-few.ensures (take_rest bytes 1) in
+    (sym c.is_plain_byte.ensures ∙ c.if-is_plain_byte.true) c.first_plain-few.ensures
+    (take_rest bytes 1) in
     let triple = ap begins_triple (sym (take_rest bytes few)) ∙ sym c.begins_triple.ensures ∙ c.if-begins_triple.true in
     kept-join bytes few 3 (kept-plain few bytes (omega (arith, is))) (kept-triple (drop few bytes) triple)
 
@@ -32,7 +33,8 @@ pub returns-else-begins_triple-clause-kept : goal.returns-else-begins_triple-cla
 returns-else-begins_triple-clause-kept c =
     let bytes : List ℕ = c.args.bytes.now in
     let is = few-is bytes _ c.first_plain-few.result c.in-len1-up.len_at_least
-    (sym c.is_plain.ensures ∙ c.if-is_plain.true) c.first_plain-few.ensures (take_rest bytes 1) in
+    (sym c.is_plain_byte.ensures ∙ c.if-is_plain_byte.true) c.first_plain-few.ensures
+    (take_rest bytes 1) in
     kept-plain (1 + c.first_plain-few.result) bytes (omega (arith, is))
 
 pub returns-else-begins_triple-clause-ends : goal.returns-else-begins_triple-clause-ends
@@ -40,7 +42,8 @@ returns-else-begins_triple-clause-ends c =
     let bytes : List ℕ = c.args.bytes.now in
     let few = 1 + c.first_plain-few.result in
     let is = few-is bytes _ c.first_plain-few.result c.in-len1-up.len_at_least
-    (sym c.is_plain.ensures ∙ c.if-is_plain.true) c.first_plain-few.ensures (take_rest bytes 1) in
+    (sym c.is_plain_byte.ensures ∙ c.if-is_plain_byte.true) c.first_plain-few.ensures
+    (take_rest bytes 1) in
     let all : few ≡ prefix_len is_plain bytes = omega (arith, is, c.if-few-eq-FEW.false) in
     let other = ap begins_triple (sym (take_rest bytes few)) ∙ sym c.begins_triple.ensures ∙ c.if-begins_triple.false in
     subst (λ n. begins_kept (drop n bytes) ≡ false) (sym all)

@@ -2,7 +2,7 @@
 use Rattle.std.proofs.Common.{ℕ, List, ◌++◌, not, nat_eq, get_or, codes, ap, ◌∙◌, refl}
 use Rattle.std.proofs.lemmas.Bool.{agree_below_at}
 use Rattle.md_text.specs.Kept.{is_plain}
-use Rattle.md_text.proofs.url.kept.is_plain.Goals as goal
+use Rattle.md_text.proofs.url.kept.is_plain_byte.Goals as goal
 
 abbrev table : List ℕ
 table = codes "`````````````````````````````````!`#$``'()*+,-./0123456789:;`=`?"
