@@ -1,13 +1,8 @@
 -- Bytes are UTF-8 exactly where std's check says so.
 -- By itself the search doesn't go through the two answers of the check.
 use Rattle.std.proofs.Common.{◌∙◌}
-<<<<<<<< HEAD:crates/md_script/proofs/setting/is_text/Answers.antt
-use Rattle.md_script.proofs.SettingLemmas.{reads_as_text}
-use Rattle.md_script.proofs.setting.is_text.Goals as goal
-========
 use Rattle.md_script.proofs.SettingLemmas.{reads_as_text}
 use Rattle.md_script.proofs.setting.is_utf8.Goals as goal
->>>>>>>> 95bd712a (Free functions in seven crates that shared a name are named after what each does):crates/md_script/proofs/setting/is_utf8/Answers.antt
 
 pub returns : goal.returns
 returns c = c.is_ok.ensures.value ∙ reads_as_text c.args.bytes.now _ c.from_utf8.result c.from_utf8.ensures.cases

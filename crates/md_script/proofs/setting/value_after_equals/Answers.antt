@@ -3,13 +3,8 @@
 use Rattle.std.proofs.Common.{true, ap, ◌∙◌}
 use Rattle.std.specs.Prelude.{option_copied}
 use Rattle.md_base.specs.Place.{text_when}
-<<<<<<<< HEAD:crates/md_script/proofs/setting/value_of/Answers.antt
-use Rattle.md_script.proofs.SettingLemmas.{read_text}
-use Rattle.md_script.proofs.setting.value_of.Goals as goal
-========
 use Rattle.md_script.proofs.SettingLemmas.{read_text}
 use Rattle.md_script.proofs.setting.value_after_equals.Goals as goal
->>>>>>>> 95bd712a (Free functions in seven crates that shared a name are named after what each does):crates/md_script/proofs/setting/value_after_equals/Answers.antt
 
 pub returns : goal.returns
 returns c =
