@@ -18,9 +18,9 @@ use crate::given::CDocument;
 use crate::option::read_options;
 use crate::reference::read_references;
 use crate::refusal::Refusal;
-use md_page::{Heading, Html, with_heading_ids, with_link_rel};
 use md_base::Event;
 use md_html::{SafeHtml, compile_safe};
+use md_page::{Heading, Html, with_heading_ids, with_link_rel};
 use md_text::CompileOptions;
 use std::alloc::{AllocError, Global};
 
